@@ -3,7 +3,7 @@ use Rattle.std.specs.Prelude.{ℕ, ◌+◌, ◌-◌, ◌^◌, min}
 use Rattle.bench_digests.specs.declared.digests.Best.{Best}
 use Rattle.bench_digests.specs.declared.digests.Digests.{Digests}
 
--- of each length both, as far as a number of four bytes goes
+-- the sums for each length, at most 2^32 - 1
 unfoldable pub together : Digests → Digests → Digests
 together a b =
     record {
@@ -12,6 +12,6 @@ together a b =
       leaf = min (a.leaf + b.leaf) (2 ^ 32 - 1);
     }
 
--- the lesser times
+-- the lesser of two times each
 unfoldable pub better : Best → ℕ → ℕ → Best
 better b work digests = record { work = min b.work work; digests = min b.digests digests }

@@ -1,4 +1,4 @@
-//! The digests that a piece of work over keys takes, and what they cost by themselves.
+//! The digests that work with keys must compute, and their cost alone.
 
 ghost use Rattle.std.specs.Prelude.{◌≡◌, ◌<◌, ◌≤◌, ◌^◌, IfOk};
 ghost use Rattle.bench_digests.specs.Counts.{better, together};
@@ -7,15 +7,15 @@ use sha2::{Digest, Sha256};
 use std::test::Fail;
 use std::time::Instant;
 
-/// What is signed.
+/// The signed statement.
 pub const STATEMENT: &[u8; 16] = b"0123456789abcdef";
 
-// The chains of a signature, and the steps of each.
+// The number of chains of a signature, and of the steps of each.
 const CHAINS: u32 = 67;
 
 const STEPS: u32 = 15;
 
-/// How many digests of each length a piece of work takes.
+/// The number of digests of each length that a workload computes.
 #[derive(Clone, Copy, Debug)]
 pub struct Digests {
     /// Of up to 55 bytes, one block: starts and steps of chains, statements.
@@ -27,7 +27,7 @@ pub struct Digests {
 }
 
 impl Digests {
-    /// These and the others, of each length no more than 2^32 - 1.
+    /// The sum with others, of each length at most 2^32 - 1.
     #[tactic(auto, unfolding(crate::specs::Counts::together))]
     pub fn and(self, others: Digests) -> Digests
         ensures { result ≡ together self others }
@@ -40,7 +40,7 @@ impl Digests {
     }
 }
 
-/// The best time of several, in nanoseconds: of the work, and of its digests alone.
+/// The best time of several, in nanoseconds: for the workload, and for its digests alone.
 #[derive(Clone, Copy)]
 pub struct Best {
     pub work: u64,
@@ -48,7 +48,7 @@ pub struct Best {
 }
 
 impl Best {
-    /// The better of these times and those, each by itself.
+    /// Keeps the lesser of each old and new time.
     #[tactic(auto, unfolding(crate::specs::Counts::better))]
     pub fn note(self, work: u64, digests: u64) -> Best
         ensures { result ≡ better self work digests }
@@ -60,13 +60,13 @@ impl Best {
     }
 }
 
-/// No time is taken yet.
+/// No time has been measured.
 pub const NONE_YET: Best = Best {
     work: u64::MAX,
     digests: u64::MAX,
 };
 
-// Takes `count` digests of `N` bytes, each of which changes with the one before.
+// Computes `count` digests of `N` bytes. Each string depends on the digest before.
 fn take_digests<const N: usize>(count: u32) -> u8
     requires low { 0 < N }
     requires high { N ≤ 4096 }
@@ -86,7 +86,7 @@ fn take_all(digests: Digests) -> u8 {
     short ^ inner ^ leaf
 }
 
-/// Those of a tree of this height.
+/// The digests of a tree of this height.
 pub fn digests_of_tree(height: u8) -> Digests
     requires { height ≤ 12 }
     ensures { result.leaf ≡ 2 ^ height }
@@ -99,7 +99,7 @@ pub fn digests_of_tree(height: u8) -> Digests
     }
 }
 
-// How many steps a signature of a statement has gone along its chains.
+// How many chain steps the signer of a statement made.
 fn steps_signed(statement: &[u8]) -> u32 {
     let mut hasher = Sha256::new();
     hasher.update([0x14u8]);
@@ -116,7 +116,7 @@ fn steps_signed(statement: &[u8]) -> u32 {
         .wrapping_add(check % 16)
 }
 
-/// Those of a signature of a statement.
+/// The digests to sign a statement.
 pub fn digests_of_one_signature(statement: &[u8]) -> Digests
     ensures inner { result.inner ≡ 0 }
     ensures leaf { result.leaf ≡ 0 }
@@ -128,7 +128,7 @@ pub fn digests_of_one_signature(statement: &[u8]) -> Digests
     }
 }
 
-/// Those of a check of a statement's signature under a tree of this height.
+/// The digests to verify a statement's signature under a tree of this height.
 pub fn digests_of_one_check(statement: &[u8], height: u8) -> Digests
     ensures inner { result.inner ≡ height }
     ensures leaf { result.leaf ≡ 1 }
@@ -140,7 +140,7 @@ pub fn digests_of_one_check(statement: &[u8], height: u8) -> Digests
     }
 }
 
-/// Those of so many signatures.
+/// The digests of `count` signatures.
 pub fn digests_of_signatures(count: u32) -> Digests
     ensures inner { result.inner ≡ 0 }
     ensures leaf { result.leaf ≡ 0 }
@@ -153,7 +153,7 @@ pub fn digests_of_signatures(count: u32) -> Digests
     }
 }
 
-/// Those of so many verifications under a tree of this height.
+/// The digests of `count` verifications under a tree of this height.
 pub fn digests_of_verifications(count: u32, height: u8) -> Digests
     ensures { result.leaf ≡ count }
 {
@@ -165,20 +165,20 @@ pub fn digests_of_verifications(count: u32, height: u8) -> Digests
     }
 }
 
-/// The nanoseconds since then. Of what a clock says no contract tells more than how great it may be.
+/// The nanoseconds since then. The contract of a clock says only how large they may be.
 pub fn nanos_since(rt: &HostRuntime, start: Instant) -> Result<u64, Fail>
     ensures { IfOk result (λ nanos. nanos < 2 ^ 64) }
 {
     Ok(u64::try_from(start.elapsed(rt)?.as_nanos()).unwrap_or(u64::MAX))
 }
 
-/// The nanoseconds that digests take.
+/// The nanoseconds to compute these digests.
 pub fn time_digests(rt: &HostRuntime, digests: Digests) -> Result<u64, Fail>
     ensures { IfOk result (λ nanos. nanos < 2 ^ 64) }
 {
     let start = Instant::now(rt)?;
     let last = take_all(digests);
     let nanos = nanos_since(rt, start)?;
-    // The digests are used, so that no compiler leaves them out.
+    // The digests are used, so that the compiler does not remove them.
     Ok(nanos.saturating_add(u64::from(last / 255)))
 }

@@ -1,4 +1,4 @@
-//! What benches of keys and modules share: the digests that a piece of work cannot do without, what they cost by themselves, and keys.
+//! Shared by the benches of keys and modules: the digests that a workload must compute, their cost alone, and keys.
 #![tactic(auto)]
 
 pub mod digests;

@@ -1,5 +1,5 @@
-//! Keys for benches. Of a literal height or secret the tactics list what the keys are, so these are parameters, and come from functions
-//! that promise nothing of either.
+//! Keys for benches. For a literal height or secret the tactics would evaluate the keys. So these are parameters, and
+//! come from functions without contracts.
 ghost use Rattle.std.specs.Prelude.{◌≡◌, ◌≤◌, ◌+◌, IfOk, OnOk};
 
 use crate::digests::STATEMENT;
@@ -10,7 +10,7 @@ use std::test::Fail;
 
 type Timed<T> = Result<T, Fail>;
 
-/// A key of which no leaf is used.
+/// A key with no leaf used.
 pub fn key(alloc: Global, secret: [u8; 32], height: u8) -> Timed<Keys>
     requires low { 2 ≤ height }
     requires high { height ≤ 12 }
@@ -37,7 +37,7 @@ pub fn node_key(alloc: Global, node: u8, height: u8) -> Timed<Keys>
     key(alloc, Sha256::digest([0x20u8, node]), height)
 }
 
-/// A signature of the statement, by the next leaf.
+/// A signature of the statement with the next leaf.
 pub fn signature_by(keys: &mut Keys) -> Timed<Vec<u8>>
     ensures { OnOk result (keys.new.used ≡ keys.old.used + 1) }
 {

@@ -1,4 +1,4 @@
-//! Directories of keys: what it costs to make one and to check by it, and to check by several owners of one.
+//! Directories of keys: the cost of making one, and of verifying with one owner or several.
 
 ghost use Rattle.std.specs.Prelude.{◌<◌, ◌≤◌};
 
@@ -16,10 +16,10 @@ type Timed<T> = Result<T, Fail>;
 
 // The client that signs.
 const CLIENT: u8 = 7;
-// How many signatures are checked by turns.
+// The number of signatures that are verified in turn.
 const SIGNATURES: u32 = 200;
 
-// The directory of so many nodes and clients.
+// The directory of this many nodes and clients.
 fn directory_of(alloc: Global, nodes: u32, clients: u32, height: u8) -> Timed<Directory>
     requires nodes { nodes ≤ 256 }
     requires clients { clients ≤ 256 }
@@ -29,7 +29,7 @@ fn directory_of(alloc: Global, nodes: u32, clients: u32, height: u8) -> Timed<Di
     Ok(Directory::make(alloc, nodes, clients, height)?)
 }
 
-// One that has several owners.
+// A directory with several owners.
 fn shared_directory(alloc: Global, nodes: u32, clients: u32, height: u8) -> Timed<SharedDirectory>
     requires nodes { nodes ≤ 256 }
     requires clients { clients ≤ 256 }
@@ -49,7 +49,7 @@ fn checks(directory: &Directory, signature: &[u8], count: u32) -> u32 {
     verified
 }
 
-// How long so many checks of a signature take; for ever, where it does not verify.
+// The time to verify a signature this many times; the maximal time if it does not verify.
 fn time_checks(
     rt: &HostRuntime,
     directory: &Directory,
@@ -62,7 +62,7 @@ fn time_checks(
     Ok(if verified == count { nanos } else { u64::MAX })
 }
 
-// Checks a new signature, beside the digests that it takes.
+// Verifies a new signature, compared with its digests alone.
 fn time_signature(
     rt: &HostRuntime,
     directory: &Directory,
@@ -74,7 +74,7 @@ fn time_signature(
     Ok(Best { work, digests })
 }
 
-// Checks each signature, and then again and again.
+// Verifies each signature once, then repeatedly.
 fn time_signatures(
     rt: &HostRuntime,
     directory: &Directory,
@@ -93,7 +93,7 @@ fn time_signatures(
     Ok(())
 }
 
-// How long it takes to check each signature once; for ever, where one does not verify.
+// The time to verify each signature once; the maximal time if one does not verify.
 fn time_round(rt: &HostRuntime, directory: &Directory, signatures: &[Vec<u8>]) -> Timed<u64> {
     let start = Instant::now(rt)?;
     let mut verified = 0u32;
@@ -108,7 +108,7 @@ fn time_round(rt: &HostRuntime, directory: &Directory, signatures: &[Vec<u8>]) -
     })
 }
 
-// Many signatures, checked one after the other, again and again: some share their place in memory.
+// Many signatures, verified in turn, repeatedly; some share their place in the cache.
 fn time_rounds(rt: &HostRuntime, directory: &Directory, signatures: &[Vec<u8>]) -> Timed<()> {
     let mut best = u64::MAX;
     for _round in 0..20 {
@@ -127,7 +127,7 @@ fn many_signatures(keys: &mut Keys, alloc: Global) -> Timed<Vec<Vec<u8>>> {
     Ok(all)
 }
 
-// How long it takes to make a directory.
+// The time to make a directory.
 fn time_making(rt: &HostRuntime, nodes: u32, clients: u32, height: u8) -> Timed<Directory>
     requires nodes { nodes ≤ 256 }
     requires clients { clients ≤ 256 }
@@ -141,7 +141,7 @@ fn time_making(rt: &HostRuntime, nodes: u32, clients: u32, height: u8) -> Timed<
     Ok(directory)
 }
 
-// A directory is asked for the first time (which makes the client's key), about other signatures, and about these again.
+// Verifies with a new directory (which computes the client's key), then other signatures, then these again.
 fn time_asking(rt: &HostRuntime, directory: &Directory, keys: &mut Keys, height: u8) -> Timed<()> {
     let signature = signature_by(keys)?;
     let first = time_checks(rt, directory, &signature, 1)?;
@@ -151,7 +151,7 @@ fn time_asking(rt: &HostRuntime, directory: &Directory, keys: &mut Keys, height:
     time_rounds(rt, directory, &signatures)
 }
 
-/// A directory of so many nodes and clients, of which one is used: made, and asked.
+/// A directory of this many nodes and clients, of which one is used: made, and verified with.
 pub(crate) fn time_directory(rt: &HostRuntime, nodes: u32, clients: u32, height: u8) -> Timed<()>
     requires nodes { nodes ≤ 256 }
     requires clients { clients ≤ 256 }
@@ -163,7 +163,7 @@ pub(crate) fn time_directory(rt: &HostRuntime, nodes: u32, clients: u32, height:
     time_asking(rt, &directory, &mut keys, height)
 }
 
-// Checks of one signature, one by each owner of a directory.
+// Verifies one signature, once for each owner of a directory.
 fn checks_by_all(owners: &[SharedDirectory], signature: &[u8]) -> u32 {
     let mut verified = 0u32;
     for owner in owners {
@@ -172,7 +172,7 @@ fn checks_by_all(owners: &[SharedDirectory], signature: &[u8]) -> u32 {
     verified
 }
 
-// An owner for each of so many nodes.
+// An owner for each node.
 fn owners_of(alloc: Global, shared: &SharedDirectory, nodes: u32) -> Timed<Vec<SharedDirectory>> {
     let mut owners = Vec::new(alloc);
     for _node in 0..nodes {
@@ -181,7 +181,7 @@ fn owners_of(alloc: Global, shared: &SharedDirectory, nodes: u32) -> Timed<Vec<S
     Ok(owners)
 }
 
-/// In a new directory of so many nodes and clients one client signs, and ten nodes check it.
+/// In a new directory of this many nodes and clients, one client signs and ten nodes verify.
 pub(crate) fn sign_for_ten(alloc: Global, nodes: u32, clients: u32, height: u8) -> Timed<u32>
     requires nodes { nodes ≤ 256 }
     requires few { 7 < clients }
@@ -196,7 +196,7 @@ pub(crate) fn sign_for_ten(alloc: Global, nodes: u32, clients: u32, height: u8) 
     Ok(checks_by_all(&owners, &signature))
 }
 
-// How long the whole of it takes.
+// The time for all of that.
 fn time_whole(rt: &HostRuntime, nodes: u32, clients: u32, height: u8) -> Timed<u64>
     requires nodes { nodes ≤ 256 }
     requires few { 7 < clients }
@@ -210,7 +210,7 @@ fn time_whole(rt: &HostRuntime, nodes: u32, clients: u32, height: u8) -> Timed<u
     Ok(if verified == 10 { nanos } else { u64::MAX })
 }
 
-// How long the one tree takes that it needs.
+// The time to compute the one tree that it needs.
 fn time_tree_alone(rt: &HostRuntime, height: u8) -> Timed<u64>
     requires low { 2 ≤ height }
     requires high { height ≤ 12 }
@@ -221,7 +221,7 @@ fn time_tree_alone(rt: &HostRuntime, height: u8) -> Timed<u64>
     nanos_since(rt, start)
 }
 
-/// The whole of it, beside the one tree that it needs.
+/// All of that, compared with the one tree that it needs.
 pub(crate) fn time_one_tree(rt: &HostRuntime, nodes: u32, clients: u32, height: u8) -> Timed<()>
     requires nodes { nodes ≤ 256 }
     requires few { 7 < clients }
@@ -242,7 +242,7 @@ pub(crate) fn time_one_tree(rt: &HostRuntime, nodes: u32, clients: u32, height: 
     Ok(())
 }
 
-// How long it takes that all owners check a new signature.
+// The time until all owners have verified a new signature.
 fn time_all_checks(rt: &HostRuntime, owners: &[SharedDirectory], keys: &mut Keys) -> Timed<u64> {
     let signature = signature_by(keys)?;
     let start = Instant::now(rt)?;
@@ -250,7 +250,7 @@ fn time_all_checks(rt: &HostRuntime, owners: &[SharedDirectory], keys: &mut Keys
     nanos_since(rt, start)
 }
 
-// Of two new signatures one is checked by one owner, the other by all, again and again.
+// Of two new signatures, one is verified by one owner and the other by all, repeatedly.
 fn time_by_turns(rt: &HostRuntime, owners: &[SharedDirectory], keys: &mut Keys) -> Timed<()> {
     let mut one = u64::MAX;
     let mut ten = u64::MAX;
@@ -263,7 +263,7 @@ fn time_by_turns(rt: &HostRuntime, owners: &[SharedDirectory], keys: &mut Keys) 
     Ok(())
 }
 
-/// What a signature costs that ten nodes check, who share a directory of so many nodes and clients.
+/// The cost of a signature that ten nodes verify. They share a directory of this many nodes and clients.
 pub(crate) fn time_ten_checks(rt: &HostRuntime, nodes: u32, clients: u32, height: u8) -> Timed<()>
     requires nodes { nodes ≤ 256 }
     requires clients { clients ≤ 256 }

@@ -1,4 +1,4 @@
-//! Journals: attaching one, beside reading and hashing its file, and appends.
+//! Journals: attaching one, compared with reading and hashing its file, and appends.
 
 ghost use Rattle.std.specs.Prelude.{◌≡◌, true};
 ghost use Rattle.iss_journal.specs.Sound.{IsSound, is_attached};
@@ -15,7 +15,7 @@ type Result<T> = std::result::Result<T, Fail>;
 
 const ENTRY: [u8; 64] = [7; 64];
 
-// The bytes of a journal with so many entries.
+// The bytes of a journal with this many entries.
 fn journal_bytes(alloc: Global, entries: u32) -> Result<Vec<u8>> {
     let mut bytes = Vec::new(alloc);
     for _ in 0..entries {
@@ -63,7 +63,7 @@ fn attaching(rt: &HostRuntime, name: &str, entries: u32) -> Result<()> {
     Ok(())
 }
 
-// Appends so many entries, and says how many milliseconds it took.
+// Appends this many entries, and returns the milliseconds that it took.
 fn time_appends<D: Disk>(rt: &HostRuntime, journal: &mut Journal<D>, appends: u32) -> Result<u128>
     requires sound { IsSound D.history D.room journal.old }
     requires attached { is_attached journal.old ≡ true }
@@ -75,7 +75,7 @@ fn time_appends<D: Disk>(rt: &HostRuntime, journal: &mut Journal<D>, appends: u3
     milliseconds(rt, start)
 }
 
-// Times appends to a journal in memory, where a call of the device costs next to nothing, and to a file.
+// Times appends to a journal in memory, where a call of the device costs almost nothing, and to a file.
 fn appending(rt: &HostRuntime, name: &str, appends: u32) -> Result<()> {
     let mut journal = Journal::over(rt.alloc(), MemoryDisk::new(rt.alloc())?);
     journal.attach()?;
@@ -91,7 +91,7 @@ fn appending(rt: &HostRuntime, name: &str, appends: u32) -> Result<()> {
     Ok(())
 }
 
-/// Times attaching a journal with so many entries of 64 bytes in the file of this name, and so many appends.
+/// Times attaching a journal with this many entries of 64 bytes in the named file, and this many appends.
 pub(crate) fn time_all(rt: &HostRuntime, name: &str, entries: u32, appends: u32) -> Result<()> {
     attaching(rt, name, entries)?;
     appending(rt, name, appends)?;

@@ -1,6 +1,5 @@
-//! Keys: trees, signatures and verifications, each beside what the same number of digests costs by itself. Of a literal
-//! count, height or secret the tactics list what the keys are, so these are parameters, and come from functions that
-//! promise nothing.
+//! Keys: trees, signatures and verifications, each compared with its digests alone. For a literal count, height or
+//! secret the tactics would evaluate the keys. So these are parameters, and come from functions without contracts.
 
 ghost use Rattle.std.specs.Prelude.{◌≤◌};
 
@@ -21,7 +20,7 @@ fn public_of(keys: &Keys) -> PublicKey {
     keys.public()
 }
 
-// Signs so many times, and adds up the first bytes, the numbers of leaves.
+// Signs this many times, and adds up the first bytes and the leaves' numbers.
 fn signatures(keys: &mut Keys, count: u32) -> Timed<u32> {
     let mut bytes = 0u32;
     for _i in 0..count {
@@ -41,7 +40,7 @@ fn verifications(key: &PublicKey, signature: &[u8], count: u32) -> u32 {
     verified
 }
 
-// How long it takes to make a tree.
+// The time to compute a tree.
 fn tree_once(rt: &HostRuntime, height: u8) -> Timed<u64>
     requires low { 2 ≤ height }
     requires high { height ≤ 12 }
@@ -77,7 +76,7 @@ fn time_signing(rt: &HostRuntime, count: u32, rounds: u32) -> Timed<()> {
     print_times(rt, "sign", best, u64::from(count))
 }
 
-// How long so many verifications take; for ever, where one says no.
+// The time of this many verifications; the maximal time if one fails.
 fn verify_once(rt: &HostRuntime, public: &PublicKey, signature: &[u8], count: u32) -> Timed<u64> {
     let start = Instant::now(rt)?;
     let verified = verifications(public, signature, count);
@@ -130,7 +129,7 @@ pub(crate) fn time_all(rt: &HostRuntime) -> Timed<()> {
     time_one_tree(rt, 10, 256, 12)
 }
 
-// Signs three times with this key, and prints how many digests that takes.
+// Signs three times with this key, and prints the number of digests.
 fn count_signatures(rt: &HostRuntime, keys: &mut Keys) -> Timed<()> {
     let signed = signatures(keys, 3)? == 6;
     println!(rt;
@@ -141,7 +140,7 @@ fn count_signatures(rt: &HostRuntime, keys: &mut Keys) -> Timed<()> {
     Ok(())
 }
 
-// Verifies a signature of this key three times, and prints how many digests that takes.
+// Verifies a signature of this key three times, and prints the number of digests.
 fn count_verifications(rt: &HostRuntime, keys: &mut Keys) -> Timed<()> {
     let signature = signature_by(keys)?;
     let verified = verifications(&public_of(keys), &signature, 3);
@@ -152,7 +151,7 @@ fn count_verifications(rt: &HostRuntime, keys: &mut Keys) -> Timed<()> {
     Ok(())
 }
 
-/// Prints what a small workload takes, which is the same on each machine.
+/// Prints the counts of a small workload, which are the same on each machine.
 pub(crate) fn count_all(rt: &HostRuntime) -> Timed<()> {
     let mut keys = key(rt.alloc(), [7; 32], 2)?;
     println!(rt; "tree of height 2: {:?}", digests_of_tree(2))?;

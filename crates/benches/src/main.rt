@@ -1,5 +1,6 @@
-//! What the parts below the modules cost. The first word names what is timed: `keys`, `network`, `journal FILE ENTRIES APPENDS` or
-//! `schedule PAIRS TIMES`. With no words a small workload of each is run and what it makes is printed, the same on each machine.
+//! The cost of the parts below the modules. The first argument says what is timed: `keys`, `network`, `journal FILE
+//! ENTRIES APPENDS` or `schedule PAIRS TIMES`. Without arguments a small workload of each runs, and its counts are
+//! printed, the same on each machine.
 #![tactic(auto)]
 
 mod directories;
@@ -12,7 +13,7 @@ mod times;
 use std::env;
 use std::test::Fail;
 
-// The number that is the word at this place.
+// The argument at this index as a number.
 fn number_at(words: &[String], place: usize) -> Result<u32, Fail> {
     let word = words.get(place).ok_or("how many?")?;
     Ok(word.as_str().parse::<u32>()?)
@@ -26,7 +27,7 @@ fn count_all(rt: &HostRuntime) -> Result<(), Fail> {
     schedule::count_all(rt)
 }
 
-// Times what the words behind the program's name ask for.
+// Times what the arguments ask for.
 fn time(rt: &HostRuntime, what: &str, words: &[String]) -> Result<(), Fail> {
     match what {
         "keys" => keys::time_all(rt),

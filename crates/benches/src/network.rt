@@ -1,5 +1,5 @@
-//! The network between cores: packets are sent, and then each is delivered, in random order. If any event looked through
-//! the packets, ten times the packets would cost a hundred times as much.
+//! The network between cores: packets are sent, then each is delivered, in random order. If an event searched all
+//! packets, ten times the packets would cost a hundred times as much.
 
 ghost use Rattle.std.specs.Prelude.{◌<◌};
 
@@ -16,7 +16,7 @@ const CORES: u32 = 4;
 // In a round each core sends a packet to the next core, and one to every core.
 const SENT_IN_ROUND: u32 = CORES + CORES * CORES;
 
-/// A network between four cores, whose packets have no bytes: the network never looks at them.
+/// A network between four cores. Its packets are empty, since the network never reads them.
 #[derive(Drop)]
 struct Group {
     network: Network,
@@ -59,7 +59,7 @@ impl Group {
         Ok(())
     }
 
-    // Delivers a packet, and answers which core it was for.
+    // Delivers a packet, and returns its recipient.
     fn deliver(&mut self, packet: u64) -> u32 {
         let to = self.network.packet(packet).map_or(0, |sent| sent.to);
         self.network.settle(packet);
@@ -74,7 +74,7 @@ struct Place {
     packet: u64,
 }
 
-/// How long it took, in nanoseconds, to send all packets and to deliver them.
+/// The nanoseconds to send all packets and to deliver them.
 #[derive(Clone, Copy)]
 struct Times {
     sending: u64,
@@ -108,7 +108,7 @@ fn groups(alloc: Global, count: u32) -> Result<Vec<Group>, NoMemory> {
     Ok(groups)
 }
 
-// Sends the packets of so many rounds in each group, the groups by turns.
+// Sends the packets of this many rounds in each group, taking the groups in turn.
 fn send_rounds(alloc: Global, groups: &mut [Group], rounds: u32) -> Result<(), NoMemory> {
     for _ in 0..rounds {
         for group in groups.iter_mut() {
@@ -118,7 +118,7 @@ fn send_rounds(alloc: Global, groups: &mut [Group], rounds: u32) -> Result<(), N
     Ok(())
 }
 
-// Delivers the packets in this order, and adds up the numbers of the cores that they were for.
+// Delivers the packets in this order, and adds up the numbers of their recipients.
 fn deliver_all(groups: &mut [Group], order: &[Place]) -> u64 {
     let mut sum = 0u64;
     for place in order {
@@ -130,7 +130,7 @@ fn deliver_all(groups: &mut [Group], order: &[Place]) -> u64 {
     sum
 }
 
-// How many packets wait.
+// The number of pending packets.
 fn count_waiting(alloc: Global, groups: &mut [Group]) -> Result<usize, NoMemory> {
     let mut waiting = 0usize;
     for group in groups.iter_mut() {
@@ -153,7 +153,7 @@ fn random_order(alloc: Global, groups: u32, rounds: u32) -> Result<Vec<Place>, N
     Ok(order)
 }
 
-// Swaps each element with one before it or itself, chosen by a linear congruential generator.
+// Swaps each element with itself or one before it, chosen by a linear congruential generator.
 fn shuffle(order: &mut [Place]) {
     let mut state = 1u64;
     for place in 0..order.len() {
@@ -169,7 +169,7 @@ fn nanos_since(rt: &HostRuntime, start: Instant) -> Timed<u64> {
     Ok(u64::try_from(start.elapsed(rt)?.as_nanos()).unwrap_or(u64::MAX))
 }
 
-// Sends the packets of so many rounds in each group, delivers each, and says how long that took.
+// Sends the packets of this many rounds in each group, delivers them all, and returns the times.
 fn time_once(rt: &HostRuntime, count: u32, rounds: u32) -> Timed<Times> {
     let alloc = rt.alloc();
     let mut groups = groups(alloc, count)?;
@@ -199,7 +199,7 @@ fn time_best(rt: &HostRuntime, count: u32, rounds: u32, times: u32) -> Timed<Tim
     Ok(best)
 }
 
-// Prints what one of `count` groups took, and answers the nanoseconds.
+// Prints the times for one of `count` groups, and returns the nanoseconds.
 fn time_size(rt: &HostRuntime, count: u32, rounds: u32, times: u32, before: u64) -> Timed<u64> {
     let best = time_best(rt, count, rounds, times)?;
     let packets = u64::from(rounds) * u64::from(SENT_IN_ROUND);
@@ -221,8 +221,8 @@ fn time_size(rt: &HostRuntime, count: u32, rounds: u32, times: u32, before: u64)
 
 /// Runs the whole workload and prints times.
 ///
-/// First one network at a time, and then as many networks at once as have 1,000,000 packets together. What is then left
-/// of the difference does not come from the processor's caches.
+/// First one network at a time, then as many networks at once as have 1,000,000 packets together. The remaining
+/// difference does not come from the processor's caches.
 pub(crate) fn time_all(rt: &HostRuntime) -> Timed<()> {
     let mut before = 0u64;
     for (rounds, times) in [(500u32, 100u32), (5_000, 20), (50_000, 5)] {

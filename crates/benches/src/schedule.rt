@@ -1,4 +1,4 @@
-//! Reading and writing schedules, beside what the SHA-256 of the same bytes costs.
+//! Reading and writing schedules, compared with the SHA-256 of the same bytes.
 
 use iss_schedule::{Schedule, read, write};
 use sha2::{Digest, Sha256};
@@ -11,7 +11,7 @@ type Result<T> = std::result::Result<T, Fail>;
 const HEADER: &str =
     "iss 1\nmodule relay\nf 0\nepoch 3\nbuckets 3\nbatch 4\nwindow 8\npolicy simple\nclients 1\nkeys 4\nfaulty none\n";
 
-// A schedule's text with so many pairs of events.
+// The text of a schedule with this many pairs of events.
 fn text_of(alloc: Global, pairs: u32) -> std::result::Result<String, AllocError> {
     let mut text = String::from_str(alloc, HEADER)?;
     for _i in 0..pairs {
@@ -24,7 +24,7 @@ fn micros(rt: &HostRuntime, start: Instant) -> Result<u128> {
     Ok(start.elapsed(rt)?.as_micros())
 }
 
-// Digests the text so many times over.
+// Hashes the text this many times.
 fn time_digests(rt: &HostRuntime, text: &[u8], times: u32) -> Result<()> {
     let start = Instant::now(rt)?;
     let mut last = 0u8;
@@ -37,7 +37,7 @@ fn time_digests(rt: &HostRuntime, text: &[u8], times: u32) -> Result<()> {
     Ok(())
 }
 
-// Reads the text so many times over.
+// Reads the text this many times.
 fn time_reads(rt: &HostRuntime, text: &[u8], times: u32) -> Result<Vec<Schedule>> {
     let mut schedules = Vec::new(rt.alloc());
     let start = Instant::now(rt)?;
@@ -61,7 +61,7 @@ fn time_writes(rt: &HostRuntime, schedules: &[Schedule]) -> Result<()> {
     Ok(())
 }
 
-/// Reads and writes a small schedule, and prints how much that was.
+/// Reads and writes a small schedule, and prints the counts.
 pub(crate) fn count_all(rt: &HostRuntime) -> Result<()> {
     let text = text_of(rt.alloc(), 50)?;
     let schedule = read(rt.alloc(), text.as_bytes())?;
@@ -73,8 +73,8 @@ pub(crate) fn count_all(rt: &HostRuntime) -> Result<()> {
     Ok(())
 }
 
-/// Reads a text with so many pairs of events so many times over, keeps each schedule, so that each takes memory of its
-/// own, and prints microseconds.
+/// Reads a text with this many pairs of events this many times, and prints microseconds. All schedules are kept, so
+/// each allocates its own memory.
 pub(crate) fn time_all(rt: &HostRuntime, pairs: u32, times: u32) -> Result<()> {
     let text = text_of(rt.alloc(), pairs)?;
     time_digests(rt, text.as_bytes(), times)?;

@@ -1,8 +1,8 @@
-//! What is printed of a work and its digests.
+//! Printing the times of a workload and its digests.
 use bench_digests::digests::Best;
 use std::test::Fail;
 
-/// Prints a line of times: of one piece of work, and how it compares with its digests.
+/// Prints a line of times: of one workload, compared with its digests.
 pub(crate) fn print_times(
     rt: &HostRuntime,
     what: &str,

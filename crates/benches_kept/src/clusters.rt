@@ -1,4 +1,4 @@
-//! A cluster, and what node 0 of it takes.
+//! A cluster, and what node 0 of it receives.
 ghost use Rattle.std.specs.Prelude.{◌≡◌};
 ghost use Rattle.iss_rules.specs.Concrete.{keys_of};
 ghost use Rattle.iss_rules.specs.Setups.{IsSetupOf};
@@ -13,7 +13,7 @@ use std::alloc::Global;
 use std::mem;
 use std::test::Fail;
 
-// No more rounds of packets follow a proposal.
+// The maximal number of rounds of packets after a proposal.
 const MOST: u32 = 4;
 
 fn nodes_of<M: Sequenced>(
@@ -31,7 +31,7 @@ fn nodes_of<M: Sequenced>(
     Ok(nodes)
 }
 
-/// The nodes, the packets that wait, each for a node, and what node 0 took.
+/// The nodes, the pending packets with their recipients, and what node 0 received.
 #[derive(Drop)]
 pub struct Cluster<M: Sequenced> {
     nodes: Vec<Node<M>>,
@@ -39,7 +39,7 @@ pub struct Cluster<M: Sequenced> {
     pub taken: Vec<Work>,
 }
 
-/// A cluster that has taken nothing.
+/// A new cluster.
 pub(crate) fn start<M: Sequenced>(alloc: Global, setup: &Setup) -> Result<Cluster<M>, Fail>
     requires { IsSetupOf M.spec setup.now }
 {
@@ -53,7 +53,7 @@ pub(crate) fn start<M: Sequenced>(alloc: Global, setup: &Setup) -> Result<Cluste
 }
 
 impl<M: Sequenced> Cluster<M> {
-    // A packet waits for all nodes.
+    // A packet becomes pending for all nodes.
     fn post_to_all(&mut self, bytes: &Bytes) -> Result<(), Fail> {
         for node in 0..self.nodes.len() {
             self.waiting.push((node, bytes.copy()?))?;
@@ -68,7 +68,7 @@ impl<M: Sequenced> Cluster<M> {
         }
     }
 
-    // What a node sent waits for those whom it is for.
+    // What a node sent becomes pending for its recipients.
     fn post(&mut self, outcome: Outcome) -> Result<(), Fail> {
         for (to, bytes) in outcome.sends.into_vec() {
             self.post_one(to, bytes)?;
@@ -93,7 +93,7 @@ impl<M: Sequenced> Cluster<M> {
         self.post(outcome)
     }
 
-    // Each packet that waits is taken.
+    // Delivers each pending packet.
     fn pump(&mut self, alloc: Global) -> Result<(), Fail> {
         let posts = mem::replace(&mut self.waiting, Vec::new(alloc));
         for (node, bytes) in posts {
@@ -102,7 +102,7 @@ impl<M: Sequenced> Cluster<M> {
         Ok(())
     }
 
-    /// All nodes take these packets.
+    /// All nodes receive these packets.
     pub(crate) fn give(&mut self, alloc: Global, packets: &[Bytes]) -> Result<(), Fail> {
         for bytes in packets {
             self.post_to_all(bytes)?;
@@ -125,7 +125,7 @@ impl<M: Sequenced> Cluster<M> {
         Ok(())
     }
 
-    /// So many times each node proposes, and all that follows is taken.
+    /// Each node proposes this many times, and all that follows is delivered.
     pub(crate) fn turns(&mut self, alloc: Global, count: u32) -> Result<(), Fail> {
         for _ in 0..count {
             self.turn(alloc)?;
@@ -133,7 +133,7 @@ impl<M: Sequenced> Cluster<M> {
         Ok(())
     }
 
-    /// What node 0 took since this was asked last.
+    /// What node 0 received since the last call.
     pub(crate) fn take_taken(&mut self, alloc: Global) -> Vec<Work> {
         mem::replace(&mut self.taken, Vec::new(alloc))
     }

@@ -1,4 +1,4 @@
-//! What the events of one node cost it, with a journal and without.
+//! The cost of a node's events, with a journal and without.
 ghost use Rattle.iss_rules.specs.Setups.{IsSetupOf};
 ghost use Rattle.sb_relay.specs.Relay.{relay};
 
@@ -19,7 +19,7 @@ use std::alloc::Global;
 use std::test::Fail;
 use std::time::Instant;
 
-// How often each node proposes: an epoch has 64 slots, and none ends.
+// How often each node proposes. An epoch has 64 slots, so none ends.
 const TURNS: u32 = 15;
 
 // How many requests each client has, and how often each node proposes until all are ordered.
@@ -27,14 +27,14 @@ const EACH: u32 = 64;
 
 const FULL_TURNS: u32 = 8;
 
-/// What a node has taken before, and what is timed.
+/// The events before the timed ones, and those that are timed.
 #[derive(Drop)]
 pub struct Course {
     before: Vec<Work>,
     works: Vec<Work>,
 }
 
-// How many of these events a node takes.
+// How many of these events a node accepts.
 fn take_bare<M: Sequenced>(alloc: Global, node: &mut Node<M>, works: Vec<Work>) -> u32 {
     let mut taken = 0u32;
     for work in works {
@@ -55,7 +55,7 @@ fn take_kept<M: Sequenced>(node: &mut Kept<M, MemoryDisk>, works: Vec<Work>) -> 
     taken
 }
 
-// A time counts where all events are taken.
+// A time counts only if all events are accepted.
 fn told(nanos: u64, taken: u32, course: &Course) -> Result<u64, Fail> {
     if taken as usize == course.works.len() {
         return Ok(nanos);
@@ -91,7 +91,8 @@ fn run_kept<M: Sequenced>(
     told(nanos, taken, course)
 }
 
-// A node without a journal takes the events, and right behind it a kept node, so that both meet the machine as it is then.
+// A node without a journal handles the events, and right after it a kept node, so that both meet the machine in the
+// same state.
 fn time_both<M: Sequenced>(
     rt: &HostRuntime,
     setup: &Setup,
@@ -124,7 +125,7 @@ fn print_times(
     Ok(())
 }
 
-// The best of so many rounds, in each of which the events are taken once without a journal and once with one.
+// The best of several rounds. In each, the events are handled once without a journal and once with one.
 fn compare<M: Sequenced>(
     rt: &HostRuntime,
     what: &str,
@@ -146,7 +147,7 @@ fn compare<M: Sequenced>(
     print_times(rt, what, course.works.len(), alone, with)
 }
 
-// What node 0 takes where nothing is asked for.
+// What node 0 receives without any requests.
 fn empty_course<M: Sequenced>(alloc: Global, setup: &Setup) -> Result<Course, Fail>
     requires { IsSetupOf M.spec setup.now }
 {
@@ -158,7 +159,7 @@ fn empty_course<M: Sequenced>(alloc: Global, setup: &Setup) -> Result<Course, Fa
     })
 }
 
-// What it takes of clients, and then of nodes that order their requests.
+// What node 0 receives from clients, and then from nodes that order their requests.
 fn full_courses(alloc: Global, setup: &Setup) -> Result<(Vec<Work>, Vec<Work>), Fail>
     requires { IsSetupOf relay setup.now }
 {
@@ -170,7 +171,7 @@ fn full_courses(alloc: Global, setup: &Setup) -> Result<(Vec<Work>, Vec<Work>), 
     Ok((asked, cluster.take_taken(alloc)))
 }
 
-/// Timeouts and empty batches under the relay.
+/// Timeouts and empty batches with the relay.
 pub(crate) fn time_relay(rt: &HostRuntime, times: u32) -> Result<(), Fail> {
     let setup = of_relay(rt.alloc());
     let course = Course {
@@ -182,7 +183,7 @@ pub(crate) fn time_relay(rt: &HostRuntime, times: u32) -> Result<(), Fail> {
     compare::<Relay>(rt, "empty batches", &setup, &course, times)
 }
 
-/// Requests, and full batches of them, under the relay.
+/// Requests, and full batches of them, with the relay.
 pub(crate) fn time_batches(rt: &HostRuntime, times: u32) -> Result<(), Fail> {
     let setup = of_relay(rt.alloc());
     let (asked, works) = full_courses(rt.alloc(), &setup)?;
@@ -203,7 +204,7 @@ pub(crate) fn time_batches(rt: &HostRuntime, times: u32) -> Result<(), Fail> {
     compare::<Relay>(rt, "full batches of known requests", &setup, &course, times)
 }
 
-/// Empty batches under echo, where each word is signed.
+/// Empty batches with echo, where each message is signed.
 pub(crate) fn time_echo(rt: &HostRuntime, times: u32) -> Result<(), Fail> {
     let setup = of_echo(rt.alloc());
     let course = empty_course::<Echo>(rt.alloc(), &setup)?;

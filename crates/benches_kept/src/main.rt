@@ -1,6 +1,7 @@
-//! What an event costs a kept node, over a disk in memory, beside what it costs a node without a journal. The word is how many times each work
-//! is timed. With two words a node takes as many events as the second says, for those who look at its memory. With no word each work is done
-//! once, and what came of it is printed, the same on each machine.
+//! The cost of an event at a kept node over a disk in memory, compared with a node without a journal. The argument is
+//! how many times each workload is timed. With two arguments, a node handles as many events as the second says, so that
+//! its memory can be measured. Without arguments each workload runs once, and its counts are printed, the same on each
+//! machine.
 #![tactic(auto)]
 
 mod clusters;

@@ -1,4 +1,4 @@
-//! A node that has taken nothing, without a journal and with one.
+//! A new node, without a journal and with one.
 ghost use Rattle.std.specs.Prelude.{◌≡◌, ◌<◌, IfOk};
 ghost use Rattle.iss_request.specs.Setup.{IsGoodSetup};
 ghost use Rattle.iss_rules.specs.Concrete.{keys_of};
@@ -14,7 +14,7 @@ use iss_sb::Sequenced;
 use std::alloc::Global;
 use std::test::Fail;
 
-/// The trees of all nodes and clients are made.
+/// Computes the trees of all nodes and clients.
 pub(crate) fn make_trees(directory: &Directory) {
     for number in 0..CLIENTS {
         let _made = directory.node_key(number);
@@ -22,7 +22,7 @@ pub(crate) fn make_trees(directory: &Directory) {
     }
 }
 
-/// The keys of all nodes and clients. They remember no check, and no tree is made.
+/// The keys of all nodes and clients, without cached checks and trees.
 pub(crate) fn directory_of(alloc: Global, setup: &Setup) -> Result<SharedDirectory, Fail>
     requires { IsGoodSetup setup.now }
     ensures { IfOk result (λ directory. directory ≡ keys_of setup.now) }
@@ -75,7 +75,7 @@ fn kept_over<M: Sequenced>(
     Ok(Kept::over(alloc, setup, directory, NodeId(0), disk)?)
 }
 
-// Node 0 over what its disk holds.
+// Node 0, reopened over its disk.
 fn reopened<M: Sequenced>(
     alloc: Global,
     setup: &Setup,

@@ -1,4 +1,5 @@
-//! The requests of clients, in packets. Helpers promise nothing: of a literal request the tactics would list what its bytes are.
+//! The requests of clients, in packets. The helpers have no contracts: for a literal request the tactics would evaluate
+//! its bytes.
 ghost use Rattle.std.specs.Prelude.{◌≤◌};
 
 use crate::setups::{CLIENTS, HEIGHT};
@@ -11,7 +12,7 @@ use std::test::Fail;
 
 const PAYLOAD: &[u8; 8] = b"00000000";
 
-// What a client signs.
+// The statement that a client signs.
 fn statement_of(client: u8, number: u32) -> [u8; 16] {
     let mut statement = [0u8; 16];
     let [a, b, c, d] = number.to_be_bytes();
@@ -42,7 +43,7 @@ fn payload(alloc: Global) -> Result<Bytes, NoMemory> {
     Ok(Bytes::of(Vec::from_slice(alloc, PAYLOAD)?))
 }
 
-// The next request of a client, by the next leaf.
+// The next request of a client, signed with the next leaf.
 fn packet_of(alloc: Global, keys: &mut Keys, client: u8, number: u32) -> Result<Bytes, Fail> {
     let sig = signature_of(keys, client, number)?;
     let payload = payload(alloc)?;
@@ -75,7 +76,7 @@ fn put_all(alloc: Global, height: u8, each: u32, all: &mut Vec<Bytes>) -> Result
     Ok(())
 }
 
-/// So many requests of each client, in packets.
+/// This many requests of each client, in packets.
 pub(crate) fn packets(alloc: Global, each: u32) -> Result<Vec<Bytes>, Fail> {
     let mut all = Vec::new(alloc);
     put_all(alloc, HEIGHT, each, &mut all)?;

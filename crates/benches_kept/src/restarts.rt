@@ -1,4 +1,4 @@
-//! What a restart costs: the node is made anew from its entries.
+//! The cost of a restart, which recovers the node from its entries.
 ghost use Rattle.iss_rules.specs.Setups.{IsSetupOf};
 ghost use Rattle.sb_relay.specs.Relay.{relay};
 
@@ -23,7 +23,7 @@ fn subject(alloc: Global, setup: &Setup) -> Result<Subject, Fail>
     kept::<Relay>(alloc, setup, &directory)
 }
 
-// How many of so many timeouts a node takes.
+// How many of this many timeouts a node accepts.
 fn expire(node: &mut Subject, count: u32) -> u32 {
     let mut taken = 0u32;
     for _ in 0..count {
@@ -34,7 +34,7 @@ fn expire(node: &mut Subject, count: u32) -> u32 {
     taken
 }
 
-// How long a node takes to be made anew.
+// The time to recover a node.
 fn time_reopen(rt: &HostRuntime, node: &mut Subject) -> Result<u64, Fail> {
     let start = Instant::now(rt)?;
     node.restart();
@@ -70,7 +70,7 @@ pub(crate) fn time_all(rt: &HostRuntime, times: u32) -> Result<(), Fail> {
     time_restart(rt, 100_000, times)
 }
 
-/// A node takes so many timeouts.
+/// A node handles this many timeouts.
 pub(crate) fn fill(rt: &HostRuntime, count: u32) -> Result<(), Fail> {
     let setup = of_relay(rt.alloc());
     let mut node = subject(rt.alloc(), &setup)?;

@@ -1,4 +1,4 @@
-//! The clusters: the relay, which signs nothing but votes, and echo, whose words are signed.
+//! The clusters: the relay, which signs only votes, and echo, which signs each message.
 ghost use Rattle.iss_rules.specs.Setups.{IsSetupOf};
 ghost use Rattle.sb_echo.specs.Echo.{echo};
 ghost use Rattle.sb_relay.specs.Relay.{relay};
@@ -9,10 +9,10 @@ use std::alloc::Global;
 /// The height of all trees.
 pub const HEIGHT: u8 = 7;
 
-/// How many clients there are. There are fewer nodes.
+/// The number of clients. There are fewer nodes.
 pub const CLIENTS: u8 = 12;
 
-/// Three nodes under the relay, in epochs of so many slots that none ends.
+/// Three nodes with the relay. An epoch has so many slots that none ends.
 pub(crate) fn of_relay(alloc: Global) -> Setup
     ensures { IsSetupOf relay result }
 {
@@ -35,7 +35,7 @@ pub(crate) fn of_relay(alloc: Global) -> Setup
     }
 }
 
-/// Four nodes under echo, likewise.
+/// Four nodes with echo. An epoch has so many slots that none ends.
 pub(crate) fn of_echo(alloc: Global) -> Setup
     ensures { IsSetupOf echo result }
 {

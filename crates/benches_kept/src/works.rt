@@ -1,10 +1,10 @@
-//! Events of a node that can be made again.
+//! Events of a node that can be copied.
 use iss_request::{Bytes, NodeId};
 use iss_rules::NodeEvent;
 use std::alloc::Global;
 use std::test::Fail;
 
-/// An event that asks nobody.
+/// An event that needs no environment.
 #[derive(Drop)]
 pub enum Work {
     Take(Bytes),
@@ -31,7 +31,7 @@ impl Work {
     }
 }
 
-/// The same again.
+/// A copy.
 pub(crate) fn copy_all(alloc: Global, works: &[Work]) -> Result<Vec<Work>, Fail> {
     let mut all = Vec::new(alloc);
     for work in works {
@@ -51,7 +51,7 @@ pub(crate) fn packets_in(alloc: Global, works: &[Work]) -> Result<Vec<Work>, Fai
     Ok(all)
 }
 
-/// So many times that a leader's time runs out.
+/// This many timeouts of a leader.
 pub(crate) fn timeouts(alloc: Global, count: u32) -> Result<Vec<Work>, Fail> {
     let mut all = Vec::new(alloc);
     for _ in 0..count {

@@ -1,4 +1,4 @@
-//! Nodes of HotStuff with their keys, and the messages between them: a segment of slots, and a round that changes behind them.
+//! Nodes of HotStuff with their keys, and the messages between them: a segment of slots, and a view change after it.
 ghost use Rattle.std.specs.Prelude.{◌≡◌, ◌≤◌, ◌<◌, ◌+◌, ◌*◌, ◌^◌, IfOk, length};
 ghost use Rattle.iss_keys.specs.Directories.{directory_of};
 ghost use Rattle.iss_request.specs.Setup.{IsGoodSetup};
@@ -18,10 +18,10 @@ use sb_hotstuff::HotStuff;
 use std::alloc::Global;
 use std::collections::VecDeque;
 
-// No more messages than these are taken at once.
+// The maximal number of messages delivered at once.
 const MOST: u32 = 100_000_000;
 
-// ---- the instance, in which node 0 leads. Its counts are parameters, since of literal ones the tactics list each key
+// ---- the instance, led by node 0. Its counts are parameters: the tactics would evaluate each key of literal ones
 
 fn setup(alloc: Global, f: u32, n: u32, quorum: u32, keys: u32) -> Setup
     requires few { f ≤ 3 }
@@ -87,7 +87,7 @@ fn instance(alloc: Global, setup: Setup, slots: Seq<Slot>) -> Result<Params, NoM
     })
 }
 
-/// The instance that withstands so many faults, with so many slots, and keys of this height.
+/// The instance for `f` faults, with this many slots, and keys of this height.
 pub fn segment(alloc: Global, f: u32, keys: u32, count: u64) -> Result<Params, NoMemory>
     requires faults { f ≤ 3 }
     requires low { 2 ≤ keys }
@@ -110,7 +110,7 @@ struct Core {
     keys: Keys,
 }
 
-// A message on its way, by its place among those that were sent.
+// A message in transit, by its index among those sent.
 #[derive(Clone, Copy)]
 struct Post {
     from: u8,
@@ -118,19 +118,19 @@ struct Post {
     at: usize,
 }
 
-/// The nodes, what they sent, and what of it is on its way.
+/// The nodes, what they sent, and what is in transit.
 #[derive(Drop)]
 pub struct Cluster {
     nodes: u8,
     cores: Vec<Core>,
     pub sent: Vec<Bytes>,
     waiting: VecDeque<Post>,
-    // whether no Decide comes to anybody
+    // whether Decides are lost
     is_cut: bool,
     pub delivered: u32,
 }
 
-// A node's keys, which share their tree with the directory. The tree is made, so that no work has to.
+// A node's keys, which share their tree with the directory. The tree is computed here, outside the measured work.
 fn keys_of(alloc: Global, p: &Params, node: u8) -> Keys
     requires good { IsGoodParams hotstuff p.now }
     requires node { node < p.now.setup.n }
@@ -152,20 +152,20 @@ fn new_core(alloc: Global, p: &Params, node: u8) -> Timed<Core>
     })
 }
 
-// A message in bytes, as it goes to all.
+// A message in bytes, as it is broadcast.
 fn bytes_of(alloc: Global, msg: &Message) -> Timed<Bytes> {
     let mut out = Writer::new(alloc, 1);
     HotStuff::encode(msg, &mut out)?;
     Ok(out.into_bytes())
 }
 
-// The message that is read from bytes.
+// The message decoded from bytes.
 fn message_of(alloc: Global, bytes: &[u8]) -> Timed<Message> {
     let mut fields = Fields::over(1, bytes);
     Ok(HotStuff::decode(alloc, &mut fields)?)
 }
 
-// Checks each signature that a message claims.
+// Verifies each signature that a message claims.
 fn check(alloc: Global, p: &Params, from: NodeId, msg: &Message) -> Timed<()>
     requires good { IsGoodParams hotstuff p.now }
     requires from { from.0 < p.now.setup.n }
@@ -181,7 +181,7 @@ fn check(alloc: Global, p: &Params, from: NodeId, msg: &Message) -> Timed<()>
     Ok(())
 }
 
-// The batch of a slot: the same requests with numbers of their own, so that no two slots have one value.
+// The batch of a slot: the same requests with different numbers, so that all slots have different values.
 fn batch_of(slot: Slot, batch: &Batch) -> Result<Batch, NoMemory> {
     let mut requests = batch.copy()?.into_requests();
     let first = ((slot.0 % 65536) as u32).wrapping_mul(32);
@@ -191,13 +191,13 @@ fn batch_of(slot: Slot, batch: &Batch) -> Result<Batch, NoMemory> {
     Ok(Batch::of(requests))
 }
 
-/// A number of things, as it is counted here.
+/// A length as a count.
 pub(crate) fn count_of(things: usize) -> u32 {
     u32::try_from(things).unwrap_or(u32::MAX)
 }
 
 impl Cluster {
-    /// Fresh nodes, which hear Decides or not.
+    /// New nodes, which receive Decides or not.
     pub(crate) fn new(alloc: Global, p: &Params, is_cut: bool) -> Timed<Cluster>
         requires { IsGoodParams hotstuff p.now }
     {
@@ -220,7 +220,7 @@ impl Cluster {
         Ok(())
     }
 
-    // A message is on its way to those to whom it goes.
+    // Puts a message in transit to its recipients.
     fn send(&mut self, alloc: Global, from: u8, to: To, msg: &Message) -> Timed<()> {
         let at = self.sent.len();
         self.sent.push(bytes_of(alloc, msg)?)?;
@@ -236,7 +236,7 @@ impl Cluster {
         self.post(from, node.0, at)
     }
 
-    // What a node makes of an input. What it sends waits.
+    // A node's step. What it sends is in transit.
     fn take(&mut self, alloc: Global, p: &Params, at: u8, input: Input<Message>) -> Timed<()>
         requires good { IsGoodParams hotstuff p.now }
         requires input { IsGoodInput p.now input }
@@ -254,7 +254,7 @@ impl Cluster {
         Ok(())
     }
 
-    // A node reads a message, checks what it claims, asks what it would accept, and takes it.
+    // A node decodes a message, verifies its claims, checks what it would accept, and takes it.
     fn hear(&mut self, alloc: Global, p: &Params, post: Post) -> Timed<()>
         requires { IsGoodParams hotstuff p.now }
     {
@@ -275,7 +275,7 @@ impl Cluster {
         self.take(alloc, p, to, input)
     }
 
-    // Takes all that waits, and all that comes of it.
+    // Delivers all messages, and all that follow from them.
     fn settle(&mut self, alloc: Global, p: &Params) -> Timed<()>
         requires { IsGoodParams hotstuff p.now }
     {
@@ -288,7 +288,8 @@ impl Cluster {
         Ok(())
     }
 
-    /// The leader casts in each slot, with numbers of its own, and the messages of each cast are taken before the next one.
+    /// The leader proposes in each slot, with different numbers. The messages of each proposal are delivered before the
+    /// next.
     pub(crate) fn cast_all(&mut self, alloc: Global, p: &Params, batch: &Batch) -> Timed<()>
         requires { IsGoodParams hotstuff p.now }
     {
@@ -301,7 +302,7 @@ impl Cluster {
         Ok(())
     }
 
-    /// The round ends at each node, and the next one begins. Decides come again.
+    /// Each node's view times out, and the next one begins. Decides are delivered again.
     pub(crate) fn change_round(&mut self, alloc: Global, p: &Params) -> Timed<()>
         requires { IsGoodParams hotstuff p.now }
     {

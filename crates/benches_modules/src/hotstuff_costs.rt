@@ -1,6 +1,6 @@
-//! HotStuff: what slots cost in the normal case, and a round that changes behind them. Beside it stand the digests that cannot
-//! be done without: each signature is made once and checked once, each value is hashed once, and each node hashes each node of
-//! the tree once. What one node checked or hashed of a message the others find in the directory that they share.
+//! HotStuff: the cost of slots in the normal case, and of a view change after them. Compared with the digests that are
+//! necessary: each signature is made once and verified once, each value is hashed once, and each node hashes each tree
+//! node once. What one node verified or hashed of a message, the others find in their shared directory.
 ghost use Rattle.std.specs.Prelude.{◌≤◌};
 ghost use Rattle.iss_sb.specs.Calls.{IsGoodParams};
 ghost use Rattle.sb_hotstuff.specs.HotStuff.{hotstuff};
@@ -15,15 +15,15 @@ use sha2::{Digest, Sha256};
 use std::alloc::Global;
 use std::time::Instant;
 
-// What is worked: all slots with so many requests a batch, or the round behind them, whose branch is so long.
+// The workload: all slots with this many requests a batch, or the view change after them, with a branch of this length.
 #[derive(Clone, Copy)]
 enum Work {
     Order(u32),
     Change,
 }
 
-// What was counted of a work, and how long it took: its signatures and deliveries, the nodes of the tree that came into it, each
-// at each node, and the values that these hold.
+// What a workload counted, and its time: its signatures and deliveries, the tree nodes stored at each node, and the
+// values in them.
 #[derive(Clone, Copy)]
 struct Cost {
     nanos: u64,
@@ -60,7 +60,8 @@ fn order(rt: &HostRuntime, p: &Params, requests: u32) -> Timed<Cost>
     })
 }
 
-// No Decide came before the round changes: its own one delivers all slots. It stands on a mark, whose node alone is new.
+// No Decide was delivered before the view change, so its own Decide delivers all slots. It extends a mark (a tree node
+// without a value), the only new node.
 fn change(rt: &HostRuntime, p: &Params) -> Timed<Cost>
     requires { IsGoodParams hotstuff p.now }
 {
@@ -88,11 +89,11 @@ fn work_once(rt: &HostRuntime, p: &Params, what: Work) -> Timed<Cost>
     }
 }
 
-// ---- the digests that it cannot be done without
+// ---- the digests that are necessary
 
-// Of so many signatures, each made once and checked once, by keys of this height: a chain's start and its fifteen steps, of
-// which the signer makes some and who checks the others, the statement twice, a leaf, and the nodes above it. A node of the
-// tree at each node counts as a node above a leaf, which is as long.
+// The digests of this many signatures, each made once and verified once, by keys of this height. Each has the start and
+// fifteen steps of its chains (split between the signer and the verifier), the statement twice, a leaf, and the nodes
+// above it. A tree node at each node counts as an inner node, which has the same length.
 fn digests_of(p: &Params, cost: Cost) -> Digests {
     Digests {
         short: cost.signatures.wrapping_mul(67 * 16 + 2),
@@ -104,7 +105,7 @@ fn digests_of(p: &Params, cost: Cost) -> Digests {
     }
 }
 
-// The string of a value.
+// The hashed string of a value.
 fn value_string(alloc: Global, requests: u32) -> Timed<Bytes> {
     let batch = batch(alloc, requests)?;
     match held_string(alloc, 1, &Content::Holds(batch))? {
@@ -113,7 +114,7 @@ fn value_string(alloc: Global, requests: u32) -> Timed<Bytes> {
     }
 }
 
-// Takes so many digests of a string, each of which changes with the one before.
+// Computes this many digests of a string. Each string depends on the digest before.
 fn hash_all(string: &[u8], count: u32) -> u8 {
     let mut last = 0u8;
     for _ in 0..count {
@@ -125,13 +126,13 @@ fn hash_all(string: &[u8], count: u32) -> u8 {
     last
 }
 
-// How long these digests take, with those of so many values.
+// The time for these digests, and for those of this many values.
 fn time_needed(rt: &HostRuntime, digests: Digests, value: &[u8], count: u32) -> Timed<u64> {
     let alone = time_digests(rt, digests)?;
     let start = Instant::now(rt)?;
     let last = hash_all(value, count);
     let values = nanos_since(rt, start)?;
-    // The digests are used, so that no compiler leaves them out.
+    // The digests are used, so that the compiler does not remove them.
     Ok(
         alone
             .saturating_add(values)
@@ -146,7 +147,7 @@ fn requests_of(what: Work) -> u32 {
     }
 }
 
-// A work in an instance of its own, beside the digests that it needs.
+// A workload in an instance of its own, compared with the digests that it needs.
 fn time_once(rt: &HostRuntime, p: &Params, what: Work) -> Timed<(Cost, u64)>
     requires { IsGoodParams hotstuff p.now }
 {
@@ -171,7 +172,7 @@ fn print(rt: &HostRuntime, nodes: u32, what: Work, cost: Cost, best: Best) -> Ti
     Ok(())
 }
 
-// The best of several times, each in an instance of its own: what was checked in one is not remembered in the next.
+// The best of several times, each in an instance of its own, so that nothing is cached from the one before.
 fn time_work(rt: &HostRuntime, f: u32, keys: u32, what: Work, times: u32) -> Timed<()>
     requires faults { f ≤ 3 }
     requires low { 2 ≤ keys }
@@ -188,7 +189,7 @@ fn time_work(rt: &HostRuntime, f: u32, keys: u32, what: Work, times: u32) -> Tim
     print(rt, 3 * f + 1, what, last, best)
 }
 
-// Works among as many nodes as withstand so many faults.
+// Workloads with as many nodes as tolerate `f` faults.
 fn time_works(rt: &HostRuntime, f: u32, keys: u32, times: u32) -> Timed<()>
     requires faults { f ≤ 3 }
     requires low { 2 ≤ keys }
@@ -200,7 +201,7 @@ fn time_works(rt: &HostRuntime, f: u32, keys: u32, times: u32) -> Timed<()>
     time_work(rt, f, keys, Work::Change, times)
 }
 
-/// Times 64 slots and a round that changes behind them, over 4 and over 10 nodes; of each the best of so many times counts.
+/// Times 64 slots and a view change after them, with 4 and with 10 nodes. The best of several times counts.
 pub(crate) fn time_all(rt: &HostRuntime, times: u32) -> Timed<()> {
     time_works(rt, 1, 9, times)?;
     time_works(rt, 3, 9, times)
@@ -231,7 +232,7 @@ fn count_in(rt: &HostRuntime, f: u32, keys: u32, count: u64) -> Timed<()>
     count_these(rt, &ordered, &changed)
 }
 
-/// Orders four slots among four nodes and changes the round, and prints how many signatures and deliveries that takes.
+/// Orders four slots with four nodes and changes the view. Prints the numbers of signatures and deliveries.
 pub(crate) fn count_all(rt: &HostRuntime) -> Timed<()> {
     count_in(rt, 1, 6, 4)
 }

@@ -1,6 +1,6 @@
-//! What the calls of modules cost, messages between the nodes of a cluster included. The words name the module, `raft`, `pbft` or
-//! `hotstuff`, and how many times each work is run. With no words a small workload of each is run and what it makes is printed, the
-//! same on each machine.
+//! The cost of calls of modules, including the messages between the nodes of a cluster. The arguments are the module,
+//! `raft`, `pbft` or `hotstuff`, and how many times each workload runs. Without arguments a small workload of each
+//! runs, and its counts are printed, the same on each machine.
 #![tactic(auto)]
 
 mod hotstuff;
@@ -21,7 +21,7 @@ fn count_all(rt: &HostRuntime) -> Result<(), Fail> {
     hotstuff_costs::count_all(rt)
 }
 
-// Times a module's work so many times.
+// Times a module's workload this many times.
 fn time(rt: &HostRuntime, module: &str, times: u32) -> Result<(), Fail> {
     match module {
         "raft" => raft_costs::time_all(rt, times),

@@ -1,5 +1,5 @@
-//! Nodes of PBFT, and the messages between them as bytes: a segment in its normal case, and the change of views behind it. Who
-//! hears a message reads it, checks all signatures in it, and makes a step.
+//! Nodes of PBFT, and the messages between them as bytes: a segment in the normal case, and the view change after it.
+//! The receiver of a message decodes it, verifies all signatures in it, and makes a step.
 ghost use Rattle.std.specs.Prelude.{◌≡◌, ◌<◌, ◌≤◌, ◌^◌, IfOk, length};
 ghost use Rattle.iss_request.specs.Slots.{AreAscending};
 ghost use Rattle.iss_sb.specs.Calls.{AreBelow, IsGoodInput, IsGoodParams};
@@ -21,12 +21,12 @@ use std::test::Fail;
 
 pub type Timed<T> = Result<T, Fail>;
 
-// No more messages than these are heard at once.
+// The maximal number of messages delivered at once.
 const MOST: u32 = 100_000_000;
 
 // ---- the instance
 
-// So many nodes that f of them may lie, of which node 0 leads these slots.
+// As many nodes as tolerate `f` Byzantine ones. Node 0 leads these slots.
 fn instance(alloc: Global, f: u32, height: u8, slots: Seq<Slot>) -> Result<Params, NoMemory>
     requires faults { f ≤ 3 }
     requires low { 2 ≤ height }
@@ -67,7 +67,8 @@ fn instance(alloc: Global, f: u32, height: u8, slots: Seq<Slot>) -> Result<Param
     })
 }
 
-/// The instance in which node 0 leads the slots below this number. Its directory has the public key of each node, and remembers no check.
+/// The instance in which node 0 leads the slots below this number. Its directory has the public key of each node, and
+/// caches no check.
 pub fn segment(alloc: Global, f: u32, height: u8, count: u64) -> Result<Params, NoMemory>
     requires faults { f ≤ 3 }
     requires low { 2 ≤ height }
@@ -86,14 +87,14 @@ pub fn segment(alloc: Global, f: u32, height: u8, count: u64) -> Result<Params, 
 
 // ---- the nodes, and the messages between them
 
-/// A message to all, as bytes.
+/// A broadcast message, as bytes.
 #[derive(Drop)]
 pub struct Post {
     from: u8,
     bytes: Bytes,
 }
 
-/// The nodes with their keys, what was sent and not heard yet, and what was seen, if that is kept.
+/// The nodes with their keys, the messages in transit, and what was counted, if counting is on.
 #[derive(Drop)]
 pub struct Cluster {
     nodes: Vec<Pbft>,
@@ -113,7 +114,7 @@ fn write(alloc: Global, msg: &Message) -> Timed<Bytes> {
     Ok(out.into_bytes())
 }
 
-// Checks all signatures in a message.
+// Verifies all signatures in a message.
 fn check(alloc: Global, p: &Params, from: NodeId, msg: &Message) -> Timed<()>
     requires good { IsGoodParams pbft p.now }
     requires from { from.0 < p.now.setup.n }
@@ -129,7 +130,7 @@ fn check(alloc: Global, p: &Params, from: NodeId, msg: &Message) -> Timed<()>
     Ok(())
 }
 
-// The key of a node, whose tree is made and whose first leaf is used.
+// The key of a node. Its tree is computed and its first leaf is used.
 fn key_with_tree(alloc: Global, node: u8, height: u8) -> Timed<Keys>
     requires low { 2 ≤ height }
     requires high { height ≤ 12 }
@@ -140,7 +141,7 @@ fn key_with_tree(alloc: Global, node: u8, height: u8) -> Timed<Keys>
 }
 
 impl Cluster {
-    /// Fresh nodes.
+    /// New nodes.
     pub(crate) fn new(alloc: Global, p: &Params, height: u8) -> Timed<Cluster>
         requires good { IsGoodParams pbft p.now }
         requires low { 2 ≤ height }
@@ -163,13 +164,13 @@ impl Cluster {
         })
     }
 
-    /// From now on what is seen is kept.
+    /// Starts counting.
     pub(crate) fn look(&mut self, alloc: Global, height: u8) -> Timed<()> {
         self.seen = Some(Seen::nothing(alloc, height, self.keys.as_slice())?);
         Ok(())
     }
 
-    /// From now on the nodes ask another directory, that of this node.
+    /// From now on the nodes use another directory, that of this node.
     pub(crate) fn turn_to(&mut self, node: u8) {
         if let Some(seen) = &mut self.seen {
             seen.turn_to(node);
@@ -189,7 +190,7 @@ impl Cluster {
         Ok(())
     }
 
-    // What a node makes of an input. What it sends waits.
+    // A node's step. What it sends is in transit.
     fn take(&mut self, alloc: Global, p: &Params, at: u8, input: Input<Message>) -> Timed<()>
         requires good { IsGoodParams pbft p.now }
         requires at { at < p.now.setup.n }
@@ -219,7 +220,7 @@ impl Cluster {
         Ok(())
     }
 
-    // A node hears a message.
+    // A node receives a message.
     fn hear(&mut self, alloc: Global, p: &Params, at: u8, post: &Post) -> Timed<()>
         requires { IsGoodParams pbft p.now }
     {
@@ -233,7 +234,7 @@ impl Cluster {
         self.take(alloc, p, at, Input::Receive { from, msg })
     }
 
-    /// The nodes from the first to below the last hear these messages.
+    /// The nodes from `first` to below `last` receive these messages.
     pub(crate) fn hear_all(
         &mut self,
         alloc: Global,
@@ -252,7 +253,7 @@ impl Cluster {
         Ok(())
     }
 
-    /// What waits, which waits no more.
+    /// Takes the messages in transit out.
     pub(crate) fn drain(&mut self, alloc: Global) -> Timed<Vec<Post>> {
         let mut posts = Vec::new(alloc);
         for _ in 0..self.waiting.len() {
@@ -263,7 +264,7 @@ impl Cluster {
         Ok(posts)
     }
 
-    // All nodes hear all that waits, and all that comes of it.
+    // All nodes receive all messages, and all that follow from them.
     fn settle(&mut self, alloc: Global, p: &Params) -> Timed<()>
         requires { IsGoodParams pbft p.now }
     {
@@ -278,7 +279,7 @@ impl Cluster {
         Ok(())
     }
 
-    /// The leader casts an empty batch in each slot, and the messages of each cast are heard before the next one.
+    /// The leader proposes an empty batch in each slot. The messages of each proposal are delivered before the next.
     pub(crate) fn cast_all(&mut self, alloc: Global, p: &Params) -> Timed<()>
         requires { IsGoodParams pbft p.now }
     {
@@ -295,7 +296,7 @@ impl Cluster {
         Ok(())
     }
 
-    /// Time runs out at the first so many nodes.
+    /// The timers of the first n nodes expire.
     pub(crate) fn time_out(&mut self, alloc: Global, p: &Params, many: u32) -> Timed<()>
         requires { IsGoodParams pbft p.now }
     {

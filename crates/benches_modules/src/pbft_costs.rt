@@ -1,5 +1,5 @@
-//! PBFT: what a segment of 64 slots costs over four and over ten nodes, and a change of views with 64 certificates, beside the digests
-//! that the signatures in it take.
+//! PBFT: the cost of a segment of 64 slots with four and with ten nodes, and of a view change with 64 certificates.
+//! Compared with the digests of the signatures in it.
 ghost use Rattle.std.specs.Prelude.{◌≡◌, ◌≤◌, ◌↔◌, IfOk, IsTrue};
 ghost use Rattle.iss_sb.specs.Calls.{IsGoodParams};
 ghost use Rattle.sb_pbft.specs.Pbft.{pbft};
@@ -11,8 +11,8 @@ use iss_sb::Params;
 use std::alloc::Global;
 use std::time::Instant;
 
-/// What is worked: a segment in its normal case, or what 2f+1 ViewChanges lead to: at all nodes with one directory, at all nodes with one
-/// each, at the new primary, at the last node.
+/// The workload: a segment in the normal case, or what 2f+1 ViewChanges lead to. The latter is measured at all nodes
+/// with one directory, at all nodes with one each, at the new primary, or at the last node.
 #[derive(Clone, Copy)]
 enum Work {
     Order,
@@ -22,7 +22,7 @@ enum Work {
     Follower,
 }
 
-/// The faults, the height of the trees, the slots.
+/// The number of faults, the height of the trees, and the slots.
 #[derive(Clone, Copy)]
 struct Size {
     f: u32,
@@ -30,14 +30,14 @@ struct Size {
     slots: u64,
 }
 
-// Whether there are trees of this height.
+// Whether trees may have this height.
 fn has_trees(height: u8) -> bool
     ensures { IsTrue result ↔ (2 ≤ height) × (height ≤ 12) }
 {
     2 <= height && height <= 12
 }
 
-// An instance of this size in which nothing is checked yet.
+// An instance of this size, in which nothing is verified yet.
 fn fresh(alloc: Global, size: Size) -> Timed<Params>
     ensures { IfOk result (λ p. IsGoodParams pbft p) }
 {
@@ -48,7 +48,7 @@ fn fresh(alloc: Global, size: Size) -> Timed<Params>
     Err("no such size")?
 }
 
-// Nodes that took nothing yet, with the trees of their keys.
+// New nodes, with the trees of their keys.
 fn nodes(alloc: Global, p: &Params, size: Size) -> Timed<Cluster>
     requires { IsGoodParams pbft p.now }
 {
@@ -59,7 +59,7 @@ fn nodes(alloc: Global, p: &Params, size: Size) -> Timed<Cluster>
     Err("no such height")?
 }
 
-// The segment is ordered.
+// Orders the segment.
 fn order(rt: &HostRuntime, p: &Params, size: Size, looks: bool) -> Timed<(u64, Cluster)>
     requires { IsGoodParams pbft p.now }
 {
@@ -73,7 +73,7 @@ fn order(rt: &HostRuntime, p: &Params, size: Size, looks: bool) -> Timed<(u64, C
     Ok((nanos_since(rt, start)?, cluster))
 }
 
-// Nodes that ordered the segment and gave up the view, and the first 2f+1 ViewChanges.
+// Nodes that ordered the segment and left the view, and the first 2f+1 ViewChanges.
 fn given_up(alloc: Global, p: &Params, size: Size) -> Timed<(Cluster, Vec<Post>)>
     requires { IsGoodParams pbft p.now }
 {
@@ -84,7 +84,7 @@ fn given_up(alloc: Global, p: &Params, size: Size) -> Timed<(Cluster, Vec<Post>)
     Ok((cluster, changes))
 }
 
-// The nodes that hear what is timed.
+// The nodes that receive what is timed.
 fn hearers(what: Work, f: u32) -> (u8, u8) {
     let n = u8::try_from(f.wrapping_mul(3).wrapping_add(1)).unwrap_or(u8::MAX);
     match what {
@@ -94,7 +94,7 @@ fn hearers(what: Work, f: u32) -> (u8, u8) {
     }
 }
 
-// Nodes hear the ViewChanges, and then the NewView that comes of them, or was there before.
+// Nodes receive the ViewChanges, then the NewView that follows from them or was made before.
 fn begin(
     alloc: Global,
     p: &Params,
@@ -110,7 +110,7 @@ fn begin(
     cluster.hear_all(alloc, p, news.as_slice(), first, last)
 }
 
-// The view changes; the nodes have not checked any signature in it before.
+// The view change; the nodes have not verified any signature in it before.
 fn change(
     rt: &HostRuntime,
     p: &Params,
@@ -136,7 +136,7 @@ fn change(
     Ok((nanos_since(rt, start)?, cluster))
 }
 
-// A node hears these messages; the time that it takes.
+// The time for one node to receive these messages.
 fn hear_alone(
     rt: &HostRuntime,
     own: &Params,
@@ -152,7 +152,7 @@ fn hear_alone(
     nanos_since(rt, start)
 }
 
-// A node that is no primary hears the ViewChanges and the NewView, with a directory of its own.
+// A backup receives the ViewChanges and the NewView, with a directory of its own.
 fn follow_alone(
     rt: &HostRuntime,
     size: Size,
@@ -167,7 +167,7 @@ fn follow_alone(
     Ok(changing.saturating_add(renewing))
 }
 
-// The new primary hears the ViewChanges and what comes of them, which is answered, with a directory of its own.
+// The new primary receives the ViewChanges and its own NewView, which is returned, with a directory of its own.
 fn lead_alone(
     rt: &HostRuntime,
     size: Size,
@@ -181,7 +181,7 @@ fn lead_alone(
     Ok((changing.saturating_add(renewing), news))
 }
 
-// The view changes at all nodes, each of which has a directory of its own, and has not checked any signature in it before.
+// The view change at all nodes, each with a directory of its own. No node has verified any signature in it before.
 fn change_each(rt: &HostRuntime, p: &Params, size: Size, looks: bool) -> Timed<(u64, Cluster)>
     requires { IsGoodParams pbft p.now }
 {
@@ -236,7 +236,7 @@ fn print_seen(rt: &HostRuntime, size: Size, what: Work, seen: &Seen) -> Timed<()
     Ok(())
 }
 
-// Tells what a work cannot do without, and answers its digests.
+// Prints what a workload needs, and returns its digests.
 fn count(rt: &HostRuntime, size: Size, what: Work) -> Timed<Digests> {
     let (_, cluster) = work_once(rt, size, what, true)?;
     let seen = cluster.seen.as_ref().ok_or("nothing was seen")?;
@@ -272,7 +272,7 @@ fn time_size(rt: &HostRuntime, size: Size, times: u32) -> Timed<()> {
     time_one(rt, size, Work::Follower, times)
 }
 
-/// Times a segment of 64 slots and its change of views over four and over ten nodes; of each the best of so many times counts.
+/// Times a segment of 64 slots and its view change with four and with ten nodes. The best of several times counts.
 pub(crate) fn time_all(rt: &HostRuntime, times: u32) -> Timed<()> {
     for f in [1u32, 3] {
         let size = Size {
@@ -285,7 +285,7 @@ pub(crate) fn time_all(rt: &HostRuntime, times: u32) -> Timed<()> {
     Ok(())
 }
 
-/// Counts the signatures of a small segment, and of its change of views.
+/// Counts the signatures of a small segment and of its view change.
 pub(crate) fn count_all(rt: &HostRuntime) -> Timed<()> {
     let size = Size {
         f: 1,

@@ -25,7 +25,7 @@ const LAST: u8 = 6;
 
 pub const SLOTS: u64 = 64;
 
-// No more messages than these are taken at once.
+// The maximal number of messages delivered at once.
 const MOST: u32 = 100_000_000;
 
 // ---- the instance
@@ -92,7 +92,7 @@ pub fn segment(alloc: Global, count: u64) -> Result<Params, NoMemory>
     instance(alloc, slots)
 }
 
-// A batch of so many requests with payloads of 64 bytes.
+// A batch of this many requests with payloads of 64 bytes.
 pub(crate) fn batch(alloc: Global, requests: u32) -> Result<Batch, NoMemory> {
     let mut batch = Batch::new(alloc);
     for number in 0..requests {
@@ -122,30 +122,30 @@ struct Post {
     msg: Message,
 }
 
-/// The nodes, what is on its way between them, and what was seen of it.
+/// The nodes, the messages in transit, and what was counted.
 #[derive(Drop)]
 pub struct Cluster {
     nodes: Vec<Raft>,
     keys: Keys,
     waiting: VecDeque<Post>,
-    // whether nothing comes to the last node
+    // whether the last node is disconnected
     is_cut: bool,
     pub taken: u64,
-    // what was seen of each message and step, if it is kept
+    // the counts of each message and step, if counting is on
     pub seen: Option<Seen>,
 }
 
-/// The bytes of each message that was taken, and how many entries and batches were copied.
+/// The bytes of each delivered message, and how many entries and batches were copied.
 #[derive(Drop)]
 pub struct Seen {
     pub messages: Vec<Bytes>,
     // entries in Appends that were sent
     pub entries: u64,
-    // batches: those in entries that were sent, those that were delivered, and two a cast: the one that is cast, and the leader's entry
+    // batches: in sent entries, in deliveries, and two for each proposal (the proposed one and the leader's entry)
     pub batches: u64,
 }
 
-// Where what is seen is kept, if it is: nothing as yet.
+// The counters, if counting is on: all zero.
 fn nothing_seen(alloc: Global, keeps: bool) -> Option<Seen> {
     if keeps {
         Some(Seen {
@@ -204,7 +204,7 @@ impl Seen {
 }
 
 impl Cluster {
-    /// Fresh nodes. It keeps what it sees, or not.
+    /// New nodes, with counting on or off.
     pub(crate) fn new(alloc: Global, p: &Params, keeps: bool) -> Timed<Cluster>
         requires good { IsGoodParams raft p.now }
         requires nodes { p.now.setup.n ≡ 7 }
@@ -223,12 +223,12 @@ impl Cluster {
         })
     }
 
-    /// From now on nothing comes to the last node.
+    /// Disconnects the last node.
     pub(crate) fn cut(&mut self) {
         self.is_cut = true;
     }
 
-    /// From now on all messages come to the last node, and are counted.
+    /// Reconnects the last node, and starts counting.
     pub(crate) fn reconnect(&mut self, alloc: Global, keeps: bool) {
         self.is_cut = false;
         self.taken = 0;
@@ -247,7 +247,7 @@ impl Cluster {
         Ok(())
     }
 
-    // What a node makes of an input. What it sends waits.
+    // A node's step. What it sends is in transit.
     fn take(&mut self, alloc: Global, p: &Params, at: u8, input: Input<Message>) -> Timed<()>
         requires good { IsGoodParams raft p.now }
         requires input { IsGoodInput p.now input }
@@ -286,7 +286,7 @@ impl Cluster {
         self.take(alloc, p, to, Input::Receive { from, msg })
     }
 
-    // Takes all that waits, and all that comes of it.
+    // Delivers all messages, and all that follow from them.
     fn settle(&mut self, alloc: Global, p: &Params) -> Timed<()>
         requires good { IsGoodParams raft p.now }
         requires nodes { p.now.setup.n ≡ 7 }
@@ -300,7 +300,7 @@ impl Cluster {
         Ok(())
     }
 
-    /// The leader casts in each slot, and the messages of each cast are taken before the next one.
+    /// The leader proposes in each slot. The messages of each proposal are delivered before the next.
     pub(crate) fn cast_all(&mut self, alloc: Global, p: &Params, batch: &Batch) -> Timed<()>
         requires good { IsGoodParams raft p.now }
         requires nodes { p.now.setup.n ≡ 7 }
@@ -314,7 +314,7 @@ impl Cluster {
         Ok(())
     }
 
-    /// Time runs out at a node.
+    /// A node's timer expires.
     pub(crate) fn time_out(&mut self, alloc: Global, p: &Params, at: u8) -> Timed<()>
         requires good { IsGoodParams raft p.now }
         requires nodes { p.now.setup.n ≡ 7 }
@@ -323,7 +323,7 @@ impl Cluster {
         self.settle(alloc, p)
     }
 
-    /// The nodes 1 and 2 win by turns.
+    /// Nodes 1 and 2 win elections in turn.
     pub(crate) fn elect(&mut self, alloc: Global, p: &Params, elections: u32) -> Timed<()>
         requires good { IsGoodParams raft p.now }
         requires nodes { p.now.setup.n ≡ 7 }

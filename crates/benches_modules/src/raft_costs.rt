@@ -1,4 +1,4 @@
-//! Raft: what a message costs in a segment of 64 slots over seven nodes, and what it costs to repair the log of a node that
+//! Raft: the cost of a message in a segment of 64 slots with seven nodes, and of repairing the log of a node that
 //! missed many elections.
 ghost use Rattle.std.specs.Prelude.{◌≡◌};
 ghost use Rattle.iss_sb.specs.Calls.{IsGoodParams};
@@ -10,8 +10,8 @@ use iss_sb::Params;
 use std::alloc::Global;
 use std::time::Instant;
 
-/// Messages that were taken, the nanoseconds that it took, the bytes of the messages and the entries in them, how long copying these bytes into
-/// one buffer takes, and how long it takes to clone in memory each batch that was kept, sent or delivered.
+/// The delivered messages, the nanoseconds, the bytes of the messages and the entries in them. Also the time to copy
+/// these bytes into one buffer, and to clone each batch that was kept, sent or delivered.
 #[derive(Clone, Copy)]
 struct Cost {
     messages: u64,
@@ -27,7 +27,7 @@ fn nanos_since(rt: &HostRuntime, start: Instant) -> Timed<u64> {
     Ok(u64::try_from(start.elapsed(rt)?.as_nanos()).unwrap_or(u64::MAX))
 }
 
-// Copies each of these into one buffer, and answers how many bytes that are.
+// Copies each of these into one buffer, and returns the number of bytes.
 fn copy_all(rows: &[Bytes], buffer: &mut Vec<u8>) -> Timed<u64> {
     let mut bytes = 0u64;
     for row in rows {
@@ -38,7 +38,7 @@ fn copy_all(rows: &[Bytes], buffer: &mut Vec<u8>) -> Timed<u64> {
     Ok(bytes)
 }
 
-// Of two costs of one work the lower ones.
+// The lower of two costs of a workload.
 fn lower(a: Cost, b: Cost) -> Cost {
     Cost {
         messages: b.messages,
@@ -61,7 +61,7 @@ const NONE_YET: Cost = Cost {
     cloning: u64::MAX,
 };
 
-// A segment in its normal case.
+// A segment in the normal case.
 fn order(rt: &HostRuntime, p: &Params, requests: u32, keeps: bool) -> Timed<(u64, Cluster)>
     requires good { IsGoodParams raft p.now }
     requires nodes { p.now.setup.n ≡ 7 }
@@ -74,7 +74,7 @@ fn order(rt: &HostRuntime, p: &Params, requests: u32, keeps: bool) -> Timed<(u64
     Ok((nanos_since(rt, start)?, cluster))
 }
 
-// A cluster whose last node missed all slots, and so many elections.
+// A cluster whose last node missed all slots and this many elections.
 fn behind(alloc: Global, p: &Params, elections: u32) -> Timed<Cluster>
     requires good { IsGoodParams raft p.now }
     requires nodes { p.now.setup.n ≡ 7 }
@@ -98,7 +98,7 @@ fn repair(rt: &HostRuntime, p: &Params, elections: u32, keeps: bool) -> Timed<(u
     Ok((nanos_since(rt, start)?, cluster))
 }
 
-// How long copying takes these, and how many bytes that are.
+// The time to copy these, and the number of bytes.
 fn copying(rt: &HostRuntime, messages: &[Bytes]) -> Timed<(u64, u64)> {
     let mut buffer = Vec::new(rt.alloc());
     let _warm = copy_all(messages, &mut buffer)?;
@@ -107,8 +107,8 @@ fn copying(rt: &HostRuntime, messages: &[Bytes]) -> Timed<(u64, u64)> {
     Ok((nanos_since(rt, start)?, bytes))
 }
 
-// Clones a batch so many times for each slot. Each node's log keeps one of them, and the others are dropped at once, as what was delivered, sent
-// again or cast is.
+// Clones a batch this many times for each slot. Each node's log keeps one; the others are dropped at once, as
+// delivered, sent and proposed ones are.
 fn clone_all(alloc: Global, batch: &Batch, each: u64) -> Timed<Vec<Batch>> {
     let mut logs = Vec::new(alloc);
     for _ in 0..SLOTS {
@@ -122,7 +122,7 @@ fn clone_all(alloc: Global, batch: &Batch, each: u64) -> Timed<Vec<Batch>> {
     Ok(logs)
 }
 
-// How long cloning takes so many batches of so many requests.
+// The time to clone this many batches of this many requests.
 fn cloning(rt: &HostRuntime, requests: u32, batches: u64) -> Timed<u64> {
     let batch = batch(rt.alloc(), requests)?;
     let start = Instant::now(rt)?;
@@ -130,7 +130,7 @@ fn cloning(rt: &HostRuntime, requests: u32, batches: u64) -> Timed<u64> {
     nanos_since(rt, start)
 }
 
-// What is worked: a segment with so many requests a batch, or a repair after so many elections.
+// The workload: a segment with this many requests a batch, or a repair after this many elections.
 #[derive(Clone, Copy)]
 enum Work {
     Order(u32),
@@ -147,7 +147,7 @@ fn work_once(rt: &HostRuntime, p: &Params, what: Work, keeps: bool) -> Timed<(u6
     }
 }
 
-// How many requests a batch has.
+// The number of requests in a batch.
 fn requests_of(what: Work) -> u32 {
     match what {
         Work::Order(requests) => requests,
@@ -155,7 +155,7 @@ fn requests_of(what: Work) -> u32 {
     }
 }
 
-// What copying bytes costs, by what was seen in a run of the work.
+// The cost of copying the bytes that a run of the workload counted.
 fn cost_of_copies(rt: &HostRuntime, cluster: &Cluster) -> Timed<Cost> {
     let Some(seen) = &cluster.seen else {
         return Ok(NONE_YET);
@@ -172,8 +172,8 @@ fn cost_of_copies(rt: &HostRuntime, cluster: &Cluster) -> Timed<Cost> {
     })
 }
 
-// The same work twice: what is seen in the first run tells what is copied, and the second one is timed. Each of the three begins with its
-// memory given back by the one before.
+// The same workload twice: the first run counts what is copied, the second is timed. Each of the three parts frees its
+// memory before the next.
 fn cost_once(rt: &HostRuntime, p: &Params, what: Work) -> Timed<Cost>
     requires good { IsGoodParams raft p.now }
     requires nodes { p.now.setup.n ≡ 7 }
@@ -252,13 +252,13 @@ fn time_these(rt: &HostRuntime, p: &Params, times: u32) -> Timed<()>
     time_one(rt, p, Work::Repair(2_000), times)
 }
 
-/// Times segments in their normal case, and repairs; of each the best of so many times counts.
+/// Times segments in the normal case, and repairs. The best of several times counts.
 pub(crate) fn time_all(rt: &HostRuntime, times: u32) -> Timed<()> {
     let p = segment(rt.alloc(), SLOTS)?;
     time_these(rt, &p, times)
 }
 
-// How many messages a work takes.
+// The number of messages of a workload.
 fn messages_of(rt: &HostRuntime, p: &Params, what: Work) -> Timed<u64>
     requires good { IsGoodParams raft p.now }
     requires nodes { p.now.setup.n ≡ 7 }
@@ -281,7 +281,7 @@ fn count_these(rt: &HostRuntime, p: &Params) -> Timed<()>
     print_counts(rt, ordered, repaired)
 }
 
-/// Orders a segment and repairs a log, and prints how many messages that takes.
+/// Orders a segment and repairs a log, and prints the numbers of messages.
 pub(crate) fn count_all(rt: &HostRuntime) -> Timed<()> {
     let p = segment(rt.alloc(), SLOTS)?;
     count_these(rt, &p)

@@ -1,4 +1,5 @@
-//! The signatures that a work cannot do without: each different one that is heard is checked once, each that is sent is made once.
+//! The signatures that a workload needs: each different one that is received is verified once, each that is sent is
+//! made once.
 use bench_digests::digests::{Digests, digests_of_one_check, digests_of_one_signature};
 use iss_keys::Keys;
 use iss_sb::Claim;
@@ -6,7 +7,8 @@ use std::alloc::Global;
 use std::collections::BTreeSet;
 use std::test::Fail;
 
-// A leaf of a node's key: no two of its signatures have the same. Who checks it counts where each has a directory of its own.
+// A leaf of a node's key, which is different for each of its signatures. The verifying node counts too if each has a
+// directory of its own.
 #[derive(PartialEq, Eq, PartialOrd, Ord, Drop)]
 struct Leaf {
     checker: u8,
@@ -14,22 +16,22 @@ struct Leaf {
     leaf: u32,
 }
 
-/// What was seen of signatures, and the digests that they take.
+/// The counts of signatures, and their digests.
 #[derive(Drop)]
 pub struct Seen {
     height: u8,
-    // whose directory is asked
+    // the node whose directory is used
     checker: u8,
     // the leaves of each node that were used before
     used: Vec<u32>,
     checked: BTreeSet<Leaf>,
     made: BTreeSet<Leaf>,
-    // all that were heard, however often
+    // all signatures received, repetitions included
     pub heard: u64,
     pub digests: Digests,
 }
 
-// The number of the leaf in a signature.
+// The leaf's number in a signature.
 fn leaf_of(sig: &[u8]) -> u32 {
     match sig {
         [_, a, b, c, d, ..] => u32::from_be_bytes([*a, *b, *c, *d]),
@@ -38,7 +40,7 @@ fn leaf_of(sig: &[u8]) -> u32 {
 }
 
 impl Seen {
-    /// Nothing as yet.
+    /// All zero.
     pub(crate) fn nothing(alloc: Global, height: u8, keys: &[Keys]) -> Result<Seen, Fail> {
         let mut used = Vec::new(alloc);
         for key in keys {
@@ -60,12 +62,12 @@ impl Seen {
         })
     }
 
-    /// How many signatures were made, and how many different ones were heard.
+    /// How many signatures were made, and how many different ones were received.
     pub(crate) fn counts(&self) -> (usize, usize) {
         (self.made.len(), self.checked.len())
     }
 
-    /// From now on another directory is asked, that of this node.
+    /// From now on another directory is used, that of this node.
     pub(crate) fn turn_to(&mut self, checker: u8) {
         self.checker = checker;
     }
@@ -82,7 +84,7 @@ impl Seen {
         Ok(())
     }
 
-    /// What is claimed in a message that is heard.
+    /// Counts the claims in a received message.
     pub(crate) fn see_heard(&mut self, claims: &[Claim]) -> Result<(), Fail> {
         for claim in claims {
             self.hear_one(claim)?;
@@ -101,7 +103,7 @@ impl Seen {
         Ok(())
     }
 
-    /// What is claimed in a message that is sent.
+    /// Counts the claims in a sent message.
     pub(crate) fn see_sent(&mut self, by: u8, claims: &[Claim]) -> Result<(), Fail> {
         for claim in claims {
             self.send_one(by, claim)?;

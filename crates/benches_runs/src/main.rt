@@ -1,6 +1,6 @@
-//! What whole runs cost whose messages and requests are signed, from the bytes of a schedule to those of its report, beside the digests that they
-//! cannot do without. The word is how many times each is run. With no word one epoch of each module is run and what it takes is printed, the same
-//! on each machine.
+//! The cost of whole runs with signed messages and requests, from the bytes of a schedule to those of its report.
+//! Compared with the digests that they need. The argument is how many times each workload runs. Without arguments one
+//! epoch of each module runs and its counts are printed, the same on each machine.
 #![tactic(auto)]
 
 mod digests;
@@ -26,7 +26,7 @@ fn lines_of(text: &[u8]) -> u32 {
     lines
 }
 
-// Replays a schedule, and answers how many lines its report has.
+// Replays a schedule, and returns the number of lines of its report.
 fn replayed(alloc: Global, text: &[u8]) -> Result<u32, Fail> {
     let answer = respond(alloc, text)?;
     Ok(lines_of(answer.printed.as_slice()))
@@ -36,7 +36,7 @@ fn nanos_since(rt: &HostRuntime, start: Instant) -> Result<u64, Fail> {
     Ok(u64::try_from(start.elapsed(rt)?.as_nanos()).unwrap_or(u64::MAX))
 }
 
-// How long it takes; for ever, where not all was ordered.
+// The time of a run; the maximal time if not all requests were ordered.
 fn time_once(rt: &HostRuntime, text: &[u8], lines: u32) -> Result<u64, Fail> {
     let start = Instant::now(rt)?;
     let told = replayed(rt.alloc(), text)?;
@@ -44,16 +44,16 @@ fn time_once(rt: &HostRuntime, text: &[u8], lines: u32) -> Result<u64, Fail> {
     Ok(if told == lines { nanos } else { u64::MAX })
 }
 
-// How long so many digests take.
+// The time of this many digests.
 fn time_alone(rt: &HostRuntime, count: u32) -> Result<u64, Fail> {
     let start = Instant::now(rt)?;
     let last = time_digests(count);
     let nanos = nanos_since(rt, start)?;
-    // The digests are used, so that no compiler leaves them out.
+    // The digests are used, so that the compiler does not remove them.
     Ok(nanos.saturating_add(u64::from(last / 255)))
 }
 
-// Runs of one kind, each beside its digests. The best of both count.
+// Runs of one kind, each compared with its digests. The best of both times count.
 fn time_plan(rt: &HostRuntime, plan: Plan, rounds: u32) -> Result<(), Fail> {
     let text = text_of(rt.alloc(), plan, plan.epochs)?;
     let count = plan.digests(plan.epochs);

@@ -1,8 +1,8 @@
-//! What is run.
+//! The kinds of runs.
 
 use crate::digests::{digests_of_signature, digests_of_tree};
 
-/// How many nodes there are.
+/// The number of nodes.
 pub const NODES: u32 = 4;
 
 /// The slots of an epoch, four for each node.
@@ -11,8 +11,8 @@ pub const SLOTS: u32 = 16;
 /// The height of all trees.
 pub const HEIGHT: u8 = 8;
 
-/// A kind of run: a module and how many signatures it makes for a slot; how many requests a batch holds, how many clients ask for how many
-/// requests each in an epoch, so that all batches are full; and for how many epochs nodes and clients have leaves.
+/// A kind of run: a module and its number of signatures for a slot, and the requests in a batch. The clients have
+/// enough requests in an epoch to fill all batches. Nodes and clients have leaves for a number of epochs.
 #[derive(Clone, Copy)]
 pub struct Plan {
     pub module: &'static str,
@@ -55,14 +55,14 @@ pub(crate) fn with_large_batches(plan: Plan) -> Plan {
 }
 
 impl Plan {
-    /// How many signatures nodes and clients make.
+    /// The number of signatures that nodes and clients make.
     pub(crate) fn signatures(self, epochs: u32) -> u32 {
         let of_nodes = self.for_a_slot.wrapping_mul(SLOTS);
         let of_clients = self.clients.wrapping_mul(self.asked);
         epochs.wrapping_mul(of_nodes.wrapping_add(of_clients))
     }
 
-    /// How many digests that are: of the tree of each node and client, and of each signature as it is made and as it is checked.
+    /// The number of digests for the tree of each node and client, and for making and verifying each signature.
     pub(crate) fn digests(self, epochs: u32) -> u32 {
         let trees = NODES.wrapping_add(self.clients);
         let of_signatures = self
@@ -73,7 +73,8 @@ impl Plan {
             .wrapping_add(of_signatures)
     }
 
-    /// The lines of a report where nothing was lost and all slots were filled: for each node its own and one for each slot, and the last.
+    /// The number of lines of a report if nothing was lost and all slots were filled: for each node its own and one for
+    /// each slot, and the last.
     pub(crate) fn lines(self, epochs: u32) -> u32 {
         let of_a_node = epochs.wrapping_mul(SLOTS).wrapping_add(1);
         NODES.wrapping_mul(of_a_node).wrapping_add(1)

@@ -34,7 +34,7 @@ fn put_request(text: &mut Vec<u8>, epoch: u32, client: u32, number: u32) -> Resu
     put_text(text, b" 00ff00aabb\n")
 }
 
-// The events of an epoch: all that is asked, four proposals of each node, and then all packets.
+// The events of an epoch: all requests, four proposals of each node, then all packets.
 fn put_epoch(text: &mut Vec<u8>, plan: Plan, epoch: u32) -> Result<(), NoMemory> {
     for client in 0..plan.clients {
         for turn in 0..plan.asked {
@@ -48,7 +48,7 @@ fn put_epoch(text: &mut Vec<u8>, plan: Plan, epoch: u32) -> Result<(), NoMemory>
     put_text(text, b"calm 1000\n")
 }
 
-/// The schedule of so many epochs.
+/// The schedule of this many epochs.
 pub(crate) fn text_of(alloc: Global, plan: Plan, epochs: u32) -> Result<Vec<u8>, NoMemory> {
     let mut text = Vec::new(alloc);
     put_header(&mut text, plan)?;

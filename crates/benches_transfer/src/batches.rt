@@ -1,16 +1,17 @@
-//! The values of an epoch, as one follows on the other. Helpers promise nothing: of a literal request the tactics would list what its bytes are.
+//! The values of an epoch, one after the other. The helpers have no contracts: for a literal request the tactics would
+//! evaluate its bytes.
 use crate::clusters::SLOTS;
 use iss_request::{Batch, Bytes, NoMemory, ReqId, Request, Seq, Value};
 use std::alloc::Global;
 
-// As many as a set-up has.
+// The maximal number of clients of a set-up.
 const CLIENTS: u32 = 96;
 
 fn payload(alloc: Global) -> Result<Bytes, NoMemory> {
     Ok(Bytes::of(Vec::from_slice(alloc, b"00000000")?))
 }
 
-// What a client asks for in an epoch.
+// A client's request in an epoch.
 fn request_of(alloc: Global, sig: &Bytes, client: u8, number: u32) -> Result<Request, NoMemory> {
     let payload = payload(alloc)?;
     let sig = sig.copy()?;
@@ -21,7 +22,7 @@ fn request_of(alloc: Global, sig: &Bytes, client: u8, number: u32) -> Result<Req
     })
 }
 
-// So many requests, each of another client, from this one on.
+// This many requests, each of another client, from this one on.
 fn batch_of(
     alloc: Global,
     sig: &Bytes,
@@ -37,7 +38,7 @@ fn batch_of(
     Ok(Batch::of(all))
 }
 
-/// The values of an epoch with so many requests in each, all with this signature. Each client asks once an epoch.
+/// The values of an epoch with this many requests each, all with this signature. Each client has one request an epoch.
 pub(crate) fn values_of(
     alloc: Global,
     sig: &Bytes,

@@ -29,7 +29,7 @@ fn take_all(alloc: Global, node: &mut Node<Relay>, events: Vec<NodeEvent>) {
     }
 }
 
-// The node takes the first piece, for which the trees are made whose leaves it checks.
+// The node adopts the first piece, for which the trees of the verified leaves are computed.
 fn take_first(alloc: Global, node: &mut Node<Relay>, packets: &[Bytes]) -> Result<(), Fail> {
     let first = packets.first().ok_or("no epoch")?;
     let _answer = node.take(alloc, NodeEvent::Packet(first.copy()?));
@@ -52,7 +52,7 @@ fn time_others(rt: &HostRuntime, node: &mut Node<Relay>, packets: &[Bytes]) -> R
     time_events(rt, node, events)
 }
 
-// How long the node takes to catch up behind the first epoch; for ever, where not all was adopted.
+// The time for the node to catch up after the first epoch; the maximal time if not all was adopted.
 fn time_node(rt: &HostRuntime, node: &mut Node<Relay>, packets: &[Bytes]) -> Result<u64, Fail> {
     take_first(rt.alloc(), node, packets)?;
     let nanos = time_others(rt, node, packets)?;
@@ -93,7 +93,7 @@ fn best_of(rt: &HostRuntime, setup: &Setup, made: &Made, rounds: u32) -> Result<
     Ok(costs)
 }
 
-// The pieces of so many epochs, with so many requests in each batch.
+// The pieces of this many epochs, with this many requests in each batch.
 fn made_for(alloc: Global, setup: &Setup, epochs: u32, requests: u32) -> Result<Made, Fail>
     requires { IsSetupOf relay setup.now }
 {
@@ -101,7 +101,7 @@ fn made_for(alloc: Global, setup: &Setup, epochs: u32, requests: u32) -> Result<
     pieces_of(alloc, shared.directory(), setup, epochs, requests)
 }
 
-// Catching up over so many epochs behind a first one.
+// Catching up over this many epochs after a first one.
 fn time_epochs(rt: &HostRuntime, epochs: u32, requests: u32, rounds: u32) -> Result<(), Fail> {
     let setup = setup(rt.alloc());
     let made = made_for(rt.alloc(), &setup, epochs.saturating_add(1), requests)?;
@@ -109,7 +109,7 @@ fn time_epochs(rt: &HostRuntime, epochs: u32, requests: u32, rounds: u32) -> Res
     print_costs(rt, epochs, requests, costs)
 }
 
-/// Times all, so many times each.
+/// Times everything, this many times.
 pub(crate) fn time_all(rt: &HostRuntime, rounds: u32) -> Result<(), Fail> {
     time_epochs(rt, 1_000, 0, rounds)?;
     time_epochs(rt, 1_000, 4, rounds)?;
@@ -117,7 +117,7 @@ pub(crate) fn time_all(rt: &HostRuntime, rounds: u32) -> Result<(), Fail> {
     time_epochs(rt, 250, 32, rounds)
 }
 
-// Prints where a node is, and what its log holds.
+// Prints a node's epoch and what its log holds.
 fn print_node(rt: &HostRuntime, node: &Node<Relay>) -> Result<(), Fail> {
     let epoch = node.epoch().0;
     let slots = node.log().entries().len();
@@ -126,7 +126,7 @@ fn print_node(rt: &HostRuntime, node: &Node<Relay>) -> Result<(), Fail> {
     Ok(())
 }
 
-// Prints what was made for it.
+// Prints the counts of the pieces made for it.
 fn print_made(rt: &HostRuntime, made: &Made) -> Result<(), Fail> {
     let strings = made.strings.len();
     println!(rt; "{strings} strings, {} digests of leaves", made.checks.leaf)?;
@@ -147,7 +147,7 @@ fn count_made(rt: &HostRuntime, setup: &Setup, made: &Made) -> Result<(), Fail>
     print_made(rt, made)
 }
 
-/// A node catches up over so many epochs, with so many requests in each batch, and what came of it is printed.
+/// A node catches up over this many epochs, with this many requests in each batch, and the result is printed.
 pub(crate) fn count(rt: &HostRuntime, epochs: u32, requests: u32) -> Result<(), Fail> {
     let setup = setup(rt.alloc());
     let made = made_for(rt.alloc(), &setup, epochs, requests)?;

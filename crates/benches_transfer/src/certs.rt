@@ -1,4 +1,4 @@
-//! What two nodes certify of a log at the end of an epoch, and the packet in which it is handed out.
+//! Checkpoint certificates of two nodes at the end of an epoch, and the packets that carry pieces of the log.
 ghost use Rattle.std.specs.Prelude.{◌≤◌};
 
 use bench_digests::signers::{client_key, node_key, signature_by};
@@ -19,7 +19,7 @@ pub struct Signers {
     second: Keys,
 }
 
-/// The keys that sign, of which no leaf is used.
+/// The signing keys, with no leaf used.
 pub(crate) fn keys_that_sign(alloc: Global, height: u8) -> Result<Signers, Fail>
     requires low { 2 ≤ height }
     requires high { height ≤ 12 }
@@ -29,7 +29,7 @@ pub(crate) fn keys_that_sign(alloc: Global, height: u8) -> Result<Signers, Fail>
     Ok(Signers { first, second })
 }
 
-/// A signature that stands for those of clients, at which no adopter looks.
+/// A placeholder for clients' signatures, which an adopting node does not verify.
 pub(crate) fn client_signature(alloc: Global, height: u8) -> Result<Bytes, Fail>
     requires low { 2 ≤ height }
     requires high { height ≤ 12 }
@@ -57,7 +57,7 @@ fn put_signed(
     Ok(())
 }
 
-// Both signatures of the statement, by the next leaf of each key.
+// Both signatures of the statement, with the next leaf of each key.
 fn both_signed(
     alloc: Global,
     signers: &mut Signers,
@@ -69,7 +69,7 @@ fn both_signed(
     Ok(row)
 }
 
-/// The certificate of an epoch that ends so, where this is its statement.
+/// The certificate of an epoch with this end and this statement.
 pub(crate) fn cert_of(
     alloc: Global,
     signers: &mut Signers,
@@ -86,7 +86,7 @@ pub(crate) fn cert_of(
     })
 }
 
-/// The packet in which node 0 hands out the values of an epoch with their certificate.
+/// The packet in which node 0 sends the values of an epoch with their certificate.
 pub(crate) fn packet_of(
     alloc: Global,
     version: u8,

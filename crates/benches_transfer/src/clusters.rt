@@ -1,4 +1,4 @@
-//! The cluster of a node that is behind.
+//! The cluster of a lagging node.
 ghost use Rattle.std.specs.Prelude.{◌≡◌, ◌<◌};
 ghost use Rattle.iss_rules.specs.Concrete.{keys_of};
 ghost use Rattle.iss_rules.specs.Setups.{IsSetupOf};
@@ -17,7 +17,7 @@ pub const HEIGHT: u8 = 10;
 /// The slots of an epoch, one for each node.
 pub const SLOTS: u32 = 3;
 
-/// Three nodes of the relay, of which two decide.
+/// Three nodes with the relay; a quorum is two.
 pub(crate) fn setup(alloc: Global) -> Setup
     ensures { IsSetupOf relay result }
 {
@@ -40,7 +40,7 @@ pub(crate) fn setup(alloc: Global) -> Setup
     }
 }
 
-// A node of the cluster that has taken nothing.
+// A new node of the cluster.
 fn start_node(
     alloc: Global,
     setup: &Setup,
@@ -55,7 +55,7 @@ fn start_node(
     Node::start(alloc, setup, directory, me, keys)
 }
 
-/// The last node, which has taken nothing. No tree is made yet, and no signature has been checked.
+/// The last node, which is new. No tree is computed yet, and no signature has been verified.
 pub(crate) fn late_node(alloc: Global, setup: &Setup) -> Result<Node<Relay>, NoMemory>
     requires { IsSetupOf relay setup.now }
 {

@@ -1,11 +1,12 @@
-//! What catching up costs, beside the digests that it cannot do without.
+//! The cost of catching up, compared with the digests that it needs.
 use bench_digests::digests::nanos_since;
 use iss_request::Bytes;
 use sha2::{Digest, Sha256};
 use std::test::Fail;
 use std::time::Instant;
 
-/// The best times of several, in nanoseconds: of catching up, of the digests of all checks, and of those of all strings once.
+/// The best times of several, in nanoseconds: for catching up, for the digests of all verifications, and for hashing
+/// all strings once.
 #[derive(Clone, Copy)]
 pub struct Costs {
     pub work: u64,
@@ -13,7 +14,7 @@ pub struct Costs {
     pub strings: u64,
 }
 
-/// No time is taken yet.
+/// No time has been measured.
 pub const NONE_YET: Costs = Costs {
     work: u64::MAX,
     checks: u64::MAX,
@@ -21,7 +22,7 @@ pub const NONE_YET: Costs = Costs {
 };
 
 impl Costs {
-    /// The better of these and those, each by itself.
+    /// The lesser of each old and new time.
     pub(crate) fn or(self, others: Costs) -> Costs {
         Costs {
             work: self.work.min(others.work),
@@ -41,12 +42,12 @@ fn hash_all(strings: &[Bytes]) -> u8 {
     last
 }
 
-/// How long the digests of all strings take.
+/// The time to hash all strings.
 pub(crate) fn time_strings(rt: &HostRuntime, strings: &[Bytes]) -> Result<u64, Fail> {
     let start = Instant::now(rt)?;
     let last = hash_all(strings);
     let nanos = nanos_since(rt, start)?;
-    // The digests are used, so that no compiler leaves them out.
+    // The digests are used, so that the compiler does not remove them.
     Ok(nanos.saturating_add(u64::from(last / 255)))
 }
 
@@ -54,7 +55,8 @@ fn percent(work: u64, digests: u64) -> u64 {
     work.saturating_mul(100) / digests.max(1)
 }
 
-/// Prints a line of times. A string is hashed where the piece is tested, and once more where its value joins the log, unless it is remembered.
+/// Prints a line of times. A string is hashed when the piece is checked, and again when its value is appended to the
+/// log, unless the digest is cached.
 pub(crate) fn print_costs(
     rt: &HostRuntime,
     epochs: u32,

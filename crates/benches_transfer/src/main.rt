@@ -1,6 +1,7 @@
-//! What it costs a node that missed many epochs to catch up: it takes the piece of one after the other, in the bytes of a packet, and checks each
-//! certificate itself. Beside it stand the digests that it cannot do without. The word is how many times each is run. With no word a few epochs
-//! are caught up and what came of it is printed, the same on each machine.
+//! The cost of catching up for a node that missed many epochs. It adopts one piece after the other, each decoded from a
+//! packet, and verifies each certificate itself. Compared with the digests that it needs. The argument is how many
+//! times each workload runs. Without arguments a node catches up over a few epochs and the result is printed, the same
+//! on each machine.
 #![tactic(auto)]
 
 mod batches;

@@ -11,7 +11,7 @@ use iss_request::{Bytes, NoMemory, Seq, Setup, Value};
 use std::alloc::Global;
 use std::test::Fail;
 
-/// The packets of a row of epochs, what is hashed for their values, and the digests of what is checked in their certificates.
+/// The packets of several epochs, what is hashed for their values, and the digests to verify their certificates.
 #[derive(Drop)]
 pub struct Made {
     pub packets: Vec<Bytes>,
@@ -31,7 +31,7 @@ fn nothing(alloc: Global) -> Made {
     }
 }
 
-// What stands for a log without a value.
+// The chain digest of a log without a value.
 fn empty_end() -> End {
     End {
         chain: [0; 32],
@@ -39,7 +39,7 @@ fn empty_end() -> End {
     }
 }
 
-// What stands for the log with this value behind it.
+// The chain digest with this value appended.
 fn join_one(
     alloc: Global,
     directory: &Directory,
@@ -51,7 +51,7 @@ fn join_one(
     link(alloc, directory, version, end, value, strings)
 }
 
-// And with all of these.
+// The chain digest with all of these appended.
 fn join(
     alloc: Global,
     directory: &Directory,
@@ -71,7 +71,7 @@ fn statement_of(setup: &Setup, epoch: u64, end: &End) -> [u8; 83] {
     vote_statement(&setup.tag, epoch, &end.chain, end.requests)
 }
 
-// The certificate of an epoch that ends so. What its two checks take is noted.
+// The certificate of an epoch with this end. The cost of its two verifications is recorded.
 fn certify(
     alloc: Global,
     setup: &Setup,
@@ -86,7 +86,7 @@ fn certify(
     cert_of(alloc, signers, &statement, epoch, end)
 }
 
-// The piece of one epoch more is put behind the others. Answers what then stands for the log.
+// Appends the piece of one more epoch. Returns the chain digest after it.
 fn put_epoch(
     alloc: Global,
     directory: &Directory,
@@ -111,7 +111,7 @@ fn put_epoch(
     Ok(end)
 }
 
-// The pieces of so many epochs, with so many requests in each batch, are put there.
+// Appends the pieces of this many epochs, with this many requests in each batch.
 fn put_all(
     alloc: Global,
     directory: &Directory,
@@ -139,7 +139,8 @@ fn put_all(
     Ok(())
 }
 
-/// Those of so many epochs, with so many requests in each batch. The directory remembers what is hashed for them, so it is none that the adopter has.
+/// The pieces of this many epochs, with this many requests in each batch. Their directory caches digests, so it is not
+/// the one of the adopting node.
 pub(crate) fn pieces_of(
     alloc: Global,
     directory: &Directory,

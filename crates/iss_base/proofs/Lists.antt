@@ -1,4 +1,4 @@
--- Tests that are joined, answers, membership, longer lists, chains, and functions that are changed at one place.
+-- Conjoined tests, membership, extended lists, chains, and functions that are changed at one argument.
 use Rattle.std.proofs.Common.{IsTrue, ◌↔◌, ◌∙◌, append_assoc, ◌≡◌, ◌≢◌, ◌⊎◌, inl, inr, ℕ, zero, suc, ◌+◌, ◌≤◌, ◌<◌, Bool, true, false, cond, eqb, not, ◌&&◌, ◌||◌, List, [], ◌∷◌, ◌++◌, length, Option, Some, None, refl, sym, ap, ap₂, subst, arith, length-append, true≢false}
 use Rattle.std.proofs.lemmas.Bool.Decides.{eqb_tells, leb_tells, nat_tests}
 use Rattle.std.specs.Ordering.{is_eq, nat_cmp}
@@ -26,14 +26,14 @@ eqb-other i j h = grind (arith, nat_tests)
 pub same_number : (a b : ℕ) → is_eq (nat_cmp a b) ≡ eqb a b
 same_number a b = grind arith
 
--- two tests of one thing
+-- two tests for the same fact are equal
 pub same-test : (b t : Bool) {P : Type 0} → IsTrue b ↔ P → (t ≡ true) ↔ P → b ≡ t
 same-test true true h k = refl
 same-test false false h k = refl
 same-test true false h k = absurd (true≢false (sym (k.1 (h.0 refl))))
 same-test false true h k = absurd (true≢false (sym (h.1 (k.0 refl))))
 
--- tests that are joined
+-- conjoined tests
 
 pub and-true : (a b : Bool) → (a && b) ≡ true → (a ≡ true) × (b ≡ true)
 and-true true b h = (refl, h)
@@ -97,7 +97,7 @@ pub same_bytes-refl : (a : List ℕ) → same_bytes a a ≡ true
 same_bytes-refl [] = refl
 same_bytes-refl (x ∷ xs) = both (eqb x x) (same_bytes xs xs) (eqb-same x) (same_bytes-refl xs)
 
--- lists of equal lengths with anything behind them
+-- equal suffixes of lists whose prefixes have equal lengths
 pub ends-same : {A : Type 0} (a b x y : List A) → length a ≡ length b → a ++ x ≡ b ++ y → (a ≡ b) × (x ≡ y)
 ends-same [] [] x y l h = (refl, h)
 ends-same [] (k ∷ b) x y l h = absurd (omega (arith, l))
@@ -129,9 +129,10 @@ nth-in [] k x h = absurd (cc)
 nth-in (y ∷ xs) zero x h = inl (let q : y ≡ x = some-injective y x h in sym q)
 nth-in (y ∷ xs) (suc k) x h = inr (nth-in xs k x h)
 
--- lists of different elements
+-- lists without repeated elements
 
-pub different-append : {A : Type 0} (xs ys : List A) → Different xs → Different ys → ((z : A) → In z xs → In z ys → ⊥) → Different (xs ++ ys)
+pub different-append : {A : Type 0} (xs ys : List A) → Different xs → Different ys → ((z : A) → In z xs → In z ys → ⊥) →
+    Different (xs ++ ys)
 different-append [] ys dx dy apart = dy
 different-append (x ∷ xs) ys dx dy apart = (
   λ i. elim (in_append x xs ys i) [ inl a ↦ dx.0 a | inr b ↦ apart x (inl refl) b ],
@@ -151,7 +152,7 @@ different-apart [] ys d z a b = a
 different-apart (x ∷ xs) ys d z (inl e) b = d.0 (in_right x xs ys (rw (← e) b))
 different-apart (x ∷ xs) ys d z (inr a) b = different-apart xs ys d.1 z a b
 
--- functions that are changed at one place
+-- functions changed at one argument
 
 pub set_at-same : {A : Type 0} (f : ℕ → A) (i : ℕ) (x : A) → set_at f i x i ≡ x
 set_at-same f i x = rw (eqb-same i) refl
@@ -162,14 +163,20 @@ set_at-other f i x j h = rw (eqb-other j i h) refl
 pub set_at2-same : {A : Type 0} (f : ℕ → ℕ → A) (e l : ℕ) (x : A) → set_at2 f e l x e l ≡ x
 set_at2-same f e l x = rw (eqb-same e, eqb-same l) refl
 
-pub set_at2-other : {A : Type 0} (f : ℕ → ℕ → A) (e l : ℕ) (x : A) (d k : ℕ) → (d ≢ e) ⊎ (k ≢ l) → set_at2 f e l x d k ≡ f d k
+pub set_at2-other : {A : Type 0} (f : ℕ → ℕ → A) (e l : ℕ) (x : A) (d k : ℕ) → (d ≢ e) ⊎ (k ≢ l) →
+    set_at2 f e l x d k ≡ f d k
 set_at2-other f e l x d k (inl h) = rw (eqb-other d e h) refl
-set_at2-other f e l x d k (inr h) = elim (eqb d e) as (λ b. cond (b && eqb k l) x (f d k) ≡ f d k) [ true ↦ rw (eqb-other k l h) refl | false ↦ refl ]
+set_at2-other f e l x d k (inr h) = elim (eqb d e) as (λ b. cond (b && eqb k l) x (f d k) ≡ f d k) [
+  | true ↦
+      rw (eqb-other k l h) refl
+  | false ↦ refl
+]
 
 pub set_at2-at : {A : Type 0} (f : ℕ → ℕ → A) (e l : ℕ) (x : A) (d k : ℕ) → d ≡ e → k ≡ l → set_at2 f e l x d k ≡ x
 set_at2-at f e l x d k a b = rw (a, b) (set_at2-same f e l x)
 
-pub set_at2-cons : {A : Type 0} (f : ℕ → ℕ → List A) (e l : ℕ) (x : A) (d k : ℕ) → (newer : List A) × (set_at2 f e l (x ∷ f e l) d k ≡ newer ++ f d k)
+pub set_at2-cons : {A : Type 0} (f : ℕ → ℕ → List A) (e l : ℕ) (x : A) (d k : ℕ) → (newer : List A)
+    × (set_at2 f e l (x ∷ f e l) d k ≡ newer ++ f d k)
 set_at2-cons {A} f e l x d k = go (same_or_not d e) (same_or_not k l)
   where
     go : (d ≡ e) ⊎ (d ≢ e) → (k ≡ l) ⊎ (k ≢ l) → (newer : List A) × (set_at2 f e l (x ∷ f e l) d k ≡ newer ++ f d k)
@@ -177,9 +184,10 @@ set_at2-cons {A} f e l x d k = go (same_or_not d e) (same_or_not k l)
     go (inl a) (inr b) = ([], set_at2-other f e l (x ∷ f e l) d k (inr b))
     go (inr a) b = ([], set_at2-other f e l (x ∷ f e l) d k (inl a))
 
--- answers of which the first counts
+-- the first of two optional values
 
-pub first-cases : {A : Type 0} (a b : Option A) (v : A) → first_of a b ≡ Some v → (a ≡ Some v) ⊎ ((a ≡ None) × (b ≡ Some v))
+pub first-cases : {A : Type 0} (a b : Option A) (v : A) → first_of a b ≡ Some v → (a ≡ Some v)
+    ⊎ ((a ≡ None) × (b ≡ Some v))
 first-cases None b v h = inr (refl, h)
 first-cases (Some x) b v h = inl h
 
@@ -192,7 +200,7 @@ pub first_of-none : {A : Type 0} (o : Option A) → first_of o None ≡ o
 first_of-none None = refl
 first_of-none (Some x) = refl
 
--- lists newest first: longer ones
+-- extension of lists that are kept newest first
 
 pub extends-refl : {A : Type 0} (a : List A) → Extends a a
 extends-refl a = ([], refl)
@@ -212,11 +220,13 @@ extends-length a b x = rw x.1 (omega (arith, length-append x.0 a))
 next : {A : Type 0} (a newer : List A) → 0 < length newer → (v : A) × Extends (v ∷ a) (newer ++ a)
 next a [] h = absurd (omega arith)
 next a (y ∷ []) h = (y, extends-refl (y ∷ a))
-next a (y ∷ (z ∷ rest)) h = let r = next a (z ∷ rest) (omega arith) in (r.0, extends-cons (r.0 ∷ a) ((z ∷ rest) ++ a) y r.1)
+next a (y ∷ (z ∷ rest)) h = let r = next a (z ∷ rest) (omega arith) in
+    (r.0, extends-cons (r.0 ∷ a) ((z ∷ rest) ++ a) y r.1)
 
 -- the element that follows a shorter list
 pub extends-next : {A : Type 0} (a b : List A) → Extends a b → length a < length b → (v : A) × Extends (v ∷ a) b
-extends-next {A} a b x lt = let r = next a x.0 (omega (arith, length-append x.0 a, ap length x.1)) in (r.0, subst (λ (t : List A). Extends (r.0 ∷ a) t) (sym x.1) r.1)
+extends-next {A} a b x lt = let r = next a x.0 (omega (arith, length-append x.0 a, ap length x.1)) in
+    (r.0, subst (λ (t : List A). Extends (r.0 ∷ a) t) (sym x.1) r.1)
 
 -- the n oldest
 
@@ -261,20 +271,25 @@ oldest-holds n (v ∷ newer) a h =
 
 -- chains
 
-pub chain-map : {A : Type 0} (P Q : List A → A → Type 0) → ((older : List A) (v : A) → P older v → Q older v) → (xs : List A) → Chain P xs → Chain Q xs
+pub chain-map : {A : Type 0} (P Q : List A → A → Type 0) → ((older : List A) (v : A) → P older v → Q older v) →
+    (xs : List A) → Chain P xs → Chain Q xs
 chain-map P Q f [] h = tt
 chain-map P Q f (v ∷ older) h = (chain-map P Q f older h.0, f older v h.1)
 
-pub chain-part : {A : Type 0} (P : List A → A → Type 0) (newer : List A) (v : A) (older : List A) → Chain P (newer ++ (v ∷ older)) → Chain P older × P older v
+pub chain-part : {A : Type 0} (P : List A → A → Type 0) (newer : List A) (v : A) (older : List A) →
+    Chain P (newer ++ (v ∷ older)) → Chain P older × P older v
 chain-part P [] v older h = h
 chain-part P (x ∷ newer) v older h = chain-part P newer v older h.0
 
 pub chain-oldest : {A : Type 0} (P : List A → A → Type 0) (n : ℕ) (xs : List A) → Chain P xs → Chain P (oldest n xs)
 chain-oldest P n [] h = tt
-chain-oldest P n (v ∷ xs) h = elim (leb_tells n (length xs)) [ inl t ↦ rw t.0 (chain-oldest P n xs h.0) | inr t ↦ rw t.0 h ]
+chain-oldest P n (v ∷ xs) h =
+    elim (leb_tells n (length xs)) [ inl t ↦ rw t.0 (chain-oldest P n xs h.0) | inr t ↦ rw t.0 h ]
 
--- two chains whose next elements agree over one list are one longer than the other
-pub same_length : {A : Type 0} (P Q : List A → A → Type 0) → ((older : List A) (v u : A) → Chain P older → Chain Q older → P older v → Q older u → v ≡ u) → (a b : List A) → Chain P a → Chain Q b → length a ≡ length b → a ≡ b
+-- Two chains that agree on the next element over each list: one extends the other.
+pub same_length : {A : Type 0} (P Q : List A → A → Type 0) →
+    ((older : List A) (v u : A) → Chain P older → Chain Q older → P older v → Q older u → v ≡ u) → (a b : List A) →
+    Chain P a → Chain Q b → length a ≡ length b → a ≡ b
 same_length P Q meet [] [] p q e = refl
 same_length P Q meet [] (u ∷ b) p q e = absurd (omega (arith, e))
 same_length P Q meet (v ∷ a) [] p q e = absurd (omega (arith, e))
@@ -285,7 +300,9 @@ same_length P Q meet (v ∷ a) (u ∷ b) p q e =
     let heads : v ≡ u = meet a v u p.0 qa p.1 qu in
     cc
 
-pub chains-meet : {A : Type 0} (P Q : List A → A → Type 0) → ((older : List A) (v u : A) → Chain P older → Chain Q older → P older v → Q older u → v ≡ u) → (a b : List A) → Chain P a → Chain Q b → length a ≤ length b → Extends a b
+pub chains-meet : {A : Type 0} (P Q : List A → A → Type 0) →
+    ((older : List A) (v u : A) → Chain P older → Chain Q older → P older v → Q older u → v ≡ u) → (a b : List A) →
+    Chain P a → Chain Q b → length a ≤ length b → Extends a b
 chains-meet P Q meet a [] p q h = let e : a ≡ [] = same_length P Q meet a [] p q (omega (arith, h)) in ([], sym e)
 chains-meet P Q meet a (u ∷ b) p q h =
     elim (leb_tells (length a) (length b)) [
@@ -293,7 +310,7 @@ chains-meet P Q meet a (u ∷ b) p q h =
       | inr t ↦ let e : a ≡ u ∷ b = same_length P Q meet a (u ∷ b) p q (omega (arith, t.1, h)) in ([], sym e)
     ]
 
--- values in order over a list
+-- values put over a list in order
 
 pub length-over : {A : Type 0} (vs log : List A) → length (push_all vs log) ≡ length vs + length log
 length-over [] log = omega arith
@@ -303,10 +320,13 @@ pub over-extends : {A : Type 0} (vs log : List A) → Extends log (push_all vs l
 over-extends [] log = extends-refl log
 over-extends (v ∷ vs) log = extends-tail v log (push_all vs (v ∷ log)) (over-extends vs (v ∷ log))
 
-pub over-at : {A : Type 0} (vs log : List A) (k : ℕ) (x : A) → nth vs k ≡ Some x → (older : List A) × Extends (x ∷ older) (push_all vs log) × (length older ≡ k + length log) × Extends log older
+pub over-at : {A : Type 0} (vs log : List A) (k : ℕ) (x : A) → nth vs k ≡ Some x → (older : List A)
+    × Extends (x ∷ older) (push_all vs log) × (length older ≡ k + length log) × Extends log older
 over-at [] log k x h = absurd (cc)
-over-at (v ∷ vs) log zero x h = let q : v ≡ x = some-injective v x h in (log, rw (← q) (over-extends vs (v ∷ log)), omega arith, extends-refl log)
-over-at (v ∷ vs) log (suc k) x h = let r = over-at vs (v ∷ log) k x h in (r.0, r.1, omega (arith, r.2), extends-tail v log r.0 r.3)
+over-at (v ∷ vs) log zero x h = let q : v ≡ x = some-injective v x h in
+    (log, rw (← q) (over-extends vs (v ∷ log)), omega arith, extends-refl log)
+over-at (v ∷ vs) log (suc k) x h = let r = over-at vs (v ∷ log) k x h in
+    (r.0, r.1, omega (arith, r.2), extends-tail v log r.0 r.3)
 
 pub nth-some : {A : Type 0} (xs : List A) (k : ℕ) → k < length xs → (x : A) × (nth xs k ≡ Some x)
 nth-some [] k h = absurd (omega (arith, h))

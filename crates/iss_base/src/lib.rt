@@ -1,3 +1,3 @@
-//! Words and facts about lists that several crates share: lists that are kept newest first,
-//! membership by recursion, and quorums that meet.
+//! Definitions and facts about lists that several crates share: lists kept newest first, membership, and the
+//! intersection of quorums.
 #![tactic(auto)]

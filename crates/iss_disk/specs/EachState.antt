@@ -14,27 +14,32 @@ pub record GoesOn (Holds : List File → Type 0) : Type 0 where
   pub synced : (files : List File) → Holds files → Holds (after synced files)
   pub restarted : (files : List File) → Holds files → Holds (after restarted files)
 
-pub each_state : (Holds : List File → Type 0) → GoesOn Holds → (calls : List Call) (lost content : List ℕ) → Holds (states calls lost content)
+pub each_state : (Holds : List File → Type 0) → GoesOn Holds → (calls : List Call) (lost content : List ℕ) →
+    Holds (states calls lost content)
 each_state Holds goes [] lost content = goes.fresh
 each_state Holds goes (ToEnd at over ∷ calls) lost content =
-    goes.written at (drop at content) _ (each_state Holds goes calls (all_but over lost) (with_tail at (last_bytes over lost) content))
+    goes.written at (drop at content) _
+    (each_state Holds goes calls (all_but over lost) (with_tail at (last_bytes over lost) content))
 each_state Holds goes (Within at len ∷ calls) lost content =
-    goes.written at (take len (drop at content)) _ (each_state Holds goes calls (all_but len lost) (with_part at len (last_bytes len lost) content))
+    goes.written at (take len (drop at content)) _
+    (each_state Holds goes calls (all_but len lost) (with_part at len (last_bytes len lost) content))
 each_state Holds goes (Cut by ∷ calls) lost content =
     goes.cut (length content) _ (each_state Holds goes calls (all_but by lost) (content ++ last_bytes by lost))
 each_state Holds goes (Kept at ∷ calls) lost content =
-    goes.synced _ (goes.written at (drop at content) _ (each_state Holds goes calls (all_but 0 lost) (with_tail at (last_bytes 0 lost) content)))
+    goes.synced _ (goes.written at (drop at content) _
+    (each_state Holds goes calls (all_but 0 lost) (with_tail at (last_bytes 0 lost) content)))
 each_state Holds goes (Opened len ∷ calls) lost content =
     let kept = length content - len in
     let front = all_but 1 lost in
     let closed = with_part (kept - 1) 1 (last_bytes 1 lost) content in
     goes.synced _ (goes.written (kept - 1) (take 1 (drop (kept - 1) content)) _
-    (goes.synced _ (goes.written kept (drop kept closed) _ (each_state Holds goes calls (all_but 0 front) (with_tail kept (last_bytes 0 front) closed)))))
+    (goes.synced _ (goes.written kept (drop kept closed) _
+    (each_state Holds goes calls (all_but 0 front) (with_tail kept (last_bytes 0 front) closed)))))
 each_state Holds goes (Synced ∷ calls) lost content = goes.synced _ (each_state Holds goes calls lost content)
 each_state Holds goes (Restarted at over ∷ calls) lost content =
     goes.restarted _ (each_state Holds goes calls (all_but over lost) (with_tail at (last_bytes over lost) content))
 
--- So does what is told of the newest state.
+-- A property of the newest state is kept by each change.
 newest_after : (P : File → Type 0) (change : File → File) → ((file : File) → P file → P (change file)) →
     (files : List File) → IfTold files P → IfTold (after change files) P
 newest_after P change keeps [] h = tt
@@ -42,7 +47,8 @@ newest_after P change keeps (file ∷ past) h = keeps file h
 
 pub newest_state :
     (P : File → Type 0) → P (settled [])
-    → ((at : ℕ) (bytes : List ℕ) (file : File) → P file → P (wrote at bytes file)) → ((n : ℕ) (file : File) → P file → P (shortened n file))
+    → ((at : ℕ) (bytes : List ℕ) (file : File) → P file → P (wrote at bytes file)) →
+    ((n : ℕ) (file : File) → P file → P (shortened n file))
     → ((file : File) → P (settled file.content)) → ((file : File) → P (settled file.kept))
     → (calls : List Call) (lost content : List ℕ) → IfTold (states calls lost content) P
 newest_state P fresh written cut syncs restarts = each_state (λ files. IfTold files P) (record {
@@ -60,7 +66,8 @@ pub record HasNewest (files : List File) : Type 0 where
   pub is : files ≡ file ∷ past
 
 has_newest_after : (change : File → File) (files : List File) → HasNewest files → HasNewest (after change files)
-has_newest_after change files some = record { file = change some.file; past = some.file ∷ some.past; is = ap (after change) some.is }
+has_newest_after change files some =
+    record { file = change some.file; past = some.file ∷ some.past; is = ap (after change) some.is }
 
 pub states_some : (calls : List Call) (lost content : List ℕ) → HasNewest (states calls lost content)
 states_some = each_state HasNewest (record {

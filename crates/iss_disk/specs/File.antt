@@ -4,38 +4,47 @@
 -- Trusted is that real disks keep to this.
 use Rattle.std.specs.Prelude.{◌≡◌, ℕ, ◌+◌, ◌<◌, ◌≤◌, min, max, Bool, false, ◌&&◌, ◌||◌, nat_le, nat_lt, List, [], ◌∷◌, ◌++◌, length, take, drop, slice_index}
 
--- A file, since the last sync that succeeded.
+-- a file, with what happened to it since its last successful sync
 pub record File : Type 0 where
-  -- what a read gives
+  -- what a read returns
   pub content : List ℕ
-  -- what a read gave when it was last synced
+  -- what a read returned at the last sync
   pub kept : List ℕ
-  -- the writes since, newest first: where each begins, and its bytes
+  -- the writes since then, newest first: offset and bytes of each
   pub written : List (ℕ × List ℕ)
-  -- the least end that the file had when one of them began, and before them its length: behind it a crash may leave anything
+  -- The least length that the file had at the last sync or when a write began. From there on a crash may leave
+  -- anything.
   pub open_from : ℕ
-  -- the least and the greatest length that it had since, or was being given
+  -- the least and the greatest length that the file had, or was being given, since the last sync
   pub shortest : ℕ
   pub longest : ℕ
 
--- whether one of the writes covers an offset
+-- whether one of the writes covers this offset
 abbrev pub is_written : List (ℕ × List ℕ) → ℕ → Bool
 is_written [] i = false
 is_written (write ∷ writes) i = (nat_le write.0 i && nat_lt i (write.0 + length write.1)) || is_written writes i
 
--- A crash may leave these bytes: each range written since the last sync, and what lies behind the old end, may hold
--- anything. Other bytes stand as they were kept.
+-- The crash images of a file. A crash leaves any length from `shortest` to `longest`. It may change only the ranges
+-- written since the last sync and what lies past `open_from`. All other bytes are those that were synced.
 -- rule: Disk: A crash may change only bytes written since the last sync
 pub record Image (file : File) (bytes : List ℕ) : Type 0 where
   pub long_enough : file.shortest ≤ length bytes
   pub short_enough : length bytes ≤ file.longest
-  pub others : (i : ℕ) → i < length bytes → i < file.open_from → is_written file.written i ≡ false → slice_index bytes i ≡ slice_index file.kept i
+  pub others : (i : ℕ) → i < length bytes → i < file.open_from → is_written file.written i ≡ false →
+      slice_index bytes i ≡ slice_index file.kept i
 
--- a file of which a crash leaves these bytes and nothing else
+-- a file with these bytes, all of them synced: they are its only crash image
 abbrev pub settled : List ℕ → File
-settled bytes = record { content = bytes; kept = bytes; written = []; open_from = length bytes; shortest = length bytes; longest = length bytes }
+settled bytes = record {
+  content = bytes;
+  kept = bytes;
+  written = [];
+  open_from = length bytes;
+  shortest = length bytes;
+  longest = length bytes;
+}
 
--- these bytes with others over them from an offset on, which may reach past their end
+-- the bytes with `over` written at an offset, which may reach past their end
 abbrev pub overwritten : ℕ → List ℕ → List ℕ → List ℕ
 overwritten at over bytes = take at bytes ++ over ++ drop (at + length over) bytes
 
@@ -50,7 +59,7 @@ wrote at bytes file = record {
   longest = max file.longest (at + length bytes);
 }
 
--- after a cut to a length
+-- after a cut to n bytes
 abbrev pub shortened : ℕ → File → File
 shortened n file = record file { content = take n file.content; shortest = min file.shortest n }
 

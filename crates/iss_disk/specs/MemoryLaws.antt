@@ -19,9 +19,11 @@ bytes_eq_self name = (bytes_eq-Decides name name).1 refl
 pub memory_here : (disk : MemoryDisk) → history_of disk.file ≡ files_of disk disk.file.name.items
 memory_here disk =
     let name = disk.file.name.items in
-    sym (cond-true (bytes_eq name name) (history_of disk.file) (history_among disk.others.items name) (bytes_eq_self name))
+    sym (cond-true (bytes_eq name name) (history_of disk.file) (history_among disk.others.items name)
+    (bytes_eq_self name))
 
-among_readable : (files : List StoredFile) (name : List ℕ) (file : File) (past : List File) → history_among files name ≡ file ∷ past → Image file file.content
+among_readable : (files : List StoredFile) (name : List ℕ) (file : File) (past : List File) →
+    history_among files name ≡ file ∷ past → Image file file.content
 among_readable [] name file past is = readable [] [] [] file past is
 among_readable (stored ∷ files) name file past is =
     let named = bytes_eq stored.name.items name in
@@ -34,5 +36,6 @@ among_readable (stored ∷ files) name file past is =
       | inr other ↦ among_readable files name file past (sym (cond-false named here among other) ∙ is)
     ]
 
-pub memory_read_is_image : (disk : MemoryDisk) (name : List ℕ) (file : File) (past : List File) → files_of disk name ≡ file ∷ past → Image file file.content
+pub memory_read_is_image : (disk : MemoryDisk) (name : List ℕ) (file : File) (past : List File) →
+    files_of disk name ≡ file ∷ past → Image file file.content
 memory_read_is_image disk name = among_readable (disk.file ∷ disk.others.items) name

@@ -7,7 +7,7 @@ use Rattle.iss_disk.specs.StoredViews.{history_of}
 use Rattle.iss_disk.specs.declared.stored.StoredFile.{StoredFile}
 use Rattle.iss_disk.specs.declared.memory.MemoryDisk.{MemoryDisk}
 
--- the states of the file of this name, which is new and empty where there is none
+-- the states of the file of this name; a file that does not exist is new and empty
 abbrev pub history_among : List StoredFile → List ℕ → List File
 history_among [] name = settled [] ∷ []
 history_among (file ∷ files) name = if bytes_eq file.name.items name then history_of file else history_among files name
@@ -20,10 +20,10 @@ files_of disk name = history_among (disk.file ∷ disk.others.items) name
 abbrev pub current_of : MemoryDisk → List ℕ
 current_of disk = disk.file.name.items
 
--- how often it has failed
+-- how many calls have failed
 abbrev pub faults_of : MemoryDisk → ℕ
 faults_of disk = disk.faults
 
--- which of the calls to come pass
+-- what is known about which later calls succeed
 abbrev pub calls_of : MemoryDisk → Passes
 calls_of disk = passes_of disk.fate

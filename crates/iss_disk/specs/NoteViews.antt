@@ -9,6 +9,7 @@ use Rattle.iss_disk.specs.declared.notes.Notes.{Notes}
 abbrev pub calls_in : Notes → List Call
 calls_in notes = merged (reverse notes.others.items) notes.opened.items
 
--- how many more there is room for, whatever they are
+-- how many more calls of any kind fit
 abbrev pub room_in : Notes → ℕ
-room_in notes = min (vec_capacity notes.opened - vec_len notes.opened) (vec_capacity notes.others - vec_len notes.others)
+room_in notes = min (vec_capacity notes.opened - vec_len notes.opened)
+    (vec_capacity notes.others - vec_len notes.others)

@@ -10,16 +10,17 @@ use Rattle.iss_disk.specs.declared.stored.StoredFile.{StoredFile}
 abbrev pub history_of : StoredFile → List File
 history_of file = states (calls_of file.recent ++ calls_in file.calls) file.lost.items file.content.items
 
--- the bytes for which there is room in all of its lists
+-- how many bytes fit into all of its lists
 abbrev pub room_for_bytes : StoredFile → ℕ
 room_for_bytes file =
     min (vec_capacity file.lost - (vec_len file.lost + vec_len file.content))
     (min (vec_capacity file.content - vec_len file.content) (vec_capacity file.behind - vec_len file.content))
 
--- the calls for which there is room in their list, where all that is there may still be taken away
+-- how many calls fit into their list, if everything in the file may still be removed
 abbrev pub room_for_calls : StoredFile → ℕ
 room_for_calls file =
-    if nat_le (vec_len file.lost + vec_len file.content) (vec_capacity file.lost) then room_in file.calls - (length (calls_of file.recent) + 1) else 0
+    if nat_le (vec_len file.lost + vec_len file.content) (vec_capacity file.lost)
+    then room_in file.calls - (length (calls_of file.recent) + 1) else 0
 
 -- the room in its lists
 abbrev pub room_of : StoredFile → Room

@@ -1,33 +1,36 @@
-// The calls that a memory disk keeps of a file.
+// The calls that a memory disk records for a file.
 
-/// A call that changed or synced a file, with what it takes to undo it; the bytes that it took away are kept beside the list.
+/// A call that changed or synced a file, with what is needed to undo it. The bytes that it removed are kept in a
+/// separate list.
 #[derive(Clone, Copy, Debug, PartialEq, Eq)]
 pub enum Call {
-    /// All that stands from an offset on was written, over so many bytes that stood there.
+    /// A write from offset `at` to the end of the file. It replaced the last `over` bytes.
     ToEnd { at: usize, over: usize },
-    /// So many bytes were written from an offset on, over as many.
+    /// A write of `len` bytes at offset `at`, over as many existing bytes.
     Within { at: usize, len: usize },
-    /// So many bytes were cut off.
+    /// The last `by` bytes were cut off.
     Cut { by: usize },
-    /// All that stands from an offset on was written, where the file ended, and then it was synced.
+    /// A write from offset `at`, where the file ended, followed by a sync.
     Kept { at: usize },
-    /// So many bytes were written where the file ended, and synced, and then one over the last one before them, and synced.
+    /// A journal's append: `len` bytes written at the end and synced, then one byte written over the byte before them,
+    /// and synced.
     Opened { len: usize },
-    /// It was synced.
+    /// A sync.
     Synced,
-    /// A crash left what was synced. From an offset on so many bytes had stood there.
+    /// A crash that left what was synced. It removed the last `over` bytes, which began at offset `at`.
     Restarted { at: usize, over: usize },
 }
 
-/// The last calls on a file, where they may yet become the one note that an entry of a journal is.
+/// The last calls on a file, while they may still turn out to be one append of a journal, which is recorded as one
+/// note.
 #[derive(Clone, Copy, Debug, PartialEq, Eq)]
 pub enum Recent {
     /// All calls are in the list.
     Nothing,
-    /// All that stands from an offset on was written, where the file ended.
+    /// A write from offset `at`, where the file ended.
     Wrote { at: usize },
-    /// They were written so, and then it was synced.
+    /// Such a write, followed by a sync.
     Kept { at: usize },
-    /// They were kept so from an offset on, and then one byte was written over the last one before it.
+    /// Such a write and a sync, then a write of one byte over the byte before offset `kept`.
     Opening { kept: usize },
 }

@@ -7,8 +7,8 @@ use crate::{EndError, Failed, NoMemory};
 
 /// Files by name, one of which is the current one. A name that was never used names an empty file.
 ///
-/// Every call but `reserve` is one call of the device, which may fail. What has not been synced may be torn by a crash:
-/// the definition `Image` says how. A disk that tells nothing of its files, as one over real files, has no states.
+/// Every call but `reserve` is one call of the device, which may fail. A crash may tear what has not been synced, as
+/// the definition `Image` says. The laws speak of the recorded states of files; a disk over real files records none.
 pub trait Disk {
     /// The states of the current file so far, newest first.
     ghost history: { Self → List File };
@@ -19,26 +19,28 @@ pub trait Disk {
     /// The name of the current file.
     ghost current: { Self → List ℕ };
 
-    /// How often the disk has failed.
+    /// How many calls have failed.
     ghost faults: { Self → ℕ };
 
-    /// What is known of the calls to come.
+    /// What is known about which later calls succeed.
     ghost passes: { Self → Passes };
 
     /// The room that `reserve` made.
     ghost room: { Self → Room };
 
-    /// Makes the file of this name the current one; a new one is empty. `NoMemory` comes before the device is called.
+    /// Makes the file of this name the current one; a new file is empty. `NoMemory` is returned before the device is
+    /// called; `Failed` says that the device failed. After an error the current file is the same.
     fn attach(&mut self, name: &str) -> Result<(), EndError>
         ensures current { OnOk result (current self.new ≡ name.now) }
         ensures err { OnErr result (current self.new ≡ current self.old) }
         ensures files { (n : List ℕ) → files self.new n ≡ files self.old n }
         ensures cause { HasCause (faults self.old) (faults self.new) (IsErrOf result EndError.Failed) }
-        ensures device { (IsErrOf result EndError.NoMemory → ⊥) → Runs 1 (passes self.old) (passes self.new) (is_ok result) }
+        ensures device { (IsErrOf result EndError.NoMemory → ⊥) →
+            Runs 1 (passes self.old) (passes self.new) (is_ok result) }
         ensures no_memory { IsErrOf result EndError.NoMemory → passes self.new ≡ passes self.old };
 
-    /// Makes room for the next calls of `write_at`, `cut` and `sync`, which then take no memory, and which write at most
-    /// so many bytes in all. It calls no device.
+    /// Makes room for the next `calls` calls of `write_at`, `cut` and `sync`, which then allocate nothing, and which
+    /// write at most `bytes` bytes in total. The device is not called.
     fn reserve(&mut self, calls: u64, bytes: u64) -> Result<(), NoMemory>
         ensures room { OnOk result ((calls ≤ (room self.new).calls) × (bytes ≤ (room self.new).bytes)) }
         ensures more { Takes 0 0 (room self.old) (room self.new) }
@@ -46,7 +48,7 @@ pub trait Disk {
         ensures faults { faults self.new ≡ faults self.old }
         ensures passes { passes self.new ≡ passes self.old };
 
-    /// The current file's length.
+    /// The current file's length in bytes.
     fn length(&mut self) -> Result<u64, Failed>
         ensures length { IfOk result (λ n. IfTold (history self.old) (λ file. n ≡ length file.content)) }
         ensures same { Stays (current self.old) (current self.new) (files self.old) (files self.new) }
@@ -54,18 +56,20 @@ pub trait Disk {
         ensures cause { HasCause (faults self.old) (faults self.new) (IsErr result) }
         ensures device { Runs 1 (passes self.old) (passes self.new) (is_ok result) };
 
-    /// Reads from an offset on, and says how many bytes it read. Where the disk tells its content it fills the slice as
-    /// far as the file reaches, which is 0 bytes at or past the end.
+    /// Reads from offset `at`, and returns how many bytes it read. A disk with recorded states fills the slice as far
+    /// as the file reaches; at or past the end it reads 0 bytes.
     fn read_at(&mut self, at: u64, into: &mut [u8]) -> Result<usize, Failed>
         ensures bound { IfOk result (λ n. n ≤ length into.old) }
-        ensures count { IfOk result (λ n. IfTold (history self.old) (λ file. n ≡ min (length into.old) (length file.content - at))) }
-        ensures bytes { IfOk result (λ n. IfTold (history self.old) (λ file. into.new ≡ take n (drop at file.content) ++ drop n into.old)) }
+        ensures count { IfOk result
+            (λ n. IfTold (history self.old) (λ file. n ≡ min (length into.old) (length file.content - at))) }
+        ensures bytes { IfOk result
+            (λ n. IfTold (history self.old) (λ file. into.new ≡ take n (drop at file.content) ++ drop n into.old)) }
         ensures same { Stays (current self.old) (current self.new) (files self.old) (files self.new) }
         ensures room { Takes 0 0 (room self.old) (room self.new) }
         ensures cause { HasCause (faults self.old) (faults self.new) (IsErr result) }
         ensures device { Runs 1 (passes self.old) (passes self.new) (is_ok result) };
 
-    /// Writes over what is there, and past the end.
+    /// Writes `bytes` at offset `at`, which is at most the length: over existing bytes, and past the end.
     fn write_at(&mut self, at: u64, bytes: &[u8]) -> Result<(), Failed>
         requires call { 1 ≤ (room self.old).calls }
         requires bytes { length bytes.now ≤ (room self.old).bytes }
@@ -76,7 +80,7 @@ pub trait Disk {
         ensures cause { HasCause (faults self.old) (faults self.new) (IsErr result) }
         ensures device { Runs 1 (passes self.old) (passes self.new) (is_ok result) };
 
-    /// Cuts the file to a length.
+    /// Cuts the file to `len` bytes, which is at most its length.
     fn cut(&mut self, len: u64) -> Result<(), Failed>
         requires call { 1 ≤ (room self.old).calls }
         requires within { IfTold (history self.old) (λ file. len ≤ length file.content) }
@@ -86,7 +90,7 @@ pub trait Disk {
         ensures cause { HasCause (faults self.old) (faults self.new) (IsErr result) }
         ensures device { Runs 1 (passes self.old) (passes self.new) (is_ok result) };
 
-    /// After it, a crash leaves what a read gives.
+    /// Makes the file durable: once it is Ok, a crash leaves exactly what a read returns.
     fn sync(&mut self) -> Result<(), Failed>
         requires { 1 ≤ (room self.old).calls }
         ensures file { Moves synced (is_ok result) (history self.old) (history self.new) }
@@ -95,23 +99,25 @@ pub trait Disk {
         ensures cause { HasCause (faults self.old) (faults self.new) (IsErr result) }
         ensures device { Runs 1 (passes self.old) (passes self.new) (is_ok result) };
 
-    /// The states of the current file are those of the file of its name.
+    /// The states of the current file are those of the file with its name.
     ghost here: { (disk : Self) → history disk ≡ files disk (current disk) };
 
-    /// What a read gives is something that a crash may leave.
-    ghost read_is_image: { (disk : Self) (name : List ℕ) (file : File) (past : List File) → files disk name ≡ file ∷ past → Image file file.content };
+    /// What a read returns is one of the crash images.
+    ghost read_is_image: { (disk : Self) (name : List ℕ) (file : File) (past : List File) →
+        files disk name ≡ file ∷ past → Image file file.content };
 }
 
-/// A disk that can be made to fail, as a crash does.
+/// A disk whose device can be made to fail, as in a crash.
 pub trait Fused: Disk {
-    /// From now on that many calls of the device pass, and all others fail.
+    /// The next `calls` calls of the device succeed, and all later ones fail.
     fn fuse(&mut self, calls: u64)
         ensures passes { Self.passes self.new ≡ up_to calls }
-        ensures same { Stays (Self.current self.old) (Self.current self.new) (Self.files self.old) (Self.files self.new) }
+        ensures same { Stays (Self.current self.old) (Self.current self.new) (Self.files self.old)
+            (Self.files self.new) }
         ensures faults { Self.faults self.new ≡ Self.faults self.old }
         ensures room { Takes 0 0 (Self.room self.old) (Self.room self.new) };
 
-    /// Leaves of each file what was synced, and ends the fuse.
+    /// A crash and a restart: each file is what was synced of it, and calls succeed again.
     fn restart(&mut self)
         ensures files { (name : List ℕ) → Restarts (Self.files self.old name) (Self.files self.new name) }
         ensures current { Self.current self.new ≡ Self.current self.old }

@@ -4,20 +4,21 @@ ghost use Rattle.iss_disk.specs.declared.errors.EndError.{EndError};
 
 use std::alloc::{AllocError, AllocFailed};
 
-/// The disk failed, and its count of faults rose.
+/// A call of the device failed, and the count of faults increased.
 #[derive(Clone, Copy, Debug, PartialEq, Eq)]
 pub struct Failed;
 
-/// There was no memory. Nothing has changed but how much room there is.
+/// Out of memory. Nothing has changed but the reserved room.
 #[derive(Clone, Copy, Debug, PartialEq, Eq)]
 pub struct NoMemory;
 
-/// Why a call that opens a file was refused.
+/// Why a call failed that may use the device and may run out of memory, such as `attach` of a disk or an append to a
+/// journal.
 #[derive(Clone, Copy, Debug, PartialEq, Eq)]
 pub enum EndError {
-    /// The disk failed, and its count of faults rose.
+    /// A call of the device failed, and the count of faults increased.
     Failed,
-    /// There was no memory.
+    /// Out of memory.
     NoMemory,
 }
 

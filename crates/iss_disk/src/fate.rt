@@ -5,19 +5,19 @@ ghost use Rattle.iss_disk.specs.Fates.{passes_of};
 
 use crate::Failed;
 
-/// Which of the calls to come pass.
+/// Which of the next calls succeed.
 #[derive(Debug, Drop)]
 pub enum Fate {
     /// All.
     Sound,
-    /// The first so many.
+    /// The first n; all later ones fail.
     Fused(u64),
-    /// The list says it of each, of which so many were made, and all behind it pass.
+    /// As listed; the first `made` outcomes are used up. After the list all succeed.
     Scripted { made: usize, outcomes: Vec<bool> },
 }
 
 impl Fate {
-    // Takes one call, which passes or counts as a fault.
+    // Makes one call: it succeeds, or counts as a fault.
     #[inline(always)]
     pub(crate) fn take(&mut self, faults: &mut u64) -> Result<(), Failed>
         ensures cause { HasCause faults.old faults.new (IsErr result) }
@@ -30,7 +30,7 @@ impl Fate {
         Err(Failed)
     }
 
-    // Whether the next call passes.
+    // Whether the next call succeeds.
     #[inline(always)]
     fn next(&mut self) -> bool
         ensures { Runs 1 (passes_of self.old) (passes_of self.new) result }

@@ -1,4 +1,4 @@
-// A disk over the files of the operating system: the trusted edge, which tells nothing of what they hold.
+// A disk over the operating system's files: the trusted edge. Nothing is proved about what the files hold.
 ghost use Rattle.std.specs.Prelude.{◌≡◌, ◌≤◌, ◌^◌, [], length, IfOk, IsErr, is_ok};
 ghost use Rattle.iss_disk.specs.Calls.{HasCause, untold};
 
@@ -9,8 +9,8 @@ use std::io;
 use std::os::unix::fs::FileExt;
 use std::rt::Files;
 
-/// A disk over files of the operating system. Each call that the system refuses, and each call before a file was
-/// attached, is a fault.
+/// A disk over the operating system's files. Each call that the system refuses is a fault, and so is each call before a
+/// file is attached.
 #[derive(Drop)]
 pub struct FileDisk<R: Files<File = File>> {
     files: R,
@@ -35,7 +35,7 @@ impl<R: Files<File = File>> FileDisk<R> {
     }
 }
 
-// Counts a fault, where the system refused.
+// Counts a fault if the system refused the call.
 fn count_fault<T: Drop>(answer: io::Result<T>, faults: &mut u64) -> Result<T, Failed>
     ensures value { IfOk result (λ value. answer ≡ Ok value) }
     ensures cause { HasCause faults.old faults.new (IsErr result) }
@@ -56,7 +56,7 @@ fn attached(file: &Option<File>) -> io::Result<&File> {
     }
 }
 
-// The folder in which a file of this name stands.
+// The folder that holds the file of this name.
 fn folder_of(name: &str) -> &str {
     match name.rsplit_once('/') {
         Some(("", _)) => "/",
@@ -65,7 +65,8 @@ fn folder_of(name: &str) -> &str {
     }
 }
 
-// Opens a file, or makes it. Its folder is synced, so that a crash does not take a new file's name away.
+// Opens a file, and creates it if it does not exist. Its folder is synced, so that a crash does not lose a new file's
+// name.
 fn open<R: Files<File = File>>(files: &R, name: &str) -> io::Result<File> {
     let file = OpenOptions::new()
         .read(true)

@@ -1,4 +1,4 @@
-// A disk that is lent is a disk.
+// A mutable borrow of a disk is a disk.
 use crate::{Disk, EndError, Failed, NoMemory};
 
 impl<D: Disk> Disk for &mut D {

@@ -1,4 +1,4 @@
-//! Disks: files by name that are read, written, cut and synced, and of which a crash may tear what was not synced.
+//! Disks: files by name that are read, written, cut and synced. A crash may tear what was not synced.
 #![tactic(auto)]
 
 mod call;

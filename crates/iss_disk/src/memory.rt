@@ -11,7 +11,7 @@ use crate::{Disk, EndError, Failed, Fused, NoMemory};
 use std::alloc::{AllocError, Global};
 use std::mem;
 
-/// A disk in memory, which tells all of its files. It keeps the list of its writes, cuts and syncs.
+/// A disk in memory, which knows the past states of all its files. It records its writes, cuts and syncs.
 #[derive(Drop)]
 pub struct MemoryDisk {
     alloc: Global,
@@ -27,7 +27,7 @@ impl MemoryDisk {
     ghost use Rattle.iss_disk.specs.StoredViews.{history_of};
     ghost use Rattle.iss_disk.specs.MemoryViews.{files_of, current_of, faults_of, calls_of};
 
-    /// A disk of which no call fails. All of its files are empty, and the one of the empty name is the current one.
+    /// A disk whose calls all succeed. All its files are empty, and the file with the empty name is the current one.
     pub fn new(alloc: Global) -> Result<MemoryDisk, AllocError>
         ensures files { IfOk result (λ disk. (name : List ℕ) → files_of disk name ≡ settled [] ∷ []) }
         ensures history { IfOk result (λ disk. history_of disk.file ≡ settled [] ∷ []) }
@@ -44,7 +44,7 @@ impl MemoryDisk {
         })
     }
 
-    /// The same disk, of whose next calls those pass that the list says, and then all.
+    /// The same disk, whose next calls succeed or fail as listed; all later calls succeed.
     pub fn with_outcomes(self, outcomes: Vec<bool>) -> MemoryDisk
         ensures files { (name : List ℕ) → files_of result name ≡ files_of self name }
         ensures history { history_of result.file ≡ history_of self.file }
@@ -69,12 +69,13 @@ impl MemoryDisk {
     }
 }
 
-// Takes out the file that has the same name as a new one, or else gives back the new one.
+// Removes the file with the new file's name and returns it, or returns the new file if there is none.
 fn take_named(others: &mut Vec<StoredFile>, fresh: StoredFile) -> StoredFile
     requires { history_of fresh ≡ settled [] ∷ [] }
     ensures name { result.name.items ≡ fresh.name.items }
     ensures history { history_of result ≡ history_among others.old.items fresh.name.items }
-    ensures others { (name : List ℕ) → name ≢ fresh.name.items → history_among others.new.items name ≡ history_among others.old.items name }
+    ensures others { (name : List ℕ) → name ≢ fresh.name.items →
+        history_among others.new.items name ≡ history_among others.old.items name }
     ensures len { vec_len others.new ≤ vec_len others.old }
     ensures capacity { vec_capacity others.new ≡ vec_capacity others.old }
 {
@@ -165,7 +166,7 @@ impl Disk for MemoryDisk {
     ghost read_is_image = { memory_read_is_image };
 }
 
-// Copies what stands from an offset on, as far as there is something and room for it.
+// Copies bytes from offset `at` into the slice, as many as there are and fit. Returns how many.
 fn copy_from(content: &[u8], at: usize, into: &mut [u8]) -> usize
     ensures count { result ≡ min (length into.old) (length content.now - at) }
     ensures bytes { into.new ≡ take result (drop at content.now) ++ drop result into.old }

@@ -13,10 +13,10 @@ pub struct Placed {
     pub(crate) behind: usize,
 }
 
-/// The calls on a file. Nearly all of them open a gate before an entry, and take one number each.
+/// The calls on a file. Nearly all of them are appends of a journal, each of which takes one number.
 #[derive(Drop)]
 pub struct Notes {
-    // How many bytes stood behind each gate that was opened.
+    // For each append, how many bytes it wrote after the gate that it opened.
     opened: Vec<u32>,
     // All other calls.
     others: Vec<Placed>,
@@ -37,7 +37,7 @@ impl Notes {
         }
     }
 
-    // Makes room for so many calls.
+    // Makes room for `calls` calls.
     pub(crate) fn reserve(&mut self, calls: usize) -> Result<(), NoMemory>
         ensures room { OnOk result (calls ≤ room_in self.new) }
         ensures no_less { room_in self.old ≤ room_in self.new }
@@ -48,7 +48,7 @@ impl Notes {
         Ok(())
     }
 
-    // Notes that so many bytes were written where the file ended, and synced, and then the gate before them opened, and synced.
+    // Records an append: `len` bytes written at the end and synced, then the gate before them opened and synced.
     // rule: Disk: A note keeps its calls in their order
     #[inline(always)]
     pub(crate) fn push_opened(&mut self, len: u32)
@@ -59,7 +59,7 @@ impl Notes {
         self.opened.push_reserved(len);
     }
 
-    // Notes another call.
+    // Records another call.
     pub(crate) fn push(&mut self, call: Call)
         requires { 1 ≤ room_in self.old }
         ensures calls { calls_in self.new ≡ call ∷ calls_in self.old }

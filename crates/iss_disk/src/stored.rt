@@ -11,33 +11,34 @@ use crate::call::{Call, Recent};
 use crate::notes::Notes;
 use std::alloc::{AllocError, Global};
 
-// How many bytes at most may stand behind a gate that takes a short note.
+// The most bytes that an append may write and still be recorded as one number.
 const LONGEST_NOTED: usize = 4_294_967_295;
 
-// So many bytes at most are put one by one.
+// Up to this many bytes are copied one by one.
 const FEW_BYTES: usize = 16;
 
-/// A file in memory, with the list of the calls on it and what they took away, so that each can be undone.
+/// A file in memory, with the list of the calls on it and the bytes that they removed, so that each call can be undone.
 #[derive(Drop)]
 pub struct StoredFile {
     pub(crate) name: Vec<u8>,
     pub(crate) content: Vec<u8>,
-    // What was synced is the content up to `same`, then these bytes, which were written over or cut off since, and then the content
-    // from `resumes` on. So a file at rest holds its bytes once, and a sync copies nothing.
+    // What was synced is the content up to `same`, then the bytes of `behind`, then the content from `resumes` on. The
+    // bytes of `behind` were overwritten or cut off after the sync. So a synced file holds its bytes once, and a sync
+    // copies nothing.
     same: usize,
     behind: Vec<u8>,
     resumes: usize,
-    // Whether a write or a cut came since.
+    // Whether the file was written or cut since the last sync.
     pending: bool,
-    // The calls, but for the last ones, which may become one note.
+    // The calls, except for the last ones, which may become one note.
     calls: Notes,
     recent: Recent,
-    // What the calls took away, one behind the other: what stands there still is noted nowhere else.
+    // The bytes that the calls removed, oldest first. Bytes that are still in the file are recorded nowhere else.
     lost: Vec<u8>,
     ghost stored: { IsStored (states (calls_of recent ++ calls_in calls) lost.items content.items)
         content.items behind.items same resumes },
     ghost waits: { pending ≡ is_pending (calls_of recent ++ calls_in calls) },
-    // A sync, a restart and setting apart what was synced take no memory.
+    // A sync, a restart and saving the synced bytes allocate nothing.
     ghost room_to_sync: { vec_len content ≤ vec_capacity behind },
     ghost room_to_part: { same + vec_len behind + (vec_len content - resumes) ≤ vec_capacity behind },
     ghost room_to_restart: { same + vec_len behind + (vec_len content - resumes) ≤ vec_capacity content },
@@ -45,8 +46,8 @@ pub struct StoredFile {
     ghost room_to_lose: { pending ≡ true → vec_len lost + vec_len content ≤ vec_capacity lost },
 }
 
-// Makes room for so many bytes more. Only the bytes that are there are moved, and not the room behind them, as a list by itself would:
-// of this the two lists that need room for a whole file mostly have nothing else.
+// Makes room for `more` bytes. Only the existing bytes are moved, not the spare room, as a list by itself would: the
+// two lists with room for a whole file are mostly empty.
 fn make_room(list: &mut Vec<u8>, more: usize) -> Result<(), NoMemory>
     ensures items { list.new.items ≡ list.old.items }
     ensures room { OnOk result (vec_len list.new + more ≤ vec_capacity list.new) }
@@ -63,7 +64,7 @@ fn make_room(list: &mut Vec<u8>, more: usize) -> Result<(), NoMemory>
     Ok(())
 }
 
-// Puts bytes over what is there, from an offset on.
+// Writes bytes over the existing ones, from offset `at`.
 fn overwrite(content: &mut Vec<u8>, at: usize, bytes: &[u8])
     requires within { at ≤ vec_len content.old }
     requires room { vec_len content.old + length bytes.now ≤ vec_capacity content.old }
@@ -80,8 +81,7 @@ fn overwrite(content: &mut Vec<u8>, at: usize, bytes: &[u8])
     }
 }
 
-// Puts bytes behind those that are there. Like the next one it is seldom called, and takes much room on the stack: so both stay out
-// of their callers.
+// Appends bytes. Like `put_before_some` it is rarely called and uses much of the stack, so both are not inlined.
 #[cold]
 #[inline(never)]
 fn put_behind(behind: &mut Vec<u8>, tail: &[u8])
@@ -92,7 +92,7 @@ fn put_behind(behind: &mut Vec<u8>, tail: &[u8])
     let _ = behind.extend_from_slice(tail);
 }
 
-// Puts bytes before some that are there.
+// Puts bytes before existing ones.
 #[cold]
 #[inline(never)]
 fn put_before_some(behind: &mut Vec<u8>, front: &[u8])
@@ -105,7 +105,7 @@ fn put_before_some(behind: &mut Vec<u8>, front: &[u8])
     behind.rotate_left(count);
 }
 
-// Puts bytes before those that are there, which mostly are none.
+// Puts bytes before the existing ones, of which there are mostly none.
 fn put_before(behind: &mut Vec<u8>, front: &[u8])
     requires room { vec_len behind.old + length front.now ≤ vec_capacity behind.old }
     ensures items { behind.new.items ≡ front.now ++ behind.old.items }
@@ -118,7 +118,7 @@ fn put_before(behind: &mut Vec<u8>, front: &[u8])
     }
 }
 
-// Puts bytes in place of all that stands from an offset on.
+// Replaces everything from an offset on by these bytes.
 fn put_back(content: &mut Vec<u8>, same: usize, behind: &[u8])
     requires within { same ≤ vec_len content.old }
     requires room { same + length behind.now ≤ vec_capacity content.old }
@@ -129,7 +129,7 @@ fn put_back(content: &mut Vec<u8>, same: usize, behind: &[u8])
     let _ = content.extend_from_slice(behind);
 }
 
-// Notes the last calls.
+// Records the last calls in the list.
 fn note_all(calls: &mut Notes, recent: Recent)
     requires { length (calls_of recent) ≤ room_in calls.old }
     ensures calls { calls_in calls.new ≡ calls_of recent ++ calls_in calls.old }
@@ -149,11 +149,13 @@ fn note_all(calls: &mut Notes, recent: Recent)
     }
 }
 
-// Notes a sync of a file of so many bytes, and tells the calls that are not noted yet behind it. So an entry of a journal is one note.
+// Records a sync of a file of `end` bytes, and returns the calls that are not in the list yet. So an append of a
+// journal is one note.
 #[inline(always)]
 fn note_sync(calls: &mut Notes, recent: Recent, end: usize) -> Recent
     requires { length (calls_of recent) < room_in calls.old }
-    ensures states { (lost content : List ℕ) → length content ≡ end → states (calls_of result ++ calls_in calls.new) lost content
+    ensures states { (lost content : List ℕ) → length content ≡ end →
+        states (calls_of result ++ calls_in calls.new) lost content
         ≡ after synced (states (calls_of recent ++ calls_in calls.old) lost content) }
     ensures waits { is_pending (calls_of result ++ calls_in calls.new) ≡ false }
     ensures room { room_in calls.old + length (calls_of result) ≤ room_in calls.new + length (calls_of recent) + 1 }
@@ -172,7 +174,7 @@ fn note_sync(calls: &mut Notes, recent: Recent, end: usize) -> Recent
     }
 }
 
-// Puts bytes behind those that are there, one by one.
+// Appends bytes one by one.
 #[inline(always)]
 fn put_few(content: &mut Vec<u8>, bytes: &[u8])
     requires room { vec_len content.old + length bytes.now ≤ vec_capacity content.old }
@@ -184,8 +186,8 @@ fn put_few(content: &mut Vec<u8>, bytes: &[u8])
     }
 }
 
-// Puts bytes behind those that are there. A small entry was just written byte by byte: a wider read of it would wait until all that is
-// in memory, so it is copied as it was written.
+// Appends bytes. A small entry was just written byte by byte, and a wider read of it would stall until those writes
+// reach the cache. So it is copied byte by byte too.
 #[inline(always)]
 fn put_all(content: &mut Vec<u8>, bytes: &[u8])
     requires room { vec_len content.old + length bytes.now ≤ vec_capacity content.old }
@@ -199,7 +201,7 @@ fn put_all(content: &mut Vec<u8>, bytes: &[u8])
     }
 }
 
-// Takes away all that stands from an offset on.
+// Records everything from offset `at` as removed.
 fn take_tail(content: &[u8], lost: &mut Vec<u8>, at: usize)
     requires within { at ≤ length content.now }
     requires room { vec_len lost.old + (length content.now - at) ≤ vec_capacity lost.old }
@@ -209,13 +211,14 @@ fn take_tail(content: &[u8], lost: &mut Vec<u8>, at: usize)
     let _ = lost.extend_from_slice(&content[at..]);
 }
 
-// Takes away what so many bytes are about to be written over, from an offset on, and tells the call that undoes it.
+// Records the bytes that a write of `len` bytes at offset `at` replaces, and returns the call that undoes it.
 // rule: Disk: Undoing a memory disk's calls gives each state that its file went through
 fn take_away(content: &[u8], lost: &mut Vec<u8>, at: usize, len: usize) -> Call
     requires within { at ≤ length content.now }
     requires room { vec_len lost.old + min len (length content.now - at) ≤ vec_capacity lost.old }
     ensures undoes { (calls : List Call) (bytes : List ℕ) → length bytes ≡ len →
-        states (result ∷ calls) lost.new.items (overwritten at bytes content.now) ≡ after (wrote at bytes) (states calls lost.old.items content.now) }
+        states (result ∷ calls) lost.new.items (overwritten at bytes content.now)
+        ≡ after (wrote at bytes) (states calls lost.old.items content.now) }
     ensures waits { (calls : List Call) → is_pending (result ∷ calls) ≡ true }
     ensures len { vec_len lost.new ≤ vec_len lost.old + min len (length content.now - at) }
     ensures capacity { vec_capacity lost.old ≤ vec_capacity lost.new }
@@ -231,7 +234,7 @@ fn take_away(content: &[u8], lost: &mut Vec<u8>, at: usize, len: usize) -> Call
     }
 }
 
-// Sets apart what the content goes on with, which mostly is nothing.
+// Saves the synced bytes at the end of the content, of which there are mostly none.
 #[inline(always)]
 fn close(content: &[u8], behind: &mut Vec<u8>, resumes: usize)
     requires room { vec_len behind.old + (length content.now - resumes) ≤ vec_capacity behind.old }
@@ -243,14 +246,16 @@ fn close(content: &[u8], behind: &mut Vec<u8>, resumes: usize)
     }
 }
 
-// Sets apart all that was synced from an offset on, before something comes over it, and tells up to where the content is what was synced.
+// Saves all synced bytes from offset `at` on before they change. Returns up to which offset the content is still what
+// was synced.
 #[inline(always)]
 fn part(content: &[u8], behind: &mut Vec<u8>, same: usize, resumes: usize, at: usize) -> usize
     requires within { same ≤ length content.now }
     requires room { same + vec_len behind.old + (length content.now - resumes) ≤ vec_capacity behind.old }
     ensures before { result ≤ at }
     ensures no_more { result ≤ same }
-    ensures synced { take result content.now ++ behind.new.items ≡ take same content.now ++ (behind.old.items ++ drop resumes content.now) }
+    ensures synced { take result content.now ++ behind.new.items ≡ take same content.now
+        ++ (behind.old.items ++ drop resumes content.now) }
     ensures len { result + vec_len behind.new ≡ same + vec_len behind.old + (length content.now - resumes) }
     ensures capacity { vec_capacity behind.old ≤ vec_capacity behind.new }
 {
@@ -293,7 +298,7 @@ impl StoredFile {
         ensures same { history_of self.new ≡ history_of self.old }
     {
         let bytes = bytes as usize;
-        // Three more than asked for: for the last calls, and since a restart takes no memory either.
+        // Three more than requested: two for the last calls, and one since a restart allocates nothing.
         let calls = (calls as usize).checked_add(3).ok_or(NoMemory)?;
         self.calls.reserve(calls)?;
         self.content.reserve(bytes)?;
@@ -303,7 +308,7 @@ impl StoredFile {
         make_room(&mut self.behind, apart)
     }
 
-    // Writes one byte over the last one before what was just kept, as a gate is opened: no more than that byte is set apart.
+    // Writes one byte over the last byte before what was just synced, as opening a gate does. Only that byte is saved.
     // rule: Disk: Synced bytes stay until the next sync, whatever is written over or cut off
     #[inline(always)]
     fn write_over(&mut self, at: usize, byte: u8)
@@ -327,7 +332,7 @@ impl StoredFile {
         self.lost.push_reserved(former);
     }
 
-    // Writes bytes behind all that is there, where all is synced, as an entry is written.
+    // Writes bytes at the end of a file that is all synced, as an append of a journal does.
     #[inline(always)]
     fn write_behind(&mut self, bytes: &[u8])
         requires call { 1 ≤ (room_of self.old).calls }
@@ -335,7 +340,8 @@ impl StoredFile {
         requires nothing_apart { self.old.behind.items ≡ [] }
         requires all_synced { self.old.same ≡ length self.old.content.items }
         requires all_noted { self.old.recent ≡ Recent.Nothing }
-        ensures states { history_of self.new ≡ after (wrote (length self.old.content.items) bytes.now) (history_of self.old) }
+        ensures states { history_of self.new ≡ after (wrote (length self.old.content.items) bytes.now)
+            (history_of self.old) }
         ensures room { Takes 1 (length bytes.now) (room_of self.old) (room_of self.new) }
         ensures name { self.new.name.items ≡ self.old.name.items }
     {
@@ -346,7 +352,7 @@ impl StoredFile {
         self.recent = Recent::Wrote { at };
     }
 
-    // Writes bytes over what is there, and past the end.
+    // Writes bytes over the existing ones, and past the end.
     #[cold]
     #[inline(never)]
     fn write_all(&mut self, at: usize, bytes: &[u8])
@@ -435,7 +441,7 @@ impl StoredFile {
         }
     }
 
-    // Takes away what was written since the last sync, and puts back what was synced.
+    // Removes what was written since the last sync, and restores what was synced.
     fn undo(&mut self)
         requires { self.old.pending ≡ true }
         ensures states { history_of self.new ≡ after restarted (history_of self.old) }

@@ -1,4 +1,4 @@
--- A file that is read and brought to rest reads as before at each moment.
+-- Attaching keeps a file's reading at each moment.
 use Rattle.std.proofs.Common.{◌≡◌, inl, inr, ℕ, zero, suc, Some, Result, Ok, Err, OnOk, ◌+◌, ◌<◌, ◌≤◌, true, false, List, [], ◌∷◌, ◌++◌, length, take, refl, sym, ◌∙◌, ap, subst, arith, append_assoc, vec_len, vec_capacity}
 use Rattle.iss_disk.specs.File.{File, Image, settled, synced}
 use Rattle.iss_disk.specs.Calls.{IfTold, EachState, Moves, Stays, Room, Takes}
@@ -21,68 +21,101 @@ reads_same [] new on_disk same = same
 reads_same (file ∷ past) new on_disk same = (
   [],
   same,
-  λ reading reads.
-      ((λ c image. subst (λ (bytes : List ℕ). Reads bytes reading) (sym (only_settled file.content c (subst (λ (f : File). Image f c) on_disk image))) reads), tt),
+  λ reading reads. (
+    (λ c image. subst (λ (bytes : List ℕ). Reads bytes reading)
+        (sym (only_settled file.content c (subst (λ (f : File). Image f c) on_disk image))) reads),
+    tt,
+  ),
 )
 
-pub reads_like : (h0 h1 new : List File) (found : Reading) → h1 ≡ h0 → IfTold h0 (λ file. Reads file.content found) → LeavesOnly (λ bytes. Reads bytes found) h1 new → LeavesReading h0 new
-reads_like [] h1 new found same told leaves = subst (λ (h : List File). LeavesOnly (λ bytes. Reads bytes found) h new) same leaves
+pub reads_like : (h0 h1 new : List File) (found : Reading) → h1 ≡ h0 → IfTold h0 (λ file. Reads file.content found) →
+    LeavesOnly (λ bytes. Reads bytes found) h1 new → LeavesReading h0 new
+reads_like [] h1 new found same told leaves =
+    subst (λ (h : List File). LeavesOnly (λ bytes. Reads bytes found) h new) same leaves
 reads_like (file ∷ past) h1 new found same told leaves =
-    let here : LeavesOnly (λ bytes. Reads bytes found) (file ∷ past) new = subst (λ (h : List File). LeavesOnly (λ bytes. Reads bytes found) h new) same leaves in (
+    let here : LeavesOnly (λ bytes. Reads bytes found) (file ∷ past) new =
+    subst (λ (h : List File). LeavesOnly (λ bytes. Reads bytes found) h new) same leaves in (
       here.0,
       here.1,
       λ reading reads.
-          subst (λ (r : Reading). OnlyLeaves (λ bytes. Reads bytes r) file × EachState (OnlyLeaves (λ bytes. Reads bytes r)) here.0) (one_reading file.content found reading told reads) (here.2, here.3),
+          subst (λ (r : Reading). OnlyLeaves (λ bytes. Reads bytes r) file
+          × EachState (OnlyLeaves (λ bytes. Reads bytes r)) here.0)
+          (one_reading file.content found reading told reads) (here.2, here.3),
     )
 
-pub brief_reads : (h : List File) (bytes : List ℕ) → IfTold h (λ file. bytes ≡ file.content) → length bytes ≤ 1 → IfTold h (λ file. Reads file.content (holds []))
-brief_reads h bytes told brief = told_so _ _ h told (λ file is. subst (λ (b : List ℕ). Reads b (holds [])) is (inl (brief, refl)))
+pub brief_reads : (h : List File) (bytes : List ℕ) → IfTold h (λ file. bytes ≡ file.content) → length bytes ≤ 1 →
+    IfTold h (λ file. Reads file.content (holds []))
+brief_reads h bytes told brief =
+    told_so _ _ h told (λ file is. subst (λ (b : List ℕ). Reads b (holds [])) is (inl (brief, refl)))
 
-pub whole_reads : (h : List File) (bytes : List ℕ) (entries : List (List ℕ)) → IfTold h (λ file. bytes ≡ file.content) → 1 < length bytes → ClosesAfter entries bytes → IfTold h (λ file. Reads file.content (holds entries))
-whole_reads h bytes entries told long ends = told_so _ _ h told (λ file is. subst (λ (b : List ℕ). Reads b (holds entries)) is (inr (long, ends)))
+pub whole_reads : (h : List File) (bytes : List ℕ) (entries : List (List ℕ)) → IfTold h (λ file. bytes ≡ file.content) →
+    1 < length bytes → ClosesAfter entries bytes → IfTold h (λ file. Reads file.content (holds entries))
+whole_reads h bytes entries told long ends =
+    told_so _ _ h told (λ file is. subst (λ (b : List ℕ). Reads b (holds entries)) is (inr (long, ends)))
 
--- what attaching makes of a file
-pub brief_rests : (h new : List File) (bytes : List ℕ) (entries : List (List ℕ)) → IfTold h (λ file. bytes ≡ file.content) → length bytes ≤ 1 → IfTold new (λ file. file ≡ settled (0 ∷ [])) → IfTold h (λ file. IfTold new (ComesToRest entries file.content))
+-- what attaching leaves of a file of at most one byte
+pub brief_rests : (h new : List File) (bytes : List ℕ) (entries : List (List ℕ)) →
+    IfTold h (λ file. bytes ≡ file.content) → length bytes ≤ 1 → IfTold new (λ file. file ≡ settled (0 ∷ [])) →
+    IfTold h (λ file. IfTold new (ComesToRest entries file.content))
 brief_rests h new bytes entries told brief made =
-    told_so _ _ h told (λ file is. told_so _ _ new made (λ now e. inl (subst (λ (b : List ℕ). length b ≤ 1) is brief, e)))
+    told_so _ _ h told (λ file is. told_so _ _ new made
+    (λ now e. inl (subst (λ (b : List ℕ). length b ≤ 1) is brief, e)))
 
-pub whole_rests : (h new : List File) (bytes : List ℕ) (entries : List (List ℕ)) → IfTold h (λ file. bytes ≡ file.content) → 1 < length bytes → IfTold new (λ file. file ≡ settled (take (length (frames entries) + 1) bytes)) → IfTold h (λ file. IfTold new (ComesToRest entries file.content))
+pub whole_rests : (h new : List File) (bytes : List ℕ) (entries : List (List ℕ)) →
+    IfTold h (λ file. bytes ≡ file.content) → 1 < length bytes →
+    IfTold new (λ file. file ≡ settled (take (length (frames entries) + 1) bytes)) →
+    IfTold h (λ file. IfTold new (ComesToRest entries file.content))
 whole_rests h new bytes entries told long made =
     told_so _ _ h told (λ file is.
     subst (λ (b : List ℕ). IfTold new (ComesToRest entries b)) is (told_so _ _ new made (λ now e. inr (long, e))))
 
 -- the first sync, and what follows it
-keeps_first : (entries : List (List ℕ)) (file : File) → Image file file.content → OnlyLeaves (HoldsFirst entries) file → OnlyLeaves (HoldsFirst entries) (synced file)
-keeps_first entries file read leaves c image = subst (HoldsFirst entries) (sym (only_settled file.content c image)) (leaves file.content read)
+keeps_first : (entries : List (List ℕ)) (file : File) → Image file file.content → OnlyLeaves (HoldsFirst entries) file →
+    OnlyLeaves (HoldsFirst entries) (synced file)
+keeps_first entries file read leaves c image =
+    subst (HoldsFirst entries) (sym (only_settled file.content c image)) (leaves file.content read)
 
-each_holds : (entries more : List (List ℕ)) (states : List File) → EachState (OnlyLeaves (λ bytes. Reads bytes (holds (entries ++ more)))) states → EachState (OnlyLeaves (HoldsFirst entries)) states
+each_holds : (entries more : List (List ℕ)) (states : List File) →
+    EachState (OnlyLeaves (λ bytes. Reads bytes (holds (entries ++ more)))) states →
+    EachState (OnlyLeaves (HoldsFirst entries)) states
 each_holds entries more [] each = tt
 each_holds entries more (s ∷ states) each = (λ c image. (more, each.0 c image), each_holds entries more states each.1)
 
 -- the sync fails
-pub sync_fails : (h0 h1 : List File) → ((file : File) (past : List File) → h0 ≡ file ∷ past → Image file file.content) → Moves synced false h0 h1 → LosesNothing h0 h1
+pub sync_fails : (h0 h1 : List File) → ((file : File) (past : List File) → h0 ≡ file ∷ past → Image file file.content) →
+    Moves synced false h0 h1 → LosesNothing h0 h1
 sync_fails [] h1 read moves = moves
-sync_fails (file ∷ past) h1 read moves =
-    (moves.0, moves.1, λ entries leaves. between_leaves (HoldsFirst entries) moves.0 file (synced file) leaves (keeps_first entries file (read file past refl) leaves) moves.2)
+sync_fails (file ∷ past) h1 read moves = (
+  moves.0,
+  moves.1,
+  λ entries leaves. between_leaves (HoldsFirst entries) moves.0 file (synced file) leaves
+      (keeps_first entries file (read file past refl) leaves) moves.2,
+)
 
-pub sync_then : (h0 h1 h2 : List File) → ((file : File) (past : List File) → h0 ≡ file ∷ past → Image file file.content) → Moves synced true h0 h1 → LeavesReading h1 h2 → LosesNothing h0 h2
+pub sync_then : (h0 h1 h2 : List File) →
+    ((file : File) (past : List File) → h0 ≡ file ∷ past → Image file file.content) → Moves synced true h0 h1 →
+    LeavesReading h1 h2 → LosesNothing h0 h2
 sync_then [] h1 h2 read moves reading = subst (λ (h : List File). LeavesReading h h2) moves reading
 sync_then (file ∷ past) h1 h2 read moves reading =
-    let later : LeavesReading (synced file ∷ file ∷ past) h2 = subst (λ (h : List File). LeavesReading h h2) moves reading in (
+    let later : LeavesReading (synced file ∷ file ∷ past) h2 =
+    subst (λ (h : List File). LeavesReading h h2) moves reading in (
       later.0 ++ synced file ∷ [],
       later.1 ∙ sym (append_assoc later.0 (synced file ∷ []) (file ∷ past)),
       λ entries leaves.
           let first = leaves file.content (read file past refl) in
           let each = (later.2 (holds (entries ++ first.0)) first.1).1 in
-          each_append (OnlyLeaves (HoldsFirst entries)) later.0 (synced file ∷ []) (each_holds entries first.0 later.0 each) (keeps_first entries file (read file past refl) leaves, tt),
+          each_append (OnlyLeaves (HoldsFirst entries)) later.0 (synced file ∷ [])
+          (each_holds entries first.0 later.0 each) (keeps_first entries file (read file past refl) leaves, tt),
     )
 
 pub sync_content : (h0 h1 : List File) → Moves synced true h0 h1 → IfTold h1 (λ file. file ≡ settled file.content)
 sync_content [] h1 moves = subst (λ (h : List File). IfTold h (λ file. file ≡ settled file.content)) (sym moves) tt
-sync_content (file ∷ past) h1 moves = subst (λ (h : List File). IfTold h (λ file. file ≡ settled file.content)) (sym moves) refl
+sync_content (file ∷ past) h1 moves =
+    subst (λ (h : List File). IfTold h (λ file. file ≡ settled file.content)) (sym moves) refl
 
--- what holds of what a read gives after the sync holds of what it gave before
-pub before_sync : (P : List ℕ → Type 0) (h0 h1 : List File) → Moves synced true h0 h1 → IfTold h1 (λ file. P file.content) → IfTold h0 (λ file. P file.content)
+-- what holds for a read after the sync held for a read before it
+pub before_sync : (P : List ℕ → Type 0) (h0 h1 : List File) → Moves synced true h0 h1 →
+    IfTold h1 (λ file. P file.content) → IfTold h0 (λ file. P file.content)
 before_sync P [] h1 moves told = tt
 before_sync P (file ∷ past) h1 moves told = subst (λ (h : List File). IfTold h (λ f. P f.content)) moves told
 
@@ -90,15 +123,21 @@ pub loses_start : (h : List File) → LosesNothing h h
 loses_start [] = refl
 loses_start (file ∷ past) = ([], refl, λ entries leaves. tt)
 
-pub rests_durable : (h : List File) (entries : List (List ℕ)) → IfTold h (RestsOn entries) → IfTold h (OnlyLeaves (λ bytes. Reads bytes (holds entries)))
+pub rests_durable : (h : List File) (entries : List (List ℕ)) → IfTold h (RestsOn entries) →
+    IfTold h (OnlyLeaves (λ bytes. Reads bytes (holds entries)))
 rests_durable h entries told = told_so _ _ h told (λ file rests c image.
-    reads_closed entries rests.gate [] c rests.short rests.closed (only_settled (frames entries ++ rests.gate ∷ []) c (subst (λ (f : File). Image f c) rests.is image)))
+    reads_closed entries rests.gate [] c rests.short rests.closed
+    (only_settled (frames entries ++ rests.gate ∷ []) c (subst (λ (f : File). Image f c) rests.is image)))
 
-pub history_same : (h0 h1 : List File) (f0 f1 : List ℕ → List File) (n0 n1 : List ℕ) → h0 ≡ f0 n0 → h1 ≡ f1 n1 → Stays n0 n1 f0 f1 → h1 ≡ h0
+pub history_same : (h0 h1 : List File) (f0 f1 : List ℕ → List File) (n0 n1 : List ℕ) → h0 ≡ f0 n0 → h1 ≡ f1 n1 →
+    Stays n0 n1 f0 f1 → h1 ≡ h0
 history_same h0 h1 f0 f1 n0 n1 is0 is1 stays = is1 ∙ ap f1 stays.name ∙ stays.all n0 ∙ sym is0
 
--- whether there is room does not depend on room that was added
-pub room_more : (spare : Reserved) (old new : Entries) (room now : Room) → HasRoom spare old room → entries_in new ≡ entries_in old → vec_capacity old.bytes ≤ vec_capacity new.bytes → vec_len new.marks ≡ vec_len old.marks → vec_capacity old.marks ≤ vec_capacity new.marks → Takes 0 0 room now → HasRoom spare new now
+-- room that was added does not matter for whether there is room
+pub room_more : (spare : Reserved) (old new : Entries) (room now : Room) → HasRoom spare old room →
+    entries_in new ≡ entries_in old → vec_capacity old.bytes ≤ vec_capacity new.bytes →
+    vec_len new.marks ≡ vec_len old.marks → vec_capacity old.marks ≤ vec_capacity new.marks → Takes 0 0 room now →
+    HasRoom spare new now
 room_more spare old new room now has same no_less as_many marks takes = record {
   some = has.some;
   in_memory = omega (arith, has.in_memory, no_less, ap (λ (es : List (List ℕ)). length (frames es)) same);
@@ -107,7 +146,7 @@ room_more spare old new room now has same no_less as_many marks takes = record {
   on_disk = omega (arith, has.on_disk, takes.bytes_left);
 }
 
--- room for all that is below a length is room for a longest entry
+-- room for every entry below a limit is room for a longest entry
 pub longest_below : (below bytes : ℕ) → bytes < below → (most : ℕ) × (longest_of below ≡ Some most) × (bytes ≤ most)
 longest_below zero bytes lt = absurd (omega (arith, lt))
 longest_below (suc most) bytes lt = (most, refl, omega (arith, lt))
@@ -120,6 +159,8 @@ pub takes_none : (room : Room) → Takes 0 0 room room
 takes_none room = record { calls_left = omega arith; bytes_left = omega arith }
 
 -- before an append
-pub rests_start : (h : List File) (entries : List (List ℕ)) (entry : List ℕ) → IfTold h (RestsOn entries) → LeavesOnly (HoldsWithOrWithout entries entry) h h
+pub rests_start : (h : List File) (entries : List (List ℕ)) (entry : List ℕ) → IfTold h (RestsOn entries) →
+    LeavesOnly (HoldsWithOrWithout entries entry) h h
 rests_start [] entries entry told = refl
-rests_start (file ∷ past) entries entry told = ([], refl, (λ c image. inl (rests_durable (file ∷ past) entries told c image)), tt)
+rests_start (file ∷ past) entries entry told =
+    ([], refl, (λ c image. inl (rests_durable (file ∷ past) entries told c image)), tt)

@@ -7,11 +7,11 @@ use Rattle.std.specs.Int.{w32, to_be_bytes, from_be_bytes}
 use Rattle.std.specs.Coded.{×_prop, Unit-prop, le_prop}
 use Rattle.std.proofs.Common.{inl, lit≤}
 
--- the longest entry
+-- the longest entry, in bytes
 abbrev pub max_entry : ℕ
 max_entry = 200000100
 
--- an open gate, the length in four bytes with the highest first, and the entry
+-- an open gate, the length in four big-endian bytes, and the entry
 abbrev pub frame : List ℕ → List ℕ
 frame entry = 1 ∷ (to_be_bytes w32 (length entry) ++ entry)
 
@@ -27,11 +27,12 @@ pub short_prop : (entries : List (List ℕ)) → IsProp (AreShort entries)
 short_prop [] = Unit-prop
 short_prop (entry ∷ entries) = ×_prop le_prop (short_prop entries)
 
--- behind an open gate: a length, the entry and the next gate stand there whole
+-- after an open gate there are a length, the whole entry and the next gate
 abbrev pub IsWhole : List ℕ → Type 0
-IsWhole rest = let size = from_be_bytes w32 (take 4 rest) in (4 ≤ length rest) × (size ≤ max_entry) × (5 + size ≤ length rest)
+IsWhole rest = let size = from_be_bytes w32 (take 4 rest) in (4 ≤ length rest) × (size ≤ max_entry)
+    × (5 + size ≤ length rest)
 
--- these entries, and then a closed gate, whatever stands behind it
+-- these entries, then a closed gate, then any bytes
 pub record ClosesAfter (entries : List (List ℕ)) (file : List ℕ) : Type 0 where
   pub gate : ℕ
   pub rest : List ℕ
@@ -39,7 +40,7 @@ pub record ClosesAfter (entries : List (List ℕ)) (file : List ℕ) : Type 0 wh
   pub closed : gate ≢ 1
   pub short : AreShort entries
 
--- entries, and then at this offset an open gate behind which no whole entry stands
+-- entries, then at this offset an open gate that is not followed by a whole entry
 -- rule: Journal: A file without a reading is damaged, at the offset of its gate
 pub record BreaksAt (at : ℕ) (file : List ℕ) : Type 0 where
   pub entries : List (List ℕ)
@@ -49,12 +50,12 @@ pub record BreaksAt (at : ℕ) (file : List ℕ) : Type 0 where
   pub short : AreShort entries
   pub broken : IsWhole rest → ⊥
 
--- what a file stands for
+-- what a file represents: a list of entries, or damage at an offset
 pub data Reading : Type 0 where
   holds : List (List ℕ) → Reading
   damaged : ℕ → Reading
 
--- A file of at most one byte is an empty journal. Of any other exactly one of these readings is right.
+-- A file of at most one byte represents an empty journal. Any other file has exactly one of the two readings.
 -- rule: Journal: Attaching reads entries up to the first closed gate, and cuts off the rest
 abbrev pub Reads : List ℕ → Reading → Type 0
 Reads file (holds entries) = ((length file ≤ 1) × (entries ≡ [])) ⊎ ((1 < length file) × ClosesAfter entries file)

@@ -13,19 +13,19 @@ use Rattle.iss_journal.specs.declared.reserved.Reserved.{Reserved}
 abbrev pub disk_of : {D : Type 0} → Journal D → D
 disk_of journal = journal.disk
 
--- the entries, the first appended first
+-- the entries, oldest first
 abbrev pub entries_of : {D : Type 0} → Journal D → List (List ℕ)
 entries_of journal = entries_in journal.entries
 
 abbrev pub is_attached : {D : Type 0} → Journal D → Bool
 is_attached journal = journal.attached
 
--- the longest entry that is below this length, where there is one
+-- the longest length below this limit, if there is one
 abbrev pub longest_of : ℕ → Option ℕ
 longest_of zero = None
 longest_of (suc most) = Some most
 
--- the longest entry for which there is room, where there is
+-- the longest entry for which there is room, if there is room
 abbrev pub reserved_of : {D : Type 0} → Journal D → Option ℕ
 reserved_of journal = longest_of journal.reserved.limit
 
@@ -37,14 +37,15 @@ pub record HasRoom (spare : Reserved) (entries : Entries) (room : Room) : Type 0
   pub calls : 4 * spare.entries ≤ room.calls
   pub on_disk : spare.limit + 5 ≤ room.bytes
 
--- While it is attached, its file is the frames of its entries and a closed gate, all of it synced; and the room that it
--- holds ready is there.
+-- The invariant of a journal. While it is attached, its file is the frames of its entries and a closed gate, all
+-- synced. The room that it has reserved is there.
 pub record IsSound {D : Type 0} (history : D → List File) (room : D → Room) (journal : Journal D) : Type 0 where
   pub rests : journal.attached ≡ true → IfTold (history journal.disk) (RestsOn (entries_in journal.entries))
   pub room_kept : 0 < journal.reserved.limit → HasRoom journal.reserved journal.entries (room journal.disk)
 
--- the disk's file, the calls to come and whether the journal is attached are as before
-pub record NothingChanged {D : Type 0} (history : D → List File) (passes : D → Passes) (old new : Journal D) : Type 0 where
+-- the file, the outcomes of later calls and whether the journal is attached are the same
+pub record NothingChanged {D : Type 0} (history : D → List File) (passes : D → Passes) (old new : Journal D) :
+    Type 0 where
   pub file : history new.disk ≡ history old.disk
   pub calls : passes new.disk ≡ passes old.disk
   pub attached : new.attached ≡ old.attached

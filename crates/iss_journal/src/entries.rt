@@ -1,4 +1,4 @@
-// The entries of a journal, as they lie in its file.
+// The entries of a journal, as they are laid out in its file.
 ghost use Rattle.iss_journal.specs.Views.{AreMarks, IsBook, end_at, entries_at};
 ghost use Rattle.std.specs.Prelude.{◌≡◌, ◌+◌, ◌<◌, ◌≤◌, ◌++◌, ℕ, List, [], ◌∷◌, length, vec_len, vec_capacity};
 ghost use Rattle.iss_journal.specs.Frames.{short_prop, frame, frames, max_entry};
@@ -6,10 +6,11 @@ ghost use Rattle.std.proofs.Props.{props};
 
 use std::alloc::{AllocError, Global};
 
-/// The longest entry.
+/// The longest entry, in bytes.
 pub const MAX_ENTRY: usize = 200_000_100;
 
-// A gate of this byte is open, and any other is closed.
+// The gate is the byte before an entry. This value marks the entry as appended (open); any other value is a closed
+// gate.
 pub(crate) const OPEN: u8 = 1;
 
 pub(crate) const CLOSED: u8 = 0;
@@ -17,18 +18,18 @@ pub(crate) const CLOSED: u8 = 0;
 /// The entries of a journal, in the order in which they were appended.
 #[derive(Drop)]
 pub struct Entries {
-    // The file's bytes up to its last gate; behind it lies what is about to be appended.
+    // The file's bytes up to its last gate, followed by the entry that is being appended.
     bytes: Vec<u8>,
     count: usize,
-    // The offset of the gate of each eighth entry. The others are found from there by the lengths behind the gates.
+    // The offset of the gate of each eighth entry. The other offsets follow from the lengths after the gates.
     marks: Vec<u64>,
-    // The offset of the last gate, behind which there is no entry yet.
+    // The offset of the last gate, which has no entry yet.
     last: usize,
     ghost book: { IsBook bytes.items count last } by { Prim.hlevel (short_prop, props) },
     ghost marked: { AreMarks marks.items (entries_at bytes.items count) },
 }
 
-// Adds some bytes for which there is room.
+// Appends bytes for which there is room.
 #[inline(always)]
 fn put_some(bytes: &mut Vec<u8>, some: &[u8])
     requires room { vec_len bytes.old + length some.now ≤ vec_capacity bytes.old }
@@ -44,7 +45,7 @@ fn put_some(bytes: &mut Vec<u8>, some: &[u8])
     }
 }
 
-// Adds the frame of an entry of two parts, with a closed gate behind it.
+// Appends the frame of an entry given in two parts, and a closed gate.
 #[inline(always)]
 fn put_frame(bytes: &mut Vec<u8>, head: &[u8], body: &[u8])
     requires short { length (head.now ++ body.now) ≤ max_entry }
@@ -64,7 +65,7 @@ fn put_frame(bytes: &mut Vec<u8>, head: &[u8], body: &[u8])
     bytes.push_reserved(CLOSED);
 }
 
-// Where an entry ends whose gate lies at an offset.
+// The offset at which the entry ends whose gate is at `gate`.
 fn end_of(bytes: &[u8], gate: usize) -> usize
     requires within { end_at bytes.now gate ≤ length bytes.now }
     ensures { result ≡ end_at bytes.now gate }
@@ -75,12 +76,13 @@ fn end_of(bytes: &[u8], gate: usize) -> usize
     gate + 5 + u32::from_be_bytes([*a, *b, *c, *d]) as usize
 }
 
-// Remembers where the gate of an entry lies that comes behind so many, if it is one of the eighth ones.
+// Records the offset of an entry's gate if it is an eighth entry. There are `count` entries before it.
 // rule: Journal: The offset of each eighth gate is remembered; the others follow from lengths
 #[inline(always)]
 pub(crate) fn mark(marks: &mut Vec<u64>, count: usize, gate: usize)
     requires room { vec_len marks.old < vec_capacity marks.old }
-    ensures marked { (entries : List (List ℕ)) (entry : List ℕ) → count ≡ length entries → gate ≡ length (frames entries) →
+    ensures marked { (entries : List (List ℕ)) (entry : List ℕ) → count ≡ length entries →
+        gate ≡ length (frames entries) →
         AreMarks marks.old.items entries → AreMarks marks.new.items (entries ++ entry ∷ []) }
     ensures len { vec_len marks.new ≤ vec_len marks.old + 1 }
     ensures capacity { vec_capacity marks.old ≤ vec_capacity marks.new }
@@ -109,7 +111,7 @@ impl Entries {
         }
     }
 
-    // So many entries that lie in these bytes.
+    // The `count` entries laid out in these bytes.
     pub(crate) fn from_parts(bytes: Vec<u8>, count: usize, marks: Vec<u64>, last: usize) -> Entries
         requires book { IsBook bytes.items count last }
         requires marked { AreMarks marks.items (entries_at bytes.items count) }
@@ -124,14 +126,14 @@ impl Entries {
         }
     }
 
-    /// How many entries there are.
+    /// The number of entries.
     pub fn len(&self) -> usize
         ensures { result ≡ length (entries_in self.now) }
     {
         self.count
     }
 
-    /// The entry with this number, from 0.
+    /// Entry `k`, counted from 0.
     pub fn get(&self, k: usize) -> &[u8]
         requires { k < length (entries_in self.now) }
         ensures { result.now ≡ slice_index_or (entries_in self.now) k [] }
@@ -141,7 +143,7 @@ impl Entries {
         &self.bytes[gate + 5..end]
     }
 
-    /// The offset in the file of the gate of the entry with this number.
+    /// The offset in the file of the gate of entry `k`, counted from 0.
     pub fn gate_of(&self, k: usize) -> u64
         requires { k < length (entries_in self.now) }
         ensures { result ≡ length (frames (take k (entries_in self.now))) }
@@ -153,7 +155,7 @@ impl Entries {
         gate as u64
     }
 
-    // Where the next entry's gate lies.
+    // The offset of the next entry's gate.
     pub(crate) fn last(&self) -> usize
         ensures field { result ≡ self.now.last }
         ensures offset { result ≡ length (frames (entries_in self.now)) }
@@ -161,14 +163,14 @@ impl Entries {
         self.last
     }
 
-    // Whether something stands behind the last gate.
+    // Whether there are bytes after the last gate.
     pub(crate) fn has_tail(&self) -> bool
         ensures { IsTrue result ↔ (length (frames (entries_in self.now)) + 1 < length self.now.bytes.items) }
     {
         self.bytes.len() - self.last > 1
     }
 
-    // Makes room for so many entries, of which the first has so many bytes.
+    // Makes room for `entries` entries, the first of which has `bytes` bytes.
     pub(crate) fn reserve(&mut self, entries: usize, bytes: usize) -> Result<(), AllocError>
         ensures entries { entries_in self.new ≡ entries_in self.old }
         ensures room { OnOk result (length (frames (entries_in self.old)) + bytes + 6 ≤ vec_capacity self.new.bytes) }
@@ -182,14 +184,16 @@ impl Entries {
         self.marks.reserve(entries)
     }
 
-    // Puts an entry of two parts behind the last gate, with its length before it and a closed gate behind it.
+    // Puts an entry given in two parts after the last gate: its length, its bytes and a closed gate.
     #[inline(always)]
     pub(crate) fn stage(&mut self, head: &[u8], body: &[u8])
         requires short { length (head.now ++ body.now) ≤ max_entry }
-        requires room { length (frames (entries_in self.old)) + length (head.now ++ body.now) + 6 ≤ vec_capacity self.old.bytes }
+        requires room { length (frames (entries_in self.old)) + length (head.now ++ body.now) + 6
+            ≤ vec_capacity self.old.bytes }
         requires mark { vec_len self.old.marks < vec_capacity self.old.marks }
         ensures entries { entries_in self.new ≡ entries_in self.old }
-        ensures bytes { self.new.bytes.items ≡ frames (entries_in self.old) ++ (frame (head.now ++ body.now) ++ 0 ∷ []) }
+        ensures bytes { self.new.bytes.items ≡ frames (entries_in self.old)
+            ++ (frame (head.now ++ body.now) ++ 0 ∷ []) }
         ensures no_less { vec_capacity self.old.bytes ≤ vec_capacity self.new.bytes }
         ensures marks { self.new.marks ≡ self.old.marks }
     {
@@ -197,7 +201,7 @@ impl Entries {
         put_frame(&mut self.bytes, head, body);
     }
 
-    // What was staged, behind the gate.
+    // The staged bytes after the gate.
     pub(crate) fn staged(&self) -> &[u8]
         requires { length (frames (entries_in self.now)) < length self.now.bytes.items }
         ensures { result.now ≡ drop (length (frames (entries_in self.now)) + 1) self.now.bytes.items }
@@ -205,11 +209,12 @@ impl Entries {
         &self.bytes[self.last + 1..]
     }
 
-    // The entry that was staged is the last one now.
+    // The staged entry becomes the last entry.
     #[inline(always)]
     pub(crate) fn commit(&mut self, head: &[u8], body: &[u8])
         requires short { length (head.now ++ body.now) ≤ max_entry }
-        requires bytes { self.old.bytes.items ≡ frames (entries_in self.old) ++ (frame (head.now ++ body.now) ++ 0 ∷ []) }
+        requires bytes { self.old.bytes.items ≡ frames (entries_in self.old)
+            ++ (frame (head.now ++ body.now) ++ 0 ∷ []) }
         requires mark { vec_len self.old.marks < vec_capacity self.old.marks }
         ensures entries { entries_in self.new ≡ entries_in self.old ++ (head.now ++ body.now) ∷ [] }
         ensures bytes { self.new.bytes ≡ self.old.bytes }

@@ -5,14 +5,14 @@ ghost use Rattle.iss_journal.specs.declared.errors.AttachError.{AttachError};
 use iss_disk::{EndError, Failed, NoMemory};
 use std::alloc::AllocError;
 
-/// Why a journal could not be attached.
+/// Why `attach` failed.
 #[derive(Clone, Copy, Debug, PartialEq, Eq)]
 pub enum AttachError {
-    /// Behind the open gate at this offset there stands no whole entry.
+    /// No whole entry follows the open gate at offset `at`.
     Damaged { at: u64 },
-    /// The disk failed, and its count of faults rose.
+    /// A call of the device failed, and the count of faults increased.
     Failed,
-    /// There was no memory.
+    /// Out of memory.
     NoMemory,
 }
 
@@ -43,7 +43,8 @@ impl From<AllocError> for AttachError {
 impl From<EndError> for AttachError {
     ghost use Rattle.iss_disk.specs.declared.errors.EndError.{EndError};
 
-    ghost from_gives = { λ end e. ((end ≡ EndError.Failed) → e ≡ AttachError.Failed) × ((end ≡ EndError.NoMemory) → e ≡ AttachError.NoMemory) };
+    ghost from_gives = { λ end e. ((end ≡ EndError.Failed) → e ≡ AttachError.Failed)
+        × ((end ≡ EndError.NoMemory) → e ≡ AttachError.NoMemory) };
 
     fn from(error: EndError) -> Self {
         match error {

@@ -9,12 +9,12 @@ use crate::reserved::{Reserved, left_behind};
 use iss_disk::{Disk, EndError, Fused, NoMemory};
 use std::alloc::Global;
 
-// For how many entries, and for how many bytes beside those that are asked for, room is made at once.
+// Room is made for this many entries at once, and for `SOME_BYTES` bytes more than requested.
 const SOME_ENTRIES: u64 = 64;
 
 const SOME_BYTES: u64 = 4096;
 
-/// A list of entries in the current file of a disk, each of them on the disk before its `append` answers.
+/// A list of entries in the current file of a disk. Each entry is durable before its `append` returns Ok.
 #[derive(Drop)]
 pub struct Journal<D: Disk> {
     alloc: Global,
@@ -33,7 +33,7 @@ impl<D: Disk> Journal<D> {
     ghost use Rattle.iss_journal.specs.EntryViews.{entries_in};
     ghost use Rattle.iss_journal.specs.Sound.{disk_of, entries_of, is_attached, reserved_of, IsSound, NothingChanged};
 
-    /// A journal that is not attached yet, over the current file of a disk.
+    /// A journal over the current file of a disk. It is not attached yet.
     pub fn over(alloc: Global, disk: D) -> Self
         ensures disk { disk_of result ≡ disk }
         ensures entries { entries_of result ≡ [] }
@@ -52,24 +52,32 @@ impl<D: Disk> Journal<D> {
         }
     }
 
-    /// Reads the file, and cuts off what stands behind its last gate. A file of at most one byte becomes an empty journal.
+    /// Syncs and reads the file, and cuts off what follows its last gate. A file of at most one byte becomes an empty
+    /// journal. The errors: `Damaged` if an open gate is not followed by a whole entry, `Failed` if the device fails,
+    /// `NoMemory` if out of memory. After an error the entries are those from before the call.
     pub fn attach(&mut self) -> Result<(), AttachError>
         requires sound { IsSound D.history D.room self.old }
-        ensures entries { OnOk result (IfTold (D.history (disk_of self.old)) (λ file. Reads file.content (holds (entries_of self.new)))) }
-        ensures damaged { (at : ℕ) → IsErrOf result (AttachError.Damaged at) → IfTold (D.history (disk_of self.old)) (λ file. Reads file.content (damaged at)) }
+        ensures entries { OnOk result (IfTold (D.history (disk_of self.old))
+            (λ file. Reads file.content (holds (entries_of self.new)))) }
+        ensures damaged { (at : ℕ) → IsErrOf result (AttachError.Damaged at) → IfTold (D.history (disk_of self.old))
+            (λ file. Reads file.content (damaged at)) }
         ensures err { OnErr result (entries_of self.new ≡ entries_of self.old) }
         ensures attached { is_attached self.new ≡ is_ok result }
         ensures file { OnOk result (IfTold (D.history (disk_of self.old)) (λ before.
             IfTold (D.history (disk_of self.new)) (ComesToRest (entries_of self.new) before.content))) }
 
-        // From then on each crash leaves the entries that were found, and one at any moment of the call loses no entry
-        // that each crash before it would have left.
-        ensures durable { OnOk result (IfTold (D.history (disk_of self.new)) (OnlyLeaves (λ bytes. Reads bytes (holds (entries_of self.new))))) }
+        // From then on every crash image holds the entries that were read. A crash at any moment of the call loses no
+        // entry that every crash image held before it.
+        ensures durable { OnOk result
+            (IfTold (D.history (disk_of self.new)) (OnlyLeaves (λ bytes. Reads bytes (holds (entries_of self.new))))) }
         ensures any_moment { LosesNothing (D.history (disk_of self.old)) (D.history (disk_of self.new)) }
 
-        ensures others { StaysHere (D.current (disk_of self.old)) (D.current (disk_of self.new)) (D.files (disk_of self.old)) (D.files (disk_of self.new)) }
-        ensures cause { HasCause (D.faults (disk_of self.old)) (D.faults (disk_of self.new)) (IsErrOf result AttachError.Failed) }
-        ensures works { Works (D.passes (disk_of self.old)) (D.passes (disk_of self.new)) (IsErrOf result AttachError.Failed) }
+        ensures others { StaysHere (D.current (disk_of self.old)) (D.current (disk_of self.new))
+            (D.files (disk_of self.old)) (D.files (disk_of self.new)) }
+        ensures cause { HasCause (D.faults (disk_of self.old)) (D.faults (disk_of self.new))
+            (IsErrOf result AttachError.Failed) }
+        ensures works { Works (D.passes (disk_of self.old)) (D.passes (disk_of self.new))
+            (IsErrOf result AttachError.Failed) }
         ensures sound { IsSound D.history D.room self.new }
     {
         self.attached = false;
@@ -82,7 +90,7 @@ impl<D: Disk> Journal<D> {
         Ok(())
     }
 
-    /// Whether the journal may be appended to: from an `attach` that is Ok until a call of the disk fails.
+    /// Whether entries may be appended: from an `attach` that is Ok until a call of the device fails.
     pub fn attached(&self) -> bool
         ensures { result ≡ is_attached self.now }
     {
@@ -96,7 +104,7 @@ impl<D: Disk> Journal<D> {
         &self.entries
     }
 
-    /// The offset in the file of the gate of the entry with this number, from 0.
+    /// The offset in the file of the gate of entry `k`, counted from 0.
     pub fn gate_of(&self, k: usize) -> u64
         requires { k < length (entries_of self.now) }
         ensures { result ≡ length (frames (take k (entries_of self.now))) }
@@ -104,7 +112,7 @@ impl<D: Disk> Journal<D> {
         self.entries.gate_of(k)
     }
 
-    /// Takes the memory that appending an entry of so many bytes needs, in memory and on the disk. Nothing else changes.
+    /// Makes the room that appending an entry of `bytes` bytes needs, in memory and on the disk. Nothing else changes.
     #[inline(always)]
     pub fn reserve(&mut self, bytes: u64) -> Result<(), NoMemory>
         requires sound { IsSound D.history D.room self.old }
@@ -113,7 +121,8 @@ impl<D: Disk> Journal<D> {
         ensures entries { entries_of self.new ≡ entries_of self.old }
         ensures attached { is_attached self.new ≡ is_attached self.old }
         ensures history { D.history (disk_of self.new) ≡ D.history (disk_of self.old) }
-        ensures same { Stays (D.current (disk_of self.old)) (D.current (disk_of self.new)) (D.files (disk_of self.old)) (D.files (disk_of self.new)) }
+        ensures same { Stays (D.current (disk_of self.old)) (D.current (disk_of self.new)) (D.files (disk_of self.old))
+            (D.files (disk_of self.new)) }
         ensures faults { D.faults (disk_of self.new) ≡ D.faults (disk_of self.old) }
         ensures passes { D.passes (disk_of self.new) ≡ D.passes (disk_of self.old) }
         ensures sound { IsSound D.history D.room self.new }
@@ -121,7 +130,7 @@ impl<D: Disk> Journal<D> {
         self.make_ready(bytes)
     }
 
-    // As `reserve` does.
+    // The same as `reserve`.
     #[inline(always)]
     fn make_ready(&mut self, bytes: u64) -> Result<(), NoMemory>
         requires sound { IsSound D.history D.room self.old }
@@ -130,7 +139,8 @@ impl<D: Disk> Journal<D> {
         ensures entries { entries_of self.new ≡ entries_of self.old }
         ensures attached { is_attached self.new ≡ is_attached self.old }
         ensures history { D.history (disk_of self.new) ≡ D.history (disk_of self.old) }
-        ensures same { Stays (D.current (disk_of self.old)) (D.current (disk_of self.new)) (D.files (disk_of self.old)) (D.files (disk_of self.new)) }
+        ensures same { Stays (D.current (disk_of self.old)) (D.current (disk_of self.new)) (D.files (disk_of self.old))
+            (D.files (disk_of self.new)) }
         ensures faults { D.faults (disk_of self.new) ≡ D.faults (disk_of self.old) }
         ensures passes { D.passes (disk_of self.new) ≡ D.passes (disk_of self.old) }
         ensures sound { IsSound D.history D.room self.new }
@@ -141,7 +151,7 @@ impl<D: Disk> Journal<D> {
         self.make_room(bytes)
     }
 
-    // Makes room for some entries at once, so that most need ask for none.
+    // Makes room for several entries at once, so that most appends need not allocate.
     #[cold]
     #[inline(never)]
     fn make_room(&mut self, bytes: u64) -> Result<(), NoMemory>
@@ -150,7 +160,8 @@ impl<D: Disk> Journal<D> {
         ensures entries { entries_of self.new ≡ entries_of self.old }
         ensures attached { is_attached self.new ≡ is_attached self.old }
         ensures history { D.history (disk_of self.new) ≡ D.history (disk_of self.old) }
-        ensures same { Stays (D.current (disk_of self.old)) (D.current (disk_of self.new)) (D.files (disk_of self.old)) (D.files (disk_of self.new)) }
+        ensures same { Stays (D.current (disk_of self.old)) (D.current (disk_of self.new)) (D.files (disk_of self.old))
+            (D.files (disk_of self.new)) }
         ensures faults { D.faults (disk_of self.new) ≡ D.faults (disk_of self.old) }
         ensures passes { D.passes (disk_of self.new) ≡ D.passes (disk_of self.old) }
         ensures sound { IsSound D.history D.room self.new }
@@ -167,8 +178,8 @@ impl<D: Disk> Journal<D> {
         Ok(())
     }
 
-    /// Adds an entry at the end. Once it is Ok every crash leaves the entry; after `NoMemory` nothing has changed; after
-    /// `Failed` the journal has to be attached again, and then has the entries with the new one or without.
+    /// Appends an entry. After Ok, every crash image holds it. After `NoMemory` nothing has changed. After `Failed` the
+    /// journal must be attached again; the entry is then in it or not.
     pub fn append(&mut self, entry: &[u8]) -> Result<(), EndError>
         requires sound { IsSound D.history D.room self.old }
         requires attached { is_attached self.old ≡ true }
@@ -179,25 +190,32 @@ impl<D: Disk> Journal<D> {
         ensures attached { OnOk result (is_attached self.new ≡ true) }
         ensures failed { IsErrOf result EndError.Failed → is_attached self.new ≡ false }
 
-        // A crash at any moment of the call leaves the entries, with the new one or without; once it is Ok, with it.
-        ensures any_moment { LeavesOnly (HoldsWithOrWithout (entries_of self.old) entry.now) (D.history (disk_of self.old)) (D.history (disk_of self.new)) }
-        ensures durable { OnOk result (IfTold (D.history (disk_of self.new)) (OnlyLeaves (λ bytes. Reads bytes (holds (entries_of self.new))))) }
+        // A crash at any moment of the call leaves the entries with or without the new one; after Ok, with it.
+        ensures any_moment { LeavesOnly (HoldsWithOrWithout (entries_of self.old) entry.now)
+            (D.history (disk_of self.old)) (D.history (disk_of self.new)) }
+        ensures durable { OnOk result
+            (IfTold (D.history (disk_of self.new)) (OnlyLeaves (λ bytes. Reads bytes (holds (entries_of self.new))))) }
 
-        // Where it failed, what was synced holds the entries without the new one.
-        ensures kept { IsErrOf result EndError.Failed → IfTold (D.history (disk_of self.new)) (λ file. Reads file.kept (holds (entries_of self.old))) }
+        // If the device failed, what was synced holds the entries without the new one.
+        ensures kept { IsErrOf result EndError.Failed → IfTold (D.history (disk_of self.new))
+            (λ file. Reads file.kept (holds (entries_of self.old))) }
 
-        // It is four calls of the device.
-        ensures device { (IsErrOf result EndError.NoMemory → ⊥) → Runs 4 (D.passes (disk_of self.old)) (D.passes (disk_of self.new)) (is_ok result) }
+        // It takes four calls of the device.
+        ensures device { (IsErrOf result EndError.NoMemory → ⊥) →
+            Runs 4 (D.passes (disk_of self.old)) (D.passes (disk_of self.new)) (is_ok result) }
         ensures no_memory { IsErrOf result EndError.NoMemory → NothingChanged D.history D.passes self.old self.new }
-        ensures ready { (most : ℕ) → reserved_of self.old ≡ Some most → length entry.now ≤ most → IsErrOf result EndError.NoMemory → ⊥ }
-        ensures others { StaysHere (D.current (disk_of self.old)) (D.current (disk_of self.new)) (D.files (disk_of self.old)) (D.files (disk_of self.new)) }
-        ensures cause { HasCause (D.faults (disk_of self.old)) (D.faults (disk_of self.new)) (IsErrOf result EndError.Failed) }
+        ensures ready { (most : ℕ) → reserved_of self.old ≡ Some most → length entry.now ≤ most →
+            IsErrOf result EndError.NoMemory → ⊥ }
+        ensures others { StaysHere (D.current (disk_of self.old)) (D.current (disk_of self.new))
+            (D.files (disk_of self.old)) (D.files (disk_of self.new)) }
+        ensures cause { HasCause (D.faults (disk_of self.old)) (D.faults (disk_of self.new))
+            (IsErrOf result EndError.Failed) }
         ensures sound { IsSound D.history D.room self.new }
     {
         self.append_parts(&[], entry)
     }
 
-    /// Adds an entry that stands in two parts, one behind the other: as `append` does of the whole.
+    /// Appends an entry that is given in two parts, `head` and `body`. Otherwise the same as `append`.
     #[inline(always)]
     pub fn append_parts(&mut self, head: &[u8], body: &[u8]) -> Result<(), EndError>
         requires sound { IsSound D.history D.room self.old }
@@ -209,20 +227,26 @@ impl<D: Disk> Journal<D> {
         ensures attached { OnOk result (is_attached self.new ≡ true) }
         ensures failed { IsErrOf result EndError.Failed → is_attached self.new ≡ false }
 
-        // A crash at any moment of the call leaves the entries, with the new one or without; once it is Ok, with it.
+        // A crash at any moment of the call leaves the entries with or without the new one; after Ok, with it.
         ensures any_moment { LeavesOnly (HoldsWithOrWithout (entries_of self.old) (head.now ++ body.now))
             (D.history (disk_of self.old)) (D.history (disk_of self.new)) }
-        ensures durable { OnOk result (IfTold (D.history (disk_of self.new)) (OnlyLeaves (λ bytes. Reads bytes (holds (entries_of self.new))))) }
+        ensures durable { OnOk result
+            (IfTold (D.history (disk_of self.new)) (OnlyLeaves (λ bytes. Reads bytes (holds (entries_of self.new))))) }
 
-        // Where it failed, what was synced holds the entries without the new one.
-        ensures kept { IsErrOf result EndError.Failed → IfTold (D.history (disk_of self.new)) (λ file. Reads file.kept (holds (entries_of self.old))) }
+        // If the device failed, what was synced holds the entries without the new one.
+        ensures kept { IsErrOf result EndError.Failed → IfTold (D.history (disk_of self.new))
+            (λ file. Reads file.kept (holds (entries_of self.old))) }
 
-        // It is four calls of the device.
-        ensures device { (IsErrOf result EndError.NoMemory → ⊥) → Runs 4 (D.passes (disk_of self.old)) (D.passes (disk_of self.new)) (is_ok result) }
+        // It takes four calls of the device.
+        ensures device { (IsErrOf result EndError.NoMemory → ⊥) →
+            Runs 4 (D.passes (disk_of self.old)) (D.passes (disk_of self.new)) (is_ok result) }
         ensures no_memory { IsErrOf result EndError.NoMemory → NothingChanged D.history D.passes self.old self.new }
-        ensures ready { (most : ℕ) → reserved_of self.old ≡ Some most → length (head.now ++ body.now) ≤ most → IsErrOf result EndError.NoMemory → ⊥ }
-        ensures others { StaysHere (D.current (disk_of self.old)) (D.current (disk_of self.new)) (D.files (disk_of self.old)) (D.files (disk_of self.new)) }
-        ensures cause { HasCause (D.faults (disk_of self.old)) (D.faults (disk_of self.new)) (IsErrOf result EndError.Failed) }
+        ensures ready { (most : ℕ) → reserved_of self.old ≡ Some most → length (head.now ++ body.now) ≤ most →
+            IsErrOf result EndError.NoMemory → ⊥ }
+        ensures others { StaysHere (D.current (disk_of self.old)) (D.current (disk_of self.new))
+            (D.files (disk_of self.old)) (D.files (disk_of self.new)) }
+        ensures cause { HasCause (D.faults (disk_of self.old)) (D.faults (disk_of self.new))
+            (IsErrOf result EndError.Failed) }
         ensures sound { IsSound D.history D.room self.new }
     {
         let bytes = (head.len() + body.len()) as u64;
@@ -243,21 +267,23 @@ impl<D: Fused> Journal<D> {
     ghost use Rattle.iss_disk.specs.Calls.{Stays, Restarts, up_to, script};
     ghost use Rattle.iss_journal.specs.Sound.{disk_of, entries_of, is_attached, reserved_of, IsSound};
 
-    /// From now on that many calls of the disk pass, and all others fail.
+    /// The next `calls` calls of the disk succeed, and all later ones fail.
     pub fn fuse(&mut self, calls: u64)
         requires sound { IsSound D.history D.room self.old }
         ensures passes { D.passes (disk_of self.new) ≡ up_to calls }
         ensures entries { entries_of self.new ≡ entries_of self.old }
         ensures attached { is_attached self.new ≡ is_attached self.old }
         ensures reserved { reserved_of self.new ≡ reserved_of self.old }
-        ensures same { Stays (D.current (disk_of self.old)) (D.current (disk_of self.new)) (D.files (disk_of self.old)) (D.files (disk_of self.new)) }
+        ensures same { Stays (D.current (disk_of self.old)) (D.current (disk_of self.new)) (D.files (disk_of self.old))
+            (D.files (disk_of self.new)) }
         ensures faults { D.faults (disk_of self.new) ≡ D.faults (disk_of self.old) }
         ensures sound { IsSound D.history D.room self.new }
     {
         self.disk.fuse(calls);
     }
 
-    /// Leaves of the disk what was synced, and ends the fuse. The journal has to be attached again.
+    /// A crash and a restart: the disk holds what was synced, and its calls succeed again. The journal must be attached
+    /// again.
     pub fn restart(&mut self)
         ensures files { (name : List ℕ) → Restarts (D.files (disk_of self.old) name) (D.files (disk_of self.new) name) }
         ensures current { D.current (disk_of self.new) ≡ D.current (disk_of self.old) }

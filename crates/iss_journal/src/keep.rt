@@ -1,4 +1,4 @@
-// Keeping an entry: four calls of the device.
+// Appending an entry durably, by four calls of the device.
 ghost use Rattle.std.specs.Prelude.{◌≡◌, ◌+◌, ◌≤◌, ◌++◌, [], ◌∷◌, length, is_ok, OnOk, OnErr, IsErr};
 ghost use Rattle.iss_disk.specs.Calls.{IfTold, StaysHere, HasCause, Runs, Takes};
 ghost use Rattle.iss_journal.specs.Frames.{frame, frames, max_entry, Reads, holds};
@@ -8,8 +8,8 @@ ghost use Rattle.iss_journal.specs.EntryViews.{entries_in};
 use crate::entries::{Entries, OPEN};
 use iss_disk::{Disk, Failed};
 
-/// Writes a staged entry of two parts behind the last gate, which is closed and stays so until the entry is on the disk;
-/// only then it is opened.
+/// Writes a staged entry, given in two parts, after the last gate. The gate stays closed until the entry is synced, and
+/// is opened only then.
 // rule: Journal: An append writes its entry, syncs, opens the gate, and syncs
 #[inline(always)]
 pub(crate) fn keep_entry<D: Disk>(
@@ -19,16 +19,21 @@ pub(crate) fn keep_entry<D: Disk>(
     body: &[u8],
 ) -> Result<(), Failed>
     requires short { length (head.now ++ body.now) ≤ max_entry }
-    requires staged { entries.now.bytes.items ≡ frames (entries_in entries.now) ++ (frame (head.now ++ body.now) ++ 0 ∷ []) }
+    requires staged { entries.now.bytes.items ≡ frames (entries_in entries.now)
+        ++ (frame (head.now ++ body.now) ++ 0 ∷ []) }
     requires calls { 4 ≤ (D.room disk.old).calls }
     requires bytes { length (head.now ++ body.now) + 6 ≤ (D.room disk.old).bytes }
     requires rests { IfTold (D.history disk.old) (RestsOn (entries_in entries.now)) }
 
-    // A crash at any moment leaves the entries, with the new one or without.
-    ensures any_moment { LeavesOnly (HoldsWithOrWithout (entries_in entries.now) (head.now ++ body.now)) (D.history disk.old) (D.history disk.new) }
-    ensures rests { OnOk result (IfTold (D.history disk.new) (RestsOn (entries_in entries.now ++ (head.now ++ body.now) ∷ []))) }
-    ensures file { OnOk result (IfTold (D.history disk.new) (EndsClosed (entries_in entries.now ++ (head.now ++ body.now) ∷ []))) }
-    ensures kept { OnErr result (IfTold (D.history disk.new) (λ file. Reads file.kept (holds (entries_in entries.now)))) }
+    // A crash at any moment leaves the entries with or without the new one.
+    ensures any_moment { LeavesOnly (HoldsWithOrWithout (entries_in entries.now) (head.now ++ body.now))
+        (D.history disk.old) (D.history disk.new) }
+    ensures rests { OnOk result
+        (IfTold (D.history disk.new) (RestsOn (entries_in entries.now ++ (head.now ++ body.now) ∷ []))) }
+    ensures file { OnOk result
+        (IfTold (D.history disk.new) (EndsClosed (entries_in entries.now ++ (head.now ++ body.now) ∷ []))) }
+    ensures kept { OnErr result (IfTold (D.history disk.new)
+        (λ file. Reads file.kept (holds (entries_in entries.now)))) }
     ensures room { OnOk result (Takes 4 (length (head.now ++ body.now) + 6) (D.room disk.old) (D.room disk.new)) }
     ensures others { StaysHere (D.current disk.old) (D.current disk.new) (D.files disk.old) (D.files disk.new) }
     ensures cause { HasCause (D.faults disk.old) (D.faults disk.new) (IsErr result) }

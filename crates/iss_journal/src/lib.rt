@@ -1,4 +1,5 @@
-//! A journal: a list of entries on a disk, each kept before its `append` answers, whatever a crash tears.
+//! A journal: a list of entries on a disk. Each entry is durable before its `append` returns Ok, whatever a crash
+//! tears.
 #![tactic(auto)]
 
 mod entries;

@@ -1,4 +1,4 @@
-// Reading a journal's file and bringing it to rest.
+// Reading a journal's file, and cutting off and syncing its end.
 ghost use Rattle.std.specs.Prelude.{◌≡◌, ◌+◌, ◌≤◌, ℕ, length, IfOk, IsErrOf};
 ghost use Rattle.iss_disk.specs.File.{settled};
 ghost use Rattle.iss_disk.specs.Calls.{IfTold, Stays, StaysHere, HasCause, Takes};
@@ -13,7 +13,7 @@ use crate::settle::{cut_tail, make_empty};
 use iss_disk::{Disk, EndError};
 use std::alloc::Global;
 
-/// Reads the current file, as far as it reaches.
+/// Reads the whole current file.
 // rule: Journal: A file without a reading is damaged, at the offset of its gate
 fn read_file<D: Disk>(alloc: Global, disk: &mut D) -> Result<Vec<u8>, EndError>
     ensures content { IfOk result (λ bytes. IfTold (D.history disk.old) (λ file. bytes.items ≡ file.content)) }
@@ -37,16 +37,18 @@ fn read_file<D: Disk>(alloc: Global, disk: &mut D) -> Result<Vec<u8>, EndError>
     Ok(bytes)
 }
 
-/// Reads the entries of the current file, all of which is on the disk, and brings it to rest.
+/// Reads the entries of the current file, which is all synced, and cuts off what follows the last gate.
 pub(crate) fn load<D: Disk>(alloc: Global, disk: &mut D) -> Result<Entries, AttachError>
     requires on_disk { IfTold (D.history disk.old) (λ file. file ≡ settled file.content) }
     requires calls { 3 ≤ (D.room disk.old).calls }
     requires bytes { 1 ≤ (D.room disk.old).bytes }
-    ensures entries { IfOk result (λ entries. IfTold (D.history disk.old) (λ file. Reads file.content (holds (entries_in entries)))) }
+    ensures entries { IfOk result
+        (λ entries. IfTold (D.history disk.old) (λ file. Reads file.content (holds (entries_in entries)))) }
     ensures rests { IfOk result (λ entries. IfTold (D.history disk.new) (RestsOn (entries_in entries))) }
     ensures file { IfOk result (λ entries. IfTold (D.history disk.old)
         (λ before. IfTold (D.history disk.new) (ComesToRest (entries_in entries) before.content))) }
-    ensures damaged { (at : ℕ) → IsErrOf result (AttachError.Damaged at) → IfTold (D.history disk.old) (λ file. Reads file.content (damaged at)) }
+    ensures damaged { (at : ℕ) → IsErrOf result (AttachError.Damaged at) → IfTold (D.history disk.old)
+        (λ file. Reads file.content (damaged at)) }
     ensures any_moment { LeavesReading (D.history disk.old) (D.history disk.new) }
     ensures others { StaysHere (D.current disk.old) (D.current disk.new) (D.files disk.old) (D.files disk.new) }
     ensures cause { HasCause (D.faults disk.old) (D.faults disk.new) (IsErrOf result AttachError.Failed) }

@@ -11,18 +11,20 @@ use std::alloc::{AllocError, Global};
 #[derive(Drop)]
 pub enum Found {
     Whole(Entries),
-    // The offset of the gate behind which no whole entry stands.
+    // The offset of the gate that is not followed by a whole entry.
     Damaged(u64),
 }
 
-// Where the gate behind an entry stands, if behind the open gate at an offset there stand a length, the entry and the
-// next gate.
+// The offset of the gate after the entry whose open gate is at `gate`. None unless a length, the entry and the next
+// gate follow.
 // rule: Journal: Attaching reads entries up to the first closed gate, and cuts off the rest
 fn next_gate(bytes: &[u8], gate: usize) -> Option<usize>
     requires { gate < length bytes.now }
     ensures whole { IfSome result (λ next. IsWhole (drop (gate + 1) bytes.now)) }
     ensures offset { IfSome result (λ next. next ≡ gate + 5 + from_be_bytes w32 (take 4 (drop (gate + 1) bytes.now))) }
-    ensures spelled { IfSome result (λ next. to_be_bytes w32 (from_be_bytes w32 (take 4 (drop (gate + 1) bytes.now))) ≡ take 4 (drop (gate + 1) bytes.now)) }
+    ensures spelled { IfSome result
+        (λ next. to_be_bytes w32 (from_be_bytes w32 (take 4 (drop (gate + 1) bytes.now)))
+        ≡ take 4 (drop (gate + 1) bytes.now)) }
     ensures within { IfSome result (λ next. next < length bytes.now) }
     ensures none { IfNone result (IsWhole (drop (gate + 1) bytes.now) → ⊥) }
 {

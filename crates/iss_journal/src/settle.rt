@@ -1,4 +1,4 @@
-// Bringing a file that was read to rest.
+// Making a file that was read consist of its entries and a closed gate, all synced.
 ghost use Rattle.std.specs.Prelude.{◌≡◌, ◌+◌, ◌≤◌, [], ◌∷◌, length, take, OnOk, IsErr};
 ghost use Rattle.iss_disk.specs.File.{settled};
 ghost use Rattle.iss_disk.specs.Calls.{IfTold, StaysHere, HasCause};
@@ -9,12 +9,13 @@ ghost use Rattle.iss_journal.specs.EntryViews.{entries_in};
 use crate::entries::{CLOSED, Entries};
 use iss_disk::{Disk, Failed};
 
-/// Cuts off what stands behind the last gate. The file was read, and all of it is on the disk.
+/// Cuts off what follows the last gate of a file that was read and is all synced.
 pub(crate) fn cut_tail<D: Disk>(disk: &mut D, entries: &Entries) -> Result<(), Failed>
     requires read { IfTold (D.history disk.old) (λ file. file ≡ settled entries.now.bytes.items) }
     requires ends { ClosesAfter (entries_in entries.now) entries.now.bytes.items }
     requires calls { 2 ≤ (D.room disk.old).calls }
-    ensures any_moment { LeavesOnly (λ bytes. Reads bytes (holds (entries_in entries.now))) (D.history disk.old) (D.history disk.new) }
+    ensures any_moment { LeavesOnly
+        (λ bytes. Reads bytes (holds (entries_in entries.now))) (D.history disk.old) (D.history disk.new) }
     ensures rests { OnOk result (IfTold (D.history disk.new) (RestsOn (entries_in entries.now))) }
     ensures file { OnOk result (IfTold (D.history disk.new)
         (λ file. file ≡ settled (take (length (frames (entries_in entries.now)) + 1) entries.now.bytes.items))) }
@@ -29,7 +30,7 @@ pub(crate) fn cut_tail<D: Disk>(disk: &mut D, entries: &Entries) -> Result<(), F
     Ok(())
 }
 
-/// Makes an empty journal of a file of at most one byte, all of which is on the disk.
+/// Makes an empty journal of a file of at most one byte, which is all synced.
 pub(crate) fn make_empty<D: Disk>(disk: &mut D, bytes: &[u8]) -> Result<(), Failed>
     requires read { IfTold (D.history disk.old) (λ file. file ≡ settled bytes.now) }
     requires brief { length bytes.now ≤ 1 }

@@ -1,4 +1,4 @@
--- Facts on the trees of numbers.
+-- Facts about the trees of numbers.
 use Rattle.std.proofs.Common.{◌≡◌, ℕ, ◌+◌, ◌<◌, ◌≤◌, List, [], ◌∷◌, ◌++◌, length, sym, ap, subst, ◌∙◌, length-append, map, get_or}
 use Rattle.std.proofs.lemmas.List.{length-map, get_or-map}
 use Rattle.std.specs.Prelude.{Option, IfSome, slice_get}
@@ -12,19 +12,22 @@ use Rattle.iss_keys.proofs.ListedLemmas.{listed_none, listed_more, length-listed
 pub ring_none : (kind h : ℕ) → 2 ≤ h → h ≤ 12 → IsRing kind h []
 ring_none kind h low high = record { low = low; high = high; trees_are = listed_none (ring_tree kind h) }
 
-pub ring_more : (kind h n : ℕ) (trees : List KeyTree) (t : KeyTree) → length trees ≡ n → t ≡ ring_tree kind h n → IsRing kind h trees
+pub ring_more : (kind h n : ℕ) (trees : List KeyTree) (t : KeyTree) → length trees ≡ n → t ≡ ring_tree kind h n →
+    IsRing kind h trees
     → IsRing kind h (trees ++ t ∷ [])
 ring_more kind h n trees t size is ring =
     let one : length (trees ++ t ∷ []) ≡ length trees + 1 = length-append trees (t ∷ []) in
     record {
       low = ring.low;
       high = ring.high;
-      trees_are = listed_more trees t (ring_tree kind h) (length trees) ring.trees_are (is ∙ ap (ring_tree kind h) (sym size))
+      trees_are = listed_more trees t (ring_tree kind h) (length trees) ring.trees_are (is
+          ∙ ap (ring_tree kind h) (sym size))
           ∙ ap (listed (ring_tree kind h)) (sym one);
     }
 
--- what is at a place is the tree of its number
-pub ring_at : {X : Type 0} (f : X → KeyTree) (kind h i : ℕ) (xs : List X) (x : X) → IsRing kind h (map f xs) → i < length xs → x ≡ get_or xs i x
+-- place i has the tree of number i
+pub ring_at : {X : Type 0} (f : X → KeyTree) (kind h i : ℕ) (xs : List X) (x : X) → IsRing kind h (map f xs) →
+    i < length xs → x ≡ get_or xs i x
     → f x ≡ ring_tree kind h i
 ring_at f kind h i xs x ring lt at =
     let size : length (map f xs) ≡ length xs = length-map xs f in
@@ -33,23 +36,28 @@ ring_at f kind h i xs x ring lt at =
     ∙ ap (λ (ts : List KeyTree). get_or ts i (f x)) ring.trees_are
     ∙ get_or-listed (ring_tree kind h) (length (map f xs)) i (f x) within
 
--- keys that are as high as the public key of their number are as high as all are
-pub keys_listed : (secret_of : ℕ → List ℕ) (h n i : ℕ) (secret : List ℕ) (k : KeyState) → i < length (public_keys_of secret_of h n)
+-- if each key has its number's secret and all have one height, these are the public keys of the numbers
+pub keys_listed : (secret_of : ℕ → List ℕ) (h n i : ℕ) (secret : List ℕ) (k : KeyState) →
+    i < length (public_keys_of secret_of h n)
     → k ≡ record { secret = secret; height = h; used = 0 }
-    → IfSome (slice_get (public_keys_of secret_of h n) i) (λ key. k ≡ record { secret = secret; height = key.height; used = 0 })
+    → IfSome (slice_get (public_keys_of secret_of h n) i)
+    (λ key. k ≡ record { secret = secret; height = key.height; used = 0 })
 keys_listed secret_of h n i secret k lt e =
     let f = λ (j : ℕ). public_key (secret_of j) h in
     let within : i < n = rw (← length-listed f n) lt in
-    subst (λ (o : Option PublicKeyView). IfSome o (λ key. k ≡ record { secret = secret; height = key.height; used = 0 }))
+    subst (λ (o : Option PublicKeyView). IfSome o
+    (λ key. k ≡ record { secret = secret; height = key.height; used = 0 }))
     (sym (slice_get-listed f n i within)) e
 
--- and back, where the public keys are known
-pub keys_made : (secret_of : ℕ → List ℕ) (h n i : ℕ) (secret : List ℕ) (k : KeyState) (keys : List PublicKeyView) → i < length keys
+-- the converse, if the public keys are known
+pub keys_made : (secret_of : ℕ → List ℕ) (h n i : ℕ) (secret : List ℕ) (k : KeyState) (keys : List PublicKeyView) →
+    i < length keys
     → keys ≡ public_keys_of secret_of h n
     → IfSome (slice_get keys i) (λ key. k ≡ record { secret = secret; height = key.height; used = 0 })
     → k ≡ record { secret = secret; height = h; used = 0 }
 keys_made secret_of h n i secret k keys lt e found =
     let f = λ (j : ℕ). public_key (secret_of j) h in
     let within : i < n = rw (← length-listed f n, ← e) lt in
-    subst (λ (o : Option PublicKeyView). IfSome o (λ key. k ≡ record { secret = secret; height = key.height; used = 0 }))
+    subst (λ (o : Option PublicKeyView). IfSome o
+    (λ key. k ≡ record { secret = secret; height = key.height; used = 0 }))
     (ap (λ (ks : List PublicKeyView). slice_get ks i) e ∙ slice_get-listed f n i within) found

@@ -1,4 +1,4 @@
--- Facts on the tree of a key.
+-- Facts about the tree of a key.
 use Rattle.std.proofs.Common.{◌≡◌, ℕ, zero, suc, ◌+◌, ◌-◌, ◌*◌, ◌/◌, ◌%◌, ◌^◌, ◌<◌, ◌≤◌, List, [], length, get_or, refl, sym, ap, ap₂, ◌∙◌, arith, add-one, pow-add, inl, inr, get_or-set_same, get_or-set_other}
 use Rattle.std.specs.Prelude.{slice_set}
 use Rattle.std.proofs.Math.Nat.{pow-succ', pow-suc, div-div-eq-div-mul, div-lt_iff_lt-mul, mul_assoc, mul-le-mul_right}
@@ -8,14 +8,14 @@ use Rattle.std.proofs.lemmas.Bool.{cases_eq}
 use Rattle.iss_keys.specs.Chains.{leaf_value}
 use Rattle.iss_keys.specs.Trees.{inner, node, beside, path_node, root_of, HasNodesFrom}
 
--- one level down there are twice as many
+-- a level has twice as many nodes as the one above
 pow_down : (h k : ℕ) → suc k ≤ h → 2 ^ (h - k) ≡ 2 * 2 ^ (h - suc k)
 pow_down h k le = let e : h - k ≡ suc (h - suc k) = omega arith in rw e (pow-succ' 2 (h - suc k))
 
 pow_at_most : (h k : ℕ) → 2 ^ (h - k) ≤ 2 ^ h
 pow_at_most h k = let le : h - k ≤ h = omega arith in pow_mono le
 
--- the leaves
+-- the leaves are in their places
 pub leaves_are_nodes : (secret : List ℕ) (h n : ℕ) (nodes : List (List ℕ)) → n ≡ 2 ^ h
     → ((p : ℕ) → p < n → get_or nodes (n + p) [] ≡ leaf_value secret p) → HasNodesFrom secret h n nodes
 unfolding node
@@ -28,7 +28,7 @@ leaves_are_nodes secret h n nodes e leaf (suc k) p le lt at =
     let most = pow_at_most h k in
     absurd (omega arith)
 
--- the node that is made
+-- the node just computed is in its place
 node_here : (secret : List ℕ) (h i : ℕ) (nodes : List (List ℕ)) (l r : List ℕ) → 1 ≤ i → i < 2 ^ h → i < length nodes
     → HasNodesFrom secret h (i + 1) nodes → l ≡ get_or nodes (2 * i) [] → r ≡ get_or nodes (2 * i + 1) []
     → (k p : ℕ) → k ≤ h → p < 2 ^ (h - k) → 2 ^ (h - k) + p ≡ i
@@ -47,11 +47,13 @@ node_here secret h i nodes l r low high len tree left right (suc k) p le lt same
     let e0 : 2 * i ≡ 2 ^ (h - k) + 2 * p = omega arith in
     let e1 : 2 * i + 1 ≡ 2 ^ (h - k) + (2 * p + 1) = omega arith in
     let is_left : l ≡ node secret k (2 * p) = left ∙ ap (λ j. get_or nodes j []) e0 ∙ tree k (2 * p) below lt0 at0 in
-    let is_right : r ≡ node secret k (2 * p + 1) = right ∙ ap (λ j. get_or nodes j []) e1 ∙ tree k (2 * p + 1) below lt1 at1 in
+    let is_right : r ≡ node secret k (2 * p + 1) = right ∙ ap (λ j. get_or nodes j []) e1
+    ∙ tree k (2 * p + 1) below lt1 at1 in
     rw (same, get_or-set_same) (ap₂ inner is_left is_right)
 
--- one more inner node
-pub node_more : (secret : List ℕ) (h i : ℕ) (nodes : List (List ℕ)) (l r : List ℕ) → 1 ≤ i → i < 2 ^ h → i < length nodes
+-- one more inner node is in its place
+pub node_more : (secret : List ℕ) (h i : ℕ) (nodes : List (List ℕ)) (l r : List ℕ) → 1 ≤ i → i < 2 ^ h →
+    i < length nodes
     → HasNodesFrom secret h (i + 1) nodes → l ≡ get_or nodes (2 * i) [] → r ≡ get_or nodes (2 * i + 1) []
     → HasNodesFrom secret h i (slice_set nodes i (inner l r))
 unfolding node
@@ -63,14 +65,14 @@ node_more secret h i nodes l r low high len tree left right k p le lt at =
           rw get_or-set_other (tree k p le lt above)
     ]
 
--- ---- the path of a leaf
+-- ---- the authentication path of a leaf
 
 below_level : (h k q : ℕ) → k ≤ h → q < 2 ^ h → q / 2 ^ k < 2 ^ (h - k)
 below_level h k q le lt =
     let whole : 2 ^ (h - k) * 2 ^ k ≡ 2 ^ h = sym (pow-add 2 (h - k) k) ∙ ap (λ n. 2 ^ n) (omega arith) in
     (div-lt_iff_lt-mul (pow_pos k)).1 (rw whole lt)
 
--- what is beside a place of the path
+-- the sibling of a node of the path
 pub beside_path : (h k q place : ℕ) → k < h → q < 2 ^ h → place ≡ 2 ^ (h - k) + q / 2 ^ k
     → (beside place ≡ 2 ^ (h - k) + beside (q / 2 ^ k)) × (beside (q / 2 ^ k) < 2 ^ (h - k))
 beside_path h k q place lt leaf e =
@@ -87,8 +89,9 @@ beside_path h k q place lt leaf e =
           rw (same, one) (omega arith, omega arith)
     ]
 
--- the place above
-pub place_up : (h k q place : ℕ) → k < h → place ≡ 2 ^ (h - k) + q / 2 ^ k → place / 2 ≡ 2 ^ (h - (k + 1)) + q / 2 ^ (k + 1)
+-- the place of the parent
+pub place_up : (h k q place : ℕ) → k < h → place ≡ 2 ^ (h - k) + q / 2 ^ k →
+    place / 2 ≡ 2 ^ (h - (k + 1)) + q / 2 ^ (k + 1)
 place_up h k q place lt e =
     let le : suc k ≤ h = lt in
     let down = pow_down h k le in
@@ -102,7 +105,8 @@ beside_within h k q place lt leaf e =
     let whole : 2 ^ (h + 1) ≡ 2 * 2 ^ h = rw add-one (pow-succ' 2 h) in
     omega (arith, at.0, at.1)
 
-pub path_is : (secret : List ℕ) (h : ℕ) (nodes : List (List ℕ)) (q k place b : ℕ) → HasNodesFrom secret h 1 nodes → k < h → q < 2 ^ h
+pub path_is : (secret : List ℕ) (h : ℕ) (nodes : List (List ℕ)) (q k place b : ℕ) → HasNodesFrom secret h 1 nodes →
+    k < h → q < 2 ^ h
     → place ≡ 2 ^ (h - k) + q / 2 ^ k → b ≡ beside place → get_or nodes b [] ≡ path_node secret q k
 path_is secret h nodes q k place b tree lt leaf e is =
     let at = beside_path h k q place lt leaf e in
@@ -110,7 +114,8 @@ path_is secret h nodes q k place b tree lt leaf e is =
     let some = pow_pos (h - k) in
     rw (is, at.0) (tree k (beside (q / 2 ^ k)) below at.1 (omega arith))
 
-pub has_root : (secret : List ℕ) (h : ℕ) (nodes : List (List ℕ)) → HasNodesFrom secret h 1 nodes → get_or nodes 1 [] ≡ root_of secret h
+pub has_root : (secret : List ℕ) (h : ℕ) (nodes : List (List ℕ)) → HasNodesFrom secret h 1 nodes →
+    get_or nodes 1 [] ≡ root_of secret h
 has_root secret h nodes tree =
     let none : h - h ≡ 0 = omega arith in
     let top : h ≤ h = omega arith in
@@ -127,7 +132,7 @@ has_a_root h n e =
 
 -- ---- the nodes under a node
 
--- the two nodes under one have their leaves where it has its own
+-- the leaves under the two children of a node are leaves under it
 pub halves_within : (l p m : ℕ) → (l ≡ 0 → ⊥) → (p + 1) * 2 ^ l ≤ m
     → ((2 * p + 1) * 2 ^ (l - 1) ≤ m) × ((2 * p + 1 + 1) * 2 ^ (l - 1) ≤ m)
 halves_within zero p m some h = absurd (some refl)
@@ -137,5 +142,6 @@ halves_within (suc k) p m some h =
     ap (λ n. n * 2 ^ k) (let d : 2 * p + 1 + 1 ≡ (p + 1) * 2 = omega arith in d)
     ∙ mul_assoc (p + 1) 2 (2 ^ k) ∙ ap (λ n. (p + 1) * n) (sym (pow-succ' 2 k)) in
     let right : (2 * p + 1 + 1) * 2 ^ k ≤ m = rw whole h in
-    let less : (2 * p + 1) * 2 ^ k ≤ (2 * p + 1 + 1) * 2 ^ k = mul-le-mul_right (2 ^ k) (let l : 2 * p + 1 ≤ 2 * p + 1 + 1 = omega arith in l) in
+    let less : (2 * p + 1) * 2 ^ k ≤ (2 * p + 1 + 1) * 2 ^ k =
+    mul-le-mul_right (2 ^ k) (let l : 2 * p + 1 ≤ 2 * p + 1 + 1 = omega arith in l) in
     rw e (omega (arith, less, right), right)

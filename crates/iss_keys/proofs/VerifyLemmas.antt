@@ -1,4 +1,4 @@
--- A signature that is made as one should be verifies.
+-- A signature made as defined verifies.
 use Rattle.std.proofs.Common.{subst, ◌≡◌, ℕ, zero, suc, ◌+◌, ◌-◌, ◌*◌, ◌/◌, ◌%◌, ◌^◌, ◌<◌, ◌≤◌, ◌==◌, true, false, List, [], ◌∷◌, ◌++◌, length, take, drop, get_or, refl, sym, ap, ap₂, ◌∙◌, arith, ◌⊎◌, inl, inr, length-append, append_assoc, length-drop}
 use Rattle.std.specs.Prelude.{if◌then◌else◌, nat_lt}
 use Rattle.std.specs.Int.{w32, to_be_bytes}
@@ -36,9 +36,9 @@ length-join_below f (suc n) h =
     let below = length-join_below f n h in
     simp length-append (omega arith)
 
--- ---- pieces of joined pieces
+-- ---- pieces of a concatenation
 
--- a part of a list lies in a front that is long enough
+-- a part of a list is a part of each prefix that is long enough
 part_of_front : (xs ys : List ℕ) (k n : ℕ) → k + n ≤ length xs → take n (drop k (xs ++ ys)) ≡ take n (drop k xs)
 part_of_front xs ys k n h =
     let low : k ≤ length xs = omega arith in
@@ -63,7 +63,7 @@ piece_of_join f (suc n) i h lt =
           rw (at, drop-append_seam (join_below f n) (f n), same) (take_all 32 (f n) all)
     ]
 
--- the same pieces make the same whole
+-- equal pieces have equal concatenations
 pub join_below-same : (f g : ℕ → List ℕ) (n : ℕ) → ((i : ℕ) → i < n → f i ≡ g i) → join_below f n ≡ join_below g n
 unfolding join_below
 join_below-same f g zero h = refl
@@ -73,7 +73,7 @@ join_below-same f g (suc n) h =
 
 -- ---- chains
 
--- steps in two parts
+-- steps split in two
 pub steps_joined : (q i d n : ℕ) (x : List ℕ) → steps q i d n (steps q i 0 d x) ≡ steps q i 0 (d + n) x
 unfolding steps
 steps_joined q i d zero x = let e : d + 0 ≡ d = omega arith in rw e
@@ -110,7 +110,11 @@ sha256-bytes m = digest_is_bytes _ 8
 
 nibble_small : (m : List ℕ) (k : ℕ) → AreBytes m → nibble m k ≤ 15
 nibble_small m k h = let b = h (k / 2) in
-    elim (k % 2 == 0) as (λ v. (if v then get_or m (k / 2) 0 / 16 else get_or m (k / 2) 0 % 16) ≤ 15) [ true ↦ omega arith | false ↦ omega arith ]
+    elim (k % 2 == 0) as (λ v. (if v then get_or m (k / 2) 0 / 16 else get_or m (k / 2) 0 % 16) ≤ 15) [
+      | true ↦
+          omega arith
+      | false ↦ omega arith
+    ]
 
 digit_small : (m : List ℕ) (i : ℕ) → AreBytes m → digit m i ≤ 15
 unfolding digit
@@ -120,16 +124,17 @@ digit_small m i h =
     elim (nat_lt i 64) as (λ v. (if v then nibble m i
     else if i == 64 then checksum m / 256 else if i == 65 then checksum m / 16 % 16 else checksum m % 16) ≤ 15) [
       | true ↦ here
-      | false ↦ elim (i == 64) as (λ v. (if v then checksum m / 256 else if i == 65 then checksum m / 16 % 16 else checksum m % 16) ≤ 15) [
-        | true ↦ omega arith
-        | false ↦ elim (i == 65) as (λ v. (if v then checksum m / 16 % 16 else checksum m % 16) ≤ 15) [
-          | true ↦ omega arith
-          | false ↦ omega arith
-        ]
-      ]
+      | false ↦ elim (i == 64) as
+          (λ v. (if v then checksum m / 256 else if i == 65 then checksum m / 16 % 16 else checksum m % 16) ≤ 15) [
+            | true ↦ omega arith
+            | false ↦ elim (i == 65) as (λ v. (if v then checksum m / 16 % 16 else checksum m % 16) ≤ 15) [
+              | true ↦ omega arith
+              | false ↦ omega arith
+            ]
+          ]
     ]
 
--- ---- the climb
+-- ---- the authentication path
 
 halves : (p : ℕ) → ((p % 2 ≡ 0) × (p ≡ 2 * (p / 2))) ⊎ ((p % 2 ≡ 1) × (p ≡ 2 * (p / 2) + 1))
 halves p = elim (cases_eq (p % 2) 0) [
@@ -137,7 +142,8 @@ halves p = elim (cases_eq (p % 2) 0) [
   | inr odd ↦ let one : p % 2 ≡ 1 = omega arith in inr (one, omega arith)
 ]
 
-pub climb_step : (secret : List ℕ) (k p : ℕ) → parent_of p (node secret k p) (node secret k (beside p)) ≡ node secret (suc k) (p / 2)
+pub climb_step : (secret : List ℕ) (k p : ℕ) →
+    parent_of p (node secret k p) (node secret k (beside p)) ≡ node secret (suc k) (p / 2)
 unfolding node
 climb_step secret k p = elim (halves p) [
   | inl even ↦
@@ -161,7 +167,7 @@ climb_is_node secret sig q h sib (suc k) le =
 
 -- ---- the pieces of a part
 
--- piece i of joined pieces before more
+-- piece i of a concatenation that is followed by more bytes
 piece_in_front : (more : List ℕ) (f : ℕ → List ℕ) (n i : ℕ) → ((i : ℕ) → length (f i) ≡ 32) → i < n
     → take 32 (drop (32 * i) (join_below f n ++ more)) ≡ f i
 piece_in_front more f n i each lt =
@@ -169,34 +175,40 @@ piece_in_front more f n i each lt =
     let room : 32 * i + 32 ≤ length (join_below f n) = omega arith in
     part_of_front (join_below f n) more (32 * i) 32 room ∙ piece_of_join f n i each lt
 
--- piece i of joined pieces behind a front of b bytes and before more
-piece_behind : (front more : List ℕ) (f : ℕ → List ℕ) (b n i : ℕ) → length front ≡ b → ((i : ℕ) → length (f i) ≡ 32) → i < n
+-- piece i of a concatenation that follows b bytes and is followed by more
+piece_behind : (front more : List ℕ) (f : ℕ → List ℕ) (b n i : ℕ) → length front ≡ b →
+    ((i : ℕ) → length (f i) ≡ 32) → i < n
     → take 32 (drop (b + 32 * i) ((front ++ join_below f n) ++ more)) ≡ f i
 piece_behind front more f b n i size each lt =
-    rw (← size, append_assoc front (join_below f n) more, drop-append-add front (join_below f n ++ more) (32 * i)) (piece_in_front more f n i each lt)
+    rw (← size, append_assoc front (join_below f n) more, drop-append-add front (join_below f n ++ more) (32 * i))
+    (piece_in_front more f n i each lt)
 
--- ---- the whole
+-- ---- the whole signature
 
--- the ends that a part leads to
-ends_agree : (secret part m : List ℕ) (q : ℕ) → AreBytes m → ((i : ℕ) → i < 67 → value_at part i ≡ signed_value secret q m i)
+-- the chain ends computed from a part are those of the leaf
+ends_agree : (secret part m : List ℕ) (q : ℕ) → AreBytes m →
+    ((i : ℕ) → i < 67 → value_at part i ≡ signed_value secret q m i)
     → (i : ℕ) → i < 67 → end_from q m part i ≡ chain_end secret q i
 ends_agree secret part m q bytes values i lt =
     let small = digit_small m i bytes in
     let sum : digit m i + (15 - digit m i) ≡ 15 = omega arith in
     rw (values i lt, steps_joined q i (digit m i) (15 - digit m i) (chain_start secret q i), sum)
 
--- a part that is made as it should be leads to the root, whatever stands behind it
-pub part_gives_root : (secret m rest : List ℕ) (h q : ℕ) → AreBytes m → q < 2 ^ h → part_root q m (part_of secret h q m ++ rest) h ≡ root_of secret h
+-- a part made as defined gives the root, whatever follows it
+pub part_gives_root : (secret m rest : List ℕ) (h q : ℕ) → AreBytes m → q < 2 ^ h →
+    part_root q m (part_of secret h q m ++ rest) h ≡ root_of secret h
 part_gives_root secret m rest h q bytes lt =
     let front = join_below (signed_value secret q m) 67 in
     let part = part_of secret h q m ++ rest in
-    let each_value : (i : ℕ) → length (signed_value secret q m i) ≡ 32 = λ i. length-steps q i 0 (digit m i) (chain_start secret q i) (length-sha256 _) in
+    let each_value : (i : ℕ) → length (signed_value secret q m i) ≡ 32 =
+    λ i. length-steps q i 0 (digit m i) (chain_start secret q i) (length-sha256 _) in
     let each_node : (k : ℕ) → length (path_node secret q k) ≡ 32 = λ k. length-node secret k _ in
     let front_size = length-join_below (signed_value secret q m) 67 each_value in
     let values : (i : ℕ) → i < 67 → value_at part i ≡ signed_value secret q m i =
     λ i l. ap (λ (x : List ℕ). value_at x i) (append_assoc front (join_below (path_node secret q) h) rest)
     ∙ piece_in_front (join_below (path_node secret q) h ++ rest) (signed_value secret q m) 67 i each_value l in
-    let siblings : (k : ℕ) → k < h → sibling_at part k ≡ path_node secret q k = λ k l. piece_behind front rest (path_node secret q) 2144 h k front_size each_node l in
+    let siblings : (k : ℕ) → k < h → sibling_at part k ≡ path_node secret q k =
+    λ k l. piece_behind front rest (path_node secret q) 2144 h k front_size each_node l in
     let ends = join_below-same (end_from q m part) (chain_end secret q) 67 (ends_agree secret part m q bytes values) in
     let top : h ≤ h = omega arith in
     ap (λ x. climb q part (sha256 (0x12 ∷ to_be_bytes w32 q ++ x)) h) ends
@@ -205,7 +217,8 @@ part_gives_root secret m rest h q bytes lt =
 
 pub length-part_of : (secret m : List ℕ) (h q : ℕ) → length (part_of secret h q m) ≡ 2144 + 32 * h
 length-part_of secret m h q =
-    let front = length-join_below (signed_value secret q m) 67 (λ i. length-steps q i 0 (digit m i) (chain_start secret q i) (length-sha256 _)) in
+    let front = length-join_below (signed_value secret q m) 67
+    (λ i. length-steps q i 0 (digit m i) (chain_start secret q i) (length-sha256 _)) in
     let back = length-join_below (path_node secret q) h (λ k. length-node secret k _) in
     simp length-append (omega arith)
 
@@ -216,7 +229,7 @@ leaf_of_signature secret s h q high lt =
     let fits : q < 2 ^ 32 = omega arith in
     from_be_bytes-to_be_bytes_4 q fits
 
--- a signature has bytes
+-- a signature is a list of bytes
 steps_bytes : (q i j n : ℕ) (x : List ℕ) → AreBytes x → AreBytes (steps q i j n x)
 unfolding steps
 steps_bytes q i j zero x h = h
@@ -239,12 +252,14 @@ head_bytes h q high (suc i) = word_bytes q i
 pub bytes_of_signature : (secret s : List ℕ) (h q : ℕ) → h ≤ 12 → AreBytes (signature_of secret h q s)
 bytes_of_signature secret s h q high =
     let m = statement_digest s in
-    let values = join_bytes (signed_value secret q m) 67 (λ i. steps_bytes q i 0 (digit m i) (chain_start secret q i) (sha256-bytes _)) in
+    let values = join_bytes (signed_value secret q m) 67
+    (λ i. steps_bytes q i 0 (digit m i) (chain_start secret q i) (sha256-bytes _)) in
     let siblings = join_bytes (path_node secret q) h (λ k. node_bytes secret k _) in
     bytes-append (h ∷ to_be_bytes w32 q) (part_of secret h q m) (head_bytes h q high) (bytes-append _ _ values siblings)
 
--- a signature that is made as it should be verifies
-pub signature_verifies : (secret s : List ℕ) (h q : ℕ) → h ≤ 12 → q < 2 ^ h → Verifies (root_of secret h) h s (signature_of secret h q s)
+-- a signature made as defined verifies
+pub signature_verifies : (secret s : List ℕ) (h q : ℕ) → h ≤ 12 → q < 2 ^ h →
+    Verifies (root_of secret h) h s (signature_of secret h q s)
 signature_verifies secret s h q high lt =
     let m = statement_digest s in
     let sig = signature_of secret h q s in
@@ -259,5 +274,7 @@ signature_verifies secret s h q high lt =
           ∙ part_gives_root secret m [] h q (sha256-bytes _) lt;
     }
 
-pub made_verifies : (secret s sig : List ℕ) (h q : ℕ) → h ≤ 12 → q < 2 ^ h → sig ≡ signature_of secret h q s → Verifies (root_of secret h) h s sig
-made_verifies secret s sig h q high lt e = subst (λ (x : List ℕ). Verifies (root_of secret h) h s x) (sym e) (signature_verifies secret s h q high lt)
+pub made_verifies : (secret s sig : List ℕ) (h q : ℕ) → h ≤ 12 → q < 2 ^ h → sig ≡ signature_of secret h q s →
+    Verifies (root_of secret h) h s sig
+made_verifies secret s sig h q high lt e =
+    subst (λ (x : List ℕ). Verifies (root_of secret h) h s x) (sym e) (signature_verifies secret s h q high lt)

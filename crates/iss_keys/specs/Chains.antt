@@ -20,7 +20,7 @@ chain_start secret q i = sha256 (0x10 ∷ secret ++ to_be_bytes w32 q ++ to_be_b
 abbrev pub chain_step : ℕ → ℕ → ℕ → List ℕ → List ℕ
 chain_step q i j x = sha256 (0x11 ∷ to_be_bytes w32 q ++ to_be_bytes w16 i ++ j ∷ [] ++ x)
 
--- x after the n steps from step j on
+-- x after the n steps that begin with step j
 unfoldable pub steps : ℕ → ℕ → ℕ → ℕ → List ℕ → List ℕ
 steps q i j zero x = x
 steps q i j (suc n) x = chain_step q i (j + n) (steps q i j n x)
@@ -29,17 +29,17 @@ steps q i j (suc n) x = chain_step q i (j + n) (steps q i j n x)
 abbrev pub chain_end : List ℕ → ℕ → ℕ → List ℕ
 chain_end secret q i = steps q i 0 15 (chain_start secret q i)
 
--- the value of leaf q, its chains having these ends
+-- the value of leaf q, from the ends of its chains
 abbrev pub leaf_of_ends : ℕ → (ℕ → List ℕ) → List ℕ
 leaf_of_ends q ends = sha256 (0x12 ∷ to_be_bytes w32 q ++ join_below ends 67)
 
--- the value of leaf q of a secret
+-- the value of leaf q under a secret
 abbrev pub leaf_value : List ℕ → ℕ → List ℕ
 leaf_value secret q = leaf_of_ends q (chain_end secret q)
 
 -- ---- the digits of a statement
 
--- what is signed of a statement
+-- the digest of a statement, which is what a leaf signs
 abbrev pub statement_digest : List ℕ → List ℕ
 statement_digest s = sha256 (0x14 ∷ s)
 
@@ -47,11 +47,11 @@ statement_digest s = sha256 (0x14 ∷ s)
 abbrev pub nibble : List ℕ → ℕ → ℕ
 nibble m k = if k % 2 == 0 then slice_index m (k / 2) / 16 else slice_index m (k / 2) % 16
 
--- the sum of what the 64 digits lack of 15: whoever raises a digit has to lower one of this sum's
+-- the sum of 15 minus each of the 64 digits: increasing a digit decreases the sum, hence one of its digits
 abbrev pub checksum : List ℕ → ℕ
 checksum m = sum_below (λ k. 15 - nibble m k) 64
 
--- digit i of a digest: its own 64, and then the three of its checksum, the high one first
+-- digit i of a digest: its own 64, then the three of its checksum, the highest first
 -- rule: Signatures: A leaf signs the digits of a statement's digest and of their checksum
 unfoldable pub digit : List ℕ → ℕ → ℕ
 digit m i =

@@ -14,16 +14,16 @@ node_secret i = sha256 (0x20 ∷ i ∷ [])
 abbrev pub client_secret : ℕ → List ℕ
 client_secret c = sha256 (0x21 ∷ c ∷ [])
 
--- what a directory shows: the public keys of the nodes and of the clients, by their numbers
+-- a directory as contracts see it: the public keys of the nodes and of the clients, by number
 pub record DirectoryView : Type 0 where
   pub nodes : List PublicKeyView
   pub clients : List PublicKeyView
 
--- the first n public keys of secrets that are given by a number
+-- the public keys of the first n secrets, each a function of its number
 abbrev pub public_keys_of : (ℕ → List ℕ) → ℕ → ℕ → List PublicKeyView
 public_keys_of secret_of h n = listed (λ i. public_key (secret_of i) h) n
 
--- the directory of n nodes and so many clients, all with trees of height h
+-- the directory of `nodes` nodes and `clients` clients, all with trees of height h
 -- rule: Signatures: All keys are a function of the numbers of nodes and clients and the trees' height
 abbrev pub directory_of : ℕ → ℕ → ℕ → DirectoryView
 directory_of n clients h = record {
@@ -31,13 +31,14 @@ directory_of n clients h = record {
   clients = public_keys_of client_secret h clients;
 }
 
--- sig is a signature of statement s by the key of number i; a number without a key has no signatures
+-- sig is a signature of statement s by the key with number i; a number without a key has no signatures
 abbrev pub VerifiesBy : List PublicKeyView → ℕ → List ℕ → List ℕ → Type 0
 VerifiesBy keys i s sig = IsSomeAnd (slice_get keys i) (λ key. Verifies key.root key.height s sig)
 
 -- key i of the list has the secret of number i and a tree of height h
 abbrev pub HasKeys : (ℕ → List ℕ) → ℕ → List KeyState → Type 0
-HasKeys secret_of h keys = (i : ℕ) (key : KeyState) → slice_get keys i ≡ Some key → (key.secret ≡ secret_of i) × (key.height ≡ h)
+HasKeys secret_of h keys = (i : ℕ) (key : KeyState) → slice_get keys i ≡ Some key → (key.secret ≡ secret_of i)
+    × (key.height ≡ h)
 
 -- the key of node me, with a tree of this height
 pub record AreKeysOf (me height : ℕ) (k : KeyState) : Type 0 where

@@ -8,7 +8,7 @@ abbrev pub directory_in : Home → DirectoryView
 directory_in (Shared directory) = directory.value
 directory_in (Alone directory) = directory
 
--- it is the one of n nodes and so many clients, with trees of height h
+-- it is the directory of these many nodes and clients, with trees of height h
 pub record IsHome (n clients h : ℕ) (home : Home) : Type 0 where
   pub low : 2 ≤ h
   pub high : h ≤ 12

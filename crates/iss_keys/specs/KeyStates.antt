@@ -14,7 +14,7 @@ pub record KeyState : Type 0 where
 abbrev pub left_of : KeyState → ℕ
 left_of k = 2 ^ k.height - k.used
 
--- what heights and counts of used leaves there are
+-- the ranges of the height and of the count of used leaves
 pub record IsKey (h used : ℕ) : Type 0 where
   pub low : 2 ≤ h
   pub high : h ≤ 12

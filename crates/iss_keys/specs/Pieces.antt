@@ -1,7 +1,7 @@
 -- Lists and sums over the numbers below a bound.
 use Rattle.std.specs.Prelude.{ℕ, zero, suc, ◌+◌, List, [], ◌∷◌, ◌++◌}
 
--- the pieces f 0, .., f (n - 1), joined
+-- the concatenation of f 0, .., f (n - 1)
 unfoldable pub join_below : (ℕ → List ℕ) → ℕ → List ℕ
 join_below f zero = []
 join_below f (suc n) = join_below f n ++ f n

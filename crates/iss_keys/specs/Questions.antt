@@ -2,7 +2,7 @@
 use Rattle.std.specs.Prelude.{ℕ, List}
 use Rattle.iss_keys.specs.KeyStates.{PublicKeyView}
 
--- whether this signature is one of this statement under this key
+-- the question whether `sig` is a signature of `statement` under this key
 -- rule: Signatures: A remembered answer is found by all bytes of what was asked, never by a part
 pub record Question : Type 0 where
   pub key : PublicKeyView

@@ -6,7 +6,8 @@ use Rattle.iss_keys.specs.Trees.{KeyTree}
 use Rattle.iss_keys.specs.KeyStates.{PublicKeyView}
 use Rattle.iss_keys.specs.Directories.{public_keys_of}
 
--- the keys of the numbers below `count`, `kind` saying whether they are nodes or clients, with trees of one height
+-- The keys with the secrets of the numbers below `count`, with trees of one height. `kind` says whether they are nodes
+-- or clients.
 pub record OwnRing : Type 0 where
   pub kind : ℕ
   pub count : ℕ
@@ -16,11 +17,11 @@ pub record OwnRing : Type 0 where
 abbrev pub keys_of_ring : OwnRing → List PublicKeyView
 keys_of_ring r = public_keys_of (λ i. sha256 (r.kind ∷ i ∷ [])) r.height r.count
 
--- the tree of a number
+-- the tree of number i
 abbrev pub ring_tree : ℕ → ℕ → ℕ → KeyTree
 ring_tree kind h i = record { secret = sha256 (kind ∷ i ∷ []); height = h }
 
--- these are trees of numbers from 0 on
+-- these are the trees of the numbers from 0 on
 pub record IsRing (kind h : ℕ) (trees : List KeyTree) : Type 0 where
   pub low : 2 ≤ h
   pub high : h ≤ 12

@@ -4,11 +4,11 @@ use Rattle.std.specs.Prelude.{◌≡◌, ℕ, zero, suc, ◌+◌, ◌-◌, ◌*�
 use Rattle.sha2.specs.Sha256.{sha256}
 use Rattle.iss_keys.specs.Chains.{leaf_value}
 
--- the node over two nodes
+-- the parent of two nodes
 abbrev pub inner : List ℕ → List ℕ → List ℕ
 inner left right = sha256 (0x13 ∷ left ++ right)
 
--- node p of level k, from the left: level 0 has the leaves
+-- node p of level k, counted from the left; level 0 has the leaves
 -- rule: Signatures: A hash tree over the leaves gives the root that is the public key
 unfoldable pub node : List ℕ → ℕ → ℕ → List ℕ
 node secret zero p = leaf_value secret p
@@ -18,20 +18,20 @@ node secret (suc k) p = inner (node secret k (2 * p)) (node secret k (2 * p + 1)
 abbrev pub root_of : List ℕ → ℕ → List ℕ
 root_of secret h = node secret h 0
 
--- the position beside p, under the same parent
+-- the position of the sibling of p
 abbrev pub beside : ℕ → ℕ
 beside p = if p % 2 == 0 then p + 1 else p - 1
 
--- the sibling, at level k, of the node over leaf q
+-- the sibling at level k of the node over leaf q
 abbrev pub path_node : List ℕ → ℕ → ℕ → List ℕ
 path_node secret q k = node secret k (beside (q / 2 ^ k))
 
--- the parent of x and its sibling, x being at position p of its level
+-- the parent of x at position p and its sibling
 abbrev pub parent_of : ℕ → List ℕ → List ℕ → List ℕ
 parent_of p x sibling = if p % 2 == 0 then inner x sibling else inner sibling x
 
--- The tree of height h as it lies in memory, right from place i on: node p of level k is at place
--- 2 ^ (h - k) + p, so the root is at 1 and the nodes under place i are at 2 * i and 2 * i + 1.
+-- The tree of height h is laid out in an array, right from place i on. Node p of level k is at place 2 ^ (h - k) + p.
+-- So the root is at place 1, and the children of place i are at 2 * i and 2 * i + 1.
 abbrev pub HasNodesFrom : List ℕ → ℕ → ℕ → List (List ℕ) → Type 0
 HasNodesFrom secret h i nodes = (k p : ℕ) → k ≤ h → p < 2 ^ (h - k) → i ≤ 2 ^ (h - k) + p
     → slice_index_or nodes (2 ^ (h - k) + p) [] ≡ node secret k p
@@ -41,7 +41,7 @@ pub record AreNodesOf (secret : List ℕ) (h : ℕ) (nodes : List (List ℕ)) : 
   pub size : length nodes ≡ 2 ^ (h + 1)
   pub tree : HasNodesFrom secret h 1 nodes
 
--- which tree: of which secret, and how high
+-- a tree, given by its secret and height
 pub record KeyTree : Type 0 where
   pub secret : List ℕ
   pub height : ℕ

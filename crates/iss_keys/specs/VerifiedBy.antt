@@ -4,7 +4,7 @@ use Rattle.std.specs.Str.{bytes_eq}
 use Rattle.iss_keys.specs.Signatures.{leaf_number, root_from}
 use Rattle.iss_keys.specs.KeyStates.{PublicKeyView}
 
--- sig is a signature of statement s under this public key, if there is one: a test for `Verifies`
+-- whether sig is a signature of statement s under this public key, if there is one: it decides `Verifies`
 unfoldable pub is_true_under : Option PublicKeyView → List ℕ → List ℕ → Bool
 is_true_under None s sig = false
 is_true_under (Some key) s sig =
@@ -13,6 +13,6 @@ is_true_under (Some key) s sig =
     && (nat_lt (leaf_number sig) (2 ^ key.height)
     && bytes_eq (root_from s sig key.height) key.root))
 
--- sig is a signature of statement s by the key of number i: a test for `VerifiesBy`
+-- whether sig is a signature of statement s by the key with number i: it decides `VerifiesBy`
 unfoldable pub is_verified_by : List PublicKeyView → ℕ → List ℕ → List ℕ → Bool
 is_verified_by keys i s sig = is_true_under (slice_get keys i) s sig

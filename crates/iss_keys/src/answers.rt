@@ -1,5 +1,5 @@
-//! Answers that are remembered. A signature goes round with what it signs, so the same question is asked
-//! again and again: each answer is walked to once, and found later by all bytes of its question.
+//! A cache of answers to signature checks. A signature travels with what it signs, so the same check is asked for
+//! often. Each check is computed once; its answer is then found by all bytes of the question.
 
 ghost use Rattle.std.specs.Prelude.{◌≡◌, ◌↔◌, ℕ, ◌*◌, ◌<◌, ◌≤◌, slice_get, IfOk, IfSome, IsSome, IsTrue};
 ghost use Rattle.iss_keys.specs.Signatures.{Verifies};
@@ -12,7 +12,7 @@ use std::alloc::{AllocError, Global};
 use std::cell::RefCell;
 use std::marker::Model;
 
-// Of longer statements no answer is remembered, so that the memory is bounded.
+// Answers about longer statements (in bytes) are not cached, so that the memory is bounded.
 const LONGEST_STATEMENT: usize = 1024;
 
 // A question, with the right answer.
@@ -33,7 +33,7 @@ impl Model for Answer {
 }
 
 impl Answer {
-    // The question and its answer, to be kept.
+    // The question and its answer, as an entry of the cache.
     fn to(
         alloc: Global,
         key: &PublicKey,
@@ -42,7 +42,8 @@ impl Answer {
         verifies: bool,
     ) -> Result<Answer, AllocError>
         requires { IsTrue verifies ↔ Verifies key.now.root key.now.height statement.now signature.now }
-        ensures { IfOk result (λ a. a ≡ record { key = key.now; statement = statement.now; signature = signature.now }) }
+        ensures { IfOk result (λ a.
+            a ≡ record { key = key.now; statement = statement.now; signature = signature.now }) }
     {
         let statement = statement.to_vec(alloc)?;
         let signature = signature.to_vec(alloc)?;
@@ -54,11 +55,13 @@ impl Answer {
         })
     }
 
-    // The answer, if it is one to this question.
+    // The answer, if this entry is for the same question.
     // rule: Signatures: A remembered answer is found by all bytes of what was asked, never by a part
     fn answer(&self, key: &PublicKey, statement: &[u8], signature: &[u8]) -> Option<bool>
-        ensures right { IfSome result (λ verifies. IsTrue verifies ↔ Verifies key.now.root key.now.height statement.now signature.now) }
-        ensures found { self.now ≡ record { key = key.now; statement = statement.now; signature = signature.now } → IsSome result }
+        ensures right { IfSome result
+            (λ verifies. IsTrue verifies ↔ Verifies key.now.root key.now.height statement.now signature.now) }
+        ensures found { self.now ≡ record { key = key.now; statement = statement.now; signature = signature.now } →
+            IsSome result }
     {
         if self.key.root() == key.root()
             && self.key.height() == key.height()
@@ -72,8 +75,8 @@ impl Answer {
     }
 }
 
-// How many sets there are among so many nodes. One message can bring the signatures of a quorum for each of
-// 64 slots, for each node of a quorum: there is room for twice as many, up to 16,384.
+// The number of sets of the cache for `nodes` nodes. One message can carry, for each node of a quorum, a quorum's
+// signatures for each of 64 slots. There is room for twice as many, up to 16,384.
 fn sets_for(n: usize) -> usize
     ensures low { 1 ≤ result }
     ensures high { result ≤ 8192 }
@@ -83,8 +86,8 @@ fn sets_for(n: usize) -> usize
     places.next_power_of_two() / SET
 }
 
-// Where the set of a question begins. Questions of different sets differ; whoever wants can make many
-// share one, and only the last few are then remembered.
+// Where the set of a question begins. Different questions may share a set; an attacker can make many do so, and then
+// only the last few are cached.
 fn set_of(sets: usize, key: &PublicKey, statement: &[u8], signature: &[u8]) -> usize
     requires low { 1 ≤ sets }
     requires high { sets ≤ 8192 }
@@ -94,7 +97,7 @@ fn set_of(sets: usize, key: &PublicKey, statement: &[u8], signature: &[u8]) -> u
     for place in 0..8usize {
         hash = hash_on(hash, word_at(statement, 8 * place));
     }
-    // A signature begins with the height and its leaf's number, in five bytes, and a value of a chain.
+    // A signature begins with five bytes, the height and the leaf's number, followed by the value of a chain.
     hash = hash_on(hash, word_at(signature, 0));
     hash = hash_on(hash, word_at(signature, 5));
     hash_on(hash, statement.len() as u64) as usize % sets * SET
@@ -107,8 +110,11 @@ fn find_answer(
     statement: &[u8],
     signature: &[u8],
 ) -> Option<bool>
-    ensures right { IfSome result (λ verifies. IsTrue verifies ↔ Verifies key.now.root key.now.height statement.now signature.now) }
-    ensures found { (i : ℕ) → slice_get answers.now i ≡ Some (Some (record { key = key.now; statement = statement.now; signature = signature.now }))
+    ensures right { IfSome result
+        (λ verifies. IsTrue verifies ↔ Verifies key.now.root key.now.height statement.now signature.now) }
+    ensures found { (i : ℕ) →
+        slice_get answers.now i ≡ Some
+        (Some (record { key = key.now; statement = statement.now; signature = signature.now }))
         → IsSome result }
 {
     'places: for place in answers {
@@ -122,8 +128,7 @@ fn find_answer(
     None
 }
 
-/// Answers to questions that were asked. It takes no memory before the first, and where there is none, an
-/// answer is not remembered.
+/// The cache. It allocates nothing before the first answer. If it is out of memory, an answer is not cached.
 #[derive(Drop)]
 pub struct Answers {
     n: usize,
@@ -131,7 +136,7 @@ pub struct Answers {
 }
 
 impl Answers {
-    /// No answers yet, and how many nodes ask.
+    /// An empty cache for `nodes` nodes.
     pub(crate) fn new(alloc: Global, n: usize) -> Answers {
         Answers {
             n,
@@ -139,9 +144,10 @@ impl Answers {
         }
     }
 
-    // The answer to a question, if it is remembered.
+    // The answer to a question, if it is cached.
     fn recall(&self, key: &PublicKey, statement: &[u8], signature: &[u8]) -> Option<bool>
-        ensures { IfSome result (λ verifies. IsTrue verifies ↔ Verifies key.now.root key.now.height statement.now signature.now) }
+        ensures { IfSome result (λ verifies.
+            IsTrue verifies ↔ Verifies key.now.root key.now.height statement.now signature.now) }
     {
         let Ok(places) = self.places.try_borrow() else {
             return None;
@@ -153,7 +159,7 @@ impl Answers {
         }
     }
 
-    // Remembers an answer, in place of the oldest of its set.
+    // Caches an answer. It replaces the oldest of its set.
     fn remember(&self, key: &PublicKey, statement: &[u8], signature: &[u8], verifies: bool)
         requires { IsTrue verifies ↔ Verifies key.now.root key.now.height statement.now signature.now }
     {
@@ -172,11 +178,11 @@ impl Answers {
         }
     }
 
-    /// Whether `signature` is one of `statement` under `key`: remembered, or found and then remembered.
+    /// Whether `signature` is a signature of `statement` under `key`: from the cache, or computed and then cached.
     pub fn verify(&self, key: &PublicKey, statement: &[u8], signature: &[u8]) -> bool
         ensures { IsTrue result ↔ Verifies key.now.root key.now.height statement.now signature.now }
     {
-        // A signature of another length is refused at once.
+        // A signature of the wrong length is refused at once.
         if statement.len() > LONGEST_STATEMENT
             || signature.len() != 2149 + 32 * key.height() as usize
         {

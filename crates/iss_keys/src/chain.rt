@@ -1,4 +1,4 @@
-//! The 67 hash chains of a leaf, and the leaf's value: from the secret, or from a signature.
+//! The 67 hash chains of a leaf, and the leaf's value, computed from the secret or from a signature.
 
 ghost use Rattle.std.specs.Prelude.{◌≡◌, ◌+◌, ◌-◌, ◌≤◌, [], ◌∷◌, ◌++◌, length, take, drop, OnOk};
 ghost use Rattle.std.specs.Int.{w16, w32, to_be_bytes};
@@ -25,8 +25,8 @@ fn start_of_chain(secret: &[u8; 32], leaf: u32, chain: u16) -> [u8; 32]
     hasher.finalize()
 }
 
-// What is hashed at a step of a chain. It is laid out in one buffer, since hashing it in pieces would
-// cost a sixth more, and these steps are nearly all that a key costs.
+// The string hashed at a step of a chain. It is laid out in one buffer, since hashing it in pieces would cost a sixth
+// more. These steps are nearly all the cost of a key.
 #[inline(always)]
 fn message_of_step(leaf: u32, chain: u16, step: u8, x: &[u8; 32]) -> [u8; 40]
     ensures { result ≡ 0x11 ∷ to_be_bytes w32 leaf ++ to_be_bytes w16 chain ++ step ∷ [] ++ x.now }
@@ -47,7 +47,7 @@ fn step_of_chain(leaf: u32, chain: u16, step: u8, x: [u8; 32]) -> [u8; 32]
     Sha256::digest(message_of_step(leaf, chain, step, &x))
 }
 
-// The steps from `first` up to `end`, which is not taken.
+// The steps from `first` up to, but not including, `end`.
 #[tactic(auto, using(crate::proofs::ChainLemmas::steps_more, crate::proofs::ChainLemmas::steps_none))]
 fn steps_of_chain(leaf: u32, chain: u16, first: u8, end: u8, start: [u8; 32]) -> [u8; 32]
     requires { first ≤ end }
@@ -76,7 +76,7 @@ pub fn value_of_leaf(secret: &[u8; 32], leaf: u32) -> [u8; 32]
     hasher.finalize()
 }
 
-/// Appends what a signature of `digest` has of each chain.
+/// Appends the value of each chain that a signature of `digest` reveals.
 pub fn write_values(
     secret: &[u8; 32],
     leaf: u32,
@@ -105,7 +105,7 @@ pub fn piece_at(bytes: &[u8], at: usize) -> [u8; 32]
     piece
 }
 
-/// The value of a leaf, from what a signature of `digest` has of each chain.
+/// The value of a leaf, from the chain values in a signature of `digest`.
 #[tactic(auto, using(crate::proofs::ChainLemmas::ends_more, crate::proofs::ChainLemmas::join_below_none))]
 pub fn leaf_from_part(leaf: u32, digest: &[u8; 32], part: &[u8]) -> [u8; 32]
     requires { 2144 ≤ length part.now }

@@ -1,9 +1,9 @@
-//! Whether long strings are the same. Most that are compared are, so it never stops before the end: then many
-//! bytes are compared by one instruction, and `==` takes one for each byte.
+//! Equality of long strings. Most compared strings are equal, so the comparison never stops early. Then one instruction
+//! compares many bytes, whereas `==` takes one for each byte.
 
 ghost use Rattle.std.specs.Prelude.{◌≡◌, ◌↔◌, IsTrue};
 
-/// Whether two strings have the same bytes.
+/// Whether two strings are equal.
 pub fn same_bytes(a: &[u8], b: &[u8]) -> bool
     ensures { IsTrue result ↔ (a.now ≡ b.now) }
 {

@@ -1,5 +1,5 @@
-//! Digests that are remembered. A value goes through many hands on its way into a log, and each wants its
-//! digest: a long string is digested once, and the digest found later by all bytes of the string.
+//! A cache of digests. A value is hashed by several parts of a node on its way into a log. The digest of a long string
+//! is computed once, and then found by all bytes of the string.
 
 ghost use Rattle.std.specs.Prelude.{◌≡◌, ◌<◌, ◌*◌, ℕ, List, slice_get, IfOk, IfSome, IsSome};
 ghost use Rattle.sha2.specs.Sha256.{sha256};
@@ -10,13 +10,13 @@ use std::alloc::{AllocError, Global};
 use std::cell::RefCell;
 use std::marker::Model;
 
-// How many sets of digests there are.
+// The number of sets of the cache.
 const SETS: usize = 32;
 
-// A shorter string is digested about as fast as it is found.
+// Hashing a shorter string is about as fast as finding its digest.
 const SHORTEST: usize = 512;
 
-// Of longer strings no digest is remembered, so that the memory is bounded.
+// Digests of longer strings are not cached, so that the memory is bounded.
 const LONGEST: usize = 100_000;
 
 // A string, with its digest.
@@ -35,7 +35,7 @@ impl Model for Digested {
 }
 
 impl Digested {
-    // The string and its digest, to be kept.
+    // The string and its digest, as an entry of the cache.
     fn to(alloc: Global, string: &[u8], digest: &[u8; 32]) -> Result<Digested, AllocError>
         requires { digest.now ≡ sha256 string.now }
         ensures { IfOk result (λ d. d ≡ string.now) }
@@ -47,7 +47,7 @@ impl Digested {
         })
     }
 
-    // The digest, if it is one of this string.
+    // The digest, if this entry is for the same string.
     fn digest(&self, string: &[u8]) -> Option<[u8; 32]>
         ensures right { IfSome result (λ digest. digest ≡ sha256 string.now) }
         ensures found { self.now ≡ string.now → IsSome result }
@@ -60,7 +60,7 @@ impl Digested {
     }
 }
 
-// Where the set of a string begins, by some of its bytes. Strings that share a set push each other out.
+// Where the set of a string begins, a function of some of its bytes. Strings of one set replace each other.
 fn set_of(string: &[u8]) -> usize
     ensures { result < 4 * 32 }
 {
@@ -88,22 +88,21 @@ fn find_digest(digests: &[Option<Digested>], string: &[u8]) -> Option<[u8; 32]>
     None
 }
 
-/// Digests of strings. They take no memory before the first, and where there is none, a digest is not
-/// remembered.
+/// The cache. It allocates nothing before the first digest. If it is out of memory, a digest is not cached.
 #[derive(Drop)]
 pub struct Digests {
     places: RefCell<Vec<Option<Digested>>>,
 }
 
 impl Digests {
-    /// No digests yet.
+    /// An empty cache.
     pub(crate) fn new(alloc: Global) -> Digests {
         Digests {
             places: RefCell::new(Vec::new(alloc)),
         }
     }
 
-    // The digest of a string, if it is remembered in this set.
+    // The digest of a string, if it is cached in this set.
     fn recall(&self, set: usize, string: &[u8]) -> Option<[u8; 32]>
         requires { set < 4 * 32 }
         ensures { IfSome result (λ digest. digest ≡ sha256 string.now) }
@@ -117,7 +116,7 @@ impl Digests {
         }
     }
 
-    // Remembers a digest, in place of the oldest of its set.
+    // Caches a digest. It replaces the oldest of its set.
     fn remember(&self, set: usize, string: &[u8], digest: &[u8; 32])
         requires place { set < 4 * 32 }
         requires right { digest.now ≡ sha256 string.now }
@@ -135,7 +134,7 @@ impl Digests {
         }
     }
 
-    /// The SHA-256 digest of a string: remembered, or made and then remembered.
+    /// The SHA-256 digest of a string: from the cache, or computed and then cached.
     // rule: Signatures: A remembered answer is found by all bytes of what was asked, never by a part
     pub fn digest(&self, string: &[u8]) -> [u8; 32]
         ensures { result ≡ sha256 string.now }

@@ -7,7 +7,7 @@ ghost use Rattle.iss_keys.specs.Chains.{statement_digest, nibble, checksum, digi
 use crate::marks::STATEMENT;
 use sha2::{Digest, Sha256};
 
-/// What is signed of a statement: a digest of it.
+/// The digest of a statement, which is what a leaf signs.
 pub fn digest_of_statement(statement: &[u8]) -> [u8; 32]
     ensures { result ≡ statement_digest statement.now }
 {
@@ -26,7 +26,7 @@ fn nibble_of(digest: &[u8; 32], k: usize) -> u8
     if k % 2 == 0 { byte / 16 } else { byte % 16 }
 }
 
-/// The sum of what a digest's digits lack of 15.
+/// The sum of 15 minus each digit of a digest.
 #[tactic(auto, using(crate::proofs::ChainLemmas::sum_below_more), unfolding(crate::specs::Pieces::sum_below))]
 pub fn checksum_of(digest: &[u8; 32]) -> u16
     ensures value { result ≡ checksum digest.now }

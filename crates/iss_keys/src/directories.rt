@@ -14,8 +14,8 @@ use crate::verification::PublicKey;
 use std::alloc::Global;
 use std::marker::Model;
 
-/// The public keys of all nodes and clients, by their numbers. Anyone can make the keys themselves from
-/// these numbers: the secrets are for demonstration.
+/// The public keys of all nodes and clients, by number. Each secret is a function of its owner's number, so anyone can
+/// compute it: the keys are for demonstration only.
 #[derive(Drop)]
 pub struct Directory {
     nodes: Keyring,
@@ -30,7 +30,7 @@ impl Model for Directory {
     ghost view = { λ d. record { nodes = d.nodes; clients = d.clients } };
 }
 
-// Whether `signature` is one of `statement` by the key of a number.
+// Whether `signature` is a signature of `statement` by the key with this number.
 fn verify_by(
     keys: &Keyring,
     answers: &Answers,
@@ -47,8 +47,8 @@ fn verify_by(
 }
 
 impl Directory {
-    /// The directory of nodes and clients whose trees all have one height. Each public key is made when it
-    /// is first needed, which takes 1,072 small hashes a leaf and no memory.
+    /// The directory of nodes and clients whose trees all have height `height`. Each public key is computed when it is
+    /// first needed, by 1,072 small hashes a leaf.
     // rule: Signatures: All keys are a function of the numbers of nodes and clients and the trees' height
     pub fn make(alloc: Global, n: u32, clients: u32, height: u8) -> Result<Directory, NoMemory>
         requires n { n ≤ 256 }
@@ -67,7 +67,7 @@ impl Directory {
         })
     }
 
-    /// The same directory without memory: what it makes it does not keep.
+    /// The same directory without memory: it computes keys again each time.
     pub(crate) fn alone(alloc: Global, n: u32, clients: u32, height: u8) -> Directory
         requires low { 2 ≤ height }
         requires high { height ≤ 12 }
@@ -81,10 +81,11 @@ impl Directory {
         }
     }
 
-    /// The directory of keys that are there. Where these are the nodes' and clients' own it is the one that
-    /// `make` gives.
+    /// The directory of given keys. If these are the nodes' and clients' own keys, it equals the one that `make`
+    /// returns.
     pub fn of(alloc: Global, nodes: &[Keys], clients: &[Keys]) -> Result<Directory, NoMemory>
-        ensures publics { IfOk result (λ d. d ≡ record { nodes = map public_of nodes.now; clients = map public_of clients.now }) }
+        ensures publics { IfOk result
+            (λ d. d ≡ record { nodes = map public_of nodes.now; clients = map public_of clients.now }) }
         ensures made { (height : ℕ) → HasKeys node_secret height nodes.now → HasKeys client_secret height clients.now
             → IfOk result (λ d. d ≡ directory_of (length nodes.now) (length clients.now) height) }
     {
@@ -99,56 +100,56 @@ impl Directory {
         })
     }
 
-    /// The public key of a node, if there is a node of this number.
+    /// The public key of a node, or None if no node has this number.
     pub fn node_key(&self, node: u8) -> Option<PublicKey>
         ensures { result ≡ slice_get self.now.nodes node }
     {
         self.nodes.key(node)
     }
 
-    /// The public key of a client, if there is a client of this number.
+    /// The public key of a client, or None if no client has this number.
     pub fn client_key(&self, client: u8) -> Option<PublicKey>
         ensures { result ≡ slice_get self.now.clients client }
     {
         self.clients.key(client)
     }
 
-    /// The keys of a node, none of whose leaves is used. They share their tree with this directory, so that it
-    /// is made once, whoever needs it first.
+    /// The keys of a node, with no leaf used. They share their tree with this directory, so that it is computed once.
     pub fn keys_of_node(&self, alloc: Global, node: u8) -> Keys
         requires { node < length self.now.nodes }
-        ensures own { IfSome (slice_get self.now.nodes node) (λ key. result ≡ record { secret = node_secret node; height = key.height; used = 0 }) }
+        ensures own { IfSome (slice_get self.now.nodes node)
+            (λ key. result ≡ record { secret = node_secret node; height = key.height; used = 0 }) }
         ensures made { (n clients height : ℕ) → self.now ≡ directory_of n clients height
             → result ≡ record { secret = node_secret node; height = height; used = 0 } }
     {
         self.nodes.keys(alloc, NODE_SECRET, node)
     }
 
-    /// The keys of a client, likewise.
+    /// The keys of a client, with no leaf used. They share their tree with this directory too.
     pub fn keys_of_client(&self, alloc: Global, client: u8) -> Keys
         requires { client < length self.now.clients }
-        ensures own { IfSome (slice_get self.now.clients client) (λ key. result ≡ record { secret = client_secret client; height = key.height; used = 0 }) }
+        ensures own { IfSome (slice_get self.now.clients client)
+            (λ key. result ≡ record { secret = client_secret client; height = key.height; used = 0 }) }
         ensures made { (n clients height : ℕ) → self.now ≡ directory_of n clients height
             → result ≡ record { secret = client_secret client; height = height; used = 0 } }
     {
         self.clients.keys(alloc, CLIENT_SECRET, client)
     }
 
-    /// Whether `signature` is one of `statement` by a node. It is not where no node has this number.
+    /// Whether `signature` is a signature of `statement` by a node. False if no node has this number.
     pub fn verify_node(&self, node: u8, statement: &[u8], signature: &[u8]) -> bool
         ensures { IsTrue result ↔ VerifiesBy self.now.nodes node statement.now signature.now }
     {
         verify_by(&self.nodes, &self.answers, node, statement, signature)
     }
 
-    /// Whether `signature` is one of `statement` by a client. It is not where no client has this number.
+    /// Whether `signature` is a signature of `statement` by a client. False if no client has this number.
     pub fn verify_client(&self, client: u8, statement: &[u8], signature: &[u8]) -> bool
         ensures { IsTrue result ↔ VerifiesBy self.now.clients client statement.now signature.now }
     {
         verify_by(&self.clients, &self.answers, client, statement, signature)
     }
-    /// The SHA-256 digest of a string. That of a longer string is remembered for a while, so that a string
-    /// which many ask for is digested once.
+    /// The SHA-256 digest of a string. Digests of longer strings are cached for a while.
     pub fn digest(&self, string: &[u8]) -> [u8; 32]
         ensures { result ≡ sha256 string.now }
     {

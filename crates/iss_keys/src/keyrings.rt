@@ -1,5 +1,5 @@
-//! The public keys of all nodes, or of all clients: given ones, or those whose secrets follow from numbers.
-//! Of the latter each is made when it is first asked for.
+//! The public keys of all nodes, or of all clients: given ones, or those whose secrets are functions of numbers. A key
+//! of the second kind is computed when it is first needed.
 
 ghost use Rattle.std.specs.Prelude.{◌≡◌, ℕ, List, [], ◌∷◌, ◌<◌, ◌≤◌, length, map, slice_get, IfOk, IfSome};
 ghost use Rattle.sha2.specs.Sha256.{sha256};
@@ -17,15 +17,15 @@ use std::alloc::Global;
 use std::marker::Model;
 use std::rc::Rc;
 
-// The secret of a number, `kind` saying whether it is a node's or a client's.
+// The secret of a number. `kind` says whether it is a node's or a client's.
 fn secret_of(kind: u8, number: u8) -> [u8; 32]
     ensures { result ≡ sha256 (kind ∷ number ∷ []) }
 {
     Sha256::digest([kind, number])
 }
 
-// The keys whose secrets follow from the numbers below `count`, with trees of one height. There may be fewer
-// places for trees than numbers: what has no place is made each time.
+// The keys with the secrets of the numbers below `count`, with trees of one height. There may be fewer places for trees
+// than numbers. A tree without a place is computed each time.
 #[derive(Drop)]
 struct OwnKeys {
     kind: u8,
@@ -82,7 +82,7 @@ impl OwnKeys {
         })
     }
 
-    // The tree at the place of a number, if there is a place.
+    // The place for a number's tree, if there is one.
     fn place(&self, number: u8) -> Option<&Rc<LateTree>>
         ensures { IfSome result (λ tree. tree.now.value ≡ ring_tree self.now.kind self.now.height number) }
     {
@@ -112,7 +112,7 @@ impl OwnKeys {
         Some(PublicKey::from_parts(self.root(number), self.height))
     }
 
-    // The tree of a number: the one that is here, so that it is made once.
+    // A number's tree: the shared one if it has a place.
     fn tree(&self, alloc: Global, number: u8) -> Tree
         ensures { result ≡ ring_tree self.now.kind self.now.height number }
     {
@@ -125,7 +125,7 @@ impl OwnKeys {
         Tree::own(LateTree::new(alloc, secret, self.height))
     }
 
-    // The same of any kind: the tree is shared where the kind is the one here.
+    // A number's tree of any kind. It is shared if the kind is that of these keys.
     fn tree_of_kind(&self, alloc: Global, kind: u8, number: u8) -> Tree
         ensures { result ≡ ring_tree kind self.now.height number }
     {
@@ -142,7 +142,7 @@ enum Source {
     Own(OwnKeys),
 }
 
-/// Public keys by their numbers.
+/// Public keys by number.
 #[derive(Drop)]
 pub struct Keyring {
     source: Source,
@@ -160,7 +160,7 @@ impl Model for Keyring {
 }
 
 impl Keyring {
-    /// The public keys of the secrets of the numbers below `count`, with trees of one height.
+    /// The public keys for the secrets of the numbers below `count`, with trees of one height.
     pub fn own(alloc: Global, kind: u8, count: u32, height: u8) -> Result<Keyring, NoMemory>
         requires count { count ≤ 256 }
         requires low { 2 ≤ height }
@@ -173,7 +173,7 @@ impl Keyring {
         })
     }
 
-    /// The same without memory: what is made is not kept.
+    /// The same without memory: keys are computed again each time.
     pub fn alone(alloc: Global, kind: u8, count: u32, height: u8) -> Keyring
         requires low { 2 ≤ height }
         requires high { height ≤ 12 }
@@ -184,7 +184,7 @@ impl Keyring {
         }
     }
 
-    /// The public keys of keys.
+    /// The public keys of given keys.
     pub fn given(alloc: Global, keys: &[Keys]) -> Result<Keyring, NoMemory>
         ensures { IfOk result (λ ring. ring ≡ map public_of keys.now) }
     {
@@ -206,11 +206,12 @@ impl Keyring {
             Source::Own(keys) => keys.key(number),
         }
     }
-    /// The key of the secret of a number of this kind, as high as the public key of this number, with no leaf
-    /// used. Where this public key is its own, its tree is shared.
+    /// The key with the secret of a number of this kind, and the height of the public key of this number. No leaf is
+    /// used. If this public key is its own, its tree is shared.
     pub fn keys(&self, alloc: Global, kind: u8, number: u8) -> Keys
         requires { number < length self.now }
-        ensures { IfSome (slice_get self.now number) (λ key. result ≡ record { secret = sha256 (kind ∷ number ∷ []); height = key.height; used = 0 }) }
+        ensures { IfSome (slice_get self.now number)
+            (λ key. result ≡ record { secret = sha256 (kind ∷ number ∷ []); height = key.height; used = 0 }) }
     {
         match &self.source {
             Source::Given(keys) => {

@@ -1,4 +1,5 @@
-//! Trees that are made when they are first needed, and then kept. Who shares one shares what was made.
+//! Trees that are computed when they are first needed, and then kept. All owners of a shared tree see what was
+//! computed.
 
 ghost use Rattle.std.specs.Prelude.{◌≡◌, ◌≤◌, IfOk, IfSome};
 ghost use Rattle.iss_keys.specs.Trees.{root_of, KeyTree, AreNodesOf};
@@ -10,7 +11,7 @@ use std::cell::OnceCell;
 use std::marker::Model;
 use std::rc::Rc;
 
-// A tree that was made, and of which secret.
+// A computed tree, and its secret.
 #[derive(Drop)]
 struct MadeTree {
     secret: [u8; 32],
@@ -39,7 +40,7 @@ impl MadeTree {
         })
     }
 
-    // The nodes, if the tree is the one that is asked for.
+    // The nodes, if this is the tree asked for.
     fn nodes(&self, secret: &[u8; 32], height: u8) -> Option<&[[u8; 32]]>
         ensures { IfSome result (λ nodes. AreNodesOf secret.now height nodes.now) }
     {
@@ -51,7 +52,7 @@ impl MadeTree {
     }
 }
 
-// A root that was made, and of which tree.
+// A computed root, with the secret and height of its tree.
 #[derive(Clone, Copy)]
 struct MadeRoot {
     secret: [u8; 32],
@@ -60,7 +61,7 @@ struct MadeRoot {
     ghost is_own: { root ≡ root_of secret height },
 }
 
-// Makes a root without its tree.
+// Computes a root without its tree.
 fn make_root(secret: &[u8; 32], height: u8) -> MadeRoot
     requires { height ≤ 12 }
     ensures secret { result.secret ≡ secret.now }
@@ -74,7 +75,7 @@ fn make_root(secret: &[u8; 32], height: u8) -> MadeRoot
     }
 }
 
-// The root that a cell holds, if it is the one that is asked for.
+// The root in a cell, if it is the one asked for.
 fn root_in(cell: &OnceCell<MadeRoot>, secret: &[u8; 32], height: u8) -> Option<[u8; 32]>
     ensures { IfSome result (λ root. root ≡ root_of secret.now height) }
 {
@@ -86,7 +87,7 @@ fn root_in(cell: &OnceCell<MadeRoot>, secret: &[u8; 32], height: u8) -> Option<[
     }
 }
 
-// The root of a tree that is there.
+// The root of a computed tree.
 fn root_of_nodes(nodes: &[[u8; 32]], secret: &[u8; 32], height: u8) -> [u8; 32]
     requires { AreNodesOf secret.now height nodes.now }
     ensures { result ≡ root_of secret.now height }
@@ -94,8 +95,8 @@ fn root_of_nodes(nodes: &[[u8; 32]], secret: &[u8; 32], height: u8) -> [u8; 32]
     nodes[1]
 }
 
-/// The tree over a secret, made when it is first needed. Where there is no memory for it, its root is made
-/// and kept without it.
+/// The tree over a secret, computed when it is first needed. If there is no memory for it, only its root is computed
+/// and kept.
 #[derive(Drop)]
 pub struct LateTree {
     alloc: Global,
@@ -117,7 +118,7 @@ impl Model for LateTree {
 }
 
 impl LateTree {
-    /// A tree of which nothing is made yet.
+    /// A tree of which nothing is computed yet.
     pub fn new(alloc: Global, secret: [u8; 32], height: u8) -> LateTree
         requires low { 2 ≤ height }
         requires high { height ≤ 12 }
@@ -132,7 +133,7 @@ impl LateTree {
         }
     }
 
-    /// Where its memory comes from.
+    /// The allocator of its memory.
     pub(crate) fn alloc(&self) -> Global {
         self.alloc
     }
@@ -153,7 +154,7 @@ impl LateTree {
         self.height
     }
 
-    // The nodes, if they were made.
+    // The nodes, if they are computed.
     fn made_nodes(&self) -> Option<&[[u8; 32]]>
         ensures { IfSome result (λ nodes. AreNodesOf self.now.secret self.now.height nodes.now) }
     {
@@ -163,7 +164,7 @@ impl LateTree {
         }
     }
 
-    /// The nodes, which are made where they are not there.
+    /// The nodes, which are computed if they are not yet there.
     pub fn nodes(&self) -> Result<&[[u8; 32]], NoMemory>
         ensures { IfOk result (λ nodes. AreNodesOf self.now.secret self.now.height nodes.now) }
     {
@@ -178,7 +179,7 @@ impl LateTree {
         }
     }
 
-    // The root, from its cell or made without its tree and then put there.
+    // The root from its cell, or computed without the tree and then put there.
     fn lone_root(&self) -> [u8; 32]
         ensures { result ≡ root_of self.now.secret self.now.height }
     {
@@ -187,7 +188,8 @@ impl LateTree {
         made.root
     }
 
-    /// The root. The tree is made for it, if there is memory: a key that is asked for once will be again.
+    /// The root. If there is memory, the whole tree is computed for it, since a key that is needed once is needed
+    /// again.
     pub fn root(&self) -> [u8; 32]
         ensures { result ≡ root_of self.now.secret self.now.height }
     {
@@ -207,7 +209,7 @@ enum Held {
     Shared(Rc<LateTree>),
 }
 
-/// A late tree, of which others may be owners too.
+/// A late tree, which may be shared.
 #[derive(Drop)]
 pub struct Tree {
     held: Held,
@@ -224,7 +226,7 @@ impl Model for Tree {
 }
 
 impl Tree {
-    /// A tree that nobody else has.
+    /// A tree with one owner.
     pub fn own(tree: LateTree) -> Tree
         ensures { result ≡ tree }
     {
@@ -233,7 +235,7 @@ impl Tree {
         }
     }
 
-    /// A tree that others have too.
+    /// A tree with several owners.
     pub fn shared(tree: Rc<LateTree>) -> Tree
         ensures { result ≡ tree.value }
     {

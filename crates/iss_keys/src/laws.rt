@@ -1,10 +1,11 @@
-//! Laws of the definitions, each as the contract of a function that does nothing. A proof above calls it.
+//! Laws of the definitions. Each is the contract of a function that does nothing, so that proofs in higher crates can
+//! call it.
 
 ghost use Rattle.std.specs.Prelude.{◌≡◌, ℕ, List, ◌<◌, ◌≤◌, ◌^◌, slice_index};
 ghost use Rattle.iss_keys.specs.Trees.{root_of};
 ghost use Rattle.iss_keys.specs.Signatures.{Verifies, signature_of, leaf_number};
 
-/// Each signature that is made as one should be verifies, has the number of its leaf, and is a list of bytes.
+/// Each signature made as defined verifies, has the number of its leaf, and is a list of bytes.
 pub fn signatures_verify()
     ensures verifies { (secret s : List ℕ) (h q : ℕ) → h ≤ 12 → q < 2 ^ h
         → Verifies (root_of secret h) h s (signature_of secret h q s) }

@@ -1,13 +1,13 @@
-//! One-time signatures under a key tree, over SHA-256.
+//! Winternitz one-time signatures under a Merkle tree, over SHA-256.
 //!
-//! A key is a secret and a tree of height `h` from 2 to 12. Each of its `2^h` leaves signs one statement,
-//! by 67 hash chains of 15 steps: 64 for the hexadecimal digits of the statement's digest, and three for a
-//! checksum of these. The tree's root and height are the public key. A signature has the leaf's number, a
-//! value from each chain, and the siblings on the leaf's way up, `2149 + 32 * h` bytes in all.
+//! A key is a secret and a tree of height `h` from 2 to 12. Each of its `2^h` leaves signs one statement by 67 hash
+//! chains of 15 steps: 64 for the hexadecimal digits of the statement's digest, and three for their checksum. The
+//! public key is the tree's root and height. A signature has the leaf's number, a value of each chain, and the leaf's
+//! authentication path: `2149 + 32 * h` bytes in all.
 //!
-//! Proved: [`verify`] accepts exactly what the definition says, and what a key signs verifies. That nobody
-//! without the secret can make a signature is no theorem here: it rests on SHA-256, and on signing no two
-//! statements by one leaf. [`Keys::sign`] sees to the latter as long as its count of used leaves is kept.
+//! Proved: [`verify`] accepts exactly what the definition says, and what a key signs verifies. Unforgeability is no
+//! theorem here. It rests on SHA-256, and on signing no two statements with one leaf. [`Keys::sign`] ensures the latter
+//! as long as its count of used leaves is kept.
 #![tactic(auto)]
 
 mod answers;

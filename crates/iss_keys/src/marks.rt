@@ -1,5 +1,5 @@
-//! The first byte of each hashed string, which says what the string is. So no string of one kind is ever one
-//! of another.
+//! The first byte of each hashed string, which says of which kind the string is. So strings of different kinds are
+//! never equal.
 
 pub const CHAIN_START: u8 = 0x10;
 

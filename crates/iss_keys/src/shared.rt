@@ -1,4 +1,4 @@
-//! A directory that has several owners: each node of a process has one, and all of them see what one has made.
+//! A directory with several owners. Each node of a process has one, and all of them share what is computed.
 
 ghost use Rattle.std.specs.Prelude.{◌≡◌, ◌≤◌, IfOk};
 ghost use Rattle.iss_keys.specs.Directories.{directory_of};
@@ -13,7 +13,7 @@ use std::rc::Rc;
 #[derive(Drop)]
 enum Home {
     Shared(Rc<Directory>),
-    // Where the count of owners is full, one owner has a directory that shares nothing.
+    // If the count of owners is at its maximum, an owner has a directory that shares nothing.
     Alone(Directory),
 }
 
@@ -40,7 +40,7 @@ impl Model for SharedDirectory {
 }
 
 impl SharedDirectory {
-    /// The directory of nodes and clients whose trees all have one height, as `Directory::make` gives it.
+    /// The directory of nodes and clients whose trees all have one height, the same as `Directory::make`.
     pub fn make(
         alloc: Global,
         n: u32,
@@ -64,7 +64,7 @@ impl SharedDirectory {
         })
     }
 
-    /// One more owner. It takes no memory.
+    /// One more owner. It allocates nothing.
     pub fn share(&self) -> SharedDirectory
         ensures { result ≡ self.now }
     {

@@ -1,4 +1,4 @@
-//! Keys, which sign by one leaf after another.
+//! Keys, which sign with one leaf after another.
 
 ghost use Rattle.std.specs.Prelude.{◌≡◌, ◌↔◌, ◌+◌, ◌^◌, ◌<◌, ◌≤◌, length, IfOk, OnOk, OnErr, Err};
 ghost use Rattle.iss_keys.specs.Trees.{root_of, HasNodesFrom};
@@ -13,7 +13,7 @@ use crate::verification::PublicKey;
 use std::alloc::{AllocError, AllocFailed, Global};
 use std::marker::Model;
 
-/// No memory was left.
+/// Out of memory.
 #[derive(Clone, Copy, Debug, PartialEq, Eq)]
 pub struct NoMemory;
 
@@ -32,9 +32,9 @@ impl<T: Drop> From<AllocFailed<T>> for NoMemory {
 /// Why a key did not sign.
 #[derive(Clone, Copy, Debug, PartialEq, Eq)]
 pub enum SignError {
-    /// Each leaf is used.
+    /// All leaves are used.
     Spent,
-    /// No memory was left.
+    /// Out of memory.
     NoMemory,
 }
 
@@ -48,7 +48,7 @@ impl From<NoMemory> for SignError {
     }
 }
 
-// The signature of a statement by a leaf.
+// The signature of a statement with a leaf.
 fn signature_bytes(
     alloc: Global,
     secret: &[u8; 32],
@@ -72,11 +72,12 @@ fn signature_bytes(
     Ok(out)
 }
 
-// The signature of a statement by a leaf of a tree, which is made for it.
+// The signature of a statement with a leaf of a tree, whose nodes are computed first if needed.
 fn signature_by(tree: &LateTree, leaf: u32, statement: &[u8]) -> Result<Vec<u8>, NoMemory>
     requires { leaf < 2 ^ tree.now.height }
     ensures exact { IfOk result (λ sig. sig.items ≡ signature_of tree.now.secret tree.now.height leaf statement.now) }
-    ensures verifies { IfOk result (λ sig. Verifies (root_of tree.now.secret tree.now.height) tree.now.height statement.now sig.items) }
+    ensures verifies { IfOk result
+        (λ sig. Verifies (root_of tree.now.secret tree.now.height) tree.now.height statement.now sig.items) }
 {
     let nodes = tree.nodes()?;
     let secret = tree.secret();
@@ -84,8 +85,8 @@ fn signature_by(tree: &LateTree, leaf: u32, statement: &[u8]) -> Result<Vec<u8>,
     signature_bytes(tree.alloc(), secret, height, nodes, leaf, statement)
 }
 
-/// A key: a secret, the tree over its leaves, which is made when it is first needed (64 bytes of memory a
-/// leaf), and how many leaves are used.
+/// A key: a secret, the tree over its leaves, and how many leaves are used. The tree is computed when it is first
+/// needed, and takes 64 bytes of memory a leaf.
 #[derive(Drop)]
 pub struct Keys {
     tree: Tree,
@@ -101,8 +102,8 @@ impl Model for Keys {
 }
 
 impl Keys {
-    /// The key of a secret with no leaf used. Making its tree takes 1,072 small hashes a leaf: the first
-    /// signature does this, or the first call of `public`.
+    /// The key of a secret with no leaf used. The first signature or call of `public` computes its tree, by 1,072 small
+    /// hashes a leaf.
     pub fn make(alloc: Global, secret: [u8; 32], height: u8) -> Result<Keys, NoMemory>
         requires low { 2 ≤ height }
         requires high { height ≤ 12 }
@@ -111,7 +112,7 @@ impl Keys {
         Keys::make_at(alloc, secret, height, 0)
     }
 
-    /// The key of a secret of which the leaves below `next` are used.
+    /// The key of a secret. The leaves below `next` are used.
     pub fn make_at(alloc: Global, secret: [u8; 32], height: u8, next: u32) -> Result<Keys, NoMemory>
         requires low { 2 ≤ height }
         requires high { height ≤ 12 }
@@ -132,7 +133,7 @@ impl Keys {
         Keys { tree, used: 0 }
     }
 
-    /// How many leaves are left, so how many times `sign` can answer a signature.
+    /// How many leaves are left, which is how many times `sign` can succeed.
     pub fn left(&self) -> u32
         ensures value { result ≡ left_of self.now }
         ensures whole { result + self.now.used ≡ 2 ^ self.now.height }
@@ -148,24 +149,27 @@ impl Keys {
         PublicKey::from_parts(tree.root(), tree.height())
     }
 
-    /// Signs by a leaf of the caller's choice, and counts no leaf as used: no two statements may be signed
-    /// by one leaf.
+    /// Signs with a leaf of the caller's choice, and counts no leaf as used. No two statements may be signed with one
+    /// leaf.
     pub fn sign_at(&self, leaf: u32, statement: &[u8]) -> Result<Vec<u8>, NoMemory>
         requires { leaf < 2 ^ self.now.height }
-        ensures exact { IfOk result (λ sig. sig.items ≡ signature_of self.now.secret self.now.height leaf statement.now) }
-        ensures verifies { IfOk result (λ sig. Verifies (root_of self.now.secret self.now.height) self.now.height statement.now sig.items) }
+        ensures exact { IfOk result
+            (λ sig. sig.items ≡ signature_of self.now.secret self.now.height leaf statement.now) }
+        ensures verifies { IfOk result
+            (λ sig. Verifies (root_of self.now.secret self.now.height) self.now.height statement.now sig.items) }
         ensures leaf { IfOk result (λ sig. leaf_number sig.items ≡ leaf) }
     {
         signature_by(self.tree.late(), leaf, statement)
     }
 
-    /// Signs by the least leaf that is not used, which is used from then on. After either error the key is
-    /// as it was.
+    /// Signs with the least unused leaf, which is used from then on. After either error the key is unchanged.
     // rule: Signatures: A key signs with its least unused leaf
     // rule: Signatures: A node signs at most one statement with each leaf
     pub fn sign(&mut self, statement: &[u8]) -> Result<Vec<u8>, SignError>
-        ensures exact { IfOk result (λ sig. sig.items ≡ signature_of self.old.secret self.old.height self.old.used statement.now) }
-        ensures verifies { IfOk result (λ sig. Verifies (root_of self.old.secret self.old.height) self.old.height statement.now sig.items) }
+        ensures exact { IfOk result
+            (λ sig. sig.items ≡ signature_of self.old.secret self.old.height self.old.used statement.now) }
+        ensures verifies { IfOk result
+            (λ sig. Verifies (root_of self.old.secret self.old.height) self.old.height statement.now sig.items) }
         ensures leaf { IfOk result (λ sig. leaf_number sig.items ≡ self.old.used) }
         ensures used { OnOk result (self.new ≡ record self.old { used = self.old.used + 1 }) }
         ensures left { OnOk result (left_of self.new + 1 ≡ left_of self.old) }

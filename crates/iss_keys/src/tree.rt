@@ -1,5 +1,5 @@
-//! The tree over the leaves. In memory it is one array: the root at place 1, and the nodes under place `i`
-//! at places `2 * i` and `2 * i + 1`.
+//! The Merkle tree over the leaves. In memory it is one array: the root at place 1, and the children of place `i` at
+//! places `2 * i` and `2 * i + 1`.
 
 ghost use Rattle.std.specs.Prelude.{◌≡◌, ℕ, List, ◌+◌, ◌*◌, ◌^◌, ◌<◌, ◌≤◌, ◌++◌, length, IfOk, OnOk};
 ghost use Rattle.iss_keys.specs.Pieces.{join_below};
@@ -11,7 +11,7 @@ use crate::marks::INNER_NODE;
 use sha2::{Digest, Sha256};
 use std::alloc::{AllocError, Global};
 
-// The node over two nodes.
+// The parent of two nodes.
 fn inner_node(left: &[u8; 32], right: &[u8; 32]) -> [u8; 32]
     ensures { result ≡ inner left.now right.now }
 {
@@ -22,7 +22,7 @@ fn inner_node(left: &[u8; 32], right: &[u8; 32]) -> [u8; 32]
     hasher.finalize()
 }
 
-/// How many leaves a tree has.
+/// The number of leaves of a tree.
 pub fn leaves_under(height: u8) -> usize
     requires { height ≤ 12 }
     ensures value { result ≡ 2 ^ height }
@@ -32,7 +32,7 @@ pub fn leaves_under(height: u8) -> usize
     1 << height
 }
 
-/// Writes the tree over a secret, in place of what was there.
+/// Writes the tree over a secret into an array.
 pub fn fill_tree(nodes: &mut [[u8; 32]], secret: &[u8; 32], height: u8)
     requires height { height ≤ 12 }
     requires size { length nodes.old ≡ 2 ^ (height + 1) }
@@ -58,7 +58,7 @@ pub fn tree_of(alloc: Global, secret: &[u8; 32], height: u8) -> Result<Vec<[u8; 
     Ok(nodes)
 }
 
-// A node of the tree over a secret. It takes no memory: at most one digest of each level is waiting.
+// A node of the tree over a secret. It allocates nothing: at most one digest of each level is pending.
 // rule: Signatures: A hash tree over the leaves gives the root that is the public key
 #[tactic(auto, unfolding(crate::specs::Trees::node))]
 fn node_of(secret: &[u8; 32], level: u8, place: u32) -> [u8; 32]
@@ -73,7 +73,7 @@ fn node_of(secret: &[u8; 32], level: u8, place: u32) -> [u8; 32]
     inner_node(&left, &right)
 }
 
-/// The root of the tree over a secret, without its tree: it takes no memory, and the same digests.
+/// The root of the tree over a secret, computed without the tree: by the same hashes, and without allocating.
 pub fn root_of_secret(secret: &[u8; 32], height: u8) -> [u8; 32]
     requires { height ≤ 12 }
     ensures { result ≡ root_of secret.now height }
@@ -81,7 +81,7 @@ pub fn root_of_secret(secret: &[u8; 32], height: u8) -> [u8; 32]
     node_of(secret, height, 0)
 }
 
-// The place beside a place, under the same node.
+// The place of a node's sibling.
 fn place_beside(place: usize) -> usize
     requires { place < 2 ^ 63 }
     ensures { result ≡ beside place }
@@ -97,7 +97,7 @@ fn write_node(node: &[u8; 32], out: &mut Vec<u8>) -> Result<(), AllocError>
     Ok(())
 }
 
-/// Appends the siblings on the way from a leaf to the root.
+/// Appends the authentication path of a leaf.
 pub fn write_path(
     nodes: &[[u8; 32]],
     height: u8,
@@ -118,7 +118,7 @@ pub fn write_path(
     Ok(())
 }
 
-/// The root over a leaf of this value, by the siblings that a signature has.
+/// The root over a leaf with this value, from the authentication path in a signature.
 #[tactic(auto, using(crate::proofs::ChainLemmas::climb_more), unfolding(crate::specs::Signatures::climb))]
 pub fn root_from_leaf(leaf: u32, height: u8, value: [u8; 32], part: &[u8]) -> [u8; 32]
     requires height { height ≤ 12 }

@@ -1,4 +1,4 @@
-//! Public keys, and whether a signature is true.
+//! Public keys, and whether a signature is valid.
 
 ghost use Rattle.std.specs.Prelude.{◌≡◌, ◌↔◌, ◌+◌, ◌*◌, ◌≤◌, length, drop, IsTrue};
 ghost use Rattle.iss_keys.specs.Signatures.{part_root, Verifies};
@@ -43,7 +43,7 @@ impl PublicKey {
         self.root
     }
 
-    // The height, and its range.
+    // The height, as a type with its range.
     pub(crate) fn levels(&self) -> u8
         ensures value { result ≡ self.now.height }
         ensures low { 2 ≤ result }
@@ -60,7 +60,7 @@ impl PublicKey {
     }
 }
 
-// What stands behind the height and the leaf's number.
+// What follows the height and the leaf's number.
 fn behind_head(signature: &[u8]) -> &[u8]
     requires { 5 ≤ length signature.now }
     ensures { result.now ≡ drop 5 signature.now }
@@ -68,7 +68,7 @@ fn behind_head(signature: &[u8]) -> &[u8]
     &signature[5..]
 }
 
-// The root that a part leads to.
+// The root computed from the chain values and the authentication path of a signature.
 fn root_of_part(leaf: u32, height: u8, digest: &[u8; 32], part: &[u8]) -> [u8; 32]
     requires height { height ≤ 12 }
     requires room { 2144 + 32 * height ≤ length part.now }
@@ -78,7 +78,7 @@ fn root_of_part(leaf: u32, height: u8, digest: &[u8; 32], part: &[u8]) -> [u8; 3
     root_from_leaf(leaf, height, value, part)
 }
 
-/// Whether `signature` is one of `statement` under `key`. It takes no memory, and any bytes may be given.
+/// Whether `signature` is a signature of `statement` under `key`. It allocates nothing; `signature` may be any bytes.
 // rule: Signatures: A signature verifies if its chains and its path lead to the root of the key
 pub fn verify(key: &PublicKey, statement: &[u8], signature: &[u8]) -> bool
     ensures { IsTrue result ↔ Verifies key.now.root key.now.height statement.now signature.now }

@@ -1,4 +1,4 @@
--- Packets are read as they are spelled.
+-- Decoding the encoding of a packet gives it back.
 use Rattle.std.proofs.Common.{◌≡◌, ◌≢◌, ℕ, ◌^◌, ◌<◌, ◌≤◌, Bool, true, false, ltb, leb, ◌&&◌, List, [], ◌∷◌, ◌++◌, length, refl, sym, ap, subst, append_assoc, arith, inl, inr}
 use Rattle.std.specs.Prelude.{Result, Ok, Err}
 use Rattle.std.specs.Result.{IsErrAnd}
@@ -16,11 +16,13 @@ use Rattle.iss_packet.specs.declared.packets.PacketError.TheVariants.{NotPacket}
 use Rattle.iss_packet.specs.Errors.{as_packet_error}
 use Rattle.iss_packet.specs.Packets.{is_kind, kind_at, is_spellable, route_bytes, body_bytes, no_packet, spell_packet, parse_kind}
 
-pub kind_read : (n : ℕ) (a b : Reading) (found : ℕ) (k : PacketKind) → found ≡ n → IsRead byte a b found → is_kind n ≡ true → kind_at n ≡ k → IsRead parse_kind a b k
+pub kind_read : (n : ℕ) (a b : Reading) (found : ℕ) (k : PacketKind) → found ≡ n → IsRead byte a b found →
+    is_kind n ≡ true → kind_at n ≡ k → IsRead parse_kind a b k
 unfolding parse_kind
 kind_read n a b found k e r t is =
     let here : IsRead byte a b n = subst (λ (m : ℕ). IsRead byte a b m) e r in
-    subst (λ (x : PacketKind). IsRead (such_that is_kind byte >>= λ m. done (kind_at m)) a b x) is (read_then _ _ (read_passed _ _ here t) (read_done _ _))
+    subst (λ (x : PacketKind). IsRead (such_that is_kind byte >>= λ m. done (kind_at m)) a b x) is
+    (read_then _ _ (read_passed _ _ here t) (read_done _ _))
 
 and_false : (b : Bool) → (b && false) ≡ false
 and_false true = refl
@@ -33,19 +35,23 @@ other_kind n a b c d e =
       | inr le ↦ let none : n ≡ 0 = omega arith in rw none refl
     ]
 
--- the exit of a `?`, where an error of a field becomes one of a packet
-pub exit : {T U : Type 0} (r : Result T PacketError) (d : DecodeError) (P : Type 0) → IsErrAnd r (λ e. e ≡ as_packet_error d) → ((at : ℕ) → ◌≡◌ {A = Result U DecodeError} (Err d) (Err (fields.BadField at)) → P) → r ≡ Err NotPacket → P
+-- the exit of a `?`, where a field's error becomes a packet's error
+pub exit : {T U : Type 0} (r : Result T PacketError) (d : DecodeError) (P : Type 0) →
+    IsErrAnd r (λ e. e ≡ as_packet_error d) →
+    ((at : ℕ) → ◌≡◌ {A = Result U DecodeError} (Err d) (Err (fields.BadField at)) → P) → r ≡ Err NotPacket → P
 exit (Ok x) d P h bad e = absurd h
 exit (Err y) (fields.BadField at) P h bad e = bad at refl
 exit (Err y) fields.NoMemory P h bad e = absurd cc
 
-pub spelling_test : (p : Packet) (b : Bool) → p.epoch.0 < 2 ^ 64 → b ≡ leb (length p.body) 200000000 → b ≡ is_spellable p
+pub spelling_test : (p : Packet) (b : Bool) → p.epoch.0 < 2 ^ 64 → b ≡ leb (length p.body) 200000000 →
+    b ≡ is_spellable p
 spelling_test p b lt e = rw (lt-ltb p.epoch.0 (2 ^ 64) lt) e
 
 pub spellable_length : (p : Packet) → true ≡ is_spellable p → length p.body ≤ 200000000
 spellable_length p e = leb-true _ _ (and-true (ltb p.epoch.0 (2 ^ 64)) (leb (length p.body) 200000000) (sym e)).1
 
-pub packet_spelled : (version : ℕ) (p : Packet) → true ≡ is_spellable p → spell_packet version p ≡ route_bytes version p ++ body_bytes p.body
+pub packet_spelled : (version : ℕ) (p : Packet) → true ≡ is_spellable p → spell_packet version p ≡ route_bytes version p
+    ++ body_bytes p.body
 unfolding spell_packet
 packet_spelled version p e = rw (sym e) refl
 
@@ -53,9 +59,13 @@ pub packet_unspelled : (version : ℕ) (p : Packet) → false ≡ is_spellable p
 unfolding spell_packet
 packet_unspelled version p e = rw (sym e) refl
 
-five_parts : (old : List ℕ) (v k f : ℕ) (epoch : List ℕ) (l : ℕ) → ((((old ++ v ∷ []) ++ k ∷ []) ++ f ∷ []) ++ epoch) ++ l ∷ [] ≡ old ++ (v ∷ k ∷ f ∷ (epoch ++ l ∷ []))
+five_parts : (old : List ℕ) (v k f : ℕ) (epoch : List ℕ) (l : ℕ) → ((((old ++ v ∷ []) ++ k ∷ []) ++ f ∷ []) ++ epoch)
+    ++ l ∷ [] ≡ old ++ (v ∷ k ∷ f ∷ (epoch ++ l ∷ []))
 five_parts old v k f epoch l = simp append_assoc
 
--- the fields of the route, written one after another
-pub five_written : (old a b c d e : Written) (v k f : ℕ) (epoch : List ℕ) (l : ℕ) → a ≡ and_bytes old (v ∷ []) → b ≡ and_bytes a (k ∷ []) → c ≡ and_bytes b (f ∷ []) → d ≡ and_bytes c epoch → e ≡ and_bytes d (l ∷ []) → e ≡ and_bytes old (v ∷ k ∷ f ∷ (epoch ++ l ∷ []))
-five_written old a b c d e v k f epoch l p q r s t = rw (t, s, r, q, p) (ap (λ (z : List ℕ). record old { bytes = z }) (five_parts old.bytes v k f epoch l))
+-- the fields of the route, one after another
+pub five_written : (old a b c d e : Written) (v k f : ℕ) (epoch : List ℕ) (l : ℕ) → a ≡ and_bytes old (v ∷ []) →
+    b ≡ and_bytes a (k ∷ []) → c ≡ and_bytes b (f ∷ []) → d ≡ and_bytes c epoch → e ≡ and_bytes d (l ∷ []) →
+    e ≡ and_bytes old (v ∷ k ∷ f ∷ (epoch ++ l ∷ []))
+five_written old a b c d e v k f epoch l p q r s t =
+    rw (t, s, r, q, p) (ap (λ (z : List ℕ). record old { bytes = z }) (five_parts old.bytes v k f epoch l))

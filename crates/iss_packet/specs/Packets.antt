@@ -25,7 +25,8 @@ abbrev pub is_kind : ℕ → Bool
 is_kind b = nat_le 1 b && nat_le b 5
 
 abbrev pub kind_at : ℕ → PacketKind
-kind_at b = if b == 1 then Message else (if b == 2 then Vote else (if b == 3 then Ask else (if b == 4 then Piece else Request)))
+kind_at b = if b == 1 then Message
+    else (if b == 2 then Vote else (if b == 3 then Ask else (if b == 4 then Piece else Request)))
 
 -- whether the packet's kind fits its sender, epoch and leader in a cluster of n nodes
 -- rule: Formats: A packet has one encoding a version, and its kind fits its sender, epoch and leader
@@ -39,7 +40,7 @@ is_routed_as n Request from epoch leader = (from == 255) && ((epoch == 0) && (le
 unfoldable pub is_routed : ℕ → Packet → Bool
 is_routed n p = is_routed_as n p.kind p.from p.epoch.0 p.leader
 
--- ---- spelling. What has none is written as one byte that is no version
+-- ---- encoding. A packet without one is written as one byte that is no version
 
 abbrev pub is_spellable : Packet → Bool
 is_spellable p = nat_lt p.epoch.0 (2 ^ 64) && nat_le (length p.body) 200000000
@@ -60,7 +61,8 @@ spell_packet version p = if is_spellable p then route_bytes version p ++ body_by
 
 abbrev pub IsSpelledPacket : ℕ → ℕ → Packet → List ℕ → Type 0
 IsSpelledPacket version n p bytes =
-    (is_routed n p ≡ true) × (p.epoch.0 < 2 ^ 64) × (length p.body ≤ 200000000) × (bytes ≡ route_bytes version p ++ body_bytes p.body)
+    (is_routed n p ≡ true) × (p.epoch.0 < 2 ^ 64) × (length p.body ≤ 200000000)
+    × (bytes ≡ route_bytes version p ++ body_bytes p.body)
 
 -- ---- reading
 

@@ -1,4 +1,4 @@
-//! Packets: what cores and clients send each other, as bytes.
+//! Packets: the messages between cores, and from clients to cores, as bytes.
 #![tactic(auto)]
 
 pub mod packets;

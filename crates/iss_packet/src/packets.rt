@@ -1,4 +1,4 @@
-//! Packets and their bytes. `specs/Packets.antt` has the table.
+//! Packets and their encoding in bytes. `specs/Packets.antt` has the table.
 ghost use Rattle.std.specs.Prelude.{true, ◌≡◌, ◌↔◌, ℕ, List, [], ◌∷◌, ◌++◌, ◌≤◌, length, IfOk, OnOk, Err};
 ghost use Rattle.iss_request.specs.Fields.{and_bytes, IsRead, IsUnreadable, IsGrammar, IsBad, Good};
 ghost use Rattle.iss_request.specs.Parsing.{all_of};
@@ -9,7 +9,7 @@ ghost use Rattle.iss_packet.specs.declared.packets.Packet.{Packet};
 use iss_request::{Bytes, DecodeError, Epoch, Fields, NoMemory, Writer, version_byte};
 use std::alloc::Global;
 
-/// What a packet holds: a message of an ordering module, a vote on a checkpoint, an ask for a piece of the log, a
+/// What a packet contains: a message of an ordering module, a vote on a checkpoint, a request for a piece of the log, a
 /// piece, or a client's request.
 #[derive(Clone, Copy, Debug, PartialEq, Eq)]
 pub enum PacketKind {
@@ -20,7 +20,8 @@ pub enum PacketKind {
     Request,
 }
 
-/// A packet. `from` is the sender, `leader` names the instance of a module's message. The body is not looked at here.
+/// A packet. `from` is the sender. `leader` identifies the instance for a module's message. The body is not decoded
+/// here.
 #[derive(Drop, Debug)]
 pub struct Packet {
     pub kind: PacketKind,
@@ -30,7 +31,7 @@ pub struct Packet {
     pub body: Bytes,
 }
 
-/// Why bytes gave no packet.
+/// Why bytes could not be decoded to a packet.
 #[derive(Clone, Copy, Debug, PartialEq, Eq)]
 pub enum PacketError {
     NotPacket,
@@ -62,10 +63,10 @@ impl From<NoMemory> for PacketError {
     }
 }
 
-// The most bytes of a body.
+// The maximal length of a body, in bytes.
 const BODY_MAX: u32 = 200_000_000;
 
-// What stands for a packet that has no spelling.
+// What is written for a packet without an encoding.
 const NO_VERSION: u8 = 0;
 
 fn byte_of(kind: PacketKind) -> u8
@@ -82,7 +83,8 @@ fn byte_of(kind: PacketKind) -> u8
 
 fn read_version(f: &mut Fields) -> Result<u8, DecodeError>
     ensures ok { IfOk result (λ v. IsRead (parse_version f.old.version) f.old f.new v) }
-    ensures bad { (at : ℕ) → result ≡ Err (DecodeError.BadField at) → IsUnreadable (parse_version f.old.version) f.old at }
+    ensures bad { (at : ℕ) → result ≡ Err (DecodeError.BadField at) →
+        IsUnreadable (parse_version f.old.version) f.old at }
 {
     let other_version = f.bad_field();
     let wanted = version_byte(f.version());
@@ -123,7 +125,8 @@ fn read_size(f: &mut Fields) -> Result<u32, DecodeError>
 
 fn read_parts(alloc: Global, f: &mut Fields) -> Result<Packet, DecodeError>
     ensures ok { IfOk result (λ p. IsRead (parse_parts f.old.version) f.old f.new p) }
-    ensures bad { (at : ℕ) → result ≡ Err (DecodeError.BadField at) → IsUnreadable (parse_parts f.old.version) f.old at }
+    ensures bad { (at : ℕ) → result ≡ Err (DecodeError.BadField at) →
+        IsUnreadable (parse_parts f.old.version) f.old at }
 {
     let _first = read_version(f)?;
     let kind = read_kind(f)?;
@@ -158,8 +161,8 @@ impl Packet {
         }
     }
 
-    /// The packet that the bytes are by a version, all of them, in a cluster of `n` nodes. `NotPacket` comes exactly
-    /// where they are none.
+    /// The packet with exactly these bytes, in a version and a cluster of `n` nodes. `NotPacket` means that there is
+    /// none.
     pub fn decode(alloc: Global, version: u8, n: u32, bytes: &[u8]) -> Result<Packet, PacketError>
         ensures ok { IfOk result (λ p. parse_packet version n bytes.now ≡ Good p []) }
         ensures bad { result ≡ Err PacketError.NotPacket → IsBad (all_of (parse_packet version n) bytes.now) }
@@ -179,7 +182,7 @@ impl Packet {
     fn has_spelling(&self) -> bool
         ensures { result ≡ is_spellable self.now }
     {
-        // Its range is part of the answer.
+        // Its range is part of the result.
         let _epoch = self.epoch.0;
         self.body.len() <= BODY_MAX as usize
     }
@@ -217,8 +220,8 @@ impl Packet {
         }
     }
 
-    /// The packet's bytes by a version, which copies share, one for each node that it goes to. One whose body is longer than
-    /// 200,000,000 bytes has no spelling, and gives bytes that are no packet's.
+    /// The packet's bytes in a version. Copies share them, one for each recipient. A packet with a body of more than
+    /// 200,000,000 bytes has no encoding; its bytes decode to nothing.
     pub fn encode(&self, alloc: Global, version: u8) -> Result<Bytes, NoMemory>
         ensures { IfOk result (λ bytes. bytes ≡ spell_packet version self.now) }
     {
@@ -228,10 +231,11 @@ impl Packet {
     }
 }
 
-/// By each version and in a cluster of any size a packet has at most one spelling, no spelling begins another one, and what has none is
-/// written as bytes that are read as nothing, whatever stands behind them.
+/// In each version and a cluster of any size, a packet has at most one encoding, and no encoding is a prefix of
+/// another. What has no encoding is written as bytes that decode to nothing, whatever follows.
 pub fn packets_are_exact()
     ensures grammar { (version n : ℕ) → IsGrammar (spell_packet version) (parse_packet version n) }
-    // What is read of bytes, and all of them, is what the table relates to them.
-    ensures packet_table { (version n : ℕ) (p : Packet) (bytes : List ℕ) → (parse_packet version n bytes ≡ Good p []) ↔ IsSpelledPacket version n p bytes }
+    // What is decoded from exactly these bytes is what the table relates to them.
+    ensures packet_table { (version n : ℕ) (p : Packet) (bytes : List ℕ) →
+        (parse_packet version n bytes ≡ Good p []) ↔ IsSpelledPacket version n p bytes }
 {}

@@ -14,13 +14,15 @@ empty_value : (spell_value 1 (Value_batch []) ≡ 1 ∷ 0 ∷ []) × (spell_valu
 unfolding spell_value spell_batch spell_count
 empty_value = (refl, refl)
 
--- an empty batch with a byte behind it
-empty_read : (parse_value 1 (1 ∷ 0 ∷ 9 ∷ []) ≡ Good (Value_batch []) (9 ∷ [])) × (parse_value 2 (2 ∷ 0 ∷ 0 ∷ 9 ∷ []) ≡ Good (Value_batch []) (9 ∷ []))
+-- an empty batch followed by a byte
+empty_read : (parse_value 1 (1 ∷ 0 ∷ 9 ∷ []) ≡ Good (Value_batch []) (9 ∷ []))
+    × (parse_value 2 (2 ∷ 0 ∷ 0 ∷ 9 ∷ []) ≡ Good (Value_batch []) (9 ∷ []))
 unfolding parse_value parse_rest parse_batch parse_count count_field such_that byte number times done ◌>>=◌
 empty_read = (refl, refl)
 
 trailing : (all_of (parse_value 1) (1 ∷ 0 ∷ 9 ∷ []) ≡ Bad 2) × (all_of (parse_value 2) (2 ∷ 0 ∷ 0 ∷ 9 ∷ []) ≡ Bad 3)
-unfolding all_of at_end parse_value parse_rest parse_batch parse_count count_field such_that byte number times done ◌>>=◌
+unfolding all_of at_end parse_value parse_rest parse_batch parse_count count_field such_that byte number
+    times done ◌>>=◌
 trailing = (refl, refl)
 
 -- the other version's batch is refused at its first byte
@@ -28,12 +30,12 @@ other_version : (parse_value 1 (2 ∷ 0 ∷ 0 ∷ []) ≡ Bad 0) × (parse_value
 unfolding parse_value such_that byte ◌>>=◌
 other_version = (refl, refl)
 
--- a count above 32, by the second version above 256, is itself the fault
+-- a count above 32 (version 2: above 256) is itself the bad field
 many : (parse_value 1 (1 ∷ 33 ∷ []) ≡ Bad 1) × (parse_value 2 (2 ∷ 1 ∷ 1 ∷ []) ≡ Bad 1)
 unfolding parse_value parse_rest parse_batch parse_count count_field such_that byte number times done ◌>>=◌
 many = (refl, refl)
 
--- request 7.1 with payload aa: a missing signature, and one of height 13
+-- request 7.1 with payload aa: one without a signature, and one with a signature of height 13
 unsigned : parse_request (7 ∷ 0 ∷ 0 ∷ 0 ∷ 1 ∷ 0 ∷ 1 ∷ 0xaa ∷ []) ≡ Bad 8
 unfolding parse_request parse_payload parse_signature such_that byte number block digests done ◌>>=◌
 unsigned = refl

@@ -19,11 +19,11 @@ use Rattle.iss_request.specs.declared.requests.Value.TheVariants.{Nil, Batch as 
 abbrev pub is_second : ℕ → Bool
 is_second version = version == 2
 
--- the byte by which the version is known: the first of a packet, and of a value that is a batch
+-- the byte that identifies the version: the first of a packet, and of a value that is a batch
 abbrev pub version_byte : ℕ → ℕ
 version_byte version = if is_second version then 2 else 1
 
--- the most requests of a batch
+-- the maximal number of requests in a batch
 abbrev pub requests_most : ℕ → ℕ
 requests_most version = if is_second version then 256 else 32
 
@@ -33,12 +33,12 @@ abbrev pub is_batch : Value → Bool
 is_batch Nil = false
 is_batch (Value_batch b) = true
 
--- the requests of a value: nil has none
+-- the requests of a value; nil has none
 abbrev pub batch_of : Value → List Request
 batch_of Nil = []
 batch_of (Value_batch b) = b
 
--- ---- what has a spelling
+-- ---- what has an encoding
 
 abbrev pub is_height : ℕ → Bool
 is_height h = nat_le 2 h && nat_le h 12
@@ -51,7 +51,7 @@ is_signature (h ∷ rest) = is_height h && (length rest == 4 + 32 * (67 + h))
 abbrev pub has_spelling : Request → Bool
 has_spelling r = nat_lt r.id.number (2 ^ 32) && (nat_le (length r.payload) 256 && is_signature r.sig)
 
--- ---- spelling. What has none is written as a request whose length is too large, or a count that is, and ends there
+-- ---- encoding. What has none is written as a request whose length is too large, or a count that is, and ends there
 
 abbrev pub request_bytes : Request → List ℕ
 request_bytes r = r.id.client ∷ to_be_bytes w32 r.id.number ++ to_be_bytes w16 (length r.payload) ++ r.payload ++ r.sig
@@ -62,7 +62,7 @@ no_request = 0 ∷ 0 ∷ 0 ∷ 0 ∷ 0 ∷ 255 ∷ 255 ∷ []
 unfoldable pub spell_request : Request → List ℕ
 spell_request r = if has_spelling r then request_bytes r else no_request
 
--- by either version a count that is too large
+-- a count that is too large in either version
 abbrev pub no_batch : List ℕ
 no_batch = 255 ∷ 255 ∷ []
 
@@ -70,18 +70,19 @@ unfoldable pub spell_count : ℕ → ℕ → List ℕ
 spell_count version count = if is_second version then to_be_bytes w16 count else count ∷ []
 
 unfoldable pub spell_batch : ℕ → List Request → List ℕ
-spell_batch version b = if nat_le (length b) (requests_most version) then spell_count version (length b) ++ flat_map spell_request b else no_batch
+spell_batch version b = if nat_le (length b) (requests_most version)
+    then spell_count version (length b) ++ flat_map spell_request b else no_batch
 
 unfoldable pub spell_value : ℕ → Value → List ℕ
 spell_value version Nil = 0 ∷ []
 spell_value version (Value_batch b) = version_byte version ∷ spell_batch version b
 
--- what is hashed as a value's digest
+-- the string hashed for a value's digest
 -- rule: Formats: A value's digest is the hash of its encoding after a byte of its own
 abbrev pub value_string : ℕ → Value → List ℕ
 value_string version v = 0x40 ∷ spell_value version v
 
--- ---- the table as a relation between things and bytes
+-- ---- the table as a relation between elements and bytes
 
 abbrev pub HasSpelling : Request → Type 0
 HasSpelling r = has_spelling r ≡ true
@@ -96,7 +97,8 @@ value_bytes version b = version_byte version ∷ spell_count version (length b) 
 -- rule: Formats: A value has one encoding a version: nil, or a batch after a version byte and a count
 abbrev pub IsSpelledValue : ℕ → Value → List ℕ → Type 0
 IsSpelledValue version Nil bytes = bytes ≡ 0 ∷ []
-IsSpelledValue version (Value_batch b) bytes = (length b ≤ requests_most version) × AllByRecursion HasSpelling b × (bytes ≡ value_bytes version b)
+IsSpelledValue version (Value_batch b) bytes = (length b ≤ requests_most version) × AllByRecursion HasSpelling b
+    × (bytes ≡ value_bytes version b)
 
 -- ---- reading
 
@@ -131,7 +133,7 @@ parse_batch version = do
   count ← parse_count version
   times count parse_request
 
--- the first byte says which value it is
+-- the first byte says whether the value is nil or a batch
 abbrev pub is_first : ℕ → ℕ → Bool
 is_first version b = (b == 0) || (b == version_byte version)
 

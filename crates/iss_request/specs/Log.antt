@@ -7,7 +7,7 @@ use Rattle.iss_request.specs.declared.requests.Request.{Request}
 use Rattle.iss_request.specs.declared.requests.Value.{Value}
 use Rattle.iss_request.specs.declared.requests.Value.TheVariants.{Nil, Batch as Value_batch}
 
--- whether two identities are the same
+-- whether two identities are equal
 abbrev pub same_id : ReqId → ReqId → Bool
 same_id a b = (a.client == b.client) && (a.number == b.number)
 
@@ -28,16 +28,16 @@ abbrev pub log_ids : List Value → List ReqId
 log_ids [] = []
 log_ids (v ∷ older) = value_ids v ++ log_ids older
 
--- no request stands twice in the log, whatever its payload
+-- no request occurs twice in the log, whatever its payload
 abbrev pub Once : List Value → Type 0
 Once log = Different (log_ids log)
 
--- how many requests a value holds: nil none
+-- the number of requests in a value; nil has none
 abbrev pub size_of : Value → ℕ
 size_of Nil = 0
 size_of (Value_batch b) = length b
 
--- how many requests a log holds: the number of the first request of the value that comes next
+-- the number of requests in a log, which is the number of the next value's first request
 abbrev pub requests : List Value → ℕ
 requests [] = 0
 requests (v ∷ older) = size_of v + requests older

@@ -8,7 +8,7 @@ use Rattle.iss_request.specs.Fields.{Parsed, Good, Bad}
 abbrev pub Parser : Type 0 → Type 0
 Parser A = List ℕ → Parsed A
 
--- the offset of a fault, counted from so many bytes further to the front
+-- the result with the offset of a bad field increased by `width`
 abbrev pub shifted : {A : Type 0} → ℕ → Parsed A → Parsed A
 shifted width (Good thing rest) = Good thing rest
 shifted width (Bad at) = Bad (width + at)
@@ -17,16 +17,16 @@ abbrev pub followed : {A B : Type 0} → ℕ → Parsed A → (A → Parser B) �
 followed size (Good thing rest) q = shifted (size - length rest) (q thing rest)
 followed size (Bad at) q = Bad at
 
--- a thing, and behind it what q reads
+-- p, followed by what q reads
 infixl 10 ◌>>=◌
 unfoldable pub ◌>>=◌ : {A B : Type 0} → Parser A → (A → Parser B) → Parser B
 (p >>= q) bytes = followed (length bytes) (p bytes) q
 
--- no field more
+-- no further field
 unfoldable pub done : {A : Type 0} → A → Parser A
 done thing bytes = Good thing bytes
 
--- a field that is to pass a test
+-- a field that must pass a test
 abbrev pub tested : {A : Type 0} → (A → Bool) → Parsed A → Parsed A
 tested test (Good thing rest) = if test thing then Good thing rest else Bad 0
 tested test (Bad at) = Bad at
@@ -38,23 +38,25 @@ unfoldable pub byte : Parser ℕ
 byte [] = Bad 0
 byte (b ∷ rest) = Good b rest
 
--- whether so many bytes stand at the front
+-- whether there are `width` more bytes
 abbrev pub has_bytes : ℕ → List ℕ → Bool
 has_bytes width bytes = nat_le width (length bytes) && list_all (λ b. nat_lt b 256) (take width bytes)
 
--- a number, its highest byte first
+-- a big-endian number
 unfoldable pub number : Width → Parser ℕ
-number w bytes = if has_bytes (byte_len w) bytes then Good (from_be_bytes w (take (byte_len w) bytes)) (drop (byte_len w) bytes) else Bad 0
+number w bytes = if has_bytes (byte_len w) bytes
+    then Good (from_be_bytes w (take (byte_len w) bytes)) (drop (byte_len w) bytes) else Bad 0
 
--- one field of so many bytes
+-- one field of `width` bytes
 unfoldable pub block : ℕ → Parser (List ℕ)
 block width bytes = if nat_le width (length bytes) then Good (take width bytes) (drop width bytes) else Bad 0
 
--- so many fields of 32 bytes. Where they are cut off, the fields that stand whole come before the fault
+-- `count` fields of 32 bytes. If there are too few bytes, the first incomplete field is the bad one.
 unfoldable pub digests : ℕ → Parser (List ℕ)
-digests count bytes = if nat_le (32 * count) (length bytes) then Good (take (32 * count) bytes) (drop (32 * count) bytes) else Bad (32 * (length bytes / 32))
+digests count bytes = if nat_le (32 * count) (length bytes)
+    then Good (take (32 * count) bytes) (drop (32 * count) bytes) else Bad (32 * (length bytes / 32))
 
--- so many things
+-- `count` elements
 unfoldable pub times : {A : Type 0} → ℕ → Parser A → Parser (List A)
 times zero p = done []
 times (suc count) p = do
@@ -62,7 +64,7 @@ times (suc count) p = do
   others ← times count p
   done (first ∷ others)
 
--- nothing stands behind the thing
+-- nothing follows the element
 unfoldable pub at_end : {A : Type 0} → A → Parser A
 at_end thing [] = Good thing []
 at_end thing (b ∷ rest) = Bad 0

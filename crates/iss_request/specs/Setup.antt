@@ -7,7 +7,7 @@ use Rattle.iss_request.specs.declared.setups.Kind.{Kind}
 use Rattle.iss_request.specs.declared.setups.Kind.TheVariants.{Byzantine, Stopping}
 use Rattle.iss_request.specs.declared.setups.Setup.{Setup}
 
--- how many nodes withstand f faults, and how many of them decide
+-- the number of nodes that tolerate f faults, and the size of a quorum
 abbrev pub nodes_of_kind : Kind → ℕ → ℕ
 nodes_of_kind Byzantine f = 3 * f + 1
 nodes_of_kind Stopping f = 2 * f + 1
@@ -16,26 +16,26 @@ abbrev pub quorum_of_kind : Kind → ℕ → ℕ
 quorum_of_kind Byzantine f = 2 * f + 1
 quorum_of_kind Stopping f = f + 1
 
--- the relay, module 1, is of three nodes that do not fail
+-- the relay, module 1, has three nodes, none of which may fail
 abbrev pub node_count : Setup → ℕ
 node_count s = if s.module == 1 then 3 else nodes_of_kind s.kind s.f
 
 abbrev pub quorum_count : Setup → ℕ
 quorum_count s = if s.module == 1 then 2 else quorum_of_kind s.kind s.f
 
--- at most f nodes fail as they like, and none where nodes only stop
+-- at most f nodes are Byzantine, and none in the crash model
 abbrev pub IsFewFaulty : Kind → ℕ → List NodeId → Type 0
 IsFewFaulty Byzantine f faulty = length faulty ≤ f
 IsFewFaulty Stopping f faulty = faulty ≡ []
 
--- nodes below n, ascending from the first number that is allowed
+-- nodes below n, strictly ascending, none below `from`
 abbrev pub AreRising : ℕ → ℕ → List NodeId → Type 0
 AreRising from n [] = Unit {0}
 AreRising from n (i ∷ is) = (from ≤ i.0) × (i.0 < n) × AreRising (suc i.0) n is
 
 -- rule: Formats: A set-up's fields are in range, and its nodes and quorum fit its fault model and f
 pub record IsGoodSetup (s : Setup) : Type 0 where
-  -- the second is not there yet
+  -- only the first version can be chosen
   pub version : s.version ≡ 1
   pub faults : s.f ≤ 3
   pub relay_faults : s.module ≡ 1 → s.f ≡ 0

@@ -2,7 +2,7 @@
 use Rattle.std.specs.Prelude.{ℕ, suc, ◌≤◌, List, [], ◌∷◌}
 use Rattle.iss_request.specs.declared.ids.Slot.{Slot}
 
--- slots that rise, none below the first number that is allowed
+-- slots, strictly ascending, none below `from`
 abbrev pub AreAscending : ℕ → List Slot → Type 0
 AreAscending from [] = Unit {0}
 AreAscending from (s ∷ ss) = (from ≤ s.0) × AreAscending (suc s.0) ss

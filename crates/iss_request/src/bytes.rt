@@ -1,4 +1,4 @@
-//! Bytes that contracts see as a list.
+//! Bytes, which contracts see as a list.
 ghost use Rattle.std.specs.Prelude.{◌≡◌, ◌≤◌, ◌-◌, length, take, drop, [], IfOk};
 
 use crate::errors::NoMemory;
@@ -6,12 +6,12 @@ use std::alloc::{AllocError, Global};
 use std::marker::Model;
 use std::rc::Rc;
 
-// Where bytes stand.
+// Where the bytes are.
 #[derive(Drop, Debug)]
 enum Held {
-    // here alone
+    // not shared
     Own(Vec<u8>),
-    // from one offset to another in bytes that copies and other parts share
+    // a range of bytes that copies and other parts share
     Part {
         all: Rc<Vec<u8>>,
         from: usize,
@@ -19,7 +19,7 @@ enum Held {
     },
 }
 
-/// Bytes, which contracts see as a list. Nobody can change them, so copies may share them.
+/// Immutable bytes, which contracts see as a list. Copies may share them.
 #[derive(Drop, Debug)]
 pub struct Bytes {
     held: Held,
@@ -44,7 +44,7 @@ impl Bytes {
         }
     }
 
-    /// These bytes, of which each copy takes memory of its own.
+    /// These bytes. Each copy allocates its own.
     pub fn of(all: Vec<u8>) -> Bytes
         ensures { result ≡ all.items }
     {
@@ -53,7 +53,7 @@ impl Bytes {
         }
     }
 
-    /// These bytes, which all copies share: for what is read once and then stands in many places.
+    /// These bytes, shared by all copies: for bytes that are read once and then used in many places.
     pub fn shared(all: Vec<u8>) -> Result<Bytes, NoMemory>
         ensures { IfOk result (λ b. b ≡ all.items) }
     {
@@ -68,7 +68,7 @@ impl Bytes {
         })
     }
 
-    /// The bytes from one offset to another, which share the memory of these where copies of these do.
+    /// The bytes from one offset to another. They share memory with these if copies do.
     pub fn part(&self, from: usize, to: usize) -> Result<Bytes, NoMemory>
         requires within { to ≤ length self.now }
         requires order { from ≤ to }
@@ -90,7 +90,7 @@ impl Bytes {
         }
     }
 
-    /// The same bytes, which all copies share from now on.
+    /// The same bytes, shared by all copies from now on.
     pub fn into_shared(self) -> Result<Bytes, NoMemory>
         ensures { IfOk result (λ b. b ≡ self) }
     {
@@ -100,14 +100,14 @@ impl Bytes {
         }
     }
 
-    /// How many bytes there are.
+    /// The number of bytes.
     pub fn len(&self) -> usize
         ensures { result ≡ length self.now }
     {
         self.as_slice().len()
     }
 
-    /// The bytes, lent.
+    /// The bytes as a slice.
     pub fn as_slice(&self) -> &[u8]
         ensures { result.now ≡ self.now }
     {
@@ -117,7 +117,7 @@ impl Bytes {
         }
     }
 
-    /// The same bytes once more.
+    /// A copy.
     pub fn copy(&self) -> Result<Bytes, NoMemory>
         ensures { IfOk result (λ b. b ≡ self.now) }
     {

@@ -1,7 +1,7 @@
-//! The errors that the crates above pass on.
+//! Errors that higher crates pass on.
 use std::alloc::{AllocError, AllocFailed};
 
-/// Memory was wanting.
+/// Out of memory.
 #[derive(Clone, Copy, Debug, PartialEq, Eq)]
 pub struct NoMemory;
 
@@ -17,7 +17,8 @@ impl From<AllocError> for NoMemory {
     }
 }
 
-/// Why bytes were not read: the field at this offset is the first that does not fit, or memory was wanting.
+/// Why bytes could not be decoded: `BadField` has the offset of the first field that does not fit; `NoMemory` means out
+/// of memory.
 #[derive(Clone, Copy, Debug, PartialEq, Eq)]
 pub enum DecodeError {
     BadField { at: u64 },

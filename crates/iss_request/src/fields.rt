@@ -1,5 +1,4 @@
-//! A reader and a writer of fields. Numbers of several bytes are big-endian. Both know the version of the formats, so
-//! that what reads or writes a value by them knows it too.
+//! A reader and a writer of fields. Numbers of several bytes are big-endian. Both carry the version of the formats.
 ghost use Rattle.std.specs.Prelude.{◌≡◌, ◌≢◌, ℕ, ◌+◌, ◌*◌, ◌/◌, ◌^◌, ◌<◌, ◌≤◌, [], ◌∷◌, ◌++◌, length, drop, OnOk, OnErr, IfOk, IfSome, IfNone, IsTrue, ◌↔◌, Err};
 ghost use Rattle.std.specs.Int.{w16, w32, w64, to_be_bytes};
 ghost use Rattle.iss_request.specs.Fields.{Reading, Written, and_bytes, left, IsRead, IsUnreadable};
@@ -10,13 +9,13 @@ use crate::errors::{DecodeError, NoMemory};
 use std::alloc::Global;
 use std::marker::Model;
 
-/// Bytes that are read from the front.
+/// A reader of bytes, from first to last.
 #[derive(Drop)]
 pub struct Fields<'a> {
     version: u8,
     all: &'a [u8],
     at: usize,
-    // What it reads, where that may be shared by what is read.
+    // The bytes it reads, if what is read may share them.
     home: Option<&'a Bytes>,
 }
 
@@ -32,7 +31,7 @@ impl<'a> Model for Fields<'a> {
 }
 
 impl<'a> Fields<'a> {
-    /// A reader at the front of these bytes, by a version.
+    /// A reader at the start of these bytes, for a version.
     pub fn over(version: u8, all: &'a [u8]) -> Fields<'a>
         ensures { result ≡ record { version = version; all = all.now; at = 0 } }
     {
@@ -44,7 +43,7 @@ impl<'a> Fields<'a> {
         }
     }
 
-    /// The same of bytes, whose memory is shared by what is read where their copies share it.
+    /// A reader at the start of these bytes. What it reads shares their memory if their copies do.
     pub fn over_bytes(version: u8, bytes: &'a Bytes) -> Fields<'a>
         ensures { result ≡ record { version = version; all = bytes.now; at = 0 } }
     {
@@ -56,7 +55,7 @@ impl<'a> Fields<'a> {
         }
     }
 
-    /// The version by which it reads.
+    /// The version of the formats.
     pub fn version(&self) -> u8
         ensures { result ≡ self.now.version }
     {
@@ -77,7 +76,7 @@ impl<'a> Fields<'a> {
         self.at >= self.all.len()
     }
 
-    /// The error that names the next field.
+    /// The error for the next field.
     // rule: Formats: A decoding error names the offset of the first field that does not fit
     pub fn bad_field(&self) -> DecodeError
         ensures { result ≡ DecodeError.BadField self.now.at }
@@ -85,7 +84,7 @@ impl<'a> Fields<'a> {
         DecodeError::BadField { at: self.at as u64 }
     }
 
-    // The error that names the first field of 32 bytes that is cut off.
+    // The error for the first incomplete field of 32 bytes.
     fn bad_digest(&self) -> DecodeError
         ensures { result ≡ DecodeError.BadField (self.now.at + 32 * (length (left self.now) / 32)) }
     {
@@ -111,7 +110,7 @@ impl<'a> Fields<'a> {
         }
     }
 
-    /// The next so many bytes, lent. `None`, and nothing is taken, where fewer are left.
+    /// The next `len` bytes. `None` if there are fewer; then nothing is consumed.
     pub fn take_bytes(&mut self, count: usize) -> Option<&'a [u8]>
         ensures some { IfSome result (λ bytes. left self.old ≡ bytes.now ++ left self.new) }
         ensures long { IfSome result (λ bytes. length bytes.now ≡ count) }
@@ -127,7 +126,7 @@ impl<'a> Fields<'a> {
         Some(bytes)
     }
 
-    /// The bytes that were read from an offset on: a part of what it reads, or a copy.
+    /// The bytes read since an offset: a part of the shared bytes, or a copy.
     pub fn since(&self, alloc: Global, from: usize) -> Result<Bytes, NoMemory>
         requires { from ≤ self.now.at }
         ensures { IfOk result (λ b. b ++ left self.now ≡ drop from self.now.all) }
@@ -170,7 +169,7 @@ impl<'a> Fields<'a> {
         Some(number_of(self.take_bytes(8)?))
     }
 
-    /// The next byte, or the error that names it.
+    /// The next byte, or the error with its offset.
     pub fn read_u8(&mut self) -> Result<u8, DecodeError>
         ensures ok { IfOk result (λ b. IsRead byte self.old self.new b) }
         ensures bad { (at : ℕ) → result ≡ Err (DecodeError.BadField at) → IsUnreadable byte self.old at }
@@ -184,7 +183,7 @@ impl<'a> Fields<'a> {
         }
     }
 
-    /// The next two bytes as a number, or the error that names them.
+    /// The next two bytes as a number, or the error with their offset.
     pub fn read_u16(&mut self) -> Result<u16, DecodeError>
         ensures ok { IfOk result (λ n. IsRead (number w16) self.old self.new n) }
         ensures bad { (at : ℕ) → result ≡ Err (DecodeError.BadField at) → IsUnreadable (number w16) self.old at }
@@ -198,7 +197,7 @@ impl<'a> Fields<'a> {
         }
     }
 
-    /// The next four bytes as a number, or the error that names them.
+    /// The next four bytes as a number, or the error with their offset.
     pub fn read_u32(&mut self) -> Result<u32, DecodeError>
         ensures ok { IfOk result (λ n. IsRead (number w32) self.old self.new n) }
         ensures bad { (at : ℕ) → result ≡ Err (DecodeError.BadField at) → IsUnreadable (number w32) self.old at }
@@ -212,7 +211,7 @@ impl<'a> Fields<'a> {
         }
     }
 
-    /// The next eight bytes as a number, or the error that names them.
+    /// The next eight bytes as a number, or the error with their offset.
     pub fn read_u64(&mut self) -> Result<u64, DecodeError>
         ensures ok { IfOk result (λ n. IsRead (number w64) self.old self.new n) }
         ensures bad { (at : ℕ) → result ≡ Err (DecodeError.BadField at) → IsUnreadable (number w64) self.old at }
@@ -226,7 +225,7 @@ impl<'a> Fields<'a> {
         }
     }
 
-    /// The next so many bytes, lent, or the error that names them.
+    /// The next `len` bytes, or the error with their offset.
     pub fn read_bytes(&mut self, count: usize) -> Result<&'a [u8], DecodeError>
         ensures ok { IfOk result (λ bytes. IsRead (block count) self.old self.new bytes.now) }
         ensures bad { (at : ℕ) → result ≡ Err (DecodeError.BadField at) → IsUnreadable (block count) self.old at }
@@ -240,7 +239,7 @@ impl<'a> Fields<'a> {
         }
     }
 
-    /// So many fields of 32 bytes, lent as one, or the error that names the first that is cut off.
+    /// The next `count` fields of 32 bytes as one slice, or the error with the offset of the first incomplete one.
     pub fn read_digests(&mut self, count: usize) -> Result<&'a [u8], DecodeError>
         requires { count < 2 ^ 32 }
         ensures ok { IfOk result (λ bytes. IsRead (digests count) self.old self.new bytes.now) }
@@ -255,7 +254,7 @@ impl<'a> Fields<'a> {
         }
     }
 
-    /// The next 32 bytes as a digest, or the error that names them.
+    /// The next 32 bytes as a digest, or the error with their offset.
     pub fn read_digest(&mut self) -> Result<[u8; 32], DecodeError>
         ensures ok { IfOk result (λ d. IsRead (block 32) self.old self.new d) }
         ensures bad { (at : ℕ) → result ≡ Err (DecodeError.BadField at) → IsUnreadable (block 32) self.old at }
@@ -270,7 +269,7 @@ impl<'a> Fields<'a> {
     }
 }
 
-// The array that 32 bytes fill.
+// 32 bytes as an array.
 fn array_of(bytes: &[u8]) -> [u8; 32]
     requires { length bytes.now ≡ 32 }
     ensures { result ≡ bytes.now }
@@ -280,7 +279,7 @@ fn array_of(bytes: &[u8]) -> [u8; 32]
     digest
 }
 
-// The number that eight bytes spell.
+// Eight bytes as a number.
 fn number_of(b: &[u8]) -> u64
     requires { length b.now ≡ 8 }
     ensures { to_be_bytes w64 result ≡ b.now }
@@ -288,7 +287,7 @@ fn number_of(b: &[u8]) -> u64
     u64::from_be_bytes([b[0], b[1], b[2], b[3], b[4], b[5], b[6], b[7]])
 }
 
-/// Bytes that are written at the end.
+/// Bytes, to which fields are appended.
 #[derive(Drop)]
 pub struct Writer {
     version: u8,
@@ -304,7 +303,7 @@ impl Model for Writer {
 }
 
 impl Writer {
-    /// Nothing written yet, by a version.
+    /// A writer without bytes, for a version.
     pub fn new(alloc: Global, version: u8) -> Writer
         ensures { result ≡ record { version = version; bytes = [] } }
     {
@@ -314,28 +313,28 @@ impl Writer {
         }
     }
 
-    /// The version by which it writes.
+    /// The version of the formats.
     pub fn version(&self) -> u8
         ensures { result ≡ self.now.version }
     {
         self.version
     }
 
-    /// What is written so far.
+    /// The bytes written so far.
     pub fn as_slice(&self) -> &[u8]
         ensures { result.now ≡ self.now.bytes }
     {
         self.out.as_slice()
     }
 
-    /// All that was written.
+    /// The bytes written.
     pub fn into_bytes(self) -> Bytes
         ensures { result ≡ self.bytes }
     {
         Bytes::of(self.out)
     }
 
-    /// One byte.
+    /// Appends one byte.
     pub fn put_u8(&mut self, byte: u8) -> Result<(), NoMemory>
         ensures ok { OnOk result (self.new ≡ and_bytes self.old (byte ∷ [])) }
         ensures err { OnErr result (self.new ≡ self.old) }
@@ -344,7 +343,7 @@ impl Writer {
         Ok(())
     }
 
-    /// A number of two bytes.
+    /// Appends a number of two bytes.
     pub fn put_u16(&mut self, number: u16) -> Result<(), NoMemory>
         ensures ok { OnOk result (self.new ≡ and_bytes self.old (to_be_bytes w16 number)) }
         ensures err { OnErr result (self.new ≡ self.old) }
@@ -352,7 +351,7 @@ impl Writer {
         self.put_bytes(&number.to_be_bytes())
     }
 
-    /// A number of four bytes.
+    /// Appends a number of four bytes.
     pub fn put_u32(&mut self, number: u32) -> Result<(), NoMemory>
         ensures ok { OnOk result (self.new ≡ and_bytes self.old (to_be_bytes w32 number)) }
         ensures err { OnErr result (self.new ≡ self.old) }
@@ -360,7 +359,7 @@ impl Writer {
         self.put_bytes(&number.to_be_bytes())
     }
 
-    /// A number of eight bytes.
+    /// Appends a number of eight bytes.
     pub fn put_u64(&mut self, number: u64) -> Result<(), NoMemory>
         ensures ok { OnOk result (self.new ≡ and_bytes self.old (to_be_bytes w64 number)) }
         ensures err { OnErr result (self.new ≡ self.old) }
@@ -368,7 +367,7 @@ impl Writer {
         self.put_bytes(&number.to_be_bytes())
     }
 
-    /// Bytes as they are.
+    /// Appends bytes.
     pub fn put_bytes(&mut self, bytes: &[u8]) -> Result<(), NoMemory>
         ensures ok { OnOk result (self.new ≡ and_bytes self.old bytes.now) }
         ensures err { OnErr result (self.new ≡ self.old) }

@@ -1,5 +1,5 @@
-//! The words that every crate speaks of: node numbers, slots, epochs, requests, batches, values, and the
-//! set-up of a cluster (ISS, "State Machine Replication Scalability Made Simple").
+//! The terms that all crates share: node numbers, slots, epochs, requests, batches, values, and the set-up of a cluster
+//! (ISS, "State Machine Replication Scalability Made Simple").
 #![tactic(auto)]
 
 pub mod bytes;

@@ -1,4 +1,4 @@
-//! Requests, batches, and the values that slots hold.
+//! Requests, batches, and the values of slots.
 ghost use Rattle.std.specs.Prelude.{◌≡◌, length, [], ◌∷◌, ◌++◌, IfOk, OnOk, OnErr};
 
 use crate::bytes::Bytes;
@@ -7,7 +7,7 @@ use crate::ids::ReqId;
 use std::alloc::Global;
 use std::marker::Model;
 
-/// What a client asks to have ordered, under its signature.
+/// A client's signed request.
 #[derive(Drop, Clone, Debug)]
 pub struct Request {
     pub id: ReqId,
@@ -16,7 +16,7 @@ pub struct Request {
 }
 
 impl Request {
-    /// The same request once more.
+    /// A copy.
     pub fn copy(&self) -> Result<Request, NoMemory>
         ensures { IfOk result (λ r. r ≡ self.now) }
     {
@@ -24,7 +24,7 @@ impl Request {
     }
 }
 
-/// Requests in order, which contracts see as a list.
+/// A list of requests.
 #[derive(Drop, Clone, Debug)]
 pub struct Batch {
     all: Vec<Request>,
@@ -56,35 +56,35 @@ impl Batch {
         Batch { all }
     }
 
-    /// How many requests there are.
+    /// The number of requests.
     pub fn len(&self) -> usize
         ensures { result ≡ length self.now }
     {
         self.all.len()
     }
 
-    /// The requests, lent.
+    /// The requests as a slice.
     pub fn as_slice(&self) -> &[Request]
         ensures { result.now ≡ self.now }
     {
         self.all.as_slice()
     }
 
-    /// The requests themselves.
+    /// The requests.
     pub fn into_requests(self) -> Vec<Request>
         ensures { result.items ≡ self }
     {
         self.all
     }
 
-    /// The same batch once more.
+    /// A copy.
     pub fn copy(&self) -> Result<Batch, NoMemory>
         ensures { IfOk result (λ b. b ≡ self.now) }
     {
         Ok(self.clone()?)
     }
 
-    /// Puts a request at the end.
+    /// Appends a request.
     pub fn push(&mut self, request: Request) -> Result<(), NoMemory>
         ensures ok { OnOk result (self.new ≡ self.old ++ request ∷ []) }
         ensures err { OnErr result (self.new ≡ self.old) }
@@ -94,7 +94,7 @@ impl Batch {
     }
 }
 
-/// What a slot of the log holds: nil, or a batch, which may be empty.
+/// The value of a log's slot: nil, or a batch, which may be empty.
 #[derive(Drop, Clone, Debug)]
 pub enum Value {
     Nil,
@@ -102,7 +102,7 @@ pub enum Value {
 }
 
 impl Value {
-    /// The same value once more.
+    /// A copy.
     pub fn copy(&self) -> Result<Value, NoMemory>
         ensures { IfOk result (λ v. v ≡ self.now) }
     {

@@ -1,11 +1,11 @@
-//! Rows: lists of any kind that public types hold.
+//! Lists that public types contain.
 ghost use Rattle.std.specs.Prelude.{◌≡◌, length, [], ◌∷◌, ◌++◌, OnOk, OnErr};
 
 use crate::errors::NoMemory;
 use std::alloc::Global;
 use std::marker::Model;
 
-/// Things in order, which contracts see as a list.
+/// A list, which contracts see as a mathematical list.
 #[derive(Drop, Debug)]
 pub struct Seq<T> {
     all: Vec<T>,
@@ -20,7 +20,7 @@ impl<T> Model for Seq<T> {
 }
 
 impl<T: Drop> Seq<T> {
-    /// Nothing yet.
+    /// The empty list.
     pub fn new(alloc: Global) -> Seq<T>
         ensures { result ≡ [] }
     {
@@ -29,35 +29,35 @@ impl<T: Drop> Seq<T> {
         }
     }
 
-    /// These things.
+    /// The list of these elements.
     pub fn of(all: Vec<T>) -> Seq<T>
         ensures { result ≡ all.items }
     {
         Seq { all }
     }
 
-    /// How many there are.
+    /// The number of elements.
     pub fn len(&self) -> usize
         ensures { result ≡ length self.now }
     {
         self.all.len()
     }
 
-    /// The things, lent.
+    /// The elements as a slice.
     pub fn as_slice(&self) -> &[T]
         ensures { result.now ≡ self.now }
     {
         self.all.as_slice()
     }
 
-    /// The things themselves.
+    /// The elements.
     pub fn into_vec(self) -> Vec<T>
         ensures { result.items ≡ self }
     {
         self.all
     }
 
-    /// Puts a thing at the end.
+    /// Appends an element.
     pub fn push(&mut self, thing: T) -> Result<(), NoMemory>
         ensures ok { OnOk result (self.new ≡ self.old ++ thing ∷ []) }
         ensures err { OnErr result (self.new ≡ self.old) }

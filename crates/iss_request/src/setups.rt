@@ -1,4 +1,4 @@
-//! The set-up of a cluster: what its schedule's header says, and what follows of it.
+//! The set-up of a cluster: what the header of its schedule says, and what follows from that.
 ghost use Rattle.std.specs.Prelude.{◌≡◌, ◌≤◌, ◌++◌, ◌∷◌, [], length, IfOk, OnOk, OnErr, IsTrue, ◌↔◌};
 ghost use Rattle.std.specs.List.{Contains};
 ghost use Rattle.iss_request.specs.Setup.{nodes_of_kind, quorum_of_kind};
@@ -8,14 +8,15 @@ use crate::ids::NodeId;
 use std::alloc::Global;
 use std::marker::Model;
 
-/// What a module withstands. Byzantine: of `3f+1` nodes `f` do anything. Stopping: of `2f+1` nodes `f` stop.
+/// The fault model of a module. Byzantine: of `3f+1` nodes, `f` may be Byzantine. Stopping: of `2f+1` nodes, `f` may
+/// crash.
 #[derive(Clone, Copy, Debug, PartialEq, Eq)]
 pub enum Kind {
     Byzantine,
     Stopping,
 }
 
-/// How the leaders of an epoch are chosen (ISS, "Leader selection").
+/// How the leaders of an epoch are chosen (ISS, leader selection policy).
 #[derive(Clone, Copy, Debug, PartialEq, Eq)]
 pub enum Policy {
     Simple,
@@ -23,7 +24,7 @@ pub enum Policy {
     Blacklist,
 }
 
-/// Nodes in order, which contracts see as a list.
+/// A list of nodes.
 #[derive(Drop, Clone, Debug)]
 pub struct Nodes {
     all: Vec<NodeId>,
@@ -39,7 +40,7 @@ impl Model for Nodes {
 }
 
 impl Nodes {
-    /// No nodes.
+    /// The empty list.
     pub fn new(alloc: Global) -> Nodes
         ensures { result ≡ [] }
     {
@@ -48,14 +49,14 @@ impl Nodes {
         }
     }
 
-    /// The nodes, lent.
+    /// The nodes as a slice.
     pub fn as_slice(&self) -> &[NodeId]
         ensures { result.now ≡ self.now }
     {
         self.all.as_slice()
     }
 
-    /// Puts a node at the end.
+    /// Appends a node.
     pub fn push(&mut self, node: NodeId) -> Result<(), NoMemory>
         ensures ok { OnOk result (self.new ≡ self.old ++ node ∷ []) }
         ensures err { OnErr result (self.new ≡ self.old) }
@@ -65,8 +66,8 @@ impl Nodes {
     }
 }
 
-/// The set-up of a cluster. `version` is that of its formats, `epoch` the number of slots of an epoch, `keys` the
-/// height of the key trees, `tag` the digest of the header, with which every statement of the cluster begins.
+/// The set-up of a cluster. `version` is that of the formats. `epoch` is the number of slots of an epoch. `keys` is the
+/// height of the key trees. `tag` is the digest of the header; every signed statement of the cluster begins with it.
 #[derive(Drop, Clone, Debug)]
 pub struct Setup {
     pub version: u8,
@@ -87,7 +88,7 @@ pub struct Setup {
 }
 
 impl Setup {
-    /// The same set-up once more.
+    /// A copy.
     pub fn copy(&self) -> Result<Setup, NoMemory>
         ensures { IfOk result (λ s. s ≡ self.now) }
     {
@@ -95,7 +96,7 @@ impl Setup {
     }
 }
 
-/// How many nodes withstand `f` faults of a kind (PBFT, Raft).
+/// The number of nodes that tolerate `f` faults in a fault model (PBFT, Raft).
 pub fn nodes_of_kind(kind: Kind, f: u32) -> u32
     requires { f ≤ 3 }
     ensures { result ≡ nodes_of_kind kind f }
@@ -106,7 +107,7 @@ pub fn nodes_of_kind(kind: Kind, f: u32) -> u32
     }
 }
 
-/// How many votes decide: two such sets of nodes share a correct one (PBFT, Raft).
+/// The size of a quorum: any two quorums share a correct node (PBFT, Raft).
 pub fn quorum(kind: Kind, f: u32) -> u32
     requires { f ≤ 3 }
     ensures { result ≡ quorum_of_kind kind f }

@@ -1,5 +1,5 @@
-//! How requests and values are spelled in bytes, and their digests. `specs/Formats.antt` has the table. A reader and a
-//! writer know their version; a digest is told it.
+//! The encoding of requests and values in bytes, and their digests. `specs/Formats.antt` has the table. A reader and a
+//! writer carry their version; a digest is given it.
 ghost use Rattle.std.specs.Prelude.{◌≡◌, ℕ, List, [], ◌∷◌, ◌++◌, ◌≤◌, length, ◌↔◌, IfOk, OnOk, Ok, Err};
 ghost use Rattle.std.specs.List.{flat_map};
 ghost use Rattle.sha2.specs.Hashers.{Holds256};
@@ -21,16 +21,16 @@ use crate::versions::{is_second, requests_most, version_byte};
 use sha2::{Digest, Sha256};
 use std::alloc::Global;
 
-// The most bytes of a payload.
+// The maximal length of a payload, in bytes.
 const PAYLOAD_MAX: u16 = 256;
 
-// What stands for a request without a spelling: a length that is too large, and nothing behind it.
+// What is written for a request without an encoding: a length that is too large, and nothing after it.
 const NO_REQUEST: [u8; 7] = [0, 0, 0, 0, 0, 255, 255];
 
 // The byte before a value that is hashed.
 const VALUE: u8 = 0x40;
 
-// What stands for a batch without a spelling: by either version a count that is too large, and nothing behind it.
+// What is written for a batch without an encoding: a count that is too large in either version, and nothing after it.
 const NO_BATCH: [u8; 2] = [255, 255];
 
 fn is_tree_height(height: u8) -> bool
@@ -39,8 +39,8 @@ fn is_tree_height(height: u8) -> bool
     2 <= height && height <= 12
 }
 
-/// Whether bytes have the shape of a signature: a height, a leaf, 67 digests and one for each level. Whether it
-/// verifies is not looked at.
+/// Whether bytes have the shape of a signature: a height, a leaf, 67 digests and one for each level. It is not verified
+/// here.
 // rule: Formats: A signature begins with its tree's height, from 2 to 12, which fixes its length
 pub fn has_shape(sig: &[u8]) -> bool
     ensures { result ≡ is_signature sig.now }
@@ -53,16 +53,16 @@ pub fn has_shape(sig: &[u8]) -> bool
     }
 }
 
-/// Whether a request has a spelling: its payload is not too long, and its signature has the shape of one.
+/// Whether a request has an encoding: its payload is not too long, and its signature has the shape of one.
 pub fn is_spellable(request: &Request) -> bool
     ensures { result ≡ has_spelling request.now }
 {
-    // Its range is part of the answer.
+    // Its range is part of the result.
     let _number = request.id.number;
     request.payload.len() <= PAYLOAD_MAX as usize && has_shape(request.sig.as_slice())
 }
 
-/// Writes a request. One that has no spelling is written as bytes that no reader takes.
+/// Writes a request. A request without an encoding is written as bytes that no reader accepts.
 // rule: Formats: A request has one encoding: client, number, a payload of at most 256 bytes, signature
 pub fn write_request(request: &Request, out: &mut Writer) -> Result<(), NoMemory>
     ensures { OnOk result (out.new ≡ and_bytes out.old (spell_request request.now)) }
@@ -86,8 +86,8 @@ fn put_request(request: &Request, out: &mut Writer) -> Result<(), NoMemory>
     Ok(())
 }
 
-/// Writes a batch as it stands in a value, behind the byte that says that the value is one. A batch that has no
-/// spelling is written as bytes that no reader takes.
+/// Writes a batch as in a value, after the byte that says that the value is a batch. A batch without an encoding is
+/// written as bytes that no reader accepts.
 pub fn write_batch(batch: &Batch, out: &mut Writer) -> Result<(), NoMemory>
     ensures { OnOk result (out.new ≡ and_bytes out.old (spell_batch out.old.version batch.now)) }
 {
@@ -127,7 +127,7 @@ pub fn write_batch_value(batch: &Batch, out: &mut Writer) -> Result<(), NoMemory
     write_batch(batch, out)
 }
 
-/// Writes a value. One that has no spelling is written as bytes that no reader takes.
+/// Writes a value. A value without an encoding is written as bytes that no reader accepts.
 // rule: Formats: A value has one encoding a version: nil, or a batch after a version byte and a count
 pub fn write_value(value: &Value, out: &mut Writer) -> Result<(), NoMemory>
     ensures { OnOk result (out.new ≡ and_bytes out.old (spell_value out.old.version value.now)) }
@@ -152,7 +152,7 @@ fn read_payload(alloc: Global, f: &mut Fields) -> Result<Bytes, DecodeError>
     Ok(f.since(alloc, first)?)
 }
 
-/// Reads a signature of any height from 2 to 12. Whether it verifies is not looked at.
+/// Reads a signature of any height from 2 to 12. It is not verified here.
 pub fn read_signature(alloc: Global, f: &mut Fields) -> Result<Bytes, DecodeError>
     ensures ok { IfOk result (λ b. IsRead parse_signature f.old f.new b) }
     ensures bad { (at : ℕ) → result ≡ Err (DecodeError.BadField at) → IsUnreadable parse_signature f.old at }
@@ -168,7 +168,7 @@ pub fn read_signature(alloc: Global, f: &mut Fields) -> Result<Bytes, DecodeErro
     Ok(f.since(alloc, first)?)
 }
 
-/// Reads the request at the front. `BadField` names the first field that does not fit.
+/// Reads the next request. `BadField` has the offset of the first field that does not fit.
 pub fn read_request(alloc: Global, f: &mut Fields) -> Result<Request, DecodeError>
     ensures ok { IfOk result (λ r. IsRead parse_request f.old f.new r) }
     ensures bad { (at : ℕ) → result ≡ Err (DecodeError.BadField at) → IsUnreadable parse_request f.old at }
@@ -186,7 +186,8 @@ pub fn read_request(alloc: Global, f: &mut Fields) -> Result<Request, DecodeErro
 
 fn read_batch(alloc: Global, f: &mut Fields) -> Result<Batch, DecodeError>
     ensures ok { IfOk result (λ b. IsRead (parse_batch f.old.version) f.old f.new b) }
-    ensures bad { (at : ℕ) → result ≡ Err (DecodeError.BadField at) → IsUnreadable (parse_batch f.old.version) f.old at }
+    ensures bad { (at : ℕ) → result ≡ Err (DecodeError.BadField at) →
+        IsUnreadable (parse_batch f.old.version) f.old at }
 {
     let count = read_count(f)?;
     let batch = read_requests(alloc, count, f)?;
@@ -195,7 +196,8 @@ fn read_batch(alloc: Global, f: &mut Fields) -> Result<Batch, DecodeError>
 
 fn read_count(f: &mut Fields) -> Result<u16, DecodeError>
     ensures ok { IfOk result (λ n. IsRead (parse_count f.old.version) f.old f.new n) }
-    ensures bad { (at : ℕ) → result ≡ Err (DecodeError.BadField at) → IsUnreadable (parse_count f.old.version) f.old at }
+    ensures bad { (at : ℕ) → result ≡ Err (DecodeError.BadField at) →
+        IsUnreadable (parse_count f.old.version) f.old at }
 {
     let too_many = f.bad_field();
     let most = requests_most(f.version());
@@ -208,7 +210,8 @@ fn read_count(f: &mut Fields) -> Result<u16, DecodeError>
 
 fn read_any_count(f: &mut Fields) -> Result<u16, DecodeError>
     ensures ok { IfOk result (λ n. IsRead (count_field f.old.version) f.old f.new n) }
-    ensures bad { (at : ℕ) → result ≡ Err (DecodeError.BadField at) → IsUnreadable (count_field f.old.version) f.old at }
+    ensures bad { (at : ℕ) → result ≡ Err (DecodeError.BadField at) →
+        IsUnreadable (count_field f.old.version) f.old at }
 {
     if is_second(f.version()) {
         return f.read_u16();
@@ -219,7 +222,8 @@ fn read_any_count(f: &mut Fields) -> Result<u16, DecodeError>
 
 fn read_requests(alloc: Global, count: u16, f: &mut Fields) -> Result<Batch, DecodeError>
     ensures ok { IfOk result (λ b. IsRead (times count parse_request) f.old f.new b) }
-    ensures bad { (at : ℕ) → result ≡ Err (DecodeError.BadField at) → IsUnreadable (times count parse_request) f.old at }
+    ensures bad { (at : ℕ) → result ≡ Err (DecodeError.BadField at) →
+        IsUnreadable (times count parse_request) f.old at }
 {
     let mut batch = Batch::new(alloc);
     for _ in 0..count {
@@ -229,10 +233,11 @@ fn read_requests(alloc: Global, count: u16, f: &mut Fields) -> Result<Batch, Dec
     Ok(batch)
 }
 
-/// Reads the value at the front. `BadField` names the first field that does not fit.
+/// Reads the next value. `BadField` has the offset of the first field that does not fit.
 pub fn read_value(alloc: Global, f: &mut Fields) -> Result<Value, DecodeError>
     ensures ok { IfOk result (λ v. IsRead (parse_value f.old.version) f.old f.new v) }
-    ensures bad { (at : ℕ) → result ≡ Err (DecodeError.BadField at) → IsUnreadable (parse_value f.old.version) f.old at }
+    ensures bad { (at : ℕ) → result ≡ Err (DecodeError.BadField at) →
+        IsUnreadable (parse_value f.old.version) f.old at }
 {
     let no_value = f.bad_field();
     let batch_byte = version_byte(f.version());
@@ -247,10 +252,13 @@ pub fn read_value(alloc: Global, f: &mut Fields) -> Result<Value, DecodeError>
     Ok(Value::Batch(batch))
 }
 
-/// Reads a value that is a batch. `BadField` names the first field that does not fit: the value where it is nil.
+/// Reads a value that must be a batch. `BadField` has the offset of the first field that does not fit; for nil that is
+/// the value itself.
 pub fn read_batch_value(alloc: Global, f: &mut Fields) -> Result<Batch, DecodeError>
-    ensures ok { IfOk result (λ b. IsRead (such_that is_batch (parse_value f.old.version)) f.old f.new (Value.Batch b)) }
-    ensures bad { (at : ℕ) → result ≡ Err (DecodeError.BadField at) → IsUnreadable (such_that is_batch (parse_value f.old.version)) f.old at }
+    ensures ok { IfOk result (λ b.
+        IsRead (such_that is_batch (parse_value f.old.version)) f.old f.new (Value.Batch b)) }
+    ensures bad { (at : ℕ) → result ≡ Err (DecodeError.BadField at) →
+        IsUnreadable (such_that is_batch (parse_value f.old.version)) f.old at }
 {
     let no_batch = f.bad_field();
     match read_value(alloc, f)? {
@@ -259,7 +267,7 @@ pub fn read_batch_value(alloc: Global, f: &mut Fields) -> Result<Batch, DecodeEr
     }
 }
 
-/// The bytes of a value. One that has no spelling gives bytes that are no value's.
+/// The bytes of a value. A value without an encoding gives bytes that decode to nothing.
 pub fn encode_value(alloc: Global, version: u8, value: &Value) -> Result<Bytes, NoMemory>
     ensures { IfOk result (λ bytes. bytes ≡ spell_value version value.now) }
 {
@@ -268,8 +276,8 @@ pub fn encode_value(alloc: Global, version: u8, value: &Value) -> Result<Bytes, 
     Ok(out.into_bytes())
 }
 
-/// The value that the bytes spell, all of them. `BadField` names the offset of the first field that does not fit;
-/// behind a value that is followed by more bytes that is the first of them.
+/// The value with exactly these bytes. `BadField` has the offset of the first field that does not fit. If bytes follow
+/// the value, that is the first of them.
 pub fn decode_value(alloc: Global, version: u8, bytes: &[u8]) -> Result<Value, DecodeError>
     ensures ok { IfOk result (λ v. parse_value version bytes.now ≡ Good v []) }
     ensures bad { (at : ℕ) → result ≡ Err (DecodeError.BadField at) → all_of (parse_value version) bytes.now ≡ Bad at }
@@ -282,7 +290,7 @@ pub fn decode_value(alloc: Global, version: u8, bytes: &[u8]) -> Result<Value, D
     Ok(value)
 }
 
-// Adds a request's spelling to the message.
+// Adds a request's encoding to the hashed string.
 fn hash_request(request: &Request, hasher: &mut Sha256)
     ensures { (m : List ℕ) → Holds256 hasher.old m → Holds256 hasher.new (m ++ spell_request request.now) }
 {
@@ -304,7 +312,7 @@ fn hash_parts(request: &Request, hasher: &mut Sha256)
     hasher.update(request.sig.as_slice());
 }
 
-// Adds a batch's spelling to the message.
+// Adds a batch's encoding to the hashed string.
 fn hash_batch(version: u8, batch: &Batch, hasher: &mut Sha256)
     ensures { (m : List ℕ) → Holds256 hasher.old m → Holds256 hasher.new (m ++ spell_batch version batch.now) }
 {
@@ -335,7 +343,7 @@ fn hash_requests(requests: &[Request], hasher: &mut Sha256)
     }
 }
 
-/// The string that is hashed of a value.
+/// The string hashed for a value's digest.
 pub fn value_string(alloc: Global, version: u8, value: &Value) -> Result<Bytes, NoMemory>
     ensures { IfOk result (λ s. s ≡ value_string version value.now) }
 {
@@ -345,7 +353,7 @@ pub fn value_string(alloc: Global, version: u8, value: &Value) -> Result<Bytes, 
     Ok(out.into_bytes())
 }
 
-/// The string that is hashed of a batch, which is a value.
+/// The string hashed for the digest of a batch as a value.
 pub fn batch_string(alloc: Global, version: u8, batch: &Batch) -> Result<Bytes, NoMemory>
     ensures { IfOk result (λ s. s ≡ value_string version (Value.Batch batch.now)) }
 {
@@ -355,7 +363,7 @@ pub fn batch_string(alloc: Global, version: u8, batch: &Batch) -> Result<Bytes, 
     Ok(out.into_bytes())
 }
 
-/// The digest of a batch as a value. It needs no memory for the string.
+/// The digest of a batch as a value. The string is not built in memory.
 pub fn batch_digest(version: u8, batch: &Batch) -> [u8; 32]
     ensures { result ≡ sha256 (value_string version (Value.Batch batch.now)) }
 {
@@ -366,7 +374,7 @@ pub fn batch_digest(version: u8, batch: &Batch) -> [u8; 32]
     hasher.finalize()
 }
 
-/// The digest of a value's spelling. It needs no memory for the string.
+/// The digest of a value. The string is not built in memory.
 // rule: Formats: A value's digest is the hash of its encoding after a byte of its own
 pub fn digest_of(version: u8, value: &Value) -> [u8; 32]
     ensures { result ≡ sha256 (value_string version value.now) }
@@ -377,12 +385,14 @@ pub fn digest_of(version: u8, value: &Value) -> [u8; 32]
     }
 }
 
-/// By each version each request and each value has at most one spelling, no spelling begins another one, and what has
-/// none is written as bytes that are read as nothing, whatever stands behind them.
+/// In each version, a request or value has at most one encoding, and no encoding is a prefix of another. What has no
+/// encoding is written as bytes that decode to nothing, whatever follows.
 pub fn formats_are_exact()
     ensures request { IsGrammar spell_request parse_request }
     ensures value { (version : ℕ) → IsGrammar (spell_value version) (parse_value version) }
-    // What is read of bytes, and all of them, is what the table relates to them.
-    ensures request_table { (r : Request) (bytes : List ℕ) → (parse_request bytes ≡ Good r []) ↔ IsSpelledRequest r bytes }
-    ensures value_table { (version : ℕ) (v : Value) (bytes : List ℕ) → (parse_value version bytes ≡ Good v []) ↔ IsSpelledValue version v bytes }
+    // What is decoded from exactly these bytes is what the table relates to them.
+    ensures request_table { (r : Request) (bytes : List ℕ) →
+        (parse_request bytes ≡ Good r []) ↔ IsSpelledRequest r bytes }
+    ensures value_table { (version : ℕ) (v : Value) (bytes : List ℕ) →
+        (parse_value version bytes ≡ Good v []) ↔ IsSpelledValue version v bytes }
 {}

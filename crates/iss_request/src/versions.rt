@@ -1,4 +1,4 @@
-//! The versions of the formats. A number that is not the second version's is taken as the first's.
+//! The versions of the formats. Any number but 2 means the first version.
 ghost use Rattle.std.specs.Prelude.{◌≡◌};
 ghost use Rattle.iss_request.specs.Formats.{is_second, version_byte, requests_most};
 
@@ -15,14 +15,14 @@ pub fn is_second(version: u8) -> bool
     version == SECOND
 }
 
-/// The byte by which a version is known: the first of a packet, and of a value that is a batch.
+/// The byte that identifies a version: the first of a packet, and of a value that is a batch.
 pub fn version_byte(version: u8) -> u8
     ensures { result ≡ version_byte version }
 {
     if is_second(version) { SECOND } else { FIRST }
 }
 
-/// The most requests of a batch.
+/// The maximal number of requests in a batch.
 pub fn requests_most(version: u8) -> u16
     ensures { result ≡ requests_most version }
 {

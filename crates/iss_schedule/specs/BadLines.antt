@@ -12,45 +12,47 @@ use Rattle.iss_schedule.specs.Forms.{HasForm, IsInjection}
 use Rattle.iss_schedule.specs.Schedules.{IsFine, IsSchedule, schedule_lines, most_bytes, most_events}
 use Rattle.iss_schedule.specs.Words.{Lacks, ended}
 
--- some schedule in range begins with these lines
+-- the lines are a prefix of the lines of some schedule in range
 pub record Begins (lines : List (List ℕ)) : Type 0 where
   pub schedule : Schedule
   pub fine : IsFine schedule
   pub front : lines ≡ take (length lines) (schedule_lines schedule)
 
--- the rest of a text begins with this line, which a line feed ends
+-- the rest of a text begins with this line and a line feed
 pub record IsNext (line rest : List ℕ) : Type 0 where
   pub more : List ℕ
   pub text : rest ≡ line ++ 10 ∷ more
   pub whole : Lacks 10 line
 
--- of a module whose nodes only stop
+-- the same, for a module in the crash model
 pub record BeginsStopping (lines : List (List ℕ)) : Type 0 where
   pub begins : Begins lines
   pub stops : begins.schedule.setup.kind ≡ Stopping
 
--- an event gives bytes to a core of a module whose nodes only stop
+-- the event injects bytes into a core, for a module in the crash model
 abbrev pub IsInjected : List (List ℕ) → List ℕ → Type 0
 IsInjected front line = (11 ≤ length front) × IsInjection line × BeginsStopping front
 
--- what is wrong with a line behind the good lines of the front; of several reasons the first counts. The eleventh line
--- names the faulty nodes, and is out of their rule where no schedule in range goes on so
+-- What is wrong with a line after good lines (`front`). The first reason that holds counts. Line 11 names the faulty
+-- nodes; it breaks their rule if no schedule in range continues with it.
 abbrev pub IsFault : List (List ℕ) → List ℕ → LineFault → Type 0
 IsFault front line Form = ¬ HasForm (length front) line
 IsFault front line Faulty = HasForm (length front) line × (length front ≡ 10) × ¬ Begins (front ++ line ∷ [])
 IsFault front line Injected = IsInjected front line
-IsFault front line Range = HasForm (length front) line × (length front ≢ 10) × ¬ IsInjected front line × ¬ Begins (front ++ line ∷ [])
+IsFault front line Range = HasForm (length front) line × (length front ≢ 10) × ¬ IsInjected front line
+    × ¬ Begins (front ++ line ∷ [])
 IsFault front line Cut = ⊥
 IsFault front line Size = ⊥
 
--- what is wrong where the rest begins, behind the good lines of the front: there is an event too many, or the line is
--- not whole, or it is whole and has a fault
+-- What is wrong with the rest after good lines: there is an event too many, or no line feed follows, or the next line
+-- has a fault.
 abbrev pub IsBadRest : List (List ℕ) → List ℕ → LineFault → Type 0
 IsBadRest front rest Size = (length front ≡ 11 + most_events) × (rest ≢ [])
 IsBadRest front rest Cut = (length front < 11 + most_events) × Lacks 10 rest × ((length front < 11) ⊎ (rest ≢ []))
-IsBadRest front rest why = (length front < 11 + most_events) × ((line : List ℕ) × (IsNext line rest × IsFault front line why))
+IsBadRest front rest why = (length front < 11 + most_events)
+    × ((line : List ℕ) × (IsNext line rest × IsFault front line why))
 
--- the lines before this one begin a schedule in range, and with this one they do not
+-- The lines before this one begin a schedule in range, and with this one they do not.
 -- rule: Schedules: The first bad line is named, with the first reason that holds
 pub record IsFirstBad (bytes : List ℕ) (line : ℕ) (why : LineFault) : Type 0 where
   pub front : List (List ℕ)
@@ -60,16 +62,17 @@ pub record IsFirstBad (bytes : List ℕ) (line : ℕ) (why : LineFault) : Type 0
   pub good : Begins front
   pub bad : IsBadRest front rest why
 
--- lines count from 1; a text that is too long has no good line, and line 0 is said to be bad
+-- The first bad line, counted from 1. A text that is too long has no good line, and line 0 is reported.
 abbrev pub IsBadLine : List ℕ → ℕ → LineFault → Type 0
-IsBadLine bytes line why = ((most_bytes < length bytes) × (line ≡ 0) × (why ≡ Size)) ⊎ ((length bytes ≤ most_bytes) × IsFirstBad bytes line why)
+IsBadLine bytes line why = ((most_bytes < length bytes) × (line ≡ 0) × (why ≡ Size))
+    ⊎ ((length bytes ≤ most_bytes) × IsFirstBad bytes line why)
 
--- a text is refused for its first bad line; want of memory says nothing of it
+-- The text is refused for its first bad line. Running out of memory says nothing about the text.
 abbrev pub IsRefused : List ℕ → ReadError → Type 0
 IsRefused bytes (BadLine line why) = IsBadLine bytes line why
 IsRefused bytes NoMemory = Unit {0}
 
--- a text that is refused for a line is that of no schedule
+-- a text that is refused for a line is the text of no schedule
 abbrev pub IsNoText : List ℕ → ReadError → Type 0
 IsNoText bytes (BadLine line why) = (s : Schedule) → ¬ IsSchedule bytes s
 IsNoText bytes NoMemory = Unit {0}

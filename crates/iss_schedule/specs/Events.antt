@@ -13,7 +13,8 @@ use Rattle.iss_schedule.specs.Words.{line_of, word_of}
 
 -- the words of an event's line
 abbrev pub event_words : Event → List (List ℕ)
-event_words (Request core client number payload) = text_of_name name.Request ∷ decimal core ∷ decimal client ∷ decimal number ∷ word_of payload ∷ []
+event_words (Request core client number payload) =
+    text_of_name name.Request ∷ decimal core ∷ decimal client ∷ decimal number ∷ word_of payload ∷ []
 event_words (Propose core) = text_of_name name.Propose ∷ decimal core ∷ []
 event_words (Timeout core leader) = text_of_name name.Timeout ∷ decimal core ∷ decimal leader.0 ∷ []
 event_words (Ask core peer) = text_of_name name.Ask ∷ decimal core ∷ decimal peer.0 ∷ []
@@ -35,12 +36,13 @@ spell_event e = line_of (event_words e)
 abbrev pub IsPayload : List ℕ → Type 0
 IsPayload payload = IsBytes payload × (length payload ≤ 256)
 
--- which events a cluster of this set-up may meet: a core is one of its cores, a leader or a peer is a node, a client
--- signs with a leaf of its tree, and only a module that withstands any fault meets bytes of no node
+-- The events that may happen in a cluster with this set-up. A core is one of its cores, a leader or a peer is a node,
+-- and a client signs with a leaf of its tree. Only a Byzantine module gets injected bytes.
 -- rule: Schedules: An ask names one of the cores and one of the nodes
 -- rule: Schedules: A crash lets 0 to 1,000 disk calls of a core pass
 abbrev pub IsInRange : Setup → Event → Type 0
-IsInRange s (Request core client number payload) = (core < cores_of s) × (client < s.clients) × (number < 2 ^ s.keys) × IsPayload payload
+IsInRange s (Request core client number payload) = (core < cores_of s) × (client < s.clients) × (number < 2 ^ s.keys)
+    × IsPayload payload
 IsInRange s (Propose core) = core < cores_of s
 IsInRange s (Timeout core leader) = (core < cores_of s) × (leader.0 < s.n)
 IsInRange s (Ask core peer) = (core < cores_of s) × (peer.0 < s.n)

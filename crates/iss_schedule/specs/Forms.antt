@@ -47,28 +47,28 @@ has_bytes Restart = false
 has_bytes Crash = false
 has_bytes Bytes = true
 
--- so many numbers, and then nothing, or bytes
+-- the words are n numbers, then bytes if `last`, and nothing more
 abbrev pub AreArguments : ℕ → Bool → List (List ℕ) → Type 0
 AreArguments zero false words = words ≡ []
 AreArguments zero true words = (bytes : List ℕ) × (IsBytes bytes × (words ≡ word_of bytes ∷ []))
 AreArguments (suc n) last [] = ⊥
 AreArguments (suc n) last (word ∷ words) = IsNumber word × AreArguments n last words
 
--- the line names an event and gives its arguments
+-- the line has the name of an event and its arguments
 pub record IsEventLine (line : List ℕ) : Type 0 where
   pub name : Name
   pub arguments : List (List ℕ)
   pub words : words_of line ≡ text_of_name name ∷ arguments
   pub spelled : AreArguments (number_count name) (has_bytes name) arguments
 
--- the line gives bytes to a core
+-- the line injects bytes into a core
 pub record IsInjection (line : List ℕ) : Type 0 where
   pub arguments : List (List ℕ)
   pub words : words_of line ≡ text_of_name Bytes ∷ arguments
   pub spelled : AreArguments 1 true arguments
 
--- of a line that is no event in range: it is spelled wrongly, or gives bytes to a core where nodes only stop, or a number
--- is out of range
+-- What is wrong with a line that is no event in range: it is misspelled, it injects bytes in the crash model, or a
+-- number is out of range.
 abbrev pub IsEventFault : Setup → List ℕ → LineFault → Type 0
 IsEventFault s line Form = ¬ IsEventLine line
 IsEventFault s line Injected = IsInjection line × (s.kind ≡ Stopping)
@@ -87,14 +87,14 @@ abbrev pub AreNumbers : List (List ℕ) → Type 0
 AreNumbers [] = Unit {0}
 AreNumbers (word ∷ words) = IsNumber word × AreNumbers words
 
--- the line names one faulty node or more
+-- the line names at least one faulty node
 pub record NamesFaulty (line : List ℕ) : Type 0 where
   pub first : List ℕ
   pub others : List (List ℕ)
   pub words : words_of line ≡ codes "faulty" ∷ first ∷ others
   pub numbers : AreNumbers (first ∷ others)
 
--- the line is spelled as its field asks, whatever the size of its number
+-- the line has the form of its field, whatever the size of its number
 abbrev pub IsFieldFormed : HeaderField → List ℕ → Type 0
 IsFieldFormed (OneOf texts) line = (v : ℕ) × ((v < length texts) × (line ≡ get_or texts v []))
 IsFieldFormed (Number name low end) line = IsField name line
@@ -105,7 +105,7 @@ IsFaultyFormed line = (line ≡ codes "faulty none") ⊎ NamesFaulty line
 
 -- ---- the lines of a schedule
 
--- a header's line is a field's, and the last that of the faulty nodes
+-- the form of a line of the header, or of its last one, which names the faulty nodes
 pub data LineForm : Type 0 where
   Field : HeaderField → LineForm
   FaultyNodes : LineForm
@@ -114,12 +114,12 @@ abbrev pub forms_of : List HeaderField → List LineForm
 forms_of [] = FaultyNodes ∷ []
 forms_of (f ∷ fs) = Field f ∷ forms_of fs
 
--- behind the header stand events
+-- the lines after the header are events
 abbrev pub IsFormed : Option LineForm → List ℕ → Type 0
 IsFormed None line = IsEventLine line
 IsFormed (Some (Field f)) line = IsFieldFormed f line
 IsFormed (Some FaultyNodes) line = IsFaultyFormed line
 
--- the line at a place is spelled as that place asks; places count from 0
+-- the line has the form of its place; places count from 0
 abbrev pub HasForm : ℕ → List ℕ → Type 0
 HasForm place line = IsFormed (nth (forms_of header_fields) place) line

@@ -15,7 +15,7 @@ use Rattle.iss_schedule.specs.Words.{line_of}
 
 -- ---- modules and policies
 
--- a module that has a word: its line, its number, what it withstands, and the most faults that it is asked to withstand
+-- a module that schedules can name: its line, its number, its fault model, and the maximal f
 pub record ModuleRow : Type 0 where
   pub line : List ℕ
   pub number : ℕ
@@ -28,7 +28,7 @@ row line number kind most_faults = record { line = line; number = number; kind =
 abbrev pub relay_row : ModuleRow
 relay_row = row (codes "module relay") 1 Stopping 0
 
--- the modules that have a word; one that has none is a line less, here and in the table of the code
+-- The modules that schedules can name. To add a module, add a line here and one in the code's table.
 -- rule: Schedules: A module is one row: its word, its number, its fault model, the most faults
 abbrev pub module_rows : List ModuleRow
 module_rows =
@@ -42,7 +42,7 @@ abbrev pub lines_of_rows : List ModuleRow → List (List ℕ)
 lines_of_rows [] = []
 lines_of_rows (r ∷ rs) = r.line ∷ lines_of_rows rs
 
--- the code's table, seen as rows
+-- the code's table as rows
 abbrev pub see : Module → ModuleRow
 see m = row m.line.now m.number m.kind m.most_faults
 
@@ -61,13 +61,13 @@ row_at place = get_or module_rows place relay_row
 abbrev pub row_of : ℕ → ModuleRow
 row_of number = row_at (place_among number module_rows)
 
--- the module of this number has a row
+-- the module with this number has a row
 abbrev pub IsOneOf : ℕ → List ModuleRow → Type 0
 IsOneOf number [] = ⊥
 IsOneOf number (r ∷ []) = number ≡ r.number
 IsOneOf number (r ∷ q ∷ rs) = (number ≡ r.number) ⊎ IsOneOf number (q ∷ rs)
 
--- the policies in the order of their lines
+-- the lines that name the policies, in order
 abbrev pub policy_lines : List (List ℕ)
 policy_lines = codes "policy simple" ∷ codes "policy backoff" ∷ codes "policy blacklist" ∷ []
 
@@ -81,11 +81,11 @@ policy_at place = get_or (Simple ∷ Backoff ∷ Blacklist ∷ []) place Simple
 
 -- ---- values
 
--- the value of the line of this number, from 0
+-- the value of header line i, counted from 0
 abbrev pub value : List ℕ → ℕ → ℕ
 value values k = get_or values k 0
 
--- the set-up that these values give, with these faulty nodes and this tag; its nodes are counted as its kind asks
+-- The set-up with these values, faulty nodes and tag. Its nodes are counted by its fault model.
 abbrev pub counted : Setup → Setup
 counted s = record s { n = node_count s; quorum = quorum_count s }
 
@@ -111,7 +111,7 @@ setup_of_row r values faulty tag = counted (record {
 abbrev pub setup_with : List ℕ → List NodeId → List ℕ → Setup
 setup_with values faulty tag = setup_of_row (row_at (value values 1)) values faulty tag
 
--- and the values of a set-up
+-- the values of a set-up
 abbrev pub values_of : Setup → List ℕ
 values_of s =
     0 ∷ place_among s.module module_rows ∷ s.f ∷ s.epoch ∷ s.buckets ∷ s.batch ∷ s.window
@@ -119,13 +119,13 @@ values_of s =
 
 -- ---- lines
 
--- a line of a header is one of some texts, whose value is its place among them, or a name and a number, from the first
--- bound on and below the second, which may hang on the values above
+-- A line of a header is one of some texts, whose value is its index among them, or a name and a number. The number is
+-- at least `low` and below `end`, which may depend on the values above.
 pub data HeaderField : Type 0 where
   OneOf : (texts : List (List ℕ)) → HeaderField
   Number : (name : List ℕ) → (low end : List ℕ → ℕ) → HeaderField
 
--- an epoch has a slot for each node
+-- the fields of a header; an epoch has at least one slot for each node
 -- rule: Schedules: A header line is one of its field's texts, or a name and a number in range
 abbrev pub header_fields : List HeaderField
 header_fields =
@@ -145,7 +145,7 @@ header_fields =
 abbrev pub field : List ℕ → ℕ → List ℕ
 field name n = name ++ 32 ∷ decimal n
 
--- how a value is spelled, and whether it is in range behind the values above
+-- how a value is encoded, and whether it is in range after the values above
 abbrev pub spell_value : HeaderField → ℕ → List ℕ
 spell_value (OneOf texts) v = get_or texts v []
 spell_value (Number name low end) v = field name v
@@ -154,7 +154,7 @@ abbrev pub IsValue : HeaderField → List ℕ → ℕ → Type 0
 IsValue (OneOf texts) above v = v < length texts
 IsValue (Number name low end) above v = IsWithin (low above) (end above) v
 
--- a line that spells a value in range
+-- a line that encodes a value in range
 abbrev pub IsGoodLine : HeaderField → List ℕ → List ℕ → Type 0
 IsGoodLine f above line = (v : ℕ) × (IsValue f above v × (line ≡ spell_value f v))
 
@@ -169,7 +169,7 @@ lines_of [] vs = []
 lines_of (f ∷ fs) [] = []
 lines_of (f ∷ fs) (v ∷ vs) = spell_value f v ∷ lines_of fs vs
 
--- the field that stands below so many values
+-- the field after these values
 abbrev pub next_field : List ℕ → HeaderField
 next_field above = get_or header_fields (length above) (OneOf [])
 
@@ -179,7 +179,7 @@ abbrev pub node_words : List NodeId → List (List ℕ)
 node_words [] = []
 node_words (i ∷ is) = decimal i.0 ∷ node_words is
 
--- it names the faulty nodes
+-- the line that names the faulty nodes
 -- rule: Schedules: Faulty nodes are strictly ascending, at most f, and none where nodes only crash
 abbrev pub faulty_line : List NodeId → List ℕ
 faulty_line [] = codes "faulty none"

@@ -3,7 +3,7 @@ use Rattle.std.specs.Prelude.{ℕ, List, codes}
 use Rattle.iss_schedule.specs.declared.names.Name.{Name}
 use Rattle.iss_schedule.specs.declared.names.Name.TheVariants.{Request, Propose, Timeout, Ask, Deliver, Lose, Pump, Calm, Hold, Free, Drop, Restart, Crash, Bytes}
 
--- how a name is spelled
+-- the text of a name
 abbrev pub text_of_name : Name → List ℕ
 text_of_name Request = codes "request"
 text_of_name Propose = codes "propose"

@@ -17,17 +17,17 @@ use Rattle.iss_schedule.specs.Events.{spell_event, IsInRange, AreInRange}
 use Rattle.iss_schedule.specs.Schedules.{most_events}
 use Rattle.iss_schedule.specs.Words.{Lacks, ended}
 
--- what is still to be read, and how many lines were looked at
+-- the text that is still to be read, and how many lines were read
 pub record Place : Type 0 where
   pub rest : List ℕ
   pub read : ℕ
 
--- the reader went past this line
+-- the reader consumed this line
 pub record GoesPast (line : List ℕ) (old new : Place) : Type 0 where
   pub text : old.rest ≡ line ++ 10 ∷ new.rest
   pub whole : Lacks 10 line
 
--- a header's line that should have been of one form and in range was not
+-- what is wrong with a line of a header that should have this form and range
 abbrev pub IsLineFault : (List ℕ → Type 0) → (List ℕ → Type 0) → List ℕ → LineFault → Type 0
 IsLineFault IsFormed IsGood rest Cut = Lacks 10 rest
 IsLineFault IsFormed IsGood rest Form = (line : List ℕ) × (IsNext line rest × ¬ IsFormed line)
@@ -39,26 +39,27 @@ IsLineFault IsFormed IsGood rest Size = ⊥
 abbrev pub IsFieldFault : HeaderField → List ℕ → List ℕ → LineFault → Type 0
 IsFieldFault f above rest why = IsLineFault (IsFieldFormed f) (IsGoodLine f above) rest why
 
--- the reader went past a line that spells a value in range of the field, or says what is wrong with the line
+-- the reader consumed a line that encodes a value in range, or says what is wrong with the line
 abbrev pub ReadsField : HeaderField → List ℕ → Place → Place → Result ℕ LineFault → Type 0
 ReadsField f above old new (Ok v) = GoesPast (spell_value f v) old new × IsValue f above v
 ReadsField f above old new (Err why) = IsFieldFault f above old.rest why
 
--- so many nodes at most, ascending, with numbers below n
+-- at most `most` nodes, strictly ascending, with numbers below n
 abbrev pub AreFew : ℕ → ℕ → List NodeId → Type 0
 AreFew most n nodes = (length nodes ≤ most) × AreRising 0 n nodes
 
--- how many nodes may be faulty: f, and none where nodes only stop
+-- how many nodes may be faulty: f, and none in the crash model
 abbrev pub most_faulty : Kind → ℕ → ℕ
 most_faulty Byzantine f = f
 most_faulty Stopping f = 0
 
--- the line that should have named faulty nodes names others, or is spelled otherwise
+-- what is wrong with a line that should name faulty nodes
 abbrev pub IsFaultyLineFault : ℕ → ℕ → List ℕ → LineFault → Type 0
 IsFaultyLineFault most n rest Cut = Lacks 10 rest
 IsFaultyLineFault most n rest Form = (line : List ℕ) × (IsNext line rest × ¬ IsFaultyFormed line)
 IsFaultyLineFault most n rest Faulty =
-    (line : List ℕ) × (IsNext line rest × IsFaultyFormed line × ((is : List NodeId) → AreFew most n is → line ≢ faulty_line is))
+    (line : List ℕ) × (IsNext line rest × IsFaultyFormed line
+    × ((is : List NodeId) → AreFew most n is → line ≢ faulty_line is))
 IsFaultyLineFault most n rest Injected = ⊥
 IsFaultyLineFault most n rest Range = ⊥
 IsFaultyLineFault most n rest Size = ⊥
@@ -67,17 +68,18 @@ abbrev pub IsFaultyRefused : ℕ → ℕ → Place → ReadError → Type 0
 IsFaultyRefused most n old (BadLine line why) = (line ≡ old.read + 1) × IsFaultyLineFault most n old.rest why
 IsFaultyRefused most n old NoMemory = Unit {0}
 
--- the next line is no event in range: it is not whole, or it has a fault and no event in range is spelled so
+-- the next line is no event in range: no line feed follows, or it has a fault and encodes no event in range
 abbrev pub IsEventBad : Setup → List ℕ → LineFault → Type 0
 IsEventBad s rest Cut = Lacks 10 rest
-IsEventBad s rest why = (line : List ℕ) × (IsNext line rest × IsEventFault s line why × ((e : Event) → IsInRange s e → line ≢ spell_event e))
+IsEventBad s rest why = (line : List ℕ)
+    × (IsNext line rest × IsEventFault s line why × ((e : Event) → IsInRange s e → line ≢ spell_event e))
 
--- the reader of one event says so of the line that it looks at
+-- the reader of one event reports this fault for its line
 abbrev pub IsEventRefused : Setup → Place → ReadError → Type 0
 IsEventRefused s old (BadLine line why) = (line ≡ old.read + 1) × IsEventBad s old.rest why
 IsEventRefused s old NoMemory = Unit {0}
 
--- behind events in range the next line is bad, or is one too many
+-- after events in range, the next line is bad or is one too many
 pub record IsEventsBad (s : Setup) (text : List ℕ) (line : ℕ) (why : LineFault) : Type 0 where
   pub events : List Event
   pub rest : List ℕ

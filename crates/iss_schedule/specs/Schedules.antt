@@ -10,7 +10,7 @@ use Rattle.iss_schedule.specs.Events.{spell_event, AreInRange}
 use Rattle.iss_schedule.specs.Headers.{IsOneOf, faulty_line, header_fields, lines_of, module_rows, row_of, values_of}
 use Rattle.iss_schedule.specs.Words.{ended}
 
--- the eleven lines of a header; a module that has no word yet has an empty line
+-- the eleven lines of a header; a module that schedules cannot name has an empty line
 abbrev pub header_lines : Setup → List (List ℕ)
 header_lines s = lines_of header_fields (values_of s) ++ faulty_line s.faulty ∷ []
 
@@ -19,7 +19,7 @@ header_lines s = lines_of header_fields (values_of s) ++ faulty_line s.faulty �
 abbrev pub cluster_tag : Setup → List ℕ
 cluster_tag s = sha256 (0x43 ∷ ended (header_lines s))
 
--- a header, and then a line for each event
+-- a header, then a line for each event
 abbrev pub schedule_lines : Schedule → List (List ℕ)
 schedule_lines s = header_lines s.setup ++ map spell_event s.events
 
@@ -35,7 +35,7 @@ most_bytes = 16777216
 abbrev pub most_events : ℕ
 most_events = 1048576
 
--- the set-up is that of a module that has a word, as its row says, and its tag its own
+-- the set-up is one of a named module and fits its row, and its tag is the digest of its own header
 pub record IsKnown (s : Setup) : Type 0 where
   pub good : IsGoodSetup s
   pub known : IsOneOf s.module module_rows

@@ -1,4 +1,4 @@
-//! Why a text is no schedule.
+//! Why a text is not a schedule.
 ghost use Rattle.std.specs.Prelude.{◌≡◌};
 ghost use Rattle.iss_schedule.specs.declared.errors.ReadError.TheVariants.{BadLine};
 
@@ -6,16 +6,17 @@ use crate::lines::Lines;
 use iss_request::errors::NoMemory as WantOfMemory;
 use std::alloc::AllocError;
 
-/// What is wrong with a line. Of several reasons the one that stands first here counts, but for `Size`, which counts first.
+/// What is wrong with a line. If several reasons hold, the first in this order counts; only `Size` comes before all
+/// others.
 #[derive(Clone, Copy, Debug, PartialEq, Eq)]
 pub enum LineFault {
-    /// No line feed ends the line, or the text ends before its header is whole.
+    /// No line feed ends the line, or the text ends before its header is complete.
     Cut,
-    /// The line is not spelled as its place asks.
+    /// The line is not spelled as its place requires.
     Form,
-    /// The header names faulty nodes out of their rule: ascending, below n, at most f, and none where nodes only stop.
+    /// The header's faulty nodes break their rule: strictly ascending, below n, at most f, and none in the crash model.
     Faulty,
-    /// The line gives bytes of its own to a core, which a module whose nodes only stop does not withstand.
+    /// The line injects bytes into a core, but the module is in the crash model.
     Injected,
     /// A number or a payload is out of range.
     Range,
@@ -23,12 +24,12 @@ pub enum LineFault {
     Size,
 }
 
-/// Why a text was not read.
+/// Why a text could not be read.
 #[derive(Clone, Copy, Debug, PartialEq, Eq)]
 pub enum ReadError {
-    /// The first bad line, numbered from 1, and what is wrong with it.
+    /// The first bad line, counted from 1, and what is wrong with it.
     BadLine { line: u32, why: LineFault },
-    /// Memory was wanting.
+    /// Out of memory.
     NoMemory,
 }
 
@@ -54,7 +55,7 @@ impl From<AllocError> for ReadError {
     }
 }
 
-// The line that was read last is bad.
+// The error for the line that was read last.
 // rule: Schedules: The first bad line is named, with the first reason that holds
 pub(crate) fn bad_line(lines: &Lines, why: LineFault) -> ReadError
     ensures { result ≡ BadLine lines.now.read why }

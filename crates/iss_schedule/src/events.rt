@@ -17,7 +17,7 @@ use iss_request::ids::NodeId;
 use iss_request::setups::{Kind, Setup};
 use std::alloc::Global;
 
-// The number that the next word spells, where it is in range.
+// The number in the next word, if it is in range.
 fn number_in(words: &mut Words, low: u32, end: u32) -> Option<u32>
     ensures some { IfSome result (λ n. words.old ≡ decimal n ∷ words.new) }
     ensures range { IfSome result (IsWithin low end) }
@@ -27,7 +27,7 @@ fn number_in(words: &mut Words, low: u32, end: u32) -> Option<u32>
     number_within(word, low, end)
 }
 
-// The number that the last word spells, where it is in range.
+// The number in the last word, if it is in range.
 fn last_number_in(words: &mut Words, low: u32, end: u32) -> Option<u32>
     ensures { Reads last_number (IsWithin low end) words.old result }
 {
@@ -35,7 +35,7 @@ fn last_number_in(words: &mut Words, low: u32, end: u32) -> Option<u32>
     if words.is_done() { Some(number) } else { None }
 }
 
-// The number of the packet that the last word spells.
+// The number of the packet in the last word.
 fn packet_in(words: &mut Words) -> Option<u64>
     ensures { Reads last_number (λ n. n < 2 ^ 64) words.old result }
 {
@@ -44,7 +44,7 @@ fn packet_in(words: &mut Words) -> Option<u64>
     if words.is_done() { Some(number) } else { None }
 }
 
-// The same bytes, each of which is below 256.
+// The same bytes, with the proof that each is below 256.
 fn bytes_from(all: Vec<u8>) -> Bytes
     ensures same { result ≡ all.items }
     ensures bytes { IsBytes result }
@@ -52,7 +52,7 @@ fn bytes_from(all: Vec<u8>) -> Bytes
     Bytes::of(all)
 }
 
-/// The bytes that the last word spells.
+/// The bytes in the last word.
 pub fn bytes_in(alloc: Global, words: &mut Words) -> Result<Option<Bytes>, NoMemory>
     ensures { IfOk result (Reads (λ bytes. word_of bytes ∷ []) IsBytes words.old) }
 {
@@ -69,7 +69,7 @@ pub fn bytes_in(alloc: Global, words: &mut Words) -> Result<Option<Bytes>, NoMem
     }
 }
 
-// How many cores the cluster has.
+// The number of cores of the cluster.
 // rule: Schedules: A faulty node has a second core, numbered after the nodes
 fn count_of_cores(setup: &Setup) -> u32
     requires good { IsGoodSetup setup.now }
@@ -78,7 +78,7 @@ fn count_of_cores(setup: &Setup) -> u32
     setup.n + setup.faulty.as_slice().len() as u32
 }
 
-// The core that the last word names.
+// The core in the last word.
 fn core_in(setup: &Setup, words: &mut Words) -> Option<u32>
     requires good { IsGoodSetup setup.now }
     ensures { Reads last_number (λ core. core < cores_of setup.now) words.old result }
@@ -86,26 +86,27 @@ fn core_in(setup: &Setup, words: &mut Words) -> Option<u32>
     last_number_in(words, 0, count_of_cores(setup))
 }
 
-// How many pumps the last word asks for.
+// The number of pumps in the last word.
 fn pumps_in(words: &mut Words) -> Option<u32>
     ensures { Reads last_number (λ pumps. (1 ≤ pumps) × (pumps ≤ 1000)) words.old result }
 {
     last_number_in(words, 1, 1001)
 }
 
-// The core and the node that the last two words name.
+// The core and the node in the last two words.
 fn core_and_node_in(setup: &Setup, words: &mut Words) -> Option<(u32, NodeId)>
     requires good { IsGoodSetup setup.now }
     ensures some { IfSome result (λ pair. words.old ≡ decimal pair.0 ∷ decimal pair.1.0 ∷ []) }
     ensures range { IfSome result (λ pair. (pair.0 < cores_of setup.now) × (pair.1.0 < setup.now.n)) }
-    ensures none { IfNone result ((core node : ℕ) → core < cores_of setup.now → node < setup.now.n → words.old ≢ decimal core ∷ decimal node ∷ []) }
+    ensures none { IfNone result ((core node : ℕ) → core < cores_of setup.now → node < setup.now.n →
+        words.old ≢ decimal core ∷ decimal node ∷ []) }
 {
     let core = number_in(words, 0, count_of_cores(setup))?;
     let node = last_number_in(words, 0, setup.n)?;
     Some((core, NodeId(node as u8)))
 }
 
-// A timeout, behind its name.
+// The arguments of a timeout.
 fn timeout_in(setup: &Setup, words: &mut Words) -> Option<Event>
     requires good { IsGoodSetup setup.now }
     ensures { Reads event_words (IsInRange setup.now) (text_of_name Name.Timeout ∷ words.old) result }
@@ -114,7 +115,7 @@ fn timeout_in(setup: &Setup, words: &mut Words) -> Option<Event>
     Some(Event::Timeout { core, leader })
 }
 
-// An ask, behind its name.
+// The arguments of an ask.
 // rule: Schedules: An ask names one of the cores and one of the nodes
 fn ask_in(setup: &Setup, words: &mut Words) -> Option<Event>
     requires good { IsGoodSetup setup.now }
@@ -124,7 +125,7 @@ fn ask_in(setup: &Setup, words: &mut Words) -> Option<Event>
     Some(Event::Ask { core, peer })
 }
 
-// How many calls the last word lets pass.
+// The number of disk calls in the last word that still succeed.
 // rule: Schedules: A crash lets 0 to 1,000 disk calls of a core pass
 fn calls_in(words: &mut Words) -> Option<u32>
     ensures { Reads last_number (λ calls. calls ≤ 1000) words.old result }
@@ -132,7 +133,7 @@ fn calls_in(words: &mut Words) -> Option<u32>
     last_number_in(words, 0, 1001)
 }
 
-// A crash, behind its name.
+// The arguments of a crash.
 fn crash_in(setup: &Setup, words: &mut Words) -> Option<Event>
     requires good { IsGoodSetup setup.now }
     ensures { Reads event_words (IsInRange setup.now) (text_of_name Name.Crash ∷ words.old) result }
@@ -142,7 +143,7 @@ fn crash_in(setup: &Setup, words: &mut Words) -> Option<Event>
     Some(Event::Crash { core, calls })
 }
 
-// The payload that the last word spells.
+// The payload in the last word.
 fn payload_in(alloc: Global, words: &mut Words) -> Result<Option<Bytes>, NoMemory>
     ensures { IfOk result (Reads (λ payload. word_of payload ∷ []) IsPayload words.old) }
 {
@@ -156,7 +157,7 @@ fn payload_in(alloc: Global, words: &mut Words) -> Result<Option<Bytes>, NoMemor
     }
 }
 
-// A request, behind its name.
+// The arguments of a request.
 fn request_in(alloc: Global, setup: &Setup, words: &mut Words) -> Result<Option<Event>, NoMemory>
     requires good { IsGoodSetup setup.now }
     ensures { IfOk result (Reads event_words (IsInRange setup.now) (text_of_name Name.Request ∷ words.old)) }
@@ -181,7 +182,7 @@ fn request_in(alloc: Global, setup: &Setup, words: &mut Words) -> Result<Option<
     }))
 }
 
-// Bytes for a core, behind their name.
+// The arguments of an injection of bytes.
 fn injection_in(alloc: Global, setup: &Setup, words: &mut Words) -> Result<Option<Event>, NoMemory>
     requires good { IsGoodSetup setup.now }
     ensures { IfOk result (Reads event_words (IsInRange setup.now) (text_of_name Name.Bytes ∷ words.old)) }
@@ -198,7 +199,7 @@ fn injection_in(alloc: Global, setup: &Setup, words: &mut Words) -> Result<Optio
     Ok(Some(Event::Bytes { core, bytes }))
 }
 
-/// Whether the set-up's module withstands nodes that stop, and no others.
+/// Whether the set-up's module is in the crash model.
 pub fn is_stopping(setup: &Setup) -> bool
     ensures { IsTrue result ↔ (setup.now.kind ≡ Kind.Stopping) }
 {
@@ -208,7 +209,7 @@ pub fn is_stopping(setup: &Setup) -> bool
     }
 }
 
-// The event of this name, behind which the words stand.
+// The event with this name and these words as arguments.
 fn event_in(
     alloc: Global,
     setup: &Setup,
@@ -236,7 +237,7 @@ fn event_in(
     })
 }
 
-/// The event that a line spells, where it is in range.
+/// The event that a line encodes, if it is in range.
 pub fn event_of(alloc: Global, setup: &Setup, line: &[u8]) -> Result<Option<Event>, NoMemory>
     requires good { IsGoodSetup setup.now }
     ensures { IfOk result (Reads spell_event (IsInRange setup.now) line.now) }

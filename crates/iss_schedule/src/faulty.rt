@@ -43,14 +43,14 @@ fn names_faulty(line: &[u8]) -> bool
     are_numbers(&mut words)
 }
 
-// Whether the line is spelled as the last of a header, whatever the size of its numbers.
+// Whether the line has the form of a header's last line, whatever the size of its numbers.
 fn is_formed(line: &[u8]) -> bool
     ensures { IsTrue result ↔ IsFaultyFormed line.now }
 {
     is_same(line, b"faulty none") || names_faulty(line)
 }
 
-// The nodes that the words name, so many at most, ascending, with numbers below n.
+// The nodes in the words: at most `most`, strictly ascending, with numbers below n.
 fn nodes_in(alloc: Global, words: &mut Words, most: u32, n: u32) -> Result<Option<Nodes>, NoMemory>
     requires few { most < 256 }
     requires bytes { n ≤ 256 }
@@ -73,7 +73,7 @@ fn nodes_in(alloc: Global, words: &mut Words, most: u32, n: u32) -> Result<Optio
     Ok(Some(nodes))
 }
 
-// The faulty nodes that a line names.
+// The faulty nodes in a line.
 fn nodes_of(alloc: Global, line: &[u8], most: u32, n: u32) -> Result<Option<Nodes>, NoMemory>
     requires few { most < 256 }
     requires bytes { n ≤ 256 }
@@ -95,7 +95,7 @@ fn nodes_of(alloc: Global, line: &[u8], most: u32, n: u32) -> Result<Option<Node
     nodes_in(alloc, &mut words, most, n)
 }
 
-// What is wrong with a line that does not name faulty nodes as it should.
+// What is wrong with a line that should name faulty nodes.
 fn fault_of(line: &[u8]) -> LineFault
     ensures faulty { result ≡ LineFault.Faulty → IsFaultyFormed line.now }
     ensures form { result ≡ LineFault.Form → ¬ IsFaultyFormed line.now }
@@ -108,7 +108,7 @@ fn fault_of(line: &[u8]) -> LineFault
     }
 }
 
-/// Reads the line that names the faulty nodes, so many at most, ascending, with numbers below n.
+/// Reads the line that names the faulty nodes: at most `most`, strictly ascending, with numbers below n.
 // rule: Schedules: Faulty nodes are strictly ascending, at most f, and none where nodes only crash
 pub fn read_faulty(alloc: Global, lines: &mut Lines, most: u32, n: u32) -> Result<Nodes, ReadError>
     requires read { lines.old.read ≡ 10 }

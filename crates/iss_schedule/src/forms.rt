@@ -1,4 +1,4 @@
-//! Whether the line of an event is spelled as its name asks, whatever the size of its numbers.
+//! Whether the line of an event has the form that its name requires, whatever the size of its numbers.
 ghost use Rattle.std.specs.Prelude.{◌≡◌, ◌↔◌, IsTrue, true, IfOk};
 ghost use Rattle.iss_schedule.specs.Forms.{number_count, has_bytes, AreArguments, IsEventFault};
 
@@ -29,7 +29,7 @@ fn ends_in_bytes(name: Name) -> bool
     matches!(name, Name::Request | Name::Bytes)
 }
 
-// Whether the words are so many numbers, and then nothing, or bytes.
+// Whether the words are `numbers` numbers, then bytes if required, and nothing more.
 fn are_arguments(
     alloc: Global,
     numbers: u32,
@@ -52,14 +52,14 @@ fn are_arguments(
     are_bytes(alloc, words)
 }
 
-// Whether the last word spells bytes.
+// Whether the last word encodes bytes.
 fn are_bytes(alloc: Global, words: &mut Words) -> Result<bool, NoMemory>
     ensures { IfOk result (λ b. IsTrue b ↔ AreArguments 0 true words.old) }
 {
     Ok(bytes_in(alloc, words)?.is_some())
 }
 
-/// What is wrong with the line of an event that does not read as an event in range.
+/// What is wrong with a line that is no event in range.
 pub fn fault_of(alloc: Global, setup: &Setup, line: &[u8]) -> Result<LineFault, NoMemory>
     ensures { IfOk result (IsEventFault setup.now line.now) }
 {

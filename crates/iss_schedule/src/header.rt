@@ -15,13 +15,13 @@ use iss_request::setups::{Kind, Nodes, Policy, Setup};
 use iss_request::versions::FIRST;
 use sha2::{Digest, Sha256};
 
-// The relay's number.
+// The relay's module number.
 const RELAY: u8 = 1;
 
 /// How many lines of a header have a value.
 pub const FIELDS: usize = 10;
 
-// Goes past a line that has to be this text, the only one of its field.
+// Consumes a line that must be this text, the only one of its field.
 fn expect(lines: &mut Lines, text: &[u8]) -> Result<u32, LineFault>
     requires { lines.old.read < 11 }
     ensures read { lines.new.read ≡ lines.old.read + 1 }
@@ -35,7 +35,7 @@ fn expect(lines: &mut Lines, text: &[u8]) -> Result<u32, LineFault>
     }
 }
 
-// Goes past a line that has to name a module.
+// Consumes a line that must name a module.
 fn module(lines: &mut Lines) -> Result<u32, LineFault>
     requires { lines.old.read < 11 }
     ensures read { lines.new.read ≡ lines.old.read + 1 }
@@ -48,14 +48,14 @@ fn module(lines: &mut Lines) -> Result<u32, LineFault>
     }
 }
 
-// How many faults are too many for the module of this place.
+// The least number of faults that is too large for the module at this place.
 fn too_many(place: u32) -> u32
     ensures { result ≡ suc (row_at place).most_faults }
 {
     module_at(place).most_faults + 1
 }
 
-// How many nodes a module is of, for so many faults: the relay of three.
+// The number of nodes of a module for `f` faults; the relay has three.
 fn nodes_for(row: &Module, f: u32) -> u32
     requires { f < 4 }
     ensures nodes { result ≡ (setup_of_row (see row.now) (0 ∷ 0 ∷ f ∷ []) [] []).n }
@@ -70,7 +70,7 @@ fn nodes_for(row: &Module, f: u32) -> u32
     }
 }
 
-// And how many of them decide: of the relay's, two.
+// The size of a quorum; for the relay it is two.
 fn quorum_for(row: &Module, f: u32) -> u32
     requires { f < 4 }
     ensures { result ≡ (setup_of_row (see row.now) (0 ∷ 0 ∷ f ∷ []) [] []).quorum }
@@ -84,7 +84,7 @@ fn quorum_for(row: &Module, f: u32) -> u32
     }
 }
 
-/// How many nodes the cluster is of whose header has these values.
+/// The number of nodes of the cluster whose header has these values.
 pub fn nodes_of(values: &[u32]) -> u32
     requires long { 2 < length values.now }
     requires few { value values.now 2 < 4 }
@@ -94,7 +94,7 @@ pub fn nodes_of(values: &[u32]) -> u32
     nodes_for(module_at(values[1]), values[2])
 }
 
-// And how many of them decide.
+// The size of a quorum of that cluster.
 fn quorum_of(values: &[u32]) -> u32
     requires long { 2 < length values.now }
     requires few { value values.now 2 < 4 }
@@ -103,7 +103,7 @@ fn quorum_of(values: &[u32]) -> u32
     quorum_for(module_at(values[1]), values[2])
 }
 
-/// How many of them may be faulty.
+/// How many of its nodes may be faulty.
 pub fn most_faulty(values: &[u32]) -> u32
     requires long { 2 < length values.now }
     requires few { value values.now 2 < 4 }
@@ -116,7 +116,7 @@ pub fn most_faulty(values: &[u32]) -> u32
     }
 }
 
-// Goes past a line that has to name a policy.
+// Consumes a line that must name a policy.
 fn policy(lines: &mut Lines) -> Result<u32, LineFault>
     requires { lines.old.read < 11 }
     ensures read { lines.new.read ≡ lines.old.read + 1 }
@@ -134,7 +134,7 @@ fn policy(lines: &mut Lines) -> Result<u32, LineFault>
     }
 }
 
-// What stands in the line behind the name and a space.
+// What follows the name and a space in the line.
 fn behind<'a>(line: &'a [u8], name: &[u8]) -> Option<&'a [u8]>
     requires { Lacks 32 name.now }
     ensures some { IfSome result (λ word. line.now ≡ name.now ++ 32 ∷ word.now) }
@@ -150,12 +150,13 @@ fn behind<'a>(line: &'a [u8], name: &[u8]) -> Option<&'a [u8]>
     }
 }
 
-// Goes past a line that has to be this name and a number in range, at least the first and below the second.
+// Consumes a line that must be this name and a number that is at least `low` and below `end`.
 fn number(lines: &mut Lines, name: &[u8], low: u32, end: u32) -> Result<u32, LineFault>
     requires few { lines.old.read < 11 }
     requires name { Lacks 32 name.now }
     ensures read { lines.new.read ≡ lines.old.read + 1 }
-    ensures reads { (above : List ℕ) → ReadsField (Number name.now (λ _. low) (λ _. end)) above lines.old lines.new result }
+    ensures reads { (above : List ℕ) →
+        ReadsField (Number name.now (λ _. low) (λ _. end)) above lines.old lines.new result }
 {
     let line = lines.next()?;
     let Some(word) = behind(line, name) else {
@@ -171,7 +172,7 @@ fn number(lines: &mut Lines, name: &[u8], low: u32, end: u32) -> Result<u32, Lin
     }
 }
 
-// Reads the line behind these values: the table of a header, a field on each line.
+// Reads the line after these values. This is the table of a header, with one field a line.
 // rule: Schedules: A header line is one of its field's texts, or a name and a number in range
 fn read_field(lines: &mut Lines, above: &[u32]) -> Result<u32, LineFault>
     requires lines { lines.old.read < 11 }
@@ -194,7 +195,7 @@ fn read_field(lines: &mut Lines, above: &[u32]) -> Result<u32, LineFault>
     }
 }
 
-/// Reads the lines of a header: their values.
+/// Reads the lines of a header, and returns their values.
 pub fn read_header(lines: &mut Lines) -> Result<[u32; 10], LineFault>
     requires { lines.old.read ≡ 0 }
     ensures read { OnOk result (lines.new.read ≡ 10) }
@@ -222,7 +223,7 @@ fn tag_of(header: &[u8]) -> [u8; 32]
     hasher.finalize()
 }
 
-// The policy whose line is at this place.
+// The policy whose line has this index.
 fn policy_of(place: u32) -> Policy
     ensures { result ≡ policy_at place }
 {
@@ -233,7 +234,7 @@ fn policy_of(place: u32) -> Policy
     }
 }
 
-/// The set-up of the cluster whose header has these values, these faulty nodes and this text.
+/// The set-up of the cluster whose header has these values, faulty nodes and text.
 // rule: Formats: A set-up's fields are in range, and its nodes and quorum fit its fault model and f
 pub fn setup_of(values: &[u32], faulty: Nodes, text: &[u8]) -> Setup
     requires size { length values.now ≡ 10 }

@@ -1,4 +1,4 @@
-//! Schedules: the set-up of a cluster and what happens to it, event by event, with the text that spells them.
+//! Schedules: the set-up of a cluster and its events one by one, with their text.
 #![tactic(auto)]
 
 pub mod errors;

@@ -1,4 +1,4 @@
-//! The lines of a text, read one after another.
+//! The lines of a text, read one by one.
 ghost use Rattle.std.specs.Prelude.{◌≡◌, ◌↔◌, ◌<◌, ◌+◌, ◌^◌, ◌-◌, [], IsTrue, IfOk, IfErr, OnErr};
 ghost use Rattle.iss_schedule.specs.Places.{Place, GoesPast};
 ghost use Rattle.iss_schedule.specs.Words.{Lacks};
@@ -7,7 +7,7 @@ use crate::errors::LineFault;
 use crate::words::cut_at;
 use std::marker::Model;
 
-/// The lines that are still to be read, and how many were looked at.
+/// The lines that are still to be read, and how many were read.
 #[derive(Drop)]
 pub struct Lines<'a> {
     rest: &'a [u8],
@@ -33,21 +33,21 @@ impl<'a> Lines<'a> {
         }
     }
 
-    /// How many lines were looked at.
+    /// How many lines were read.
     pub fn read(&self) -> u32
         ensures { result ≡ self.now.read }
     {
         self.read
     }
 
-    /// What is still to be read.
+    /// The text that is still to be read.
     pub fn rest(&self) -> &'a [u8]
         ensures { result.now ≡ self.now.rest }
     {
         self.rest
     }
 
-    /// Whether nothing is left.
+    /// Whether no line is left.
     pub fn is_done(&self) -> bool
         ensures { IsTrue result ↔ (self.now.rest ≡ []) }
     {

@@ -1,4 +1,4 @@
-//! The modules that have a word.
+//! The modules that schedules can name.
 ghost use Rattle.std.specs.Prelude.{◌≡◌, ◌<◌, ◌^◌, suc, [], length, get_or};
 ghost use Rattle.iss_schedule.specs.Headers.{lines_of_rows, module_rows, place_among, row_at, see, see_all};
 ghost use Rattle.iss_schedule.specs.Reads.{Finds};
@@ -6,8 +6,7 @@ ghost use Rattle.iss_schedule.specs.Reads.{Finds};
 use crate::names::is_same;
 use iss_request::setups::Kind;
 
-/// A module that has a word: its line in a header, its number, what it withstands, and the most faults that it is asked
-/// to withstand.
+/// A module that schedules can name: its line in a header, its number, its fault model, and the maximal f.
 #[derive(Clone, Copy, Debug)]
 pub struct Module {
     pub line: &'static [u8],
@@ -16,7 +15,7 @@ pub struct Module {
     pub most_faults: u32,
 }
 
-// One that has no word is a line less, here and in the definition.
+// To add a module, add a line here and one in the definition.
 #[rattlefmt::skip]
 const MODULES: &[Module] = &[
     Module { line: b"module relay", number: 1, kind: Kind::Stopping, most_faults: 0 },
@@ -32,7 +31,7 @@ fn modules() -> &'static [Module]
     MODULES
 }
 
-/// The module at this place, or the first, where none stands there.
+/// The module at this place, or the first if there is none.
 pub fn module_at(place: u32) -> &'static Module
     ensures { see result.now ≡ row_at place }
 {
@@ -65,7 +64,7 @@ pub fn place_of(line: &[u8]) -> Option<u32>
     place_in(modules(), line)
 }
 
-// The line of the module of this number.
+// The line of the module with this number.
 fn line_in(all: &[Module], number: u8) -> &'static [u8]
     ensures { result.now ≡ get_or (lines_of_rows (see_all all.now)) (place_among number (see_all all.now)) [] }
 {
@@ -77,7 +76,7 @@ fn line_in(all: &[Module], number: u8) -> &'static [u8]
     b""
 }
 
-/// The line of the module of this number; of a number that no module has, an empty one.
+/// The line of the module with this number, or an empty line if there is none.
 pub fn line_of(number: u8) -> &'static [u8]
     ensures { result.now ≡ get_or (lines_of_rows module_rows) (place_among number module_rows) [] }
 {

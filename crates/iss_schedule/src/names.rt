@@ -1,9 +1,9 @@
-//! The words with which the lines of events begin.
+//! The words that begin the lines of events.
 ghost use Rattle.std.specs.Prelude.{◌≡◌, ◌≢◌, ◌↔◌, IsTrue, IfSome, IfNone};
 ghost use Rattle.iss_schedule.specs.Names.{text_of_name};
 ghost use Rattle.iss_schedule.specs.declared.names.Name.{Name};
 
-/// The word with which the line of an event begins.
+/// The word that begins the line of an event.
 #[derive(Clone, Copy, Debug, PartialEq, Eq)]
 pub enum Name {
     Request,
@@ -22,14 +22,14 @@ pub enum Name {
     Bytes,
 }
 
-/// Whether two texts are the same.
+/// Whether two texts are equal.
 pub fn is_same(a: &[u8], b: &[u8]) -> bool
     ensures { IsTrue result ↔ (a.now ≡ b.now) }
 {
     a == b
 }
 
-/// How a name is spelled.
+/// The text of a name.
 pub fn text_of(name: Name) -> &'static [u8]
     ensures { result.now ≡ text_of_name name }
 {
@@ -51,7 +51,7 @@ pub fn text_of(name: Name) -> &'static [u8]
     }
 }
 
-/// The name that a word spells.
+/// The name with this text.
 pub fn name_of(word: &[u8]) -> Option<Name>
     ensures some { IfSome result (λ name. word.now ≡ text_of_name name) }
     ensures none { IfNone result ((name : Name) → word.now ≢ text_of_name name) }

@@ -20,13 +20,13 @@ use iss_request::seqs::Seq;
 use iss_request::setups::Setup;
 use std::alloc::Global;
 
-/// The most bytes that a text may have.
+/// The maximal length of a text, in bytes.
 pub const MOST_BYTES: usize = 16_777_216;
 
-/// The most events that a schedule may have.
+/// The maximal number of events in a schedule.
 pub const MOST_EVENTS: usize = 1_048_576;
 
-// Reads the lines behind the header, each an event.
+// Reads the lines after the header, each of which is an event.
 // rule: Schedules: A schedule has at most 16 MiB and 1,048,576 events
 fn read_events(alloc: Global, setup: &Setup, lines: &mut Lines) -> Result<Seq<Event>, ReadError>
     requires known { IsKnown setup.now }
@@ -50,7 +50,7 @@ fn read_events(alloc: Global, setup: &Setup, lines: &mut Lines) -> Result<Seq<Ev
     Ok(events)
 }
 
-// Reads the next line, an event.
+// Reads the next line, which is an event.
 fn read_event(alloc: Global, setup: &Setup, lines: &mut Lines) -> Result<Event, ReadError>
     requires known { IsKnown setup.now }
     requires read { lines.old.read < 2 ^ 32 - 1 }
@@ -72,7 +72,7 @@ fn read_event(alloc: Global, setup: &Setup, lines: &mut Lines) -> Result<Event, 
     }
 }
 
-// The text in front of what is still to be read.
+// The text before what is still to be read.
 fn front<'a>(text: &'a [u8], rest: &[u8]) -> &'a [u8]
     requires { length rest.now ≤ length text.now }
     ensures { (read : List ℕ) → text.now ≡ read ++ rest.now → result.now ≡ read }
@@ -80,7 +80,7 @@ fn front<'a>(text: &'a [u8], rest: &[u8]) -> &'a [u8]
     &text[..text.len() - rest.len()]
 }
 
-// The set-up that the header of these bytes gives.
+// The set-up in the header of these bytes.
 fn read_setup(alloc: Global, bytes: &[u8], lines: &mut Lines) -> Result<Setup, ReadError>
     requires all { lines.old ≡ record { rest = bytes.now; read = 0 } }
     requires short { length bytes.now ≤ most_bytes }
@@ -97,7 +97,7 @@ fn read_setup(alloc: Global, bytes: &[u8], lines: &mut Lines) -> Result<Setup, R
     Ok(setup_of(&values, faulty, front(bytes, lines.rest())))
 }
 
-// The schedule whose text these bytes are, or the first bad line.
+// The schedule with this text, or the first bad line.
 fn read_text(alloc: Global, bytes: &[u8]) -> Result<Schedule, ReadError>
     ensures ok { IfOk result (IsSchedule bytes.now) }
     ensures bad { IfErr result (IsRefused bytes.now) }
@@ -114,12 +114,12 @@ fn read_text(alloc: Global, bytes: &[u8]) -> Result<Schedule, ReadError>
     Ok(Schedule { setup, events })
 }
 
-/// The schedule whose text these bytes are.
+/// The schedule with this text.
 ///
 /// # Errors
 ///
-/// `BadLine` exactly where no schedule has this text, with the first line that makes it so, numbered from 1, and the
-/// first reason for it; `NoMemory` where memory was wanting.
+/// `BadLine` if no schedule has this text: the first bad line, counted from 1, and the first reason for it. `NoMemory`
+/// if out of memory.
 // rule: Schedules: A schedule is a header of eleven fields, then one event a line
 pub fn read(alloc: Global, bytes: &[u8]) -> Result<Schedule, ReadError>
     ensures ok { IfOk result (IsSchedule bytes.now) }

@@ -1,4 +1,4 @@
-//! Texts cut into lines, lines cut into words, and the words of numbers and bytes.
+//! Splitting texts into lines, and lines into words; the words of numbers and bytes.
 ghost use Rattle.std.specs.Prelude.{◌≡◌, ◌≢◌, ◌↔◌, ◌<◌, ◌≤◌, ◌^◌, ◌+◌, ℕ, List, [], ◌∷◌, ◌++◌, IsTrue, IfOk, IfErr, IfSome, IfNone, decimal, string_bytes};
 ghost use Rattle.std.specs.List.{slice_split};
 ghost use Rattle.hex.specs.Hex.{IsBytes};
@@ -12,7 +12,7 @@ use itoa::Buffer;
 use std::alloc::Global;
 use std::marker::Model;
 
-/// What stands before the first such byte, and what behind it.
+/// The part before the first occurrence of the byte, and the part after it.
 pub fn cut_at(text: &[u8], byte: u8) -> Option<(&[u8], &[u8])>
     ensures some { IfSome result (λ parts. text.now ≡ parts.0.now ++ byte ∷ parts.1.now) }
     ensures first { IfSome result (λ parts. Lacks byte parts.0.now) }
@@ -82,7 +82,7 @@ impl<'a> Words<'a> {
     }
 }
 
-// Whether the word is how the number is spelled.
+// Whether the word is the number in decimal.
 fn spells(word: &[u8], number: u64) -> bool
     ensures { IsTrue result ↔ (decimal number ≡ word.now) }
 {
@@ -90,7 +90,7 @@ fn spells(word: &[u8], number: u64) -> bool
     is_same(buffer.format(number).as_bytes(), word)
 }
 
-/// The number that a word spells.
+/// The number in a word.
 pub fn number_of(word: &[u8]) -> Option<u64>
     ensures some { IfSome result (λ n. word.now ≡ decimal n) }
     ensures none { IfNone result ((n : ℕ) → n < 2 ^ 64 → word.now ≢ decimal n) }
@@ -117,7 +117,7 @@ fn is_within(number: u64, low: u32, end: u32) -> bool
     u64::from(low) <= number && number < u64::from(end)
 }
 
-/// The number that a word spells, where it is at least the first number and below the second.
+/// The number in a word, if it is at least `low` and below `end`.
 pub fn number_within(word: &[u8], low: u32, end: u32) -> Option<u32>
     ensures { Reads decimal (IsWithin low end) word.now result }
 {
@@ -129,7 +129,7 @@ pub fn number_within(word: &[u8], low: u32, end: u32) -> Option<u32>
     }
 }
 
-/// The bytes that a word spells.
+/// The bytes in a word.
 pub fn bytes_of(alloc: Global, word: &[u8]) -> Result<Option<Vec<u8>>, NoMemory>
     ensures some { IfOk result (λ found. IfSome found (λ bytes. word.now ≡ word_of bytes.items)) }
     ensures none { IfOk result (λ found. IfNone found ((bytes : List ℕ) → IsBytes bytes → word.now ≢ word_of bytes)) }
@@ -161,7 +161,7 @@ fn are_digits(word: &[u8]) -> bool
     word.iter().all(|c| b'0' <= *c && *c <= b'9')
 }
 
-/// Whether the word is a number of any size: digits without a leading zero.
+/// Whether the word is a number of any size: decimal digits without a leading zero.
 // rule: Schedules: A number is decimal digits without a leading zero
 pub fn is_number(word: &[u8]) -> bool
     ensures { IsTrue result ↔ IsNumber word.now }

@@ -25,7 +25,7 @@ fn put(out: &mut Vec<u8>, text: &[u8]) -> Result<(), NoMemory>
     Ok(())
 }
 
-// Appends a number behind a space.
+// Appends a space and a number.
 fn put_number(out: &mut Vec<u8>, number: u64) -> Result<(), NoMemory>
     ensures { OnOk result (out.new.items ≡ out.old.items ++ 32 ∷ decimal number) }
 {
@@ -34,7 +34,7 @@ fn put_number(out: &mut Vec<u8>, number: u64) -> Result<(), NoMemory>
     put(out, buffer.format(number).as_bytes())
 }
 
-// Appends the word of some bytes behind a space.
+// Appends a space and the word of some bytes.
 fn put_bytes(alloc: Global, out: &mut Vec<u8>, bytes: &[u8]) -> Result<(), NoMemory>
     ensures { OnOk result (out.new.items ≡ out.old.items ++ 32 ∷ word_of bytes.now) }
 {
@@ -54,7 +54,7 @@ fn put_line(out: &mut Vec<u8>, line: &[u8]) -> Result<(), NoMemory>
     put(out, b"\n")
 }
 
-// Appends a line of a header: a name and a number.
+// Appends a line of a header with a name and a number.
 fn put_field(out: &mut Vec<u8>, name: &[u8], number: u64) -> Result<(), NoMemory>
     ensures { OnOk result (out.new.items ≡ out.old.items ++ field name.now number ++ 10 ∷ []) }
 {
@@ -85,7 +85,7 @@ fn put_front(out: &mut Vec<u8>, setup: &Setup) -> Result<(), NoMemory>
     put_field(out, b"buckets", u64::from(setup.buckets))
 }
 
-// Appends the next ones.
+// Appends the next lines of a header.
 fn put_middle(out: &mut Vec<u8>, setup: &Setup) -> Result<(), NoMemory>
     ensures { OnOk result (out.new.items ≡ out.old.items ++ ended (take 5 (drop 5 (header_lines setup.now)))) }
 {
@@ -96,7 +96,7 @@ fn put_middle(out: &mut Vec<u8>, setup: &Setup) -> Result<(), NoMemory>
     put_field(out, b"keys", u64::from(setup.keys))
 }
 
-// Appends the line that names faulty nodes, of which there are some.
+// Appends the line that names at least one faulty node.
 fn put_nodes(out: &mut Vec<u8>, nodes: &[NodeId]) -> Result<(), NoMemory>
     ensures { OnOk result (out.new.items ≡ out.old.items ++ line_of (codes "faulty" ∷ node_words nodes.now)) }
 {
@@ -179,7 +179,7 @@ fn put_event(alloc: Global, out: &mut Vec<u8>, event: &Event) -> Result<(), NoMe
     }
 }
 
-/// The one text of a schedule that has one. Of what has none, a module that has no word has an empty line.
+/// The text of a schedule. A module that schedules cannot name is written as an empty line.
 pub fn write(alloc: Global, schedule: &Schedule) -> Result<Bytes, NoMemory>
     ensures { IfOk result (λ bytes. bytes ≡ text_of schedule.now) }
 {

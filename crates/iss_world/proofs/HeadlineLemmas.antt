@@ -12,7 +12,7 @@ use Rattle.iss_rules.specs.Concrete.{rules_of}
 use Rattle.iss_rules.specs.Formats.{formats_of}
 use Rattle.iss_schedule.specs.Events.{AreInRange, IsInRange}
 use Rattle.iss_schedule.specs.declared.schedules.Event.{Event}
-use Rattle.iss_schedule.proofs.Fronts.{in_range_push}
+use Rattle.iss_schedule.proofs.BadLines.PrefixesAreRead.{in_range_push}
 use Rattle.iss_sb.specs.Calls.{Relation}
 use Rattle.iss_sb.specs.Evidence.{Module}
 use Rattle.iss_theorems.specs.Leaves.{SignsOnceEach}

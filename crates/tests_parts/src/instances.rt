@@ -1,4 +1,5 @@
-//! Instances of a module that tests run. The set-up is a parameter, since of literal counts the tactics list each key.
+//! Instances of a module for tests. The set-up is a parameter, since for literal counts the tactics would evaluate each
+//! key.
 ghost use Rattle.std.specs.Prelude.{◌≡◌, ◌<◌, ◌≤◌, ◌^◌, IfOk, length};
 ghost use Rattle.iss_keys.specs.Directories.{directory_of};
 ghost use Rattle.iss_request.specs.Setup.{IsGoodSetup};

@@ -1,5 +1,5 @@
-//! Tests over public calls of the crates below the model: formats, schedules, keys, disks, journals, the parts of a
-//! node, the network and modules. What they expect comes from outside: other programs, and values worked out by hand.
+//! Tests of public calls of the crates below the model: formats, schedules, keys, disks, journals, the parts of a node,
+//! the network and modules. The expected results are from other programs, or computed by hand.
 #![tactic(auto)]
 
 #[cfg(test)]

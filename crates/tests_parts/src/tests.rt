@@ -1,4 +1,4 @@
-//! Each crate's calls in a module of its own.
+//! Tests of each crate's calls, each in a module of its own.
 mod checkpoints;
 mod echo;
 mod journals;

@@ -1,4 +1,4 @@
-//! The set-up that the tests run.
+//! The set-up of the tests.
 ghost use Rattle.std.specs.Prelude.{◌≡◌, IfOk};
 ghost use Rattle.iss_request.specs.declared.setups.Kind.TheVariants.{Byzantine};
 ghost use Rattle.iss_rules.specs.Setups.{IsSetupOf};
@@ -7,7 +7,8 @@ ghost use Rattle.sb_echo.specs.Echo.{echo};
 use iss_request::{Kind, NoMemory, NodeId, Nodes, Policy, Setup};
 use std::alloc::Global;
 
-/// Four nodes over echo, of which node 0 may lie. Each epoch has a slot for each node; the bucket of a request is its client and its number, added.
+/// Four nodes with echo, of which node 0 may be Byzantine. Each epoch has a slot for each node. The bucket of a request
+/// is the sum of its client and its number.
 pub fn four_nodes(alloc: Global) -> Result<Setup, NoMemory>
     ensures good { IfOk result (λ s. IsSetupOf echo s) }
     ensures kind { IfOk result (λ s. s.kind ≡ Byzantine) }

@@ -1,4 +1,4 @@
-//! Tests over public calls alone.
+//! Tests of public calls only.
 mod four;
 mod liars;
 mod mutations;

@@ -1,4 +1,5 @@
-//! Votes, certificates, chains and pieces under the keys of three nodes, of which two decide. The chains are another program's.
+//! Votes, certificates, chains and pieces under the keys of three nodes; a quorum is two. The expected chains are
+//! another program's.
 ghost use Rattle.std.specs.Prelude.{◌≡◌, ◌<◌, ◌≤◌, IfOk, length};
 
 use iss_checkpoint::{Added, Cert, Refusal, Tally, Vote, check, vote_statement};
@@ -10,7 +11,7 @@ use sha2::{Digest, Sha256};
 use std::alloc::Global;
 use std::test::Fail;
 
-// The chain of three empty batches, and that of an empty batch, nil and an empty batch.
+// The chain digest of three empty batches, and that of an empty batch, nil and an empty batch.
 fn batches() -> [u8; 32] {
     [
         181, 191, 129, 2, 154, 140, 156, 142, 220, 220, 193, 197, 184, 124, 20, 15, 246, 188, 175,
@@ -54,7 +55,7 @@ fn directory(alloc: Global, nodes: u32) -> Result<SharedDirectory, Fail>
     Ok(SharedDirectory::make(alloc, nodes, 1, 2)?)
 }
 
-// A node's vote on epoch 0, signed by the key of a node.
+// A node's vote on epoch 0, signed with a node's key.
 fn vote_of(alloc: Global, setup: &Setup, by: u8, signer: u8) -> Result<Vote, Fail> {
     let chain = batches();
     let statement = vote_statement(&setup.tag, 0, &chain, 0);
@@ -69,7 +70,7 @@ fn vote_of(alloc: Global, setup: &Setup, by: u8, signer: u8) -> Result<Vote, Fai
     })
 }
 
-// What became of a vote, in a word.
+// The result of a vote, in a word.
 fn word(added: &Added) -> &'static str {
     match added {
         Added::Counted => "counted",
@@ -153,7 +154,7 @@ fn piece(alloc: Global, cert: Cert, second: Value) -> Result<Piece, NoMemory> {
     })
 }
 
-// The chains of a log that holds nothing yet.
+// The chains of an empty log.
 fn chains(alloc: Global, setup: &Setup) -> Result<Chains, NoMemory>
     ensures version { IfOk result (λ c. c.version ≡ setup.now.version) }
     ensures some { IfOk result (λ c. 0 < length c.ends) }
@@ -161,7 +162,7 @@ fn chains(alloc: Global, setup: &Setup) -> Result<Chains, NoMemory>
     Chains::new(alloc, setup.version)
 }
 
-// What becomes of a piece in epoch 0, at a node that holds nothing yet.
+// The result of adopting a piece in epoch 0, at a node with an empty log.
 fn adopted(
     alloc: Global,
     setup: &Setup,

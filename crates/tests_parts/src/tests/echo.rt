@@ -1,4 +1,4 @@
-//! Runs of echo through the calls of the trait: four nodes, of which node 0 leads the slots 0 and 4.
+//! Runs of echo through the calls of the trait: four nodes, of which node 0 leads slots 0 and 4.
 ghost use Rattle.std.specs.Prelude.{◌≡◌, ◌<◌, [], ◌∷◌, IfOk};
 ghost use Rattle.iss_sb.specs.Calls.{IsGoodParams};
 ghost use Rattle.sb_echo.specs.Echo.{echo};
@@ -49,12 +49,12 @@ fn four(alloc: Global) -> Result<Params, NoMemory>
     instance::<Echo>(alloc, setup, slots)
 }
 
-// A node's keys: the secret follows from its number.
+// A node's keys. Their secret is a function of its number.
 fn keys_of(alloc: Global, node: u8) -> Result<Keys, Fail> {
     Ok(Keys::make(alloc, Sha256::digest([0x20u8, node]), 2)?)
 }
 
-// The message once more, by way of its bytes.
+// The message, encoded and decoded.
 fn again(alloc: Global, word: &Word) -> Result<Word, Fail> {
     let mut out = Writer::new(alloc, 1);
     Echo::encode(word, &mut out)?;
@@ -62,7 +62,7 @@ fn again(alloc: Global, word: &Word) -> Result<Word, Fail> {
     Ok(Echo::decode(alloc, &mut fields)?)
 }
 
-// What a node makes of a message from another.
+// A node's step for a message from another.
 fn hear(
     alloc: Global,
     p: &Params,
@@ -82,7 +82,7 @@ fn hear(
     Ok(node.step(alloc, p, heard, true, keys)?)
 }
 
-// The leader's word on the empty batch at slot 4, and its echo.
+// The leader's message on the empty batch at slot 4, and its echo.
 fn cast(alloc: Global, p: &Params) -> Result<(Word, Word), Fail>
     requires { IsGoodParams echo p.now }
 {
@@ -103,7 +103,7 @@ fn cast(alloc: Global, p: &Params) -> Result<(Word, Word), Fail>
     }
 }
 
-// An echo of another digest, in the shape of one that is signed.
+// An echo of another digest, in the shape of a signed one.
 fn foreign(alloc: Global) -> Result<Word, Fail> {
     let mut keys = keys_of(alloc, 2)?;
     let sig = Bytes::of(keys.sign(&[7])?);
@@ -114,7 +114,7 @@ fn foreign(alloc: Global) -> Result<Word, Fail> {
     })
 }
 
-// The leader's word, an echo of it, and an echo of another digest.
+// The leader's message, an echo of it, and an echo of another digest.
 #[derive(Drop)]
 struct Words {
     say: Word,
@@ -137,11 +137,11 @@ enum Said {
     Foreign,
 }
 
-// What comes to node 1 and from whom, and how many slots it is to deliver then.
+// A message to node 1, its sender, and how many slots node 1 must deliver then.
 #[derive(Clone, Copy)]
 struct Line(Said, u8, usize);
 
-// Whether a line goes as it says.
+// Whether a line gives what it says.
 fn goes(
     alloc: Global,
     p: &Params,
@@ -165,7 +165,7 @@ fn goes(
     Ok(effects.delivers.len() == *delivers)
 }
 
-// How many of the lines, one after the other, go as they say.
+// How many of the lines, one after the other, give what they say.
 fn right(alloc: Global, lines: &[Line]) -> Result<usize, Fail> {
     let p = four(alloc)?;
     let words = all_words(alloc, &p)?;
@@ -194,7 +194,7 @@ fn three_echoes_deliver(rt: HostRuntime) -> Result<(), Fail> {
     Ok(())
 }
 
-// An echo counts once, and a foreign digest that a node echoed first stands in nobody's way.
+// An echo counts once. A node that first echoed another digest blocks no one.
 #[test]
 fn an_echo_counts_once(rt: HostRuntime) -> Result<(), Fail> {
     let lines = [
@@ -209,7 +209,7 @@ fn an_echo_counts_once(rt: HostRuntime) -> Result<(), Fail> {
     Ok(())
 }
 
-// A word that comes after its echoes is delivered at once, and the leader's alone is one.
+// A leader's message that arrives after its echoes is delivered at once. The leader's alone counts as one.
 #[test]
 fn echoes_come_first(rt: HostRuntime) -> Result<(), Fail> {
     let lines = [
@@ -223,7 +223,7 @@ fn echoes_come_first(rt: HostRuntime) -> Result<(), Fail> {
     Ok(())
 }
 
-// Whether the one claim of the message verifies by the key of this node.
+// Whether the one claim of the message verifies by this node's key.
 fn verifies(alloc: Global, p: &Params, node: u8, word: &Word) -> Result<bool, Fail>
     requires { IsGoodParams echo p.now }
 {
@@ -239,7 +239,7 @@ fn verifies(alloc: Global, p: &Params, node: u8, word: &Word) -> Result<bool, Fa
     }
 }
 
-// What a node sends claims its own signature, which verifies by its key and no other.
+// What a node sends claims its own signature, which verifies by its key only.
 fn claims_own(alloc: Global) -> Result<bool, Fail> {
     let p = four(alloc)?;
     let (say, echo) = cast(alloc, &p)?;

@@ -1,4 +1,4 @@
-//! Disks and journals, in memory and over a file of the system.
+//! Disks and journals, in memory and over a file of the operating system.
 ghost use Rattle.std.specs.Prelude.{◌≡◌, [], ◌∷◌};
 ghost use Rattle.iss_disk.specs.File.{settled};
 
@@ -9,7 +9,7 @@ use std::fs;
 use std::process::Abort;
 use std::test::Fail;
 
-// A disk whose file has these bytes, all of them synced.
+// A disk whose file has these bytes, all synced.
 fn disk_with(alloc: Global, bytes: &[u8]) -> Result<MemoryDisk, Fail> {
     let mut disk = MemoryDisk::new(alloc)?;
     disk.reserve(2, bytes.len() as u64)?;
@@ -18,7 +18,7 @@ fn disk_with(alloc: Global, bytes: &[u8]) -> Result<MemoryDisk, Fail> {
     Ok(disk)
 }
 
-// The file's bytes, of which there are at most 16.
+// Checks the file's bytes, which are at most 16.
 fn assert_file(rt: &impl Abort, disk: &mut MemoryDisk, bytes: &[u8]) -> Result<(), Fail> {
     let mut read = [0u8; 16];
     let count = disk.read_at(0, &mut read)?;
@@ -27,7 +27,7 @@ fn assert_file(rt: &impl Abort, disk: &mut MemoryDisk, bytes: &[u8]) -> Result<(
     Ok(())
 }
 
-// How many entries a journal over these bytes has, and what is left of the file.
+// Checks how many entries a journal over these bytes has, and what is left of the file.
 fn assert_attached(
     rt: &impl Abort,
     alloc: Global,
@@ -80,7 +80,7 @@ fn a_length_past_the_end_is_damage(rt: HostRuntime) -> Result<(), Fail> {
     Ok(())
 }
 
-// The disk stops after so many calls of an append: the entry is there exactly where all four passed.
+// The disk fails after n calls of an append. The entry is there exactly if all four succeeded.
 #[test]
 fn a_stop_at_each_call(rt: HostRuntime) -> Result<(), Fail> {
     for calls in 0..6u64 {
@@ -98,7 +98,7 @@ fn a_stop_at_each_call(rt: HostRuntime) -> Result<(), Fail> {
     Ok(())
 }
 
-// Whatever part of an append stands behind the closed gate, the entries before it are found.
+// Whatever part of an append follows the closed gate, the entries before it are found.
 #[test]
 fn a_torn_append_is_cut_off(rt: HostRuntime) -> Result<(), Fail> {
     let whole = [1, 0, 0, 0, 1, 5, 0, 0, 0, 0, 1, 6, 0];
@@ -108,7 +108,7 @@ fn a_torn_append_is_cut_off(rt: HostRuntime) -> Result<(), Fail> {
     Ok(())
 }
 
-// A journal over a file of the system, attached.
+// An attached journal over a file of the operating system.
 fn file_journal(rt: &HostRuntime, name: &str) -> Result<Journal<FileDisk<HostRuntime>>, Fail> {
     let mut disk = FileDisk::new(rt.clone()?, rt.alloc());
     disk.attach(name)?;
@@ -153,7 +153,7 @@ fn read_some<D: Disk>(alloc: Global, disk: &mut D, at: u64) -> Result<Vec<u8>, F
     Ok(bytes)
 }
 
-// After a crash what was synced is left.
+// A crash leaves what was synced.
 #[test]
 fn a_crash_leaves_what_was_synced(rt: HostRuntime) -> Result<(), Fail> {
     let mut disk = MemoryDisk::new(rt.alloc())?;

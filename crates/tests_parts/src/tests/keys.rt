@@ -1,5 +1,5 @@
-//! Keys and directories, against the answers of another program. Secrets, heights and counts are parameters: what the
-//! tactics know of a literal key they try to compute, and a tree of four leaves is some 4,000 digests.
+//! Keys and directories, compared with another program's results. Secrets, heights and counts are parameters: the
+//! tactics would evaluate a literal key, and a tree of four leaves takes some 4,000 digests.
 ghost use Rattle.std.specs.Prelude.{◌<◌, ◌≤◌, ◌^◌};
 
 use super::vectors::{known, root_2, root_4, root_client_2, root_node_0};
@@ -8,7 +8,7 @@ use sha2::{Digest, Sha256};
 use std::alloc::Global;
 use std::test::Fail;
 
-// A key of this height of which so many leaves are used.
+// A key of this height with this many leaves used.
 fn key_at(alloc: Global, secret: [u8; 32], height: u8, next: u32) -> Result<Keys, Fail>
     requires low { 2 ≤ height }
     requires high { height ≤ 12 }
@@ -47,7 +47,7 @@ fn set_byte(bytes: &mut [u8], at: usize, value: u8) {
     }
 }
 
-// Changes the byte at a place; done twice, it is as it was.
+// Changes the byte at a place; doing it twice restores it.
 fn flip_byte(bytes: &mut [u8], at: usize) {
     if let Some(byte) = bytes.get_mut(at) {
         *byte ^= 1;
@@ -90,7 +90,7 @@ fn another_program_agrees_on_a_taller_tree(rt: HostRuntime) -> Result<(), Fail> 
     Ok(())
 }
 
-// A signature by a leaf of the caller's choice, which counts no leaf as used.
+// A signature with a leaf of the caller's choice, which counts no leaf as used.
 fn at_leaf(keys: &Keys, leaf: u32) -> Result<Vec<u8>, Fail>
     requires { leaf < 2 ^ keys.now.height }
 {
@@ -105,7 +105,7 @@ fn a_leaf_may_be_chosen(rt: HostRuntime) -> Result<(), Fail> {
     Ok(())
 }
 
-// At which of the bytes a change leaves a signature that verifies; each byte is as it was in the end.
+// At which of the bytes a change leaves a valid signature. Each byte is restored.
 fn changed_and_verified(public: &PublicKey, signature: &mut [u8]) -> Option<usize> {
     for i in 0..41usize {
         flip_byte(signature, 54 * i);
@@ -147,7 +147,7 @@ fn changed_signatures_do_not_verify(rt: HostRuntime) -> Result<(), Fail> {
     Ok(())
 }
 
-// Whether of the known signature just the whole verifies: not none of it, nor all but a byte, nor a byte more.
+// Whether only the whole of the known signature verifies: not the empty string, nor all but a byte, nor a byte more.
 fn only_the_whole(alloc: Global, public: &PublicKey) -> Result<bool, Fail> {
     let mut longer = Vec::from_slice(alloc, known())?;
     longer.push(0)?;
@@ -207,7 +207,7 @@ fn directories_may_be_given_keys(rt: HostRuntime) -> Result<(), Fail> {
     Ok(())
 }
 
-// Whether just this signature of client 2 verifies, asked so many times.
+// Whether only this signature of client 2 verifies, checked this many times.
 fn only_the_second(directory: &Directory, signature: &[u8]) -> bool {
     directory.verify_client(2, &[0], signature)
         && !directory.verify_client(2, &[1], signature)
@@ -215,7 +215,7 @@ fn only_the_second(directory: &Directory, signature: &[u8]) -> bool {
         && !directory.verify_node(0, &[0], signature)
 }
 
-// At which of the bytes a change leaves a signature of client 2 that verifies.
+// At which of the bytes a change leaves a valid signature of client 2.
 fn changed_and_verified_late(directory: &Directory, signature: &mut [u8]) -> Option<usize> {
     for i in 0..41usize {
         flip_byte(signature, 54 * i);

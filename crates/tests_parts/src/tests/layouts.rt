@@ -1,4 +1,4 @@
-//! The division of an epoch, with ample memory.
+//! The division of an epoch, with enough memory.
 use crate::setups::three_nodes;
 use iss_layout::{Layout, Standing};
 use iss_request::{Epoch, NodeId, ReqId, Slot};

@@ -1,4 +1,4 @@
-//! A log, with ample memory.
+//! A log, with enough memory.
 use iss_log::{Fill, Joined, Log};
 use iss_request::{Batch, Bytes, ReqId, Request, Slot, Value};
 use std::alloc::Global;

@@ -1,4 +1,5 @@
-//! Packets in bytes of each version: each cut of one, byte strings that are no packet, and the other version's.
+//! Packets in bytes of each version: each cut of a packet, byte strings that are no packet, and packets of the other
+//! version.
 use iss_packet::{Packet, PacketError, PacketKind};
 use iss_request::{Bytes, Epoch};
 use std::alloc::Global;
@@ -57,13 +58,13 @@ fn what_is_no_packet_is_refused(rt: HostRuntime) -> Result<(), Fail> {
     );
     let ask = [1, 3, 1, 0, 0, 0, 0, 0, 0, 0, 7, 0, 0, 0, 0, 0];
     assert_eq!(rt; Packet::decode(alloc, 1, 3, &ask)?.epoch, Epoch(7));
-    // Another version, no kind, a sender past the nodes, a vote with a leader, a length that is too long.
+    // Another version, an unknown kind, a sender that does not exist, a vote with a leader, a length that is too large.
     assert!(rt; is_refused(alloc, 1, &[2, 3, 1, 0, 0, 0, 0, 0, 0, 0, 7, 0, 0, 0, 0, 0]));
     assert!(rt; is_refused(alloc, 1, &[1, 6, 1, 0, 0, 0, 0, 0, 0, 0, 7, 0, 0, 0, 0, 0]));
     assert!(rt; is_refused(alloc, 1, &[1, 3, 3, 0, 0, 0, 0, 0, 0, 0, 7, 0, 0, 0, 0, 0]));
     assert!(rt; is_refused(alloc, 1, &[1, 2, 1, 0, 0, 0, 0, 0, 0, 0, 7, 1, 0, 0, 0, 0]));
     assert!(rt; is_refused(alloc, 1, &[1, 3, 1, 0, 0, 0, 0, 0, 0, 0, 7, 0, 0, 0, 0, 1]));
-    // A byte behind the body, and a request from a node.
+    // A byte after the body, and a request from a node.
     assert!(rt;
         is_refused(
             alloc,

@@ -69,7 +69,7 @@ fn three(alloc: Global) -> Result<Params, NoMemory>
     instance::<Relay>(alloc, setup, slots)
 }
 
-// A key of which no leaf is used.
+// A key with no leaf used.
 fn key(alloc: Global, height: u8) -> Result<Keys, Fail>
     requires low { 2 ≤ height }
     requires high { height ≤ 12 }
@@ -77,7 +77,7 @@ fn key(alloc: Global, height: u8) -> Result<Keys, Fail>
     Ok(Keys::make(alloc, [0; 32], height)?)
 }
 
-// A cast is said to all, once, and the leader's word is delivered.
+// A proposal is sent to all, once, and the leader's message is delivered.
 #[test]
 fn a_cast_is_said_and_delivered(rt: HostRuntime) -> Result<(), Fail> {
     let alloc = rt.alloc();
@@ -106,7 +106,7 @@ fn a_cast_is_said_and_delivered(rt: HostRuntime) -> Result<(), Fail> {
     Ok(())
 }
 
-// A signature takes one leaf, and verifies.
+// A signature uses one leaf, and verifies.
 #[test]
 fn a_statement_is_signed(rt: HostRuntime) -> Result<(), Fail> {
     let alloc = rt.alloc();

@@ -1,5 +1,5 @@
-//! Values in bytes of each version: against digests that were computed apart, byte strings that are no value, every
-//! cut of a value, and the other version's bytes.
+//! Values in bytes of each version, compared with digests of another program; byte strings that are no value, every cut
+//! of a value, and the other version's bytes.
 use iss_request::{
     Batch, Bytes, DecodeError, Fields, ReqId, Request, Value, Writer, decode_value, digest_of,
     encode_value, read_request, write_request,
@@ -7,8 +7,8 @@ use iss_request::{
 use std::alloc::Global;
 use std::test::Fail;
 
-// SHA-256 of 40 00, of 40 0100, and of 40 and the value below, by another program; by version 2 of 40 020000, and of 40
-// and the same value.
+// SHA-256 of 40 00, of 40 0100, and of 40 and the value below, by another program. For version 2, of 40 020000, and of
+// 40 and the same value.
 const NIL_DIGEST: [u8; 32] = [
     0xee, 0xc4, 0x12, 0x1f, 0x2a, 0x07, 0xb6, 0x1a, 0xba, 0x16, 0x41, 0x48, 0x12, 0xaa, 0x9a, 0xfc,
     0x39, 0xab, 0x0a, 0x13, 0x63, 0x60, 0xa5, 0xac, 0xe2, 0x24, 0x0d, 0xc1, 0x9b, 0x04, 0x64, 0xeb,
@@ -34,7 +34,7 @@ const BATCH_DIGEST_2: [u8; 32] = [
     0x67, 0xef, 0x55, 0xbb, 0x91, 0x16, 0x4d, 0x10, 0xe6, 0x42, 0xc5, 0xaf, 0x34, 0x1b, 0xb4, 0xc6,
 ];
 
-// Request 7.1 with payload aa, and a signature of height 2 of these bytes.
+// Request 7.1 with payload aa, and a signature of height 2 with these bytes.
 fn signed(alloc: Global, payload: usize) -> Result<Request, Fail> {
     let mut sig = Vec::new(alloc);
     sig.push(2u8)?;
@@ -61,7 +61,7 @@ fn one(alloc: Global, payload: usize) -> Result<Value, Fail> {
     Ok(Value::Batch(batch))
 }
 
-// The bytes of so many requests.
+// The bytes of this many requests.
 fn many(alloc: Global, version: u8, count: usize) -> Result<Bytes, Fail> {
     let mut batch = Batch::new(alloc);
     for _ in 0..count {
@@ -74,7 +74,7 @@ fn begins(bytes: &[u8], front: &[u8]) -> bool {
     front.len() <= bytes.len() && &bytes[..front.len()] == front
 }
 
-// Whether bytes are read, and written again as they were.
+// Whether bytes are decoded, and encoded to the same bytes.
 fn is_read_again(alloc: Global, version: u8, bytes: &[u8]) -> Result<bool, Fail> {
     let again = encode_value(alloc, version, &decode_value(alloc, version, bytes)?)?;
     Ok(again.as_slice() == bytes)
@@ -110,7 +110,7 @@ fn each_cut_of_a_value_is_refused(rt: HostRuntime) -> Result<(), Fail> {
     for cut in 0..all.len() {
         let at = fault(alloc, 1, &all[..cut]);
         assert!(rt; at.is_some());
-        // The signature begins at 10 and its digests at 15: the second of them is cut.
+        // The signature begins at 10 and its digests at 15. The cut is in the second digest.
         if cut == 78 {
             assert_eq!(rt; at, Some(47));
         }
@@ -152,7 +152,7 @@ fn the_other_version_is_refused_at_its_byte(rt: HostRuntime) -> Result<(), Fail>
     assert!(rt; begins(second.as_slice(), &[2, 0, 1, 7]));
     assert_eq!(rt; fault(alloc, 2, first.as_slice()), Some(0));
     assert_eq!(rt; fault(alloc, 1, second.as_slice()), Some(0));
-    // Any other number stands for the first version.
+    // Any other number means the first version.
     assert_eq!(rt; many(alloc, 3, 1)?.as_slice(), first.as_slice());
     assert!(rt; is_read_again(alloc, 0, first.as_slice())?);
     Ok(())

@@ -1,4 +1,4 @@
-//! Texts from outside: bad lines, and worked schedules read and written again.
+//! Texts with bad lines, and worked schedules that are read and written again.
 use iss_schedule::{Event, LineFault, MOST_BYTES, MOST_EVENTS, ReadError, read, write};
 use std::alloc::{AllocError, Global};
 use std::test::Fail;
@@ -6,7 +6,7 @@ use std::test::Fail;
 const HEADER: &str =
     "iss 1\nmodule relay\nf 0\nepoch 3\nbuckets 3\nbatch 4\nwindow 8\npolicy simple\nclients 1\nkeys 4\nfaulty none\n";
 
-// A line number, what is wrong there, and the line that stands there in place of a good one.
+// A line number, what is wrong there, and the line that replaces a good one.
 const BAD_LINES: &str =
     "1 Form iss 2\n1 Form iss 01\n1 Form iss  1\n1 Form iss 1 \n1 Form \n1 Form Iss 1\n1 Form iss 1\r
 2 Form module zab\n2 Form module Raft\n2 Form module\n2 Form module relay x\n3 Range f 1\n3 Form f 00
@@ -16,7 +16,8 @@ const BAD_LINES: &str =
 8 Form policy Simple\n9 Range clients 257\n9 Range clients 0\n9 Form clients \n10 Range keys 1
 10 Range keys 13\n10 Form keys 4 4\n11 Faulty faulty 0\n11 Faulty faulty 1 0 7
 11 Form faulty\n11 Form faulty 01\n11 Form faulty none none\n11 Form faulty 0 none
-12 Form \n12 Form jump 0\n12 Form restart\n12 Form restart 0 1\n12 Form restart 00\n12 Form restart -\n12 Range restart 3
+12 Form \n12 Form jump 0\n12 Form restart\n12 Form restart 0 1\n12 Form restart 00\n12 Form restart -
+12 Range restart 3
 12 Range restart 18446744073709551616\n12 Form Restart 0\n12 Form restarts 0\n12 Form tear 0 1 1
 12 Form crash\n12 Form crash 0\n12 Form crash 0 \n12 Form crash 0 01\n12 Form crash 0 0 0\n12 Form crash 0 -1
 12 Form crash  0 0\n12 Form crashes 0 0\n12 Form crash 3 01\n12 Range crash 3 0\n12 Range crash 0 1001
@@ -25,7 +26,8 @@ const BAD_LINES: &str =
 12 Form propose 0 \n12 Form  propose 0\n12 Form propose\t0\n12 Form Propose 0\n12 Form propose 0\r
 12 Range propose 3\n12 Range propose 18446744073709551616\n12 Form propose 018446744073709551616
 12 Form request 0 0 0\n12 Form request 0 0 0 AA\n12 Form request 0 0 0 a
-12 Form request 0 0 0 aa bb\n12 Form request 0 0 0 \n12 Form request 9 9 99 0g\n12 Range request 3 0 0 aa\n12 Range request 0 1 0 aa\n12 Range request 0 0 16 aa
+12 Form request 0 0 0 aa bb\n12 Form request 0 0 0 \n12 Form request 9 9 99 0g
+12 Range request 3 0 0 aa\n12 Range request 0 1 0 aa\n12 Range request 0 0 16 aa
 12 Range timeout 0 3\n12 Range timeout 3 0\n12 Form timeout 0\n12 Range ask 0 3\n12 Range ask 3 0
 12 Form ask 0\n12 Form ask 0 1 2\n12 Form ask 0 00\n12 Range deliver 18446744073709551616
 12 Form deliver -1\n12 Range lose 99999999999999999999\n12 Form pump 0
@@ -43,13 +45,14 @@ const WIDE_HEADER: &str =
     "iss 1\nmodule relay\nf 0\nepoch 6\nbuckets 3\nbatch 2\nwindow 8\npolicy backoff\nclients 1\nkeys 4\nfaulty none\n";
 
 const STRICT_HEADER: &str =
-    "iss 1\nmodule relay\nf 0\nepoch 64\nbuckets 256\nbatch 32\nwindow 64\npolicy blacklist\nclients 256\nkeys 12\nfaulty none\n";
+    "iss 1\nmodule relay\nf 0\nepoch 64\nbuckets 256\nbatch 32\nwindow 64\npolicy blacklist\n\
+     clients 256\nkeys 12\nfaulty none\n";
 
-// Four nodes of which node 3 has a twin, core 4.
+// Four nodes, of which node 3 has a twin, core 4.
 const TWIN_HEADER: &str =
     "iss 1\nmodule pbft\nf 1\nepoch 4\nbuckets 4\nbatch 4\nwindow 8\npolicy simple\nclients 8\nkeys 6\nfaulty 3\n";
 
-// The events of each worked schedule of `rows/` that is one, parted by semicolons.
+// The events of each worked schedule of `rows/` that can be read, separated by semicolons.
 const WORKED: &str = "request 0 0 0 aa\npropose 0\ndrop 2\ncalm 10\n;\
      request 2 0 2 -\npropose 2\nrequest 0 0 0 -\npropose 0\ncalm 10\n;\
      request 0 0 0 aa\npropose 0\ncalm 10\n;\
@@ -72,7 +75,7 @@ fn why_of(word: &str) -> Why {
     }
 }
 
-// The header with this line in place of the one of this number, and an event behind it.
+// The header with this line in place of line `number`, and an event after it.
 fn text_with(alloc: Global, number: u32, line: &str) -> Result<String, AllocError> {
     let mut text = String::new(alloc);
     let mut at = 0u32;
@@ -95,8 +98,8 @@ fn each_bad_line_is_named(rt: HostRuntime) -> Result<(), Fail> {
             if let Some((why, line)) = rest.split_once(' ') {
                 let number = number.parse::<u32>()?;
                 let text = text_with(rt.alloc(), number, line)?;
-                let refused =
-                    matches!(read(rt.alloc(), text.as_bytes()), Err(ReadError::BadLine { line: at, why: is }) if at == number && is == why_of(why));
+                let refused = matches!(read(rt.alloc(), text.as_bytes()),
+                        Err(ReadError::BadLine { line: at, why: is }) if at == number && is == why_of(why));
                 assert!(rt; refused, "at {case}");
                 count = count.saturating_add(1);
             }
@@ -144,7 +147,7 @@ fn lines_that_are_cut_and_bytes_that_are_no_text(rt: HostRuntime) -> Result<(), 
     Ok(())
 }
 
-// Whether what is read of this schedule is written as it was.
+// Whether reading and writing this schedule gives the same text.
 fn is_written_back(alloc: Global, header: &str, events: &str) -> Result<bool, Fail> {
     let mut text = String::from_str(alloc, header)?;
     text.push_str(events)?;
@@ -168,7 +171,7 @@ fn worked_schedules_are_written_as_they_were_read(rt: HostRuntime) -> Result<(),
     Ok(())
 }
 
-// Whether the events are a crash of core 2 behind so many calls, and a restart of it.
+// Whether the events are a crash of core 2 after this many calls, and its restart.
 fn are_crash_and_restart(events: &[Event], passed: u32) -> bool {
     match events {
         [Event::Crash { core, calls }, Event::Restart { core: again }] => {
@@ -256,7 +259,7 @@ fn a_schedule_holds_what_its_text_says(rt: HostRuntime) -> Result<(), Fail> {
     Ok(())
 }
 
-// A text of so many bytes: the header, lines of 16 bytes, and a last line that fills it up.
+// A text of this many bytes: the header, lines of 16 bytes, and a last line of the remaining length.
 fn text_of_bytes(alloc: Global, bytes: usize) -> Result<String, AllocError> {
     let mut text = String::from_str(alloc, HEADER)?;
     let lines = bytes.saturating_sub(HEADER.len()).saturating_sub(10) / 16;
@@ -271,7 +274,7 @@ fn text_of_bytes(alloc: Global, bytes: usize) -> Result<String, AllocError> {
     Ok(text)
 }
 
-// A text of so many events.
+// A text of this many events.
 fn text_of_events(alloc: Global, events: usize) -> Result<String, AllocError> {
     let mut text = String::from_str(alloc, HEADER)?;
     for _ in 0..events {

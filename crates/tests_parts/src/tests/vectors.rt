@@ -1,5 +1,5 @@
-//! Answers of another program: the scheme in a few lines of Python over its own SHA-256. No contract says what they are, so
-//! that no goal holds their bytes.
+//! Results of another program: the scheme in a few lines of Python with its own SHA-256. They have no contracts, so
+//! that no goal contains their bytes.
 
 /// The root over 32 zero bytes, at height 2.
 pub(crate) fn root_2() -> [u8; 32] {
@@ -33,7 +33,7 @@ pub(crate) fn root_client_2() -> [u8; 32] {
     ]
 }
 
-/// The signature of the statement of one zero byte by leaf 1 of the key of 32 zero bytes, at height 2.
+/// The signature of the statement of one zero byte with leaf 1 of the key of 32 zero bytes, at height 2.
 static SIGNATURE: [u8; 2213] = [
     2, 0, 0, 0, 1, 27, 63, 157, 247, 62, 235, 242, 127, 239, 254, 236, 156, 124, 25, 239, 99, 57,
     31, 106, 218, 112, 163, 145, 99, 250, 46, 64, 138, 149, 155, 156, 238, 8, 116, 5, 162, 105,

@@ -1,4 +1,4 @@
-//! Requests that wait, with ample memory.
+//! Waiting requests, with enough memory.
 use crate::setups::three_nodes;
 use iss_buckets::{Added, Pending};
 use iss_layout::{Layout, Standing};

@@ -1,4 +1,4 @@
-//! Windows of requests, with ample memory.
+//! Windows of requests, with enough memory.
 use crate::setups::three_nodes;
 use iss_request::ReqId;
 use iss_window::{Place, Windows};

@@ -1,4 +1,4 @@
-//! A world of four nodes over echo, and what it answers.
+//! A world of four nodes with echo, and its answers.
 ghost use Rattle.std.specs.Prelude.{◌≡◌, ◌<◌, ◌≤◌};
 ghost use Rattle.hex.specs.Hex.{IsBytes};
 ghost use Rattle.iss_schedule.specs.Events.{IsInRange};
@@ -33,12 +33,12 @@ fn in_brief(happened: &EventResult) -> Told {
     }
 }
 
-/// The answer is as it was expected, at this place of what is tried.
+/// Checks that the answer is the expected one, at this place of a test.
 pub(crate) fn check(rt: &impl Abort, told: Told, expected: Told, place: usize) {
     assert_eq!(rt; told, expected, "at {place}");
 }
 
-/// A world of four nodes. Who calls it knows nothing else of it, so that no call adds anything to the goals behind it.
+/// A world of four nodes. Its calls have no contracts, so that they add nothing to later goals.
 #[derive(Drop)]
 pub struct Four {
     world: World<Echo>,
@@ -55,7 +55,7 @@ impl Model for Four {
     ghost invariant = { λ f. (f.world.simulation.setup.n ≡ 4) × (f.world.simulation.setup.kind ≡ Byzantine) };
 }
 
-// The same bytes, each of which is below 256.
+// The same bytes, with the proof that each is below 256.
 fn bytes_from(all: Vec<u8>) -> Bytes
     ensures { IsBytes result }
 {
@@ -70,14 +70,14 @@ fn happens(alloc: Global, world: &mut World<Echo>, event: &Event) -> Told
 }
 
 impl Four {
-    /// Nothing has happened.
+    /// A new world.
     pub(crate) fn start(alloc: Global) -> Result<Four, NoMemory> {
         let setup = four_nodes(alloc)?;
         let world = World::<Echo>::start(alloc, &setup)?;
         Ok(Four { world })
     }
 
-    /// A node takes these bytes.
+    /// A node receives these bytes.
     pub(crate) fn take(&mut self, alloc: Global, node: u32, packet: &[u8]) -> Result<Told, NoMemory>
         requires { node < 4 }
     {
@@ -94,20 +94,20 @@ impl Four {
         happens(alloc, &mut self.world, &event)
     }
 
-    /// All that waits is taken.
+    /// All pending packets are delivered.
     pub(crate) fn calm(&mut self, alloc: Global) -> Told {
         let event = Event::Calm { pumps: 9 };
         happens(alloc, &mut self.world, &event)
     }
 
-    /// How many slots a node has delivered.
+    /// The number of slots that a node has delivered.
     pub(crate) fn slots(&self, node: u32) -> usize
         requires { node < 4 }
     {
         self.world.entries(node).len()
     }
 
-    /// The epoch that a node is in.
+    /// A node's epoch.
     pub(crate) fn epoch(&self, node: u32) -> Epoch
         requires { node < 4 }
     {

@@ -1,4 +1,4 @@
-//! Node 0 lies: it says one batch to node 1 and another one to the nodes 2 and 3.
+//! Node 0 is Byzantine: it sends one batch to node 1 and another one to nodes 2 and 3.
 use crate::tests::four::{Four, Told, check};
 use crate::tests::spelled::{ECHO, SAY, batch, echo, request, word, word_signed_as};
 use iss_request::{Bytes, Epoch, NoMemory};
@@ -13,7 +13,7 @@ fn value(alloc: Global, number: u32) -> Result<Bytes, Fail> {
     Ok(batch(alloc, request.as_slice())?)
 }
 
-// What a node would send that casts that batch: its word, and its own echo of it, each signed by a leaf.
+// What a node would send that proposes that batch: its message and its own echo of it, each signed with a leaf.
 fn put_words(
     alloc: Global,
     packets: &mut Vec<Bytes>,
@@ -27,7 +27,7 @@ fn put_words(
     Ok(())
 }
 
-// What node 0 says to no two nodes alike: its word and its echo of one batch, and then of another.
+// What node 0 sends: its message and its echo of one batch, and then of another.
 fn lies(alloc: Global) -> Result<Vec<Bytes>, Fail> {
     let mut packets = Vec::new(alloc);
     put_words(alloc, &mut packets, 0, 0, 0)?;
@@ -35,7 +35,8 @@ fn lies(alloc: Global) -> Result<Vec<Bytes>, Fail> {
     Ok(packets)
 }
 
-// Who takes which packet, in this order: node 1 the one word, the others the other, and all of them both echoes.
+// Which node receives which packet, in this order: node 1 the first message, the others the second, and all of them
+// both echoes.
 const TOLD: [(u32, usize); 9] = [
     (1, 0),
     (2, 2),
@@ -48,7 +49,7 @@ const TOLD: [(u32, usize); 9] = [
     (3, 3),
 ];
 
-// A node takes the packet of this place; none where there is no such node or packet.
+// A node receives the packet at this place; nothing if there is no such node or packet.
 fn tell(
     alloc: Global,
     four: &mut Four,
@@ -62,7 +63,7 @@ fn tell(
     }
 }
 
-// The run goes on through all of them.
+// The run continues with all of them.
 fn tell_all(
     rt: &impl Abort,
     alloc: Global,
@@ -80,7 +81,7 @@ fn tell_all(
     Ok(())
 }
 
-// How many slots each node has delivered, and that all are in the first epoch.
+// How many slots each node has delivered. All must be in the first epoch.
 fn stand(rt: &impl Abort, four: &Four, slots: [usize; 4]) {
     for node in 0..4u32 {
         assert_eq!(rt; four.slots(node), slots[node as usize], "at {node}");
@@ -88,7 +89,8 @@ fn stand(rt: &impl Abort, four: &Four, slots: [usize; 4]) {
     }
 }
 
-// The nodes 2 and 3 deliver the batch that they were told, node 1 none, and so no two deliver different ones.
+// Nodes 2 and 3 deliver the batch that they received, and node 1 delivers none. So no two nodes deliver different
+// batches.
 #[test]
 fn a_liar_makes_no_two_logs(rt: HostRuntime) -> Result<(), Fail> {
     let packets = lies(rt.alloc())?;
@@ -98,7 +100,7 @@ fn a_liar_makes_no_two_logs(rt: HostRuntime) -> Result<(), Fail> {
     Ok(())
 }
 
-// The same packet with its last byte changed, which is one of its signature.
+// The same packet with its last byte changed, which is in its signature.
 fn damaged(alloc: Global, packet: &[u8]) -> Result<Bytes, NoMemory> {
     let mut bytes = Vec::from_slice(alloc, packet)?;
     if let Some(last) = bytes.last_mut() {
@@ -107,8 +109,8 @@ fn damaged(alloc: Global, packet: &[u8]) -> Result<Bytes, NoMemory> {
     Ok(Bytes::of(bytes))
 }
 
-// A signature that does not verify is refused; one of node 1 that it never sent ends the run, before node 2 has taken it, and
-// whatever comes then is answered alike.
+// A signature that does not verify is refused. One of node 1 that it never made ends the run, before node 2 has
+// received it; every later call gets the same answer.
 fn forge(rt: &impl Abort, alloc: Global, four: &mut Four, packet: &[u8]) -> Result<(), Fail> {
     let bad = damaged(alloc, packet)?;
     let told = four.take(alloc, 2, bad.as_slice())?;
@@ -131,7 +133,7 @@ fn a_forged_claim_ends_a_run(rt: HostRuntime) -> Result<(), Fail> {
     Ok(())
 }
 
-// A node's word counts for nothing where it was signed as this, and ends no run.
+// A node's message that was signed as this has no effect, and does not end the run.
 fn goes_by(
     rt: &impl Abort,
     alloc: Global,
@@ -147,7 +149,8 @@ fn goes_by(
     Ok(())
 }
 
-// What was signed as an echo, or in the instance of another leader, is no word here, whoever signed it: node 0, which may lie, or node 1.
+// What was signed as an echo, or in another leader's instance, is no leader's message here. This holds for the
+// Byzantine node 0 and for node 1.
 #[test]
 fn what_was_signed_elsewhere_is_no_claim_here(rt: HostRuntime) -> Result<(), Fail> {
     let mut four = Four::start(rt.alloc())?;

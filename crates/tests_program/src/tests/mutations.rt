@@ -1,5 +1,5 @@
-//! A packet of which one byte was changed, or that was cut or lengthened. What each is refused by follows from the table of the formats: from the
-//! field that the byte is of.
+//! A packet of which one byte was changed, or that was cut or extended. Why each is refused follows from the table of
+//! the formats, by the field of the byte.
 use crate::tests::four::{Four, Told, check};
 use crate::tests::spelled::{BEHIND_HEIGHT, batch, request, request_packet, word};
 use iss_request::{Bytes, NoMemory};
@@ -8,20 +8,21 @@ use std::alloc::Global;
 use std::process::Abort;
 use std::test::Fail;
 
-/// What a byte of a packet is of.
+/// Which field of a packet a byte belongs to.
 #[derive(Clone, Copy, Debug, PartialEq, Eq)]
 enum Part {
-    /// What a reader goes by: with any other byte there, no packet is spelled so.
+    /// The byte is fixed: with any other byte there, no packet has this encoding.
     Form,
-    /// The number of a node.
+    /// A node's number.
     Node,
     Epoch,
     /// What a signature is about, or a part of it.
     Signed,
 }
 
-// The fields of a word on a batch with one request: version, kind, sender, epoch, leader, length; the message's number, and the slot; the batch's mark and
-// its count; client and number, the payload's length, and the payload; the request's signature, and the word's own, by its height and what stands behind.
+// The fields of a leader's message on a batch with one request. Version, kind, sender, epoch, leader, length; the
+// message's number, and the slot; the batch's first byte and its count; client and number, the payload's length, and
+// the payload; the request's signature, and the message's own: its height and the rest.
 const WORD: [(usize, Part); 15] = [
     (2, Part::Form),
     (1, Part::Node),
@@ -40,7 +41,7 @@ const WORD: [(usize, Part); 15] = [
     (BEHIND_HEIGHT, Part::Signed),
 ];
 
-// The field that the byte at this place is of.
+// The field of the byte at this place.
 fn part_at(fields: &[(usize, Part)], place: usize) -> Part {
     let mut left = place;
     for (bytes, part) in fields {
@@ -60,7 +61,7 @@ fn total_of(fields: &[(usize, Part)]) -> usize {
     total
 }
 
-// The number that these bytes spell.
+// The number in these bytes.
 fn number_of(bytes: &[u8]) -> u64 {
     let mut number = 0u64;
     for byte in bytes {
@@ -69,7 +70,7 @@ fn number_of(bytes: &[u8]) -> u64 {
     number
 }
 
-// What a node in the first epoch answers where the bytes of this part are changed to these: the byte that is other, and the epoch.
+// What a node in the first epoch answers if this part is changed to these bytes: the changed byte, and the epoch.
 fn answer(part: Part, byte: u8, epoch: u64) -> Told {
     match part {
         Part::Form => Told::Lost(Why::NotPacket),
@@ -88,7 +89,7 @@ fn expected(part: Part, changed: &[u8], place: usize) -> Told {
 
 const MASKS: [u8; 8] = [1, 2, 4, 8, 16, 32, 64, 128];
 
-// The masks by which the byte at this place is changed: each bit, and of what is signed one.
+// The masks that change the byte at this place: each bit, or one bit for signed parts.
 fn masks_at(part: Part, place: usize) -> &'static [u8] {
     let only = place % 8;
     match part {
@@ -97,7 +98,7 @@ fn masks_at(part: Part, place: usize) -> &'static [u8] {
     }
 }
 
-// The same bytes, of which the one at this place has other bits.
+// The same bytes, with the bits of the mask changed at this place.
 fn changed(alloc: Global, bytes: &[u8], place: usize, mask: u8) -> Result<Vec<u8>, NoMemory> {
     let mut all = Vec::from_slice(alloc, bytes)?;
     if let Some(byte) = all.get_mut(place) {
@@ -106,7 +107,7 @@ fn changed(alloc: Global, bytes: &[u8], place: usize, mask: u8) -> Result<Vec<u8
     Ok(all)
 }
 
-// Node 2 takes the packet with other bits at this place.
+// Node 2 receives the packet with changed bits at this place.
 fn try_mask(
     rt: &impl Abort,
     alloc: Global,
@@ -135,7 +136,7 @@ fn try_at(
     Ok(())
 }
 
-// Node 2 takes the packet with each byte changed, and then as it is.
+// Node 2 receives the packet with each byte changed, and then unchanged.
 fn try_each(rt: &impl Abort, alloc: Global, four: &mut Four, packet: &[u8]) -> Result<(), Fail> {
     assert_eq!(rt; total_of(&WORD), packet.len());
     for place in 0..packet.len() {
@@ -146,7 +147,7 @@ fn try_each(rt: &impl Abort, alloc: Global, four: &mut Four, packet: &[u8]) -> R
     Ok(())
 }
 
-// Node 2 takes no part of a packet from its front, and none with a byte behind it.
+// Node 2 accepts no proper prefix of a packet, and no packet with a byte after it.
 fn try_parts(rt: &impl Abort, alloc: Global, four: &mut Four, packet: &[u8]) -> Result<(), Fail> {
     for count in 0..packet.len() {
         let told = four.take(alloc, 2, packet.get(..count).unwrap_or(&[]))?;
@@ -159,7 +160,7 @@ fn try_parts(rt: &impl Abort, alloc: Global, four: &mut Four, packet: &[u8]) -> 
     Ok(())
 }
 
-// Node 1 takes the request and casts it.
+// Node 1 receives the request and proposes it.
 fn cast(rt: &impl Abort, alloc: Global, four: &mut Four, request: &[u8]) -> Result<(), Fail> {
     let packet = request_packet(alloc, request)?;
     let told = four.take(alloc, 1, packet.as_slice())?;
@@ -168,7 +169,7 @@ fn cast(rt: &impl Abort, alloc: Global, four: &mut Four, request: &[u8]) -> Resu
     Ok(())
 }
 
-// What all nodes hold once node 0 has cast too, and all packets have come: both batches.
+// What all nodes have once node 0 has proposed too and all packets are delivered: both batches.
 fn goes_on(rt: &impl Abort, alloc: Global, four: &mut Four) {
     check(rt, four.propose(alloc, 0), Told::Done, 0);
     check(rt, four.calm(alloc), Told::Done, 1);
@@ -177,7 +178,7 @@ fn goes_on(rt: &impl Abort, alloc: Global, four: &mut Four) {
     }
 }
 
-// All this in one world, with the word that node 1 truly says of the batch with this request.
+// All of this in one world, with the message that node 1 really sends on the batch with this request.
 fn try_word(rt: &impl Abort, alloc: Global, four: &mut Four, request: &[u8]) -> Result<(), Fail> {
     cast(rt, alloc, four, request)?;
     let value = batch(alloc, request)?;

@@ -1,4 +1,4 @@
-//! What the nodes sign and send, spelled field by field here, beside the code that is tested.
+//! What the nodes sign and send, encoded field by field here, independently of the code under test.
 ghost use Rattle.std.specs.Prelude.{◌≤◌};
 
 use iss_keys::Keys;
@@ -7,15 +7,15 @@ use sha2::{Digest, Sha256};
 use std::alloc::Global;
 use std::test::Fail;
 
-/// Of keys with sixteen leaves: how many bytes of a signature stand behind its height.
+/// For keys with sixteen leaves: how many bytes of a signature follow its height.
 pub const BEHIND_HEIGHT: usize = 2149 + 32 * 4 - 1;
 
-/// The number of the leader's word, and that of an echo.
+/// The number of the leader's message, and that of an echo.
 pub const SAY: u8 = 1;
 
 pub const ECHO: u8 = 2;
 
-// A key of which no leaf is used.
+// A key with no leaf used.
 fn fresh(alloc: Global, secret: [u8; 32], height: u8) -> Result<Keys, Fail>
     requires low { 2 ≤ height }
     requires high { height ≤ 12 }
@@ -23,12 +23,12 @@ fn fresh(alloc: Global, secret: [u8; 32], height: u8) -> Result<Keys, Fail>
     Ok(Keys::make(alloc, secret, height)?)
 }
 
-// The key of node (0x20) or client (0x21) so and so.
+// The key of a node (kind 0x20) or client (kind 0x21).
 fn key(alloc: Global, owner: u8, number: u8) -> Result<Keys, Fail> {
     fresh(alloc, Sha256::digest([owner, number]), 4)
 }
 
-// What a key signs by this leaf; nothing where there is no such leaf.
+// A key's signature with this leaf; empty if there is no such leaf.
 fn sign(alloc: Global, keys: &Keys, leaf: u32, statement: &[u8]) -> Result<Bytes, Fail> {
     if leaf >= keys.left() {
         return Ok(Bytes::new(alloc));
@@ -36,7 +36,7 @@ fn sign(alloc: Global, keys: &Keys, leaf: u32, statement: &[u8]) -> Result<Bytes
     Ok(Bytes::of(keys.sign_at(leaf, statement)?))
 }
 
-// The digest of a value with this spelling.
+// The digest of a value with this encoding.
 fn digest_of(value: &[u8]) -> [u8; 32] {
     let mut hasher = Sha256::new();
     hasher.update([0x40u8]);
@@ -44,7 +44,8 @@ fn digest_of(value: &[u8]) -> [u8; 32] {
     hasher.finalize()
 }
 
-// What a message of this kind states of a value in the slot of its leader in the first epoch: the cluster's tag, epoch, leader, module, kind, slot, digest.
+// What a message of this kind states about a value in its leader's slot of the first epoch: the cluster's tag, epoch,
+// leader, module, kind, slot, digest.
 fn statement(alloc: Global, leader: u8, kind: u8, value: &[u8]) -> Result<Bytes, NoMemory> {
     let mut out = Writer::new(alloc, 1);
     out.put_bytes(&[7; 32])?;
@@ -55,7 +56,7 @@ fn statement(alloc: Global, leader: u8, kind: u8, value: &[u8]) -> Result<Bytes,
     Ok(out.into_bytes())
 }
 
-// What a node signs of a value by this leaf.
+// A node's signature about a value, with this leaf.
 fn signature(alloc: Global, node: u8, kind: u8, leaf: u32, value: &[u8]) -> Result<Bytes, Fail> {
     let statement = statement(alloc, node, kind, value)?;
     let keys = key(alloc, 0x20, node)?;
@@ -73,7 +74,8 @@ fn packet(alloc: Global, kind: u8, from: u8, leader: u8, body: &[u8]) -> Result<
     Ok(out.into_bytes())
 }
 
-// A message of a leader about its slot in the first epoch: its number, the slot, the batch or its digest, and the signature behind it.
+// A message of a leader about its slot in the first epoch: its number, the slot, the batch or its digest, then the
+// signature.
 fn message(alloc: Global, node: u8, kind: u8, said: &[u8], sig: &[u8]) -> Result<Bytes, NoMemory> {
     let mut body = Writer::new(alloc, 1);
     body.put_u8(kind)?;
@@ -84,13 +86,13 @@ fn message(alloc: Global, node: u8, kind: u8, said: &[u8], sig: &[u8]) -> Result
     packet(alloc, 1, node, node, body.as_slice())
 }
 
-/// What a node says of a value in its own slot of the first epoch, signed by this leaf.
+/// A node's message on a value in its own slot of the first epoch, signed with this leaf.
 pub(crate) fn word(alloc: Global, node: u8, leaf: u32, value: &[u8]) -> Result<Bytes, Fail> {
     let sig = signature(alloc, node, SAY, leaf, value)?;
     Ok(message(alloc, node, SAY, value, sig.as_slice())?)
 }
 
-/// The same word of a node, signed as a message of another kind or of another leader's instance.
+/// The same message, but signed as a message of another kind or of another leader's instance.
 pub(crate) fn word_signed_as(
     alloc: Global,
     node: u8,
@@ -104,13 +106,13 @@ pub(crate) fn word_signed_as(
     Ok(message(alloc, node, SAY, value, sig.as_slice())?)
 }
 
-/// The echo of its own word, likewise.
+/// A node's echo of its own message, signed with this leaf.
 pub(crate) fn echo(alloc: Global, node: u8, leaf: u32, value: &[u8]) -> Result<Bytes, Fail> {
     let sig = signature(alloc, node, ECHO, leaf, value)?;
     Ok(message(alloc, node, ECHO, &digest_of(value), sig.as_slice())?)
 }
 
-// What a client signs of a request with three bytes, behind its first byte the request's fields.
+// What a client signs for a request with three bytes: a first byte, then the request's fields.
 fn asked(alloc: Global, client: u8, number: u32) -> Result<Bytes, NoMemory> {
     let mut out = Writer::new(alloc, 1);
     out.put_bytes(&[0x30, client])?;
@@ -119,13 +121,13 @@ fn asked(alloc: Global, client: u8, number: u32) -> Result<Bytes, NoMemory> {
     Ok(out.into_bytes())
 }
 
-// What its client signs of it, by the leaf of its number.
+// The client's signature of it, with the leaf of the request's number.
 fn signed(alloc: Global, client: u8, number: u32, statement: &[u8]) -> Result<Bytes, Fail> {
     let keys = key(alloc, 0x21, client)?;
     sign(alloc, &keys, number, statement)
 }
 
-// The fields of a request, and the signature behind them.
+// The fields of a request, then the signature.
 fn joined(alloc: Global, statement: &[u8], sig: &[u8]) -> Result<Bytes, NoMemory> {
     let mut all = Writer::new(alloc, 1);
     all.put_bytes(statement.get(1..).unwrap_or(&[]))?;
@@ -133,7 +135,7 @@ fn joined(alloc: Global, statement: &[u8], sig: &[u8]) -> Result<Bytes, NoMemory
     Ok(all.into_bytes())
 }
 
-/// A client's request with three bytes, signed by the leaf of its number.
+/// A client's request with three bytes, signed with the leaf of its number.
 pub(crate) fn request(alloc: Global, client: u8, number: u32) -> Result<Bytes, Fail> {
     let statement = asked(alloc, client, number)?;
     let sig = signed(alloc, client, number, statement.as_slice())?;

@@ -1,4 +1,4 @@
-//! The top call over sources and sinks that fail.
+//! The top call with sources and sinks that fail.
 
 use crate::ends::{status_of_sink, status_of_source};
 use iss_cli::{FailingSink, FailingSource, MemorySink, MemorySource, Script, run};
@@ -11,7 +11,7 @@ const INPUT: &[u8] =
 const TEXT: &[u8] =
     b"node 0 epoch 0 slots 0 requests 0\nnode 1 epoch 0 slots 0 requests 0\nnode 2 epoch 0 slots 0 requests 0\nend ok\n";
 
-// How many calls of 16 bytes read the input, the last of which finds the end; and how many put the text.
+// How many calls of 16 bytes read the input, the last of which finds its end; and how many write the text.
 const READS: u64 = 8;
 
 const PUTS: u64 = 7;

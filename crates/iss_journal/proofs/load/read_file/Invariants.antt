@@ -9,7 +9,8 @@ invariant-loop-at g l = record {
   whole : IfTold (g.D.Disk.history l.fn.disk) (λ file. length l.bytes.items ≡ length file.content);
   front : IfTold (g.D.Disk.history l.fn.disk) (λ file. take l.at l.bytes.items ≡ take l.at file.content);
   history : g.D.Disk.history l.disk ≡ g.D.Disk.history l.fn.disk;
-  same : Stays (g.D.Disk.current l.fn.disk) (g.D.Disk.current l.disk) (g.D.Disk.files l.fn.disk) (g.D.Disk.files l.disk);
+  same : Stays (g.D.Disk.current l.fn.disk) (g.D.Disk.current l.disk) (g.D.Disk.files l.fn.disk)
+      (g.D.Disk.files l.disk);
   room : Takes 0 0 (g.D.Disk.room l.fn.disk) (g.D.Disk.room l.disk);
   faults : g.D.Disk.faults l.fn.disk ≤ g.D.Disk.faults l.disk;
   works : Works (g.D.Disk.passes l.fn.disk) (g.D.Disk.passes l.disk) ⊥;

@@ -9,4 +9,5 @@ chains-init c = pieces_none c.args.out.now.items (signed_value c.args.secret.now
 pub chains-preserved : goal.chains-preserved
 chains-preserved c =
     c.in_ok-extend_from_slice.ensures.items
-    ∙ pieces_more c.args.out.now.items _ c.steps_of_chain-value.result (signed_value c.args.secret.now c.args.leaf c.args.digest.now) c.chains.i c.chains.invariant (search rules)
+    ∙ pieces_more c.args.out.now.items _ c.steps_of_chain-value.result
+    (signed_value c.args.secret.now c.args.leaf c.args.digest.now) c.chains.i c.chains.invariant (search rules)

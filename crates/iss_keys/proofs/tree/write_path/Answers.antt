@@ -15,12 +15,15 @@ levels-init c =
 pub bounds-nodes-place_beside : goal.bounds-nodes-place_beside
 bounds-nodes-place_beside c =
     rw (c.place_beside.ensures, c.requires.size)
-    (beside_within c.args.height c.levels.k c.args.leaf c.levels.place c.levels-test.true c.requires.leaf c.levels.invariant.place)
+    (beside_within c.args.height c.levels.k c.args.leaf c.levels.place c.levels-test.true c.requires.leaf
+    c.levels.invariant.place)
 
 pub levels-preserved : goal.levels-preserved
 levels-preserved c = record {
   written = λ secret tree. c.in_ok-write_node.ensures
-      ∙ pieces_more c.args.out.now.items _ _ (path_node secret c.args.leaf) c.levels.k (c.levels.invariant.written secret tree)
-      (path_is secret c.args.height c.args.nodes.now c.args.leaf c.levels.k c.levels.place c.place_beside.result tree c.levels-test.true c.requires.leaf c.levels.invariant.place c.place_beside.ensures);
+      ∙ pieces_more c.args.out.now.items _ _ (path_node secret c.args.leaf) c.levels.k
+      (c.levels.invariant.written secret tree)
+      (path_is secret c.args.height c.args.nodes.now c.args.leaf c.levels.k c.levels.place c.place_beside.result tree
+      c.levels-test.true c.requires.leaf c.levels.invariant.place c.place_beside.ensures);
   place = place_up c.args.height c.levels.k c.args.leaf c.levels.place c.levels-test.true c.levels.invariant.place;
 }

@@ -8,7 +8,8 @@ use Rattle.iss_packet.proofs.packets.read_kind.Goals as goal
 pub returns-in_err-kind-clause-bad : goal.returns-in_err-kind-clause-bad
 unfolding parse_kind
 returns-in_err-kind-clause-bad c =
-    exit c.from_residual.result _ _ c.from_residual.ensures.1 (λ at e. unread_first _ _ (unread_tested _ _ (c.in_err-kind.ensures.bad at e)))
+    exit c.from_residual.result _ _ c.from_residual.ensures.1
+    (λ at e. unread_first _ _ (unread_tested _ _ (c.in_err-kind.ensures.bad at e)))
 
 pub returns-in-1-clause-ok : goal.returns-in-1-clause-ok
 returns-in-1-clause-ok c = kind_read 1 _ _ _ Message c.in-1.is c.in_ok-kind.ensures.ok refl refl
@@ -29,5 +30,6 @@ pub returns-in_default-clause-bad : goal.returns-in_default-clause-bad
 unfolding parse_kind
 returns-in_default-clause-bad c at e =
     named parse_kind c.args.f.now _ _ at
-    (unread_first _ _ (unread_failed _ _ c.in_ok-kind.ensures.ok (other_kind c.in_ok-kind.kind (omega arith) (omega arith) (omega arith) (omega arith) (omega arith))))
+    (unread_first _ _ (unread_failed _ _ c.in_ok-kind.ensures.ok
+    (other_kind c.in_ok-kind.kind (omega arith) (omega arith) (omega arith) (omega arith) (omega arith))))
     c.bad_field-no_kind.ensures e

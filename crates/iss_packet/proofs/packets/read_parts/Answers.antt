@@ -77,5 +77,7 @@ returns-clause-ok c =
     (read_then _ _ c.in_ok-epoch.ensures.ok
     (read_then _ _ c.in_ok-leader.ensures.ok
     (read_then _ _ c.in_ok-size.ensures.ok
-    (read_then _ _ (read_as_is (block _) (λ bytes rest x found. (block_parts _ bytes rest x found).parts) _ c.at-first.result c.in_ok-_lent.ensures.ok c.in_ok-body.ensures c.at-first.ensures)
+    (read_then _ _ (read_as_is (block _)
+    (λ bytes rest x found. (block_parts _ bytes rest x found).parts) _ c.at-first.result c.in_ok-_lent.ensures.ok
+    c.in_ok-body.ensures c.at-first.ensures)
     (read_done _ _))))))))

@@ -6,7 +6,8 @@ use Rattle.iss_packet.proofs.packets.read_size.Goals as goal
 pub returns-in_err-size-clause-bad : goal.returns-in_err-size-clause-bad
 unfolding parse_size
 returns-in_err-size-clause-bad c =
-    exit c.from_residual.result _ _ c.from_residual.ensures.1 (λ at e. unread_tested _ _ (c.in_err-size.ensures.bad at e))
+    exit c.from_residual.result _ _ c.from_residual.ensures.1
+    (λ at e. unread_tested _ _ (c.in_err-size.ensures.bad at e))
 
 pub returns-then-size-gt-BODY_MAX-clause-bad : goal.returns-then-size-gt-BODY_MAX-clause-bad
 unfolding parse_size

@@ -6,11 +6,13 @@ use Rattle.iss_request.proofs.values.read_any_count.Goals as goal
 
 pub returns-then-is_second-clause-ok : goal.returns-then-is_second-clause-ok
 returns-then-is_second-clause-ok c =
-    rw (second_field c.args.f.now.version (c.if-is_second.ensures ∙ ap is_second c.version.ensures)) c.read_u16.ensures.ok
+    rw (second_field c.args.f.now.version (c.if-is_second.ensures ∙ ap is_second c.version.ensures))
+    c.read_u16.ensures.ok
 
 pub returns-then-is_second-clause-bad : goal.returns-then-is_second-clause-bad
 returns-then-is_second-clause-bad c =
-    rw (second_field c.args.f.now.version (c.if-is_second.ensures ∙ ap is_second c.version.ensures)) c.read_u16.ensures.bad
+    rw (second_field c.args.f.now.version (c.if-is_second.ensures ∙ ap is_second c.version.ensures))
+    c.read_u16.ensures.bad
 
 pub returns-in_err-count-clause-bad : goal.returns-in_err-count-clause-bad
 returns-in_err-count-clause-bad c =
@@ -19,4 +21,5 @@ returns-in_err-count-clause-bad c =
 
 pub returns-clause-ok : goal.returns-clause-ok
 returns-clause-ok c =
-    rw (first_field c.args.f.now.version (c.if-is_second.ensures ∙ ap is_second c.version.ensures)) c.in_ok-count.ensures.ok
+    rw (first_field c.args.f.now.version (c.if-is_second.ensures ∙ ap is_second c.version.ensures))
+    c.in_ok-count.ensures.ok

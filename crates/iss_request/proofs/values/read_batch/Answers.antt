@@ -5,7 +5,8 @@ use Rattle.iss_request.proofs.values.read_batch.Goals as goal
 pub returns-in_err-count-clause-bad : goal.returns-in_err-count-clause-bad
 unfolding parse_batch
 returns-in_err-count-clause-bad c =
-    exit c.from_residual.result _ _ c.from_residual.ensures.1 (λ at e. unread_first _ _ (c.in_err-count.ensures.bad at e))
+    exit c.from_residual.result _ _ c.from_residual.ensures.1
+    (λ at e. unread_first _ _ (c.in_err-count.ensures.bad at e))
 
 pub returns-in_err-batch-clause-bad : goal.returns-in_err-batch-clause-bad
 unfolding parse_batch

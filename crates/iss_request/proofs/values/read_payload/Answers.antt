@@ -30,4 +30,5 @@ pub returns-clause-ok : goal.returns-clause-ok
 unfolding parse_payload
 returns-clause-ok c =
     read_then _ _ (read_passed _ _ c.in_ok-size.ensures.ok (le-leb _ _ c.if-size-gt-PAYLOAD_MAX.false))
-    (read_as_is (block _) (λ bytes rest x found. (block_parts _ bytes rest x found).parts) _ c.at-first.result c.in_ok-_payload.ensures.ok c.in_ok-since.ensures c.at-first.ensures)
+    (read_as_is (block _) (λ bytes rest x found. (block_parts _ bytes rest x found).parts) _ c.at-first.result
+    c.in_ok-_payload.ensures.ok c.in_ok-since.ensures c.at-first.ensures)

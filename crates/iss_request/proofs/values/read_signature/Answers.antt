@@ -35,7 +35,8 @@ returns-in_err-_digests-clause-bad c =
 pub returns-clause-ok : goal.returns-clause-ok
 unfolding parse_signature
 returns-clause-ok c =
-    read_as_is parse_signature (λ bytes rest sig found. (signature_parts bytes rest sig found).parts) _ c.at-first.result
+    read_as_is parse_signature
+    (λ bytes rest sig found. (signature_parts bytes rest sig found).parts) _ c.at-first.result
     (read_then _ _ (read_passed _ _ c.in_ok-height.ensures.ok (sym c.if-not-is_tree_height.ensures))
     (read_then _ _ c.in_ok-_leaf.ensures.ok
     (read_then _ _ c.in_ok-_digests.ensures.ok (read_done _ _))))

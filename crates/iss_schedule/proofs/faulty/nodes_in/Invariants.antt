@@ -1,7 +1,7 @@
 use Rattle.std.proofs.Common.{◌≡◌, ◌+◌, ◌++◌, length}
 use Rattle.iss_request.specs.Setup.{AreRising}
 use Rattle.iss_schedule.specs.Headers.{node_words}
-use Rattle.iss_schedule.proofs.FaultyNodes.{after}
+use Rattle.iss_schedule.proofs.HeaderTable.LineDeterminesFaultyNodes.{after}
 use Rattle.iss_schedule.proofs.faulty.nodes_in.Given as goal
 
 abbrev pub invariant-loop-word : goal.invariant-loop-word

@@ -1,7 +1,7 @@
 use Rattle.std.proofs.Common.{◌≡◌, ◌++◌, [], length, take, drop}
 use Rattle.iss_schedule.specs.Headers.{header_fields, lines_of}
 use Rattle.iss_schedule.specs.Words.{ended}
-use Rattle.iss_schedule.proofs.Fields.{AreSome}
+use Rattle.iss_schedule.proofs.HeaderTable.FieldsDetermineValues.{AreSome}
 use Rattle.iss_schedule.proofs.header.read_header.Given as goal
 
 abbrev pub invariant-loop-place : goal.invariant-loop-place

@@ -1,6 +1,6 @@
 use Rattle.std.proofs.Common.{◌∙◌, sym}
-use Rattle.iss_schedule.proofs.OneLine.{refused_none, one_bad_line}
-use Rattle.iss_schedule.proofs.OneSchedule.{one_schedule}
+use Rattle.iss_schedule.proofs.BadLines.OneFirstBadLine.{refused_none, one_bad_line}
+use Rattle.iss_schedule.proofs.OneScheduleAText.{one_schedule}
 use Rattle.iss_schedule.proofs.laws.texts_and_schedules.Goals as goal
 
 pub returns-clause-one_text : goal.returns-clause-one_text

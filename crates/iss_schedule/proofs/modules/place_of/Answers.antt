@@ -1,4 +1,4 @@
-use Rattle.iss_schedule.proofs.Rows.{few_modules}
+use Rattle.iss_schedule.proofs.HeaderTable.ModuleRows.{few_modules}
 use Rattle.iss_schedule.proofs.modules.place_of.Goals as goal
 
 pub place_in-requires : goal.place_in-requires

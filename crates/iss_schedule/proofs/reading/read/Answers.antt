@@ -7,14 +7,16 @@ use Rattle.iss_schedule.specs.declared.schedules.Schedule.{Schedule}
 use Rattle.iss_schedule.specs.BadLines.{IsRefused, IsNoText}
 use Rattle.iss_schedule.specs.Events.{AreInRange}
 use Rattle.iss_schedule.specs.Schedules.{IsSchedule}
-use Rattle.iss_schedule.proofs.OneLine.{refused_none}
+use Rattle.iss_schedule.proofs.BadLines.OneFirstBadLine.{refused_none}
 use Rattle.iss_schedule.proofs.reading.read.Goals as goal
 
-good_setup : (bytes : List ℕ) (r : Result Schedule ReadError) → IfOk r (IsSchedule bytes) → IfOk r (λ s. IsGoodSetup s.setup)
+good_setup : (bytes : List ℕ) (r : Result Schedule ReadError) → IfOk r (IsSchedule bytes) →
+    IfOk r (λ s. IsGoodSetup s.setup)
 good_setup bytes (Ok s) h = h.fine.setup.good
 good_setup bytes (Err e) h = tt
 
-in_range : (bytes : List ℕ) (r : Result Schedule ReadError) → IfOk r (IsSchedule bytes) → IfOk r (λ s. AreInRange s.setup s.events)
+in_range : (bytes : List ℕ) (r : Result Schedule ReadError) → IfOk r (IsSchedule bytes) →
+    IfOk r (λ s. AreInRange s.setup s.events)
 in_range bytes (Ok s) h = h.fine.events
 in_range bytes (Err e) h = tt
 

@@ -1,7 +1,7 @@
 use Rattle.std.proofs.Common.{length, sym, ap, ◌∙◌, arith, inl, inr}
 use Rattle.std.proofs.lemmas.Bool.{iff_false, eqb-true, eqb-false}
 use Rattle.hex.proofs.HexLemmas.{decode_of-same}
-use Rattle.iss_schedule.proofs.HexWords.{word_is_long, decoded, is_word, is_encoding}
+use Rattle.iss_schedule.proofs.Encoding.HexIsInjective.{word_is_long, decoded, is_word, is_encoding}
 use Rattle.hex.specs.Hex.{encode_lower}
 use Rattle.iss_schedule.proofs.words.bytes_of.Goals as goal
 
@@ -25,7 +25,8 @@ returns-in_default c = record {
 
 pub returns-then-is_same-2-clause-some : goal.returns-then-is_same-2-clause-some
 returns-then-is_same-2-clause-some c =
-    is_word c.args.word.now c.in-Ok.bytes.items (λ e. eqb-false (length c.args.word.now) 0 (sym c.is_empty.ensures ∙ c.if-is_empty.false) e)
+    is_word c.args.word.now c.in-Ok.bytes.items
+    (λ e. eqb-false (length c.args.word.now) 0 (sym c.is_empty.ensures ∙ c.if-is_empty.false) e)
     (sym (c.is_same-2.ensures.0 c.if-is_same-2.true) ∙ c.as_bytes.ensures.value ∙ c.in_ok-again.ensures)
 
 pub returns-clause-none : goal.returns-clause-none
@@ -34,4 +35,5 @@ returns-clause-none c = λ bytes fits e.
     let ok = decoded c.args.word.now bytes other fits e in
     let same = decode_of-same c.args.word.now c.in-Ok.bytes.items bytes c.in-Ok.ensures.ok ok in
     iff_false c.is_same-2.ensures c.if-is_same-2.false
-    (c.as_bytes.ensures.value ∙ c.in_ok-again.ensures ∙ ap encode_lower same ∙ sym (is_encoding c.args.word.now bytes other e))
+    (c.as_bytes.ensures.value ∙ c.in_ok-again.ensures ∙ ap encode_lower same
+    ∙ sym (is_encoding c.args.word.now bytes other e))

@@ -11,8 +11,12 @@ returns-then-ne-clause-files c = λ n.
     let inserted : c.insert.new.self.items ≡ c.args.self.now.file ∷ c.take_named-next.new.others.items = search rules in
     let is_next : c.replace-former.new.dest ≡ c.take_named-next.result = search rules in
     let kept : c.reserve.new.self.items ≡ c.args.self.now.others.items = search rules in
-    let found : history_of c.take_named-next.result ≡ history_among c.args.self.now.others.items c.in_ok-fresh.fresh.name.items = c.take_named-next.ensures.history ∙ ap (λ (fs : List StoredFile). history_among fs c.in_ok-fresh.fresh.name.items) kept in
+    let found : history_of c.take_named-next.result
+    ≡ history_among c.args.self.now.others.items c.in_ok-fresh.fresh.name.items = c.take_named-next.ensures.history
+    ∙ ap (λ (fs : List StoredFile). history_among fs c.in_ok-fresh.fresh.name.items) kept in
     ap (λ (fs : List StoredFile). history_among (c.replace-former.new.dest ∷ fs) n) inserted
     ∙ ap (λ (f : StoredFile). history_among (f ∷ c.args.self.now.file ∷ c.take_named-next.new.others.items) n) is_next
-    ∙ attached_files c.args.self.now.file c.take_named-next.result c.args.self.now.others.items c.take_named-next.new.others.items c.in_ok-fresh.fresh.name.items apart c.take_named-next.ensures.name found
-    (λ name other. c.take_named-next.ensures.others name other ∙ ap (λ (fs : List StoredFile). history_among fs name) kept) n
+    ∙ attached_files c.args.self.now.file c.take_named-next.result c.args.self.now.others.items
+    c.take_named-next.new.others.items c.in_ok-fresh.fresh.name.items apart c.take_named-next.ensures.name found
+    (λ name other. c.take_named-next.ensures.others name other
+    ∙ ap (λ (fs : List StoredFile). history_among fs name) kept) n

@@ -19,7 +19,8 @@ invariant_of-self-clause-stored c =
     let taken = c.take_tail.new.lost.items in
     let short = c.truncate.new.self.items in
     let parted :
-    take c.part-self.result content ++ c.part-self.new.behind.items ≡ take c.args.self.now.same content ++ (c.args.self.now.behind.items ++ drop c.args.self.now.resumes content) =
+    take c.part-self.result content ++ c.part-self.new.behind.items ≡ take c.args.self.now.same content
+    ++ (c.args.self.now.behind.items ++ drop c.args.self.now.resumes content) =
     search rules in
     let all = calls_in c.push.new.self in
     let pushed : all ≡ Cut by ∷ calls = search rules in
@@ -30,9 +31,11 @@ invariant_of-self-clause-stored c =
     ∙ ap (states (Cut by ∷ calls) (lost ++ drop n content)) c.truncate.ensures.items
     ∙ undone_cut calls n by content lost c.requires.within refl
     ∙ ap (λ (cs : List Call). after (shortened n) (states cs lost content)) c.note_all.ensures.calls in
-    cut_keeps (states before lost content) (states all taken short) n content short c.args.self.now.behind.items c.part-self.new.behind.items
+    cut_keeps (states before lost content)
+    (states all taken short) n content short c.args.self.now.behind.items c.part-self.new.behind.items
     c.args.self.now.same c.args.self.now.resumes c.part-self.result
-    (states_some before lost content) c.args.self.now.stored c.requires.within c.part-self.ensures.no_more c.part-self.ensures.before parted one_more c.truncate.ensures.items
+    (states_some before lost content) c.args.self.now.stored c.requires.within c.part-self.ensures.no_more
+    c.part-self.ensures.before parted one_more c.truncate.ensures.items
 
 pub invariant_of-self-clause-waits : goal.invariant_of-self-clause-waits
 invariant_of-self-clause-waits c =

@@ -17,4 +17,5 @@ invariant_of-self-clause-stored c =
     let ends : end ≡ length content = search rules in
     let one_more : now ≡ after synced before = c.note_sync-self.ensures.states lost content (sym ends) in
     subst (λ (l : List ℕ). IsStored now content l end end) (sym c.clear.ensures.items)
-    (sync_keeps before now content c.args.self.now.behind.items c.args.self.now.same c.args.self.now.resumes end some c.args.self.now.stored one_more ends)
+    (sync_keeps before now content c.args.self.now.behind.items c.args.self.now.same c.args.self.now.resumes end some
+    c.args.self.now.stored one_more ends)

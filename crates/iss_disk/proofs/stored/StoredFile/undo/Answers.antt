@@ -29,7 +29,8 @@ invariant_of-self-clause-stored c =
     let loses : taken ≡ lost ++ drop at content = search rules in
     let ends : end ≡ length now = search rules in
     let empty : c.clear.new.self.items ≡ [] = search rules in
-    let front : take at now ≡ take at content = ap (take at) whole ∙ take_at (take at content) (behind ++ drop resumes content) at (length-take-le at content within) in
+    let front : take at now ≡ take at content = ap (take at) whole
+    ∙ take_at (take at content) (behind ++ drop resumes content) at (length-take-le at content within) in
     let one_more : states all taken now ≡ after restarted (states before lost content) =
     ap (λ (cs : List Call). states cs taken now) pushed
     ∙ ap (λ (l : List ℕ). states (Restarted at over ∷ calls) l now) loses
@@ -37,10 +38,12 @@ invariant_of-self-clause-stored c =
     ∙ ap (λ (cs : List Call). after restarted (states cs lost content)) c.note_all.ensures.calls in
     let some = states_some before lost content in
     subst (λ (l : List ℕ). IsStored (states all taken now) now l end end) (sym empty)
-    (restart_keeps (states before lost content) (states all taken now) content behind now at resumes end some c.args.self.now.stored one_more whole ends)
+    (restart_keeps (states before lost content)
+    (states all taken now) content behind now at resumes end some c.args.self.now.stored one_more whole ends)
 
 pub invariant_of-self-clause-waits : goal.invariant_of-self-clause-waits
 invariant_of-self-clause-waits c =
     let over = length c.args.self.now.content.items - c.args.self.now.same in
-    let pushed : calls_in c.push.new.self ≡ Restarted c.args.self.now.same over ∷ calls_in c.note_all.new.calls = search rules in
+    let pushed : calls_in c.push.new.self ≡ Restarted c.args.self.now.same over ∷ calls_in c.note_all.new.calls =
+    search rules in
     sym (ap is_pending pushed)

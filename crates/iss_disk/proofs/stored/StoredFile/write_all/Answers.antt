@@ -20,7 +20,8 @@ invariant_of-self-clause-stored c =
     let over = c.overwrite.new.content.items in
     let taken = c.take_away-call.new.lost.items in
     let call = c.take_away-call.result in
-    let parted : take c.part-self.result content ++ c.part-self.new.behind.items ≡ take same content ++ (behind ++ drop resumes content) = search rules in
+    let parted : take c.part-self.result content ++ c.part-self.new.behind.items ≡ take same content
+    ++ (behind ++ drop resumes content) = search rules in
     let all = calls_in c.push.new.self in
     let pushed : all ≡ call ∷ calls = search rules in
     let longer : length content ≤ length over = search rules in
@@ -28,11 +29,15 @@ invariant_of-self-clause-stored c =
     let one_more : states all taken over ≡ after (wrote c.args.at bytes) (states before lost content) =
     ap (λ (cs : List Call). states cs taken over) pushed
     ∙ ap (states (call ∷ calls) taken) c.overwrite.ensures.items
-    ∙ subst (λ (l : List ℕ). states (call ∷ calls) taken (overwritten c.args.at bytes l) ≡ after (wrote c.args.at bytes) (states calls lost l)) c.deref-2.ensures.value
+    ∙ subst (λ (l : List ℕ). states (call ∷ calls) taken (overwritten c.args.at bytes l)
+    ≡ after (wrote c.args.at bytes) (states calls lost l)) c.deref-2.ensures.value
     (c.take_away-call.ensures.undoes calls bytes refl)
     ∙ ap (λ (cs : List Call). after (wrote c.args.at bytes) (states cs lost content)) c.note_all.ensures.calls in
-    write_keeps (states before lost content) (states all taken over) c.args.at bytes content over behind c.part-self.new.behind.items same resumes c.part-self.result c.len-self.result
-    (states_some before lost content) c.args.self.now.stored c.requires.within c.part-self.ensures.no_more c.part-self.ensures.before parted one_more c.overwrite.ensures.items longer ends
+    write_keeps (states before lost content)
+    (states all taken over) c.args.at bytes content over behind c.part-self.new.behind.items same resumes
+    c.part-self.result c.len-self.result
+    (states_some before lost content) c.args.self.now.stored c.requires.within c.part-self.ensures.no_more
+    c.part-self.ensures.before parted one_more c.overwrite.ensures.items longer ends
 
 pub invariant_of-self-clause-waits : goal.invariant_of-self-clause-waits
 invariant_of-self-clause-waits c =

@@ -22,18 +22,26 @@ invariant_of-self-clause-stored c =
     let at = length content in
     let all : same ≡ at = c.requires.all_synced in
     let extended : longer ≡ content ++ bytes = search rules in
-    let one_more : states (calls_of (Wrote same) ++ listed) lost longer ≡ after (wrote at bytes) (states calls lost content) =
+    let one_more : states (calls_of (Wrote same) ++ listed) lost longer
+    ≡ after (wrote at bytes) (states calls lost content) =
     written_behind c.args.self.now.recent listed same bytes content lost longer c.requires.all_noted all extended in
     let over : longer ≡ overwritten at bytes content =
-    extended ∙ ap (λ (l : List ℕ). l ++ bytes) (sym (take_all at content (omega arith))) ∙ sym (to-end-overwritten at bytes content (omega arith)) in
+    extended ∙ ap (λ (l : List ℕ). l ++ bytes) (sym (take_all at content (omega arith)))
+    ∙ sym (to-end-overwritten at bytes content (omega arith)) in
     let parted : take same content ++ behind ≡ take same content ++ (behind ++ drop resumes content) =
-    ap (λ (l : List ℕ). take same content ++ l) (sym (nothing_behind behind content resumes (omega (arith, all, c.args.self.now.stored.in_order)))) in
+    ap (λ (l : List ℕ). take same content ++ l)
+    (sym (nothing_behind behind content resumes (omega (arith, all, c.args.self.now.stored.in_order)))) in
     let grows : length content ≤ length longer = omega (arith, ap length extended, length-append content bytes) in
     let ends : c.len-self.result ≡ length longer = search rules in
-    write_keeps (states calls lost content) (states (calls_of (Wrote same) ++ listed) lost longer) at bytes content longer behind behind same resumes same c.len-self.result
-    (states_some calls lost content) c.args.self.now.stored (omega arith) (omega arith) (omega (arith, all)) parted one_more over grows ends
+    write_keeps (states calls lost content)
+    (states (calls_of (Wrote same) ++ listed) lost longer) at bytes content longer behind behind same resumes same
+    c.len-self.result
+    (states_some calls lost content) c.args.self.now.stored (omega arith) (omega arith)
+    (omega (arith, all)) parted one_more over grows ends
 
 pub returns-clause-states : goal.returns-clause-states
 returns-clause-states c =
     let extended : c.put_all.new.content.items ≡ c.args.self.now.content.items ++ c.args.bytes.now = search rules in
-    written_behind c.args.self.now.recent (calls_in c.args.self.now.calls) c.args.self.now.same c.args.bytes.now c.args.self.now.content.items c.args.self.now.lost.items c.put_all.new.content.items c.requires.all_noted c.requires.all_synced extended
+    written_behind c.args.self.now.recent
+    (calls_in c.args.self.now.calls) c.args.self.now.same c.args.bytes.now c.args.self.now.content.items
+    c.args.self.now.lost.items c.put_all.new.content.items c.requires.all_noted c.requires.all_synced extended

@@ -11,31 +11,39 @@ invariant_of-self c =
     let entry = c.args.head.now ++ c.args.body.now in
     let next = ap (λ (n : ℕ). now.last + (5 + n)) (sym (length-append c.args.head.now c.args.body.now)) in
     let end = now.last + (5 + (length c.args.head.now + length c.args.body.now)) in
-    let again = with_entry now.bytes.items now.count (now.count + 1) now.last end entry (0 ∷ []) now.book c.requires.bytes c.requires.short refl next in
+    let again = with_entry now.bytes.items now.count (now.count + 1) now.last end entry
+    (0 ∷ []) now.book c.requires.bytes c.requires.short refl next in
     let marked : AreMarks c.mark.new.marks.items (entries_at now.bytes.items now.count ++ entry ∷ []) =
-    c.mark.ensures.marked (entries_at now.bytes.items now.count) entry (sym (length-entries 0 now.bytes.items now.count)) now.book.end now.marked in
-    record { book = again.book; marked = subst (λ (es : List (List ℕ)). AreMarks c.mark.new.marks.items es) (sym again.found) marked }
+    c.mark.ensures.marked (entries_at now.bytes.items now.count) entry
+    (sym (length-entries 0 now.bytes.items now.count)) now.book.end now.marked in
+    record {
+      book = again.book;
+      marked = subst (λ (es : List (List ℕ)). AreMarks c.mark.new.marks.items es) (sym again.found) marked;
+    }
 
 pub returns-clause-entries : goal.returns-clause-entries
 returns-clause-entries c =
     let now = c.args.self.now in
     let next = ap (λ (n : ℕ). now.last + (5 + n)) (sym (length-append c.args.head.now c.args.body.now)) in
     let end = now.last + (5 + (length c.args.head.now + length c.args.body.now)) in
-    (with_entry now.bytes.items now.count (now.count + 1) now.last end (c.args.head.now ++ c.args.body.now) (0 ∷ []) now.book c.requires.bytes c.requires.short refl next).found
+    (with_entry now.bytes.items now.count (now.count + 1) now.last end (c.args.head.now ++ c.args.body.now)
+    (0 ∷ []) now.book c.requires.bytes c.requires.short refl next).found
 
 pub overflow_add-self : goal.overflow_add-self
 overflow_add-self c =
     let now = c.args.self.now in
     let many = length-entries 0 now.bytes.items now.count in
     let few = as_many (entries_at now.bytes.items now.count) in
-    let more : frames (entries_at now.bytes.items now.count) ++ (frame (c.args.head.now ++ c.args.body.now) ++ 0 ∷ []) ≡ now.bytes.items = sym c.requires.bytes in
+    let more : frames (entries_at now.bytes.items now.count) ++ (frame (c.args.head.now ++ c.args.body.now) ++ 0 ∷ [])
+    ≡ now.bytes.items = sym c.requires.bytes in
     let longer : now.count + 1 ≤ length now.bytes.items =
     omega (
       arith,
       many,
       few,
       ap length more,
-      length-append (frames (entries_at now.bytes.items now.count)) (frame (c.args.head.now ++ c.args.body.now) ++ 0 ∷ []),
+      length-append (frames (entries_at now.bytes.items now.count))
+          (frame (c.args.head.now ++ c.args.body.now) ++ 0 ∷ []),
       length-append (frame (c.args.head.now ++ c.args.body.now)) (0 ∷ []),
     ) in
     search rules

@@ -10,14 +10,19 @@ pub returns-in_err-make_ready-clause-any_moment : goal.returns-in_err-make_ready
 returns-in_err-make_ready-clause-any_moment g c =
     let es = entries_in c.args.self.now.entries in
     let h = g.D.Disk.history c.args.self.now.disk in
-    subst (λ (new : List File). LeavesOnly (HoldsWithOrWithout es (c.args.head.now ++ c.args.body.now)) h new) (sym c.make_ready.ensures.history) (rests_start h es (c.args.head.now ++ c.args.body.now) (c.requires.sound.rests c.requires.attached))
+    subst (λ (new : List File). LeavesOnly (HoldsWithOrWithout es (c.args.head.now ++ c.args.body.now)) h new)
+    (sym c.make_ready.ensures.history)
+    (rests_start h es (c.args.head.now ++ c.args.body.now) (c.requires.sound.rests c.requires.attached))
 
 pub returns-clause-durable : goal.returns-clause-durable
 returns-clause-durable g c =
     let h = g.D.Disk.history c.keep_entry.new.disk in
-    rests_durable h (entries_in c.commit.new.self) (subst (λ (es : List (List ℕ)). IfTold h (RestsOn es)) (sym c.commit.ensures.entries) c.in_ok-keep_entry.ensures.rests)
+    rests_durable h (entries_in c.commit.new.self)
+    (subst (λ (es : List (List ℕ)). IfTold h (RestsOn es))
+    (sym c.commit.ensures.entries) c.in_ok-keep_entry.ensures.rests)
 
 pub returns-clause-file : goal.returns-clause-file
 returns-clause-file g c =
     let h = g.D.Disk.history c.keep_entry.new.disk in
-    subst (λ (es : List (List ℕ)). IfTold h (EndsClosed es)) (sym c.commit.ensures.entries) c.in_ok-keep_entry.ensures.file
+    subst (λ (es : List (List ℕ)). IfTold h (EndsClosed es))
+    (sym c.commit.ensures.entries) c.in_ok-keep_entry.ensures.file

@@ -13,7 +13,9 @@ returns-in_err-reserve-clause-any_moment g c =
     let d0 = c.args.self.now.disk in
     let d1 = c.reserve.new.self in
     let same : g.D.Disk.history d1 ≡ g.D.Disk.history d0 =
-    history_same (g.D.Disk.history d0) (g.D.Disk.history d1) (g.D.Disk.files d0) (g.D.Disk.files d1) (g.D.Disk.current d0) (g.D.Disk.current d1) (g.met.D.Disk.here d0) (g.met.D.Disk.here d1) c.reserve.ensures.same in
+    history_same (g.D.Disk.history d0) (g.D.Disk.history d1) (g.D.Disk.files d0) (g.D.Disk.files d1)
+    (g.D.Disk.current d0) (g.D.Disk.current d1) (g.met.D.Disk.here d0)
+    (g.met.D.Disk.here d1) c.reserve.ensures.same in
     subst (λ (h : List File). LosesNothing (g.D.Disk.history d0) h) (sym same) (loses_start (g.D.Disk.history d0))
 
 pub returns-in_err-sync-clause-any_moment : goal.returns-in_err-sync-clause-any_moment
@@ -21,51 +23,69 @@ returns-in_err-sync-clause-any_moment g c =
     let d0 = c.args.self.now.disk in
     let d1 = c.reserve.new.self in
     let same : g.D.Disk.history d1 ≡ g.D.Disk.history d0 =
-    history_same (g.D.Disk.history d0) (g.D.Disk.history d1) (g.D.Disk.files d0) (g.D.Disk.files d1) (g.D.Disk.current d0) (g.D.Disk.current d1) (g.met.D.Disk.here d0) (g.met.D.Disk.here d1) c.reserve.ensures.same in
+    history_same (g.D.Disk.history d0) (g.D.Disk.history d1) (g.D.Disk.files d0) (g.D.Disk.files d1)
+    (g.D.Disk.current d0) (g.D.Disk.current d1) (g.met.D.Disk.here d0)
+    (g.met.D.Disk.here d1) c.reserve.ensures.same in
     let read : (file : File) (past : List File) → g.D.Disk.history d1 ≡ file ∷ past → Image file file.content =
     λ file past is. g.met.D.Disk.read_is_image d1 (g.D.Disk.current d1) file past (sym (g.met.D.Disk.here d1) ∙ is) in
-    subst (λ (h : List File). LosesNothing h (g.D.Disk.history c.sync.new.self)) same (sync_fails (g.D.Disk.history d1) (g.D.Disk.history c.sync.new.self) read c.in_err-sync.ensures.file)
+    subst (λ (h : List File). LosesNothing h (g.D.Disk.history c.sync.new.self)) same
+    (sync_fails (g.D.Disk.history d1) (g.D.Disk.history c.sync.new.self) read c.in_err-sync.ensures.file)
 
 pub returns-in_err-self-clause-damaged : goal.returns-in_err-self-clause-damaged
 returns-in_err-self-clause-damaged g c = λ at is.
     let d0 = c.args.self.now.disk in
     let d1 = c.reserve.new.self in
     let same : g.D.Disk.history d1 ≡ g.D.Disk.history d0 =
-    history_same (g.D.Disk.history d0) (g.D.Disk.history d1) (g.D.Disk.files d0) (g.D.Disk.files d1) (g.D.Disk.current d0) (g.D.Disk.current d1) (g.met.D.Disk.here d0) (g.met.D.Disk.here d1) c.reserve.ensures.same in
+    history_same (g.D.Disk.history d0) (g.D.Disk.history d1) (g.D.Disk.files d0) (g.D.Disk.files d1)
+    (g.D.Disk.current d0) (g.D.Disk.current d1) (g.met.D.Disk.here d0)
+    (g.met.D.Disk.here d1) c.reserve.ensures.same in
     let damage : IsErrOf c.load.result (Damaged at) = search rules in
     subst (λ (h : List File). IfTold h (λ file. Reads file.content (damaged at))) same
-    (before_sync (λ bytes. Reads bytes (damaged at)) (g.D.Disk.history d1) (g.D.Disk.history c.sync.new.self) c.in_ok-sync.ensures.file (c.load.ensures.damaged at damage))
+    (before_sync (λ bytes. Reads bytes (damaged at)) (g.D.Disk.history d1)
+    (g.D.Disk.history c.sync.new.self) c.in_ok-sync.ensures.file (c.load.ensures.damaged at damage))
 
 pub returns-in_err-self-clause-any_moment : goal.returns-in_err-self-clause-any_moment
 returns-in_err-self-clause-any_moment g c =
     let d0 = c.args.self.now.disk in
     let d1 = c.reserve.new.self in
     let same : g.D.Disk.history d1 ≡ g.D.Disk.history d0 =
-    history_same (g.D.Disk.history d0) (g.D.Disk.history d1) (g.D.Disk.files d0) (g.D.Disk.files d1) (g.D.Disk.current d0) (g.D.Disk.current d1) (g.met.D.Disk.here d0) (g.met.D.Disk.here d1) c.reserve.ensures.same in
+    history_same (g.D.Disk.history d0) (g.D.Disk.history d1) (g.D.Disk.files d0) (g.D.Disk.files d1)
+    (g.D.Disk.current d0) (g.D.Disk.current d1) (g.met.D.Disk.here d0)
+    (g.met.D.Disk.here d1) c.reserve.ensures.same in
     let read : (file : File) (past : List File) → g.D.Disk.history d1 ≡ file ∷ past → Image file file.content =
     λ file past is. g.met.D.Disk.read_is_image d1 (g.D.Disk.current d1) file past (sym (g.met.D.Disk.here d1) ∙ is) in
-    subst (λ (h : List File). LosesNothing h (g.D.Disk.history c.load.new.disk)) same (sync_then (g.D.Disk.history d1) (g.D.Disk.history c.sync.new.self) (g.D.Disk.history c.load.new.disk) read c.in_ok-sync.ensures.file c.load.ensures.any_moment)
+    subst (λ (h : List File). LosesNothing h (g.D.Disk.history c.load.new.disk)) same
+    (sync_then (g.D.Disk.history d1) (g.D.Disk.history c.sync.new.self)
+    (g.D.Disk.history c.load.new.disk) read c.in_ok-sync.ensures.file c.load.ensures.any_moment)
 
 pub returns-clause-any_moment : goal.returns-clause-any_moment
 returns-clause-any_moment g c =
     let d0 = c.args.self.now.disk in
     let d1 = c.reserve.new.self in
     let same : g.D.Disk.history d1 ≡ g.D.Disk.history d0 =
-    history_same (g.D.Disk.history d0) (g.D.Disk.history d1) (g.D.Disk.files d0) (g.D.Disk.files d1) (g.D.Disk.current d0) (g.D.Disk.current d1) (g.met.D.Disk.here d0) (g.met.D.Disk.here d1) c.reserve.ensures.same in
+    history_same (g.D.Disk.history d0) (g.D.Disk.history d1) (g.D.Disk.files d0) (g.D.Disk.files d1)
+    (g.D.Disk.current d0) (g.D.Disk.current d1) (g.met.D.Disk.here d0)
+    (g.met.D.Disk.here d1) c.reserve.ensures.same in
     let read : (file : File) (past : List File) → g.D.Disk.history d1 ≡ file ∷ past → Image file file.content =
     λ file past is. g.met.D.Disk.read_is_image d1 (g.D.Disk.current d1) file past (sym (g.met.D.Disk.here d1) ∙ is) in
-    subst (λ (h : List File). LosesNothing h (g.D.Disk.history c.load.new.disk)) same (sync_then (g.D.Disk.history d1) (g.D.Disk.history c.sync.new.self) (g.D.Disk.history c.load.new.disk) read c.in_ok-sync.ensures.file c.load.ensures.any_moment)
+    subst (λ (h : List File). LosesNothing h (g.D.Disk.history c.load.new.disk)) same
+    (sync_then (g.D.Disk.history d1) (g.D.Disk.history c.sync.new.self)
+    (g.D.Disk.history c.load.new.disk) read c.in_ok-sync.ensures.file c.load.ensures.any_moment)
 
 pub returns-clause-durable : goal.returns-clause-durable
-returns-clause-durable g c = rests_durable (g.D.Disk.history c.load.new.disk) (entries_in c.in_ok-self.field-0) c.in_ok-self.ensures.rests
+returns-clause-durable g c =
+    rests_durable (g.D.Disk.history c.load.new.disk) (entries_in c.in_ok-self.field-0) c.in_ok-self.ensures.rests
 
 pub returns-clause-file : goal.returns-clause-file
 returns-clause-file g c =
     let d0 = c.args.self.now.disk in
     let d1 = c.reserve.new.self in
     let same : g.D.Disk.history d1 ≡ g.D.Disk.history d0 =
-    history_same (g.D.Disk.history d0) (g.D.Disk.history d1) (g.D.Disk.files d0) (g.D.Disk.files d1) (g.D.Disk.current d0) (g.D.Disk.current d1) (g.met.D.Disk.here d0) (g.met.D.Disk.here d1) c.reserve.ensures.same in
+    history_same (g.D.Disk.history d0) (g.D.Disk.history d1) (g.D.Disk.files d0) (g.D.Disk.files d1)
+    (g.D.Disk.current d0) (g.D.Disk.current d1) (g.met.D.Disk.here d0)
+    (g.met.D.Disk.here d1) c.reserve.ensures.same in
     let es = entries_in c.in_ok-self.field-0 in
     let new = g.D.Disk.history c.load.new.disk in
     subst (λ (h : List File). IfTold h (λ file. IfTold new (ComesToRest es file.content))) same
-    (before_sync (λ bytes. IfTold new (ComesToRest es bytes)) (g.D.Disk.history d1) (g.D.Disk.history c.sync.new.self) c.in_ok-sync.ensures.file c.in_ok-self.ensures.file)
+    (before_sync (λ bytes. IfTold new (ComesToRest es bytes)) (g.D.Disk.history d1)
+    (g.D.Disk.history c.sync.new.self) c.in_ok-sync.ensures.file c.in_ok-self.ensures.file)

@@ -13,4 +13,5 @@ pub returns : goal.returns
 returns c =
     let key = λ (i : ℕ). public_key (sha256 (c.self.inside.kind ∷ i ∷ [])) c.self.inside.height in
     rw (← c.self.view_is) (some_listed key c.self.inside.count c.args.number c.from_parts.result (search rules)
-    (c.from_parts.ensures ∙ ap (λ r. record { root = r; height = c.self.inside.height }) (rw (← c.self.view_is) at c.root.ensures)))
+    (c.from_parts.ensures ∙ ap (λ r. record { root = r; height = c.self.inside.height })
+    (rw (← c.self.view_is) at c.root.ensures)))

@@ -4,5 +4,7 @@ use Rattle.iss_keys.proofs.keyrings.OwnKeys.place.Goals as goal
 
 pub returns-in-Some : goal.returns-in-Some
 returns-in-Some c =
-    rw (← c.self.view_is) (ring_at (λ tree. tree.value) c.self.inside.kind c.self.inside.height c.args.number c.self.inside.trees.items c.in-Some.tree.now c.self.invariant
+    rw (← c.self.view_is) (ring_at
+    (λ tree. tree.value) c.self.inside.kind c.self.inside.height c.args.number c.self.inside.trees.items
+    c.in-Some.tree.now c.self.invariant
     (search rules) (search rules))

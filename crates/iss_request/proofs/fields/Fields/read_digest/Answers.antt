@@ -3,7 +3,10 @@ use Rattle.iss_request.specs.Parsing.{block}
 use Rattle.iss_request.proofs.fields.Fields.read_digest.Goals as goal
 
 pub returns-in-Some-clause-ok : goal.returns-in-Some-clause-ok
-returns-in-Some-clause-ok c = rw c.array_of.ensures (block_read 32 _ _ _ c.in-Some.ensures.some c.in-Some.ensures.long c.in-Some.ensures.moved)
+returns-in-Some-clause-ok c =
+    rw c.array_of.ensures (block_read 32 _ _ _ c.in-Some.ensures.some c.in-Some.ensures.long c.in-Some.ensures.moved)
 
 pub returns-in-None-clause-bad : goal.returns-in-None-clause-bad
-returns-in-None-clause-bad c at e = named (block 32) c.args.self.now _ _ at (block_unread 32 c.args.self.now c.in-None.ensures.none) c.bad_field-missing.ensures e
+returns-in-None-clause-bad c at e =
+    named (block 32) c.args.self.now _ _ at
+    (block_unread 32 c.args.self.now c.in-None.ensures.none) c.bad_field-missing.ensures e

@@ -3,7 +3,10 @@ use Rattle.iss_request.specs.Parsing.{digests}
 use Rattle.iss_request.proofs.fields.Fields.read_digests.Goals as goal
 
 pub returns-in-Some-clause-ok : goal.returns-in-Some-clause-ok
-returns-in-Some-clause-ok c = digests_read c.args.count _ _ _ c.in-Some.ensures.some c.in-Some.ensures.long c.in-Some.ensures.moved
+returns-in-Some-clause-ok c =
+    digests_read c.args.count _ _ _ c.in-Some.ensures.some c.in-Some.ensures.long c.in-Some.ensures.moved
 
 pub returns-in-None-clause-bad : goal.returns-in-None-clause-bad
-returns-in-None-clause-bad c at e = named (digests c.args.count) c.args.self.now _ _ at (digests_unread c.args.count c.args.self.now c.in-None.ensures.none) c.bad_digest-missing.ensures e
+returns-in-None-clause-bad c at e =
+    named (digests c.args.count) c.args.self.now _ _ at
+    (digests_unread c.args.count c.args.self.now c.in-None.ensures.none) c.bad_digest-missing.ensures e

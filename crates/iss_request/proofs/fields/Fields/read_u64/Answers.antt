@@ -6,7 +6,10 @@ use Rattle.iss_request.specs.Parsing.{number}
 use Rattle.iss_request.proofs.fields.Fields.read_u64.Goals as goal
 
 pub returns-in-Some-clause-ok : goal.returns-in-Some-clause-ok
-returns-in-Some-clause-ok c = number_read w64 (2 ^ 64) wide64 _ _ _ (omega arith) c.in-Some.ensures.some c.in-Some.ensures.moved
+returns-in-Some-clause-ok c =
+    number_read w64 (2 ^ 64) wide64 _ _ _ (omega arith) c.in-Some.ensures.some c.in-Some.ensures.moved
 
 pub returns-in-None-clause-bad : goal.returns-in-None-clause-bad
-returns-in-None-clause-bad c at e = named (number w64) c.args.self.now _ _ at (number_unread w64 c.args.self.now c.in-None.ensures.none) c.bad_field-missing.ensures e
+returns-in-None-clause-bad c at e =
+    named (number w64) c.args.self.now _ _ at
+    (number_unread w64 c.args.self.now c.in-None.ensures.none) c.bad_field-missing.ensures e

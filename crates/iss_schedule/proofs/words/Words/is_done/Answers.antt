@@ -1,5 +1,5 @@
 use Rattle.std.proofs.Common.{sym}
-use Rattle.iss_schedule.proofs.Cuts.{words_done}
+use Rattle.iss_schedule.proofs.Encoding.SplitsAreUnique.{words_done}
 use Rattle.iss_schedule.proofs.words.Words.is_done.Goals as goal
 
 pub returns : goal.returns

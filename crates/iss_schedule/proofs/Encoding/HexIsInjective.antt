@@ -14,11 +14,12 @@ word_is_long [] = omega arith
 word_is_long (b ∷ bs) = omega arith
 
 -- a word other than `-` decodes to its bytes
-pub decoded : (word bytes : List ℕ) → word ≢ codes "-" → IsBytes bytes → word ≡ word_of bytes → decode_of word ≡ Ok bytes
+pub decoded : (word bytes : List ℕ) → word ≢ codes "-" → IsBytes bytes → word ≡ word_of bytes →
+    decode_of word ≡ Ok bytes
 decoded word [] other fits e = absurd (other e)
 decoded word (b ∷ bs) other fits e = rw e (decode_of-encode_lower (b ∷ bs) fits)
 
--- a text other than the empty one that is the encoding of some bytes is their word
+-- a nonempty text that is the encoding of some bytes is their word
 pub is_word : (word bytes : List ℕ) → (length word ≡ 0 → ⊥) → word ≡ encode_lower bytes → word ≡ word_of bytes
 unfolding encode_with
 is_word word [] some e = absurd (some (ap length e))
@@ -28,7 +29,7 @@ pub is_encoding : (word bytes : List ℕ) → word ≢ codes "-" → word ≡ wo
 is_encoding word [] other e = absurd (other e)
 is_encoding word (b ∷ bs) other e = e
 
--- two texts of bytes with one word are the same
+-- byte strings with the same word are equal
 pub word_injective : (xs ys : List ℕ) → IsBytes xs → IsBytes ys → word_of xs ≡ word_of ys → xs ≡ ys
 word_injective [] [] fits fits' e = refl
 word_injective [] (y ∷ ys) fits fits' e = absurd (omega (arith, ap length e, length-encode_with lower_digits (y ∷ ys)))

@@ -1,4 +1,4 @@
--- The table of a header: it is sound, it can be gone on with, and set-ups and values determine each other.
+-- The table of a header. It is sound, values can be extended, and set-ups and values determine each other.
 use Rattle.std.proofs.Common.{◌≡◌, ◌∙◌, ℕ, zero, suc, ◌<◌, ◌≤◌, Bool, true, false, cond, eqb, List, [], ◌∷◌, ◌++◌, length, refl, sym, ap, subst, arith}
 use Rattle.sha2.specs.Sha256.{sha256}
 use Rattle.iss_request.specs.Setup.{AreRising, IsGoodSetup, nodes_of_kind, quorum_of_kind}
@@ -13,13 +13,13 @@ use Rattle.iss_schedule.specs.Places.{AreFew, most_faulty}
 use Rattle.iss_schedule.specs.Reads.{IsWithin}
 use Rattle.iss_schedule.specs.Schedules.{IsKnown, cluster_tag, header_lines}
 use Rattle.iss_schedule.specs.Words.{ended}
-use Rattle.iss_schedule.proofs.FaultyNodes.{AreSmall, faulty_few, few_faulty, rising_small, same_faulty}
-use Rattle.iss_schedule.proofs.Fields.{AreSome, AreSound, Fills, one_list}
-use Rattle.iss_schedule.proofs.Rows.{number_of_row, one_at, place_back, place_low, rows_sound}
+use Rattle.iss_schedule.proofs.HeaderTable.LineDeterminesFaultyNodes.{AreSmall, faulty_few, few_faulty, rising_small, same_faulty}
+use Rattle.iss_schedule.proofs.HeaderTable.FieldsDetermineValues.{AreSome, AreSound, Fills, one_list}
+use Rattle.iss_schedule.proofs.HeaderTable.ModuleRows.{number_of_row, one_at, place_back, place_low, rows_sound}
 
--- ---- bounds that hang on the module
+-- ---- bounds that depend on the module
 
--- how many nodes the module of a place is of
+-- the number of nodes for the module at a place
 abbrev pub nodes_at : ℕ → ℕ → ℕ
 nodes_at place f = (setup_with (0 ∷ place ∷ f ∷ []) [] []).n
 
@@ -29,7 +29,8 @@ count_fits false Byzantine f le = omega (arith, le)
 count_fits false Stopping f le = omega (arith, le)
 
 nodes_fit : (place f : ℕ) → f < suc (row_at place).most_faults → nodes_at place f ≤ 10
-nodes_fit place f lt = count_fits (eqb (row_at place).number 1) (row_at place).kind f (omega (arith, lt, (rows_sound place).few))
+nodes_fit place f lt = count_fits (eqb (row_at place).number 1) (row_at place).kind f
+    (omega (arith, lt, (rows_sound place).few))
 
 pub fields_sound : AreSound header_fields
 fields_sound = (
@@ -44,7 +45,10 @@ fields_sound = (
           (refl, λ above. omega arith),
           (
             (refl, λ above. omega arith),
-            ((refl, λ above. omega arith), ((refl, refl), ((refl, λ above. omega arith), ((refl, λ above. omega arith), tt)))),
+            (
+              (refl, λ above. omega arith),
+              ((refl, refl), ((refl, λ above. omega arith), ((refl, λ above. omega arith), tt))),
+            ),
           ),
         ),
       ),
@@ -113,12 +117,13 @@ known_nodes s h =
     h.good.nodes ∙ ap (λ m. cond (eqb m 1) 3 (nodes_of_kind s.kind s.f)) (known_number s h)
     ∙ ap (λ (k : Kind). cond (eqb (row_of s.module).number 1) 3 (nodes_of_kind k s.f)) h.kind
 
-known_quorum : (s : Setup) → IsKnown s → s.quorum ≡ cond (eqb (row_of s.module).number 1) 2 (quorum_of_kind (row_of s.module).kind s.f)
+known_quorum : (s : Setup) → IsKnown s →
+    s.quorum ≡ cond (eqb (row_of s.module).number 1) 2 (quorum_of_kind (row_of s.module).kind s.f)
 known_quorum s h =
     h.good.majority ∙ ap (λ m. cond (eqb m 1) 2 (quorum_of_kind s.kind s.f)) (known_number s h)
     ∙ ap (λ (k : Kind). cond (eqb (row_of s.module).number 1) 2 (quorum_of_kind k s.f)) h.kind
 
--- the values of a set-up and its faulty nodes give it back
+-- the values of a set-up and its faulty nodes determine it
 pub rebuilt : (s : Setup) → IsKnown s → s ≡ setup_with (values_of s) s.faulty s.tag
 unfolding parts
 rebuilt s h =
@@ -126,29 +131,52 @@ rebuilt s h =
     let p = policy_at (place_of_policy s.policy) in
     let n = nodes_at (place_among s.module module_rows) s.f in
     let q = cond (eqb r.number 1) 2 (quorum_of_kind r.kind s.f) in
-    ap (λ v. parts v s.module s.f s.epoch s.buckets s.batch s.window s.policy s.clients s.keys s.faulty s.n s.quorum s.kind s.tag) h.good.version
-    ∙ ap (λ m. parts 1 m s.f s.epoch s.buckets s.batch s.window s.policy s.clients s.keys s.faulty s.n s.quorum s.kind s.tag) (known_number s h)
-    ∙ ap (λ (x : Policy). parts 1 r.number s.f s.epoch s.buckets s.batch s.window x s.clients s.keys s.faulty s.n s.quorum s.kind s.tag) (policy_again s.policy)
-    ∙ ap (λ x. parts 1 r.number s.f s.epoch s.buckets s.batch s.window p s.clients s.keys s.faulty x s.quorum s.kind s.tag) (known_nodes s h)
-    ∙ ap (λ x. parts 1 r.number s.f s.epoch s.buckets s.batch s.window p s.clients s.keys s.faulty n x s.kind s.tag) (known_quorum s h)
-    ∙ ap (λ (x : Kind). parts 1 r.number s.f s.epoch s.buckets s.batch s.window p s.clients s.keys s.faulty n q x s.tag) h.kind
+    ap (λ v. parts v s.module s.f s.epoch s.buckets s.batch s.window s.policy s.clients s.keys s.faulty s.n s.quorum
+    s.kind s.tag) h.good.version
+    ∙ ap (λ m. parts 1 m s.f s.epoch s.buckets s.batch s.window s.policy s.clients s.keys s.faulty s.n s.quorum s.kind
+    s.tag) (known_number s h)
+    ∙ ap (λ (x : Policy). parts 1 r.number s.f s.epoch s.buckets s.batch s.window x s.clients s.keys s.faulty s.n
+    s.quorum s.kind s.tag) (policy_again s.policy)
+    ∙ ap (λ x. parts 1 r.number s.f s.epoch s.buckets s.batch s.window p s.clients s.keys s.faulty x s.quorum s.kind
+    s.tag) (known_nodes s h)
+    ∙ ap (λ x. parts 1 r.number s.f s.epoch s.buckets s.batch s.window p s.clients s.keys s.faulty n x s.kind s.tag)
+    (known_quorum s h)
+    ∙ ap (λ (x : Kind). parts 1 r.number s.f s.epoch s.buckets s.batch s.window p s.clients s.keys s.faulty n q x s.tag)
+    h.kind
 
 policy_low : (p : Policy) → place_of_policy p < 3
 policy_low Simple = omega arith
 policy_low Backoff = omega arith
 policy_low Blacklist = omega arith
 
-in_range : (m f e b ba w : ℕ) (p : Policy) (c k : ℕ) → m < length module_rows → f < suc (row_at m).most_faults → IsWithin (nodes_at m f) 65 e → IsWithin 1 257 b → IsWithin 1 33 ba → IsWithin 1 65 w → IsWithin 1 257 c → IsWithin 2 13 k → AreValues header_fields [] (0 ∷ m ∷ f ∷ e ∷ b ∷ ba ∷ w ∷ place_of_policy p ∷ c ∷ k ∷ [])
-in_range m f e b ba w p c k low_place faults epoch buckets batch window clients keys =
-    (omega arith, (low_place, ((omega arith, faults), ((epoch.0, epoch.1), (buckets, (batch, (window, (policy_low p, (clients, (keys, refl))))))))))
+in_range : (m f e b ba w : ℕ) (p : Policy) (c k : ℕ) → m < length module_rows → f < suc (row_at m).most_faults →
+    IsWithin (nodes_at m f) 65 e → IsWithin 1 257 b → IsWithin 1 33 ba → IsWithin 1 65 w → IsWithin 1 257 c →
+    IsWithin 2 13 k → AreValues header_fields [] (0 ∷ m ∷ f ∷ e ∷ b ∷ ba ∷ w ∷ place_of_policy p ∷ c ∷ k ∷ [])
+in_range m f e b ba w p c k low_place faults epoch buckets batch window clients keys = (
+  omega arith,
+  (
+    low_place,
+    (
+      (omega arith, faults),
+      (
+        (epoch.0, epoch.1),
+        (buckets, (batch, (window, (policy_low p, (clients, (keys, refl)))))),
+      ),
+    ),
+  ),
+)
 
 pub values_in_range : (s : Setup) → IsKnown s → AreValues header_fields [] (values_of s)
 values_in_range s h =
     let g = h.good in
     let place = place_among s.module module_rows in
     let low : nodes_at place s.f ≤ s.epoch = subst (λ n. n ≤ s.epoch) (known_nodes s h) g.epoch_low in
-    in_range place s.f s.epoch s.buckets s.batch s.window s.policy s.clients s.keys (place_low s.module module_rows h.known) (omega (arith, h.faults))
-    (low, omega (arith, g.epoch_high)) (g.buckets_low, omega (arith, g.buckets_high)) (g.batch_low, omega (arith, g.batch_high)) (g.window_low, omega (arith, g.window_high))
+    in_range place s.f s.epoch s.buckets s.batch s.window s.policy s.clients s.keys
+    (place_low s.module module_rows h.known) (omega (arith, h.faults))
+    (low, omega (arith, g.epoch_high)) (g.buckets_low, omega (arith, g.buckets_high)) (
+      g.batch_low,
+      omega (arith, g.batch_high),
+    ) (g.window_low, omega (arith, g.window_high))
     (g.clients_low, omega (arith, g.clients_high)) (g.keys_low, omega (arith, g.keys_high))
 
 -- ---- the set-up of values in range
@@ -174,7 +202,7 @@ pub record AreRead (vs : List ℕ) : Type 0 where
   pub clients_in : IsWithin 1 257 clients
   pub keys_in : IsWithin 2 13 keys
 
--- each value is where the table asks for it
+-- each value is at the index that the table uses
 pub are_read : (vs : List ℕ) → AreValues header_fields [] vs → AreRead vs
 are_read [] h = absurd h
 are_read (a ∷ []) h = absurd h.1
@@ -215,7 +243,7 @@ are_read (a ∷ b ∷ f ∷ e ∷ bu ∷ ba ∷ w ∷ p ∷ c ∷ k ∷ more) h 
 abbrev pub MayFail : List ℕ → List NodeId → Type 0
 MayFail vs is = AreFew (most_faulty (row_at (value vs 1)).kind (value vs 2)) (setup_with vs [] []).n is
 
--- those of a set-up that has a text
+-- the faulty nodes of a set-up that has a text
 pub known_faulty : (s : Setup) → IsKnown s → MayFail (values_of s) s.faulty
 known_faulty s h = (
   subst (λ (k : Kind). length s.faulty ≤ most_faulty k s.f) h.kind (faulty_few s.kind s.f s.faulty h.good.few_faulty),
@@ -225,7 +253,9 @@ known_faulty s h = (
 pub small_faulty : (s : Setup) → IsGoodSetup s → AreSmall s.faulty
 small_faulty s g = rising_small 0 s.n s.faulty (omega (arith, g.epoch_low, g.epoch_high)) g.rising_faulty
 
-good_at : (m f : ℕ) (e b ba w p c k : ℕ) (is : List NodeId) (tag : List ℕ) → f < suc (row_at m).most_faults → IsWithin (nodes_at m f) 65 e → IsWithin 1 257 b → IsWithin 1 33 ba → IsWithin 1 65 w → IsWithin 1 257 c → IsWithin 2 13 k →
+good_at : (m f : ℕ) (e b ba w p c k : ℕ) (is : List NodeId) (tag : List ℕ) → f < suc (row_at m).most_faults →
+    IsWithin (nodes_at m f) 65 e → IsWithin 1 257 b → IsWithin 1 33 ba → IsWithin 1 65 w → IsWithin 1 257 c →
+    IsWithin 2 13 k →
     MayFail (0 ∷ m ∷ f ∷ []) is → IsGoodSetup (setup_with (0 ∷ m ∷ f ∷ e ∷ b ∷ ba ∷ w ∷ p ∷ c ∷ k ∷ []) is tag)
 good_at m f e b ba w p c k is tag faults epoch buckets batch window clients keys few =
     let sound = rows_sound m in
@@ -252,18 +282,20 @@ good_at m f e b ba w p c k is tag faults epoch buckets batch window clients keys
       rising_faulty = few.1;
     }
 
--- the set-up that values and faulty nodes give, with the tag of its own header
+-- the set-up with these values and faulty nodes, and the tag of its own header
 abbrev pub setup_made : List ℕ → List NodeId → Setup
 setup_made vs is = setup_with vs is (cluster_tag (setup_with vs is []))
 
 pub known_read : (vs : List ℕ) (is : List NodeId) → AreRead vs → MayFail vs is → IsKnown (setup_made vs is)
 known_read vs is r few =
     subst (λ (z : List ℕ). IsKnown (setup_made z is)) (sym r.is)
-    (let all : List ℕ = 0 ∷ r.place ∷ r.faults ∷ r.epoch ∷ r.buckets ∷ r.batch ∷ r.window ∷ r.policy ∷ r.clients ∷ r.keys ∷ [] in
+    (let all : List ℕ = 0 ∷ r.place ∷ r.faults ∷ r.epoch ∷ r.buckets ∷ r.batch ∷ r.window ∷ r.policy ∷ r.clients ∷
+    r.keys ∷ [] in
     let tag = cluster_tag (setup_with all is []) in
     let here = sym (place_back r.place r.place_in) in
     record {
-      good = good_at r.place r.faults r.epoch r.buckets r.batch r.window r.policy r.clients r.keys is tag r.faults_in r.epoch_in r.buckets_in r.batch_in r.window_in r.clients_in r.keys_in
+      good = good_at r.place r.faults r.epoch r.buckets r.batch r.window r.policy r.clients r.keys is tag r.faults_in
+          r.epoch_in r.buckets_in r.batch_in r.window_in r.clients_in r.keys_in
           (subst (λ (z : List ℕ). MayFail z is) r.is few);
       known = one_at module_rows r.place relay_row r.place_in;
       kind = ap (λ k. (row_at k).kind) here;
@@ -280,10 +312,13 @@ policy_back (suc (suc (suc p))) lt = absurd (omega (arith, lt))
 pub values_back : (vs : List ℕ) (is : List NodeId) (tag : List ℕ) → AreRead vs → values_of (setup_with vs is tag) ≡ vs
 values_back vs is tag r =
     subst (λ (z : List ℕ). values_of (setup_with z is tag) ≡ z) (sym r.is)
-    (ap (λ (m : ℕ). (let z : List ℕ = 0 ∷ m ∷ r.faults ∷ r.epoch ∷ r.buckets ∷ r.batch ∷ r.window ∷ place_of_policy (policy_at r.policy) ∷ r.clients ∷ r.keys ∷ [] in z)) (place_back r.place r.place_in)
-    ∙ ap (λ (p : ℕ). (let z : List ℕ = 0 ∷ r.place ∷ r.faults ∷ r.epoch ∷ r.buckets ∷ r.batch ∷ r.window ∷ p ∷ r.clients ∷ r.keys ∷ [] in z)) (policy_back r.policy r.policy_in))
+    (ap (λ (m : ℕ). (let z : List ℕ = 0 ∷ m ∷ r.faults ∷ r.epoch ∷ r.buckets ∷ r.batch ∷ r.window ∷ place_of_policy
+    (policy_at r.policy) ∷ r.clients ∷ r.keys ∷ [] in z)) (place_back r.place r.place_in)
+    ∙ ap (λ (p : ℕ). (let z : List
+    ℕ = 0 ∷ r.place ∷ r.faults ∷ r.epoch ∷ r.buckets ∷ r.batch ∷ r.window ∷ p ∷ r.clients ∷ r.keys ∷ [] in z))
+    (policy_back r.policy r.policy_in))
 
--- the number of faults is small wherever it has been read, and 0 before
+-- the number of faults is small once it is read, and 0 before
 pub few_so_far : (vs : List ℕ) (left : List HeaderField) → AreSome header_fields [] vs left → value vs 2 < 4
 few_so_far [] left h = omega arith
 few_so_far (a ∷ []) left h = omega arith
@@ -293,10 +328,12 @@ few_so_far (a ∷ b ∷ f ∷ vs) left h = omega (arith, h.1.1.0.1, (rows_sound 
 pub few_read : (vs : List ℕ) → AreRead vs → value vs 2 < 4
 few_read vs r = subst (λ (z : List ℕ). value z 2 < 4) (sym r.is) (omega (arith, r.faults_in, (rows_sound r.place).few))
 
--- ---- set-ups with the same lines are the same
+-- ---- set-ups with the same lines are equal
 
--- headers with the same lines have the same values and the same faulty nodes
-pub same_header_lines : (vs ws : List ℕ) (line line' : List ℕ) → AreValues header_fields [] vs → AreValues header_fields [] ws → lines_of header_fields vs ++ line ∷ [] ≡ lines_of header_fields ws ++ line' ∷ [] → (vs ≡ ws) × (line ≡ line')
+-- headers with the same lines have the same values and faulty nodes
+pub same_header_lines : (vs ws : List ℕ) (line line' : List ℕ) → AreValues header_fields [] vs →
+    AreValues header_fields [] ws → lines_of header_fields vs ++ line ∷ [] ≡ lines_of header_fields ws ++ line' ∷ [] →
+    (vs ≡ ws) × (line ≡ line')
 same_header_lines vs ws line line' ok ok' e =
     let ends = last_same (lines_of header_fields vs) (lines_of header_fields ws) line line' e in
     (one_list header_fields fields_sound [] vs ws ok ok' ends.0, ends.1)
@@ -316,8 +353,10 @@ same_header_lines vs ws line line' ok ok' e =
 
 pub same_setup : (s t : Setup) → IsKnown s → IsKnown t → header_lines s ≡ header_lines t → s ≡ t
 same_setup s t r q e =
-    let same = same_header_lines (values_of s) (values_of t) (faulty_line s.faulty) (faulty_line t.faulty) (values_in_range s r) (values_in_range t q) e in
+    let same = same_header_lines (values_of s) (values_of t) (faulty_line s.faulty) (faulty_line t.faulty)
+    (values_in_range s r) (values_in_range t q) e in
     let nodes = same_faulty s.faulty t.faulty (small_faulty s r.good) (small_faulty t q.good) same.1 in
     let tags : s.tag ≡ t.tag = r.tag ∙ ap (λ (ls : List (List ℕ)). sha256 (67 ∷ ended ls)) e ∙ sym q.tag in
-    rebuilt s r ∙ ap (λ (vs : List ℕ). setup_with vs s.faulty s.tag) same.0 ∙ ap (λ (is : List NodeId). setup_with (values_of t) is s.tag) nodes
+    rebuilt s r ∙ ap (λ (vs : List ℕ). setup_with vs s.faulty s.tag) same.0
+    ∙ ap (λ (is : List NodeId). setup_with (values_of t) is s.tag) nodes
     ∙ ap (λ (z : List ℕ). setup_with (values_of t) t.faulty z) tags ∙ sym (rebuilt t q)

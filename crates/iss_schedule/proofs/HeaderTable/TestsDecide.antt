@@ -1,4 +1,4 @@
--- What tests of numbers and kinds say.
+-- What tests of numbers and fault models decide.
 use Rattle.std.proofs.Common.{◌≡◌, ℕ, ◌≤◌, Bool, true, false, eqb, leb, refl, arith}
 
 pub is_small : (n : ℕ) → leb n 3 ≡ true → n ≤ 3

@@ -1,20 +1,23 @@
--- Cutting a list at the first such byte.
+-- Splitting a list at the first occurrence of a byte.
 use Rattle.std.proofs.Common.{◌≡◌, ◌≢◌, ℕ, zero, suc, ◌<◌, ◌≤◌, List, [], ◌∷◌, ◌++◌, length, get_or, take, eqb, Bool, true, false, cond, not, refl, sym, ap, subst, ◌∙◌, arith}
 use Rattle.std.specs.List.{onto_first}
 use Rattle.std.proofs.lemmas.Bool.{false≢true}
 use Rattle.iss_schedule.specs.Words.{Lacks, words_of}
 
--- what was not found below n stands nowhere in the first n
-pub lacks_take : (c : ℕ) (xs : List ℕ) (n : ℕ) → n ≤ length xs → ((k : ℕ) → k < n → get_or xs k 0 ≡ c → ⊥) → Lacks c (take n xs)
+-- a byte not found below n does not occur in the first n bytes
+pub lacks_take : (c : ℕ) (xs : List ℕ) (n : ℕ) → n ≤ length xs → ((k : ℕ) → k < n → get_or xs k 0 ≡ c → ⊥) →
+    Lacks c (take n xs)
 lacks_take c [] zero le none = tt
 lacks_take c [] (suc n) le none = absurd (omega arith)
 lacks_take c (x ∷ xs) zero le none = tt
-lacks_take c (x ∷ xs) (suc n) le none = (none 0 (omega arith), lacks_take c xs n (omega arith) (λ k lt e. none (suc k) (omega arith) e))
+lacks_take c (x ∷ xs) (suc n) le none =
+    (none 0 (omega arith), lacks_take c xs n (omega arith) (λ k lt e. none (suc k) (omega arith) e))
 
 pub lacks_all : (c : ℕ) (xs : List ℕ) (n : ℕ) → length xs ≤ n → ((k : ℕ) → k < n → get_or xs k 0 ≡ c → ⊥) → Lacks c xs
 lacks_all c [] n le none = tt
 lacks_all c (x ∷ xs) zero le none = absurd (omega arith)
-lacks_all c (x ∷ xs) (suc n) le none = (none 0 (omega arith), lacks_all c xs n (omega arith) (λ k lt e. none (suc k) (omega arith) e))
+lacks_all c (x ∷ xs) (suc n) le none =
+    (none 0 (omega arith), lacks_all c xs n (omega arith) (λ k lt e. none (suc k) (omega arith) e))
 
 not_equal : (a b : ℕ) → a ≢ b → eqb a b ≡ false
 not_equal a b ne = grind (arith)
@@ -38,20 +41,24 @@ pub words_some : (line : List ℕ) → words_of line ≢ []
 words_some [] e = cc
 words_some (b ∷ bs) e = some_first (eqb b 32) b (words_of bs) e
 
--- no word is left just where the reader says so
-pub words_done : (more : Bool) (rest : List ℕ) (ws : List (List ℕ)) → ws ≡ cond more (words_of rest) [] → (not more ≡ true → ws ≡ []) × (ws ≡ [] → not more ≡ true)
+-- no word is left exactly if the reader says so
+pub words_done : (more : Bool) (rest : List ℕ) (ws : List (List ℕ)) → ws ≡ cond more (words_of rest) [] →
+    (not more ≡ true → ws ≡ []) × (ws ≡ [] → not more ≡ true)
 words_done true rest ws e = ((λ t. absurd (false≢true t)), (λ none. absurd (words_some rest (sym e ∙ none))))
 words_done false rest ws e = ((λ t. e), (λ none. refl))
 
-pub words_next : (more : Bool) (text word rest : List ℕ) (ws : List (List ℕ)) → more ≡ true → ws ≡ cond more (words_of text) [] → text ≡ word ++ 32 ∷ rest → Lacks 32 word → ws ≡ word ∷ cond more (words_of rest) []
+pub words_next : (more : Bool) (text word rest : List ℕ) (ws : List (List ℕ)) → more ≡ true →
+    ws ≡ cond more (words_of text) [] → text ≡ word ++ 32 ∷ rest → Lacks 32 word →
+    ws ≡ word ∷ cond more (words_of rest) []
 words_next true text word rest ws t e cut first = e ∙ ap words_of cut ∙ words_at word rest first
 words_next false text word rest ws t e cut first = absurd (false≢true t)
 
-pub words_last : (more : Bool) (text : List ℕ) (ws : List (List ℕ)) → more ≡ true → ws ≡ cond more (words_of text) [] → Lacks 32 text → ws ≡ text ∷ []
+pub words_last : (more : Bool) (text : List ℕ) (ws : List (List ℕ)) → more ≡ true → ws ≡ cond more (words_of text) [] →
+    Lacks 32 text → ws ≡ text ∷ []
 words_last true text ws t e none = e ∙ words_none text none
 words_last false text ws t e none = absurd (false≢true t)
 
--- a text has one first such byte
+-- the first occurrence in a text is unique
 pub cut_same : (c : ℕ) (a b x y : List ℕ) → Lacks c a → Lacks c b → a ++ c ∷ x ≡ b ++ c ∷ y → (a ≡ b) × (x ≡ y)
 cut_same c [] [] x y p q e = (refl, cc)
 cut_same c [] (b ∷ bs) x y p q e = let same : b ≡ c = cc in absurd (q.0 same)
@@ -67,9 +74,10 @@ pub no_cut : (c : ℕ) (a x : List ℕ) → Lacks c (a ++ c ∷ x) → ⊥
 no_cut c [] x h = h.0 refl
 no_cut c (a ∷ an) x h = no_cut c an x h.1
 
--- where the text has no such byte, it is not cut there
+-- a text without the byte is not split
 pub uncut : (c : ℕ) (text a x : List ℕ) → Lacks c text → text ≢ a ++ c ∷ x
 uncut c text a x h e = no_cut c a x (subst (Lacks c) e h)
 
-pub behind_same : (c : ℕ) (text a b x y : List ℕ) → Lacks c a → Lacks c b → text ≡ a ++ c ∷ x → text ≡ b ++ c ∷ y → (a ≡ b) × (x ≡ y)
+pub behind_same : (c : ℕ) (text a b x y : List ℕ) → Lacks c a → Lacks c b → text ≡ a ++ c ∷ x → text ≡ b ++ c ∷ y →
+    (a ≡ b) × (x ≡ y)
 behind_same c text a b x y p q e f = cut_same c a b x y p q (sym e ∙ f)

@@ -10,18 +10,20 @@ use Rattle.std.proofs.lemmas.Str.{IsUtf8-from_ascii}
 use Rattle.iss_schedule.specs.Reads.{IsWithin}
 use Rattle.iss_schedule.specs.Words.{IsNumber}
 
--- what was read of a number's word is that number
-pub read_same : (E : Type 0) (w : List ℕ) (m n : ℕ) → ParsesUnsigned {E = E} 64 10 w (Ok m) → n < 2 ^ 64 → w ≡ decimal n → m ≡ n
+-- what was read from a number's word is that number
+pub read_same : (E : Type 0) (w : List ℕ) (m n : ℕ) → ParsesUnsigned {E = E} 64 10 w (Ok m) → n < 2 ^ 64 →
+    w ≡ decimal n → m ≡ n
 read_same E w m n p lt e = ap (λ (r : Result ℕ E). result_unwrap_or r 0) (parse-decimal 64 n w (Ok m) lt lt e p)
 
-pub read_some : {E : Type 0} (w : List ℕ) (x : E) (n : ℕ) → ParsesUnsigned {E = E} 64 10 w (Err x) → n < 2 ^ 64 → w ≢ decimal n
+pub read_some : {E : Type 0} (w : List ℕ) (x : E) (n : ℕ) → ParsesUnsigned {E = E} 64 10 w (Err x) → n < 2 ^ 64 →
+    w ≢ decimal n
 read_some w x n p lt e = let r = parse-decimal 64 n w (Err x) lt lt e p in cc
 
 -- a number's word is text
 pub decimal_is_text : (w : List ℕ) (n : ℕ) → n < 2 ^ 64 → w ≡ decimal n → IsUtf8 w
 decimal_is_text w n lt e = subst IsUtf8 (sym e) (IsUtf8-from_ascii (decimal n) (IsAscii-decimal n lt))
 
--- what is written of a number has the form of one
+-- the word of a number has the form of a number
 pub decimal_is_number : (n : ℕ) → n < 2 ^ 64 → IsNumber (decimal n)
 decimal_is_number n lt = (
   (λ k at. digit_at (decimal n) k (decimal_is_IsNumeral n lt).0.1 at),
@@ -33,6 +35,8 @@ decimal_is_number n lt = (
     single zero lt e = ap length (decimal_digit 0 (omega arith))
     single (suc n) lt e = absurd (omega (arith, first_decimal (suc n) (omega arith) lt))
 
--- the number that a word spells is out of range, so no number in range is spelled so
-pub outside : (low end m n : ℕ) → m < 2 ^ 64 → end < 2 ^ 64 → (IsWithin low end m → ⊥) → IsWithin low end n → decimal m ≡ decimal n → ⊥
-outside low end m n fits ends out within same = out (subst (IsWithin low end) (sym (decimal_injective m n fits (omega arith) same)) within)
+-- a word of a number out of range is no word of a number in range
+pub outside : (low end m n : ℕ) → m < 2 ^ 64 → end < 2 ^ 64 → (IsWithin low end m → ⊥) → IsWithin low end n →
+    decimal m ≡ decimal n → ⊥
+outside low end m n fits ends out within same =
+    out (subst (IsWithin low end) (sym (decimal_injective m n fits (omega arith) same)) within)

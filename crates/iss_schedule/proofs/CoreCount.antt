@@ -1,4 +1,4 @@
--- How many cores there are.
+-- The number of cores.
 use Rattle.std.proofs.Common.{ℕ, ◌≤◌, List, length, ap, arith}
 use Rattle.iss_request.specs.Setup.{IsFewFaulty, IsGoodSetup}
 use Rattle.iss_request.specs.declared.ids.NodeId.{NodeId}

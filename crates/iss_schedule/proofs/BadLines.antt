@@ -1,0 +1,4 @@
+pub mod LinesHaveTheirForm
+pub mod OneFirstBadLine
+pub mod PrefixesAreRead
+pub mod RefusedLines

@@ -1,0 +1,5 @@
+pub mod FieldsDetermineValues
+pub mod LineDeterminesFaultyNodes
+pub mod ModuleRows
+pub mod TestsDecide
+pub mod ValuesDetermineSetup
