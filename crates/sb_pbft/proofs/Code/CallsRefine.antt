@@ -1,4 +1,4 @@
--- What the code of the trait's calls owes, where its rules did what the definitions of turns say.
+-- The calls of the trait refine the definitions, given the contracts of the rules.
 use Rattle.std.proofs.Common.{◌≡◌, ◌≤◌, ◌+◌, ◌*◌, ◌↔◌, ◌∙◌, ℕ, Bool, true, false, List, [], length, Option, Some, None, refl, sym, ap, subst}
 use Rattle.std.specs.BTreeSet.{contains}
 use Rattle.std.specs.Ordering.{nat_cmp}
@@ -28,7 +28,7 @@ use Rattle.sb_pbft.specs.Turns.{Held, accepts_of, asked_at, idle, model, turn}
 use Rattle.sb_pbft.proofs.Code.ProposalRefines.{cast-asked, told-asked}
 use Rattle.sb_pbft.proofs.Model.TurnsAreAsDefined.{turn-is}
 
--- ---- an instance that took nothing
+-- ---- a new instance
 
 pub starts : (p : Params) (m : Pbft) → m.view ≡ 0 → m.active ≡ true → ((v s : ℕ) → proposal_at m.proposals v s ≡ None) →
     ((v s k : ℕ) → vote_at m.prepares v s k ≡ None) → ((v s k : ℕ) → vote_at m.commits v s k ≡ None) →
@@ -54,7 +54,7 @@ starts p m view active proposals prepares commits changes tops empty = record {
 
 module _ (p : Params) (good : IsGoodParams pbft p) (old new : Pbft) (i : Input Message) (b l : KeyState) (e : Effects Message)
     (d : Does p old new i b l e) where
-  -- the turn of the list that the old state stands for
+  -- the turn of the history that the old state represents
   turned-so : (me : ℕ) (xs : List (Item Message)) → Refines old p me xs → AreKeysOf me p.setup.keys b →
       IsTurn p new me b.used (turn p me b.used (model p me xs) i) e b l
   turned-so me xs st own =
@@ -89,7 +89,7 @@ module _ (p : Params) (good : IsGoodParams pbft p) (old new : Pbft) (i : Input M
     enough = enough;
   }
 
--- ---- what is asked for
+-- ---- the batch to accept
 
 accepts-is : (p : Params) (me leaf : ℕ) (h : Held) (i : Input Message) (o : Option (Slot × Batch)) →
     ◌≡◌ {A = Option (Slot × Batch)} (accepts_of p me leaf h i o).accepted o
@@ -141,7 +141,7 @@ module _ (p : Params) (good : IsGoodParams pbft p) (m : Pbft) (me : ℕ) (xs : L
     (λ h. e ∙ some-when (may_cast p m slot.0) (slot, batch) (sym (asks-cast slot batch) ∙ h)),
   )
 
--- a PrePrepare of nil is no offer
+-- a PrePrepare for nil offers no batch
 pub nil-idle : (p : Params) (m : Pbft) (from : NodeId) (v : ℕ) (slot : Slot) (x : Value) (sig : List ℕ) (leaf : ℕ) → x ≡ Nil →
     turn p m.me.0 leaf (held m) (Receive from (PrePrepare v slot x sig)) ≡ idle (held m)
 nil-idle p m from v slot x sig leaf is = ap (λ (z : Value). turn p m.me.0 leaf (held m) (Receive from (PrePrepare v slot z sig))) is

@@ -1,4 +1,4 @@
--- What the code's tables answer: loops over nodes and slots.
+-- Loops over replicas and slots compute what the tables say.
 use Rattle.std.proofs.Common.{drop, get_or, ◌≡◌, ◌≤◌, ◌<◌, ◌+◌, ℕ, zero, suc, Bool, true, false, cond, ◌==◌, ◌&&◌, nat_eq, List, [], ◌∷◌, ◌++◌, length, take, Option, Some, None, is_some, append-nil, append_assoc, refl, sym, ap, ◌∙◌, arith, subst}
 use Rattle.std.proofs.Math.Seq.{drop-cons}
 use Rattle.std.specs.Cmp.Lexicographic.{pointwise}
@@ -11,7 +11,7 @@ use Rattle.sb_pbft.specs.Places.{has_voted, signature_in}
 use Rattle.sb_pbft.specs.Turns.{tops_of}
 use Rattle.sb_pbft.specs.Rules.{Ballot, changes_from, cons_some, cons_vote, voters}
 
--- ---- one node more
+-- ---- one replica more
 
 pub one-voter : (g : ℕ → Option Ballot) (d : List ℕ) (k m : ℕ) → voters g d k (suc m) ≡ voters g d k m ++ cons_vote d (k + m) (g (k + m)) []
 one-voter g d k zero = let e : k + 0 ≡ k = omega arith in rw e refl
@@ -70,7 +70,7 @@ take-full (suc n) [] ys h = absurd (never n h)
     never n h = omega (arith, h)
 take-full (suc n) (x ∷ xs) ys h = let k : n ≤ length (take n xs) = omega (arith, h) in ap (λ (l : List _). x ∷ l) (take-full n xs ys k)
 
--- the next number, as loops write it
+-- the next number, as loops compute it
 next-is : (m : ℕ) → suc m ≡ m + 1
 next-is m = omega arith
 
@@ -122,7 +122,7 @@ change-uncounted g m h = go (g m) refl
     go None q = change-out g m q
     go (Some x) q = absurd (let k : true ≡ false = rw q at h in cc)
 
--- ---- digests that are equal
+-- ---- equal digests
 
 same_digits : (a b : List ℕ) → pointwise nat_eq a b ≡ same_bytes a b
 same_digits [] [] = refl

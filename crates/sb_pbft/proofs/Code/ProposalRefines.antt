@@ -1,4 +1,4 @@
--- What is held after a proposal of view 0 was taken.
+-- The state after a proposal of view 0 was accepted.
 use Rattle.std.proofs.Common.{◌≤◌, ◌+◌, arith, ◌≡◌, ◌==◌, ◌&&◌, ℕ, Bool, true, false, not, cond, List, [], ◌∷◌, ◌++◌, Option, Some, None, is_some, refl, sym, ap, ◌∙◌, subst}
 use Rattle.iss_base.specs.Lists.{In, set_at2}
 use Rattle.iss_base.proofs.Lists.{and-true}
@@ -31,7 +31,7 @@ use Rattle.iss_sb.specs.Calls.{has_slot}
 use Rattle.sb_pbft.proofs.Code.RulesCompose.{turned}
 use Rattle.sb_pbft.proofs.Code.SettleRefines.{sent-one}
 
--- an offer, where there is no proposal yet
+-- an offer, if there is no proposal yet
 free-when : (h : Held) (x : Slot × Batch) (a b : Bool) → free h (when (a && b) x) ≡ when (a && (b && not (is_some (h.proposal 0 x.0.0)))) x
 free-when h x false b = refl
 free-when h x true false = refl
@@ -57,7 +57,7 @@ module _ (p : Params) (m : Pbft) (slot : Slot) (batch : Batch) where
       ∙ ap (λ (t : Bool). let x : Slot × Batch = (slot, batch) in when t x)
       (swapped (not (m.me.0 == p.leader.0) && (from.0 == p.leader.0)) (v == 0) (is_open p (held m).mode slot.0) (not (is_some ((held m).proposal 0 slot.0))))
 
-  -- what is held with the proposal put
+  -- the state with the proposal
   pub proposal-held : (all : Proposals) (q r : Proposal) → q ≡ r → ((v s : ℕ) → proposal_at all v s ≡ set_at2 (proposal_at m.proposals) 0 slot.0 (Some q) v s) →
       held (record m { proposals = all }) ≡ with_proposal (held m) 0 slot.0 r
   proposal-held all q r e new = λ j. record (held m) { proposal = λ v s. (new v s ∙ ap (λ (z : Proposal). set_at2 (proposal_at m.proposals) 0 slot.0 (Some z) v s) e) j }
@@ -93,7 +93,7 @@ module _ (p : Params) (m : Pbft) (slot : Slot) (batch : Batch) where
       let i = Receive from (PrePrepare v slot (Value_batch batch) sig) in
       accepts-none leaf i (asked_at p m.me.0 (held m) i) (told-asked from v sig ∙ when-is (may_take p m from.0 v slot.0) false out)
 
-  -- ---- what is sent first
+  -- ---- the message that is sent first
 
   pub leader-draft : (m.me.0 == p.leader.0) ≡ true → first_draft p m.me.0 (Some (slot, batch)) ≡ DraftPrePrepare slot (Value_batch batch) ∷ []
   leader-draft leads = ap (λ (t : Bool). cond t (DraftPrePrepare slot (Value_batch batch)) (DraftPrepare 0 slot (digest_of p (Value_batch batch))) ∷ []) leads

@@ -1,4 +1,4 @@
--- From what the code's parts did to what a rule owes.
+-- The parts of a step compose to the contract of the step.
 use Rattle.std.proofs.Common.{◌≡◌, ◌≤◌, ◌+◌, ◌*◌, ℕ, Bool, false, List, [], ◌∷◌, ◌++◌, length, Option, Some, None, IfSome, refl, sym, ap, ◌∙◌, arith, subst, append-nil}
 use Rattle.iss_base.specs.Lists.{In}
 use Rattle.iss_keys.specs.Directories.{AreKeysOf}
@@ -47,7 +47,7 @@ does-nothing p i m k e stays nothing = record {
   within = nothing-within p k e nothing;
 }
 
--- ---- what is delivered is of the slots, and few leaves are used
+-- ---- deliveries are within the segment, and few leaves are used
 
 slots-both : (ds es : List (Slot × Value)) → slots_of (ds ++ es) ≡ slots_of ds ++ slots_of es
 slots-both [] es = refl
@@ -78,7 +78,7 @@ drafts-few p h answers v (s ∷ ss) =
     let both = uses-both p (drafts_at p h answers v s) (drafts_all p (settled p h v s) answers v ss) in
     omega (arith, one, e, rest, both)
 
--- ---- what was sent first, and then what was due at slots
+-- ---- a message that is sent first, and then settled slots
 
 abbrev pub turned : Params → List Draft → Held → Bool → ℕ → List Slot → List (List ℕ) → Option (Slot × Batch) → Turn
 turned p ds h answers v slots strings accepted = record {
@@ -134,7 +134,7 @@ module _ (p : Params) (i : Input Message) (old mid new : Pbft) (b k l : KeyState
     within = settled-within first none takes taken done inside few;
   }
 
--- what was sent alone, where nothing was due at slots
+-- a message alone, with no slot to settle
 pub does-sent : (p : Params) (i : Input Message) (old new : Pbft) (b l : KeyState) (f : Effects Message) (ds : List Draft) (strings : List (List ℕ)) →
     new.me ≡ old.me →
     Sent p ds b l [] f.sends → f.delivers ≡ [] → f.accepted ≡ None → f.hashed ≡ strings →

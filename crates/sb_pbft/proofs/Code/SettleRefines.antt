@@ -1,4 +1,4 @@
--- What is due at one slot after another.
+-- The code that settles slots refines the model, slot by slot.
 use Rattle.std.proofs.Common.{◌≡◌, ◌≤◌, ◌<◌, ◌+◌, ◌-◌, ◌*◌, ◌^◌, drop, get_or, ℕ, zero, suc, Bool, true, false, append-nil}
 use Rattle.std.proofs.Common.{cond, List, [], ◌∷◌, ◌++◌, length, Option, Some, None, refl, sym, ap, ◌∙◌, arith, subst}
 use Rattle.std.proofs.Math.Seq.{drop-cons}
@@ -22,7 +22,7 @@ pub grouped : {A : Type 0} (xs ys zs : List A) → (xs ++ ys) ++ zs ≡ xs ++ (y
 grouped [] ys zs = refl
 grouped (x ∷ xs) ys zs = ap (λ (l : List _). x ∷ l) (grouped xs ys zs)
 
--- ---- drafts one behind the other
+-- ---- concatenated messages
 
 pub uses-both : (p : Params) (ds es : List Draft) → uses_all p (ds ++ es) ≡ uses_all p ds + uses_all p es
 uses-both p [] es = omega arith
@@ -113,7 +113,7 @@ settles-more p answers v s ss m n o a b c e f g h k = record {
   hashed = k.hashed ∙ h.hashed;
 }
 
--- what is due at one slot, in its three parts
+-- what the code does at one slot: Prepare, Commit, delivery
 pub settles-one : (p : Params) (answers : Bool) (v : ℕ) (s : Slot) (m n o : Pbft) (a b c : KeyState) (e f g i : Effects Message) →
     Answers p answers v s m a b e f → Commits p s m n b c f g → HandsOver p v s n o g i → Settles p answers v (s ∷ []) m o a c e i
 settles-one p answers v s m n o a b c e f g i x y z = record {
@@ -163,7 +163,7 @@ left-more p answers v s m n a b e f all i h within done =
     subst (λ (z : KeyState). 2 * (all - (i + 1)) ≤ left_of z) (sym done.sent.used)
     (low (2 ^ a.height) a.used (uses_all p ds) all i h (slot-few p (held m) answers v s) within)
 
--- what the rest of a row of slots owes
+-- the contract for the remaining slots
 abbrev pub Owes : Params → Bool → ℕ → List Slot → List Slot → Pbft → KeyState → Effects Message → Pbft → KeyState → Effects Message → Type 0
 Owes p answers v slots rest m a e now b f =
     (n : Pbft) (k : KeyState) (g : Effects Message) → Settles p answers v rest now n b k f g → Settles p answers v slots m n a k e g

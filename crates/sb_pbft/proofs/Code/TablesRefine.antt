@@ -1,4 +1,4 @@
--- What is held after a vote was kept, or a proposal.
+-- The state after a vote or a proposal was stored.
 use Rattle.std.proofs.Common.{◌≡◌, ◌==◌, ◌&&◌, ℕ, Bool, true, false, not, List, [], ◌∷◌, Option, None, refl, sym, ap, ◌∙◌}
 use Rattle.iss_base.specs.Lists.{first_of}
 use Rattle.iss_request.specs.declared.ids.NodeId.{NodeId}

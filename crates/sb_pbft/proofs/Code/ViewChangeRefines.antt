@@ -1,4 +1,4 @@
--- What a change of views makes of what is held.
+-- The code of a view change refines the model: ViewChange, NewView, timeout.
 use Rattle.std.proofs.Common.{◌≡◌, ◌≤◌, ◌<◌, ◌+◌, ◌-◌, ◌*◌, ◌==◌, ◌&&◌, ℕ, suc, Bool, true, false, not, cond, nat_le, nat_lt, List}
 use Rattle.std.proofs.Common.{[], ◌∷◌, ◌++◌, length, take, drop, get_or, Option, Some, None, is_some, inl, inr, refl, sym, ap, ◌∙◌, arith, subst}
 use Rattle.std.proofs.Math.Seq.{take-length}
@@ -31,7 +31,7 @@ use Rattle.sb_pbft.specs.Turns.{Held, Turn, and_change, changed, changes_at, com
 use Rattle.sb_pbft.proofs.Code.RulesCompose.{does-nothing, does-sent, does-settled, turned}
 use Rattle.sb_pbft.proofs.Code.SettleRefines.{grouped, sent-none}
 
--- ---- strings one behind the other
+-- ---- concatenated strings
 
 values-both : (p : Params) (cs ds : List Certificate) → value_strings p (cs ++ ds) ≡ value_strings p cs ++ value_strings p ds
 values-both p [] ds = refl
@@ -47,7 +47,7 @@ hashed_both p cs ds e f g x y = record {
   delivers = y.delivers ∙ x.delivers;
 }
 
--- a list by its first and the others, as code cuts it
+-- a list split into its first item and the rest, as the code matches it
 cut : (l : List Change) (x : Change) → x ≡ get_or l 0 x → 1 ≤ length l → x ∷ take (length l - 1) (drop 1 l) ≡ l
 cut [] x is long = absurd (never long)
   where
@@ -76,7 +76,7 @@ right-false : (t : Bool) → (t && false) ≡ false
 right-false true = refl
 right-false false = refl
 
--- a number is not below another and that one at once
+-- a number is not both below another and equal to it
 never-both : (n m : ℕ) → (nat_lt n m && (n == m)) ≡ false
 never-both n m = go (nat_lt n m) (n == m) (λ h. ltb-true n m h) (λ h. eqb-true n m h)
   where
@@ -92,7 +92,7 @@ module _ (p : Params) (m : Pbft) (x : Change) where
   abbrev then : Held
   then = and_change p (held m) (Receive x.node (ViewChange x.view x.certificates x.sig))
 
-  -- what has its first stays as it is
+  -- an option that has a value keeps it
   stays-at : (t : Bool) → (t && not (is_some (change_at m.changes x.view x.node.0))) ≡ false → (v k : ℕ) (a b : Bool) → (x.node.0 == k) ≡ a →
       (v == x.view) ≡ b →
       first_of (change_at m.changes v k) (when ((a && b) && t) x) ≡ change_at m.changes v k
@@ -152,7 +152,7 @@ module _ (p : Params) (m : Pbft) (x : Change) where
         tested v k = ap (λ (t : Bool). first_of (change_at m.changes v k) (when t x))
             (sym (ap (λ (t : Bool). ((x.node.0 == k) && (v == x.view)) && t) good ∙ right-true ((x.node.0 == k) && (v == x.view))))
 
-    -- the NewView that is due, and its strings
+    -- the NewView that is due, and its hashed strings
     abbrev due-drafts : List Draft
     due-drafts = cond (is_due p kept x.view before) (DraftNewView x.view (changes_at p (held kept) x.view) ∷ []) []
 
@@ -220,7 +220,8 @@ entered-idle : (p : Params) (m : Pbft) (leaf : ℕ) (node : NodeId) (v : ℕ) (x
     turn p m.me.0 leaf (held m) (Receive node (NewView v xs sigs sig)) ≡ idle (held m)
 entered-idle p m leaf node v xs sigs sig out = rw out refl
 
--- what the code of a NewView that is taken did: it hashed, put the proposals, began the view, and settled each slot
+-- what the code does for a NewView that starts its view: it hashes, stores the proposals, enters the view, and
+-- settles each slot
 pub record Began (p : Params) (m new : Pbft) (from : NodeId) (v : ℕ) (xs : List Change) (sigs : List (List ℕ)) (slots : List Slot) (all : Proposals)
     (answers : Bool) (k l : KeyState)
     (none e f g : Effects Message) : Type 0 where
@@ -264,9 +265,9 @@ skipped-does p m from v xs ys sigs ss sig k e shown signed out nothing =
     (subst (λ (z : List (List ℕ)). Does p m m (Receive from (NewView v xs z sig)) k k e) signed
     (does-nothing p (Receive from (NewView v xs sigs sig)) m k e (entered-idle p m k.used from v xs sigs sig out) nothing))
 
--- ---- a ViewChange that is kept
+-- ---- a ViewChange that is stored
 
--- what the code did: it hashed, kept it, and sent the NewView that is due
+-- what the code does: it hashes, stores the ViewChange, and sends the NewView if it is due
 pub record Kept (p : Params) (m : Pbft) (x : Change) (cs : List Certificate) (all : ViewChanges) (before : ℕ) (k l : KeyState)
     (none e f : Effects Message) : Type 0 where
   pub keeps : (all_good p x.view x.certificates && not (is_some (change_at m.changes x.view x.node.0))) ≡ true

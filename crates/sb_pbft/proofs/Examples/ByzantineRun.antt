@@ -1,4 +1,5 @@
--- A run with a Byzantine node, in which a slot is delivered and a view changes, with the certificate of what was committed.
+-- A run with a Byzantine replica: a slot is delivered, and then a view change takes place with the certificate of the
+-- committed value.
 use Rattle.std.proofs.Common.{◌≡◌, ◌<◌, ◌^◌, ◌&&◌, ℕ, Bool, true, false, cond, eqb, List, [], ◌∷◌, ◌++◌, length, Some, refl, sym, ◌∙◌, subst, inl, inr, arith, true≢false}
 use Rattle.std.specs.Prelude.{◌==◌}
 use Rattle.std.proofs.lemmas.Bool.{eq-eqb}
@@ -49,7 +50,7 @@ good = record {
   directory = refl;
 }
 
--- ---- worlds in which the nodes 0, 1 and 2 took something
+-- ---- worlds in which the replicas 0, 1 and 2 have a history
 
 abbrev pub Items : Type 0
 Items = List (Item Message)
@@ -74,7 +75,7 @@ move-one xs ys zs input leaf may = record { node = 1; correct = refl; input = in
 pub move-two : (xs ys zs : Items) (input : Input Message) (leaf : ℕ) → MayCome pbft p (world xs ys zs) 2 input → Move pbft p (world xs ys zs) (world xs ys (next 2 leaf input zs))
 move-two xs ys zs input leaf may = record { node = 2; correct = refl; input = input; may = may; leaf = leaf; takes = refl; others = λ i ne. rw (eqb-other i 2 ne) refl }
 
--- ---- what is read again
+-- ---- messages that decode
 
 pub shape : (k leaf : ℕ) (st : List ℕ) → is_signature (signature p k leaf st) ≡ true
 shape k leaf st = signature-shape pbft p good k leaf st
@@ -114,12 +115,12 @@ renewal-fit =
     (both _ _ (both _ _ refl (both _ _ (both _ _ refl (shown-fit 1 11)) (both _ _ (both _ _ refl (empty-fit 2 3)) (both _ _ (both _ _ refl (empty-fit 3 4)) refl))))
     (both _ _ (both _ _ refl (both _ _ (shape 1 12 (state_at p 1 1 0 d)) (both _ _ (shape 1 13 (state_at p 1 1 4 nil)) refl))) (shape 1 14 (state_new p 1))))
 
--- ---- what may come: claims that verify, of which those of correct nodes were signed
+-- ---- deliveries: claims that verify, of which those of correct replicas were signed
 
 abbrev pub by_key : ℕ → ℕ → List ℕ → Claim
 by_key k leaf st = claim k st (signature p k leaf st)
 
--- each claim is by a leaf of its node's key, and signed where the node is correct
+-- each claim is signed by a leaf of its replica's key; a correct replica did sign it
 abbrev pub AreSigned : World Message → List Claim → Type 0
 AreSigned w [] = Unit {0}
 AreSigned w (c ∷ cs) = ((leaf : ℕ) × (leaf < 2 ^ 4) × (c.by.0 < 4) × (c ≡ by_key c.by.0 leaf c.statement)) × (is_correct setup c.by.0 ≡ true → IsSigned pbft p w c.by.0 c.statement) × AreSigned w cs
@@ -139,19 +140,19 @@ signed-all w (x ∷ cs) h c (inr i) = signed-all w cs h.2 c i
 pub credible : (w : World Message) (k : ℕ) (msg : Message) → k < 4 → fits 1 msg ≡ true → AreSigned w (claims p k msg) → IsCredible pbft p (Verifies p) (IsSigned pbft p w) k msg
 credible w k msg l f h = record { named = l; read = fits-again 1 msg f; verified = λ c i. verified-all w (claims p k msg) h c i; signed = λ c i. signed-all w (claims p k msg) h c i }
 
--- a claim of what a node sent at an item
+-- a claim in what a replica sent at a step
 pub sent-claim : (w : World Message) (k : ℕ) (item : Item Message) (made : Made Message) (msg : Message) (c : Claim) → item.made ≡ made → In item (w k) → In {A = To × Message} (To_all, msg) made.sends → In c (claims p k msg) → c.by.0 ≡ k → IsSigned pbft p w k c.statement
 sent-claim w k item made msg c e i h s q =
     record { item = item; taken = i; to = To_all; msg = msg; sent = subst (λ (z : Made Message). In {A = To × Message} (To_all, msg) z.sends) (sym e) h; claim = c; made = s; by = q; is = refl }
 
--- what a Byzantine node claims nobody has to have signed
+-- a Byzantine replica's claim need not be signed in the history
 pub of-three : (w : World Message) (st : List ℕ) → is_correct setup 3 ≡ true → IsSigned pbft p w 3 st
 of-three w st h = absurd (true≢false (sym h))
 
 pub by-leaf : (k leaf : ℕ) (st : List ℕ) → leaf < 2 ^ 4 → k < 4 → (n : ℕ) × (n < 2 ^ 4) × (k < 4) × (by_key k leaf st ≡ by_key k n st)
 by-leaf k leaf st l m = (leaf, l, m, refl)
 
--- ---- the run. Node 0 casts, node 1 prepares, and both commit with the Prepare of node 3
+-- ---- the run. Replica 0 casts, replica 1 prepares, and both commit with the Prepare of replica 3
 
 abbrev pub cast : Item Message
 cast = record { input = Cast (slot 0) b; leaf = 5; made = makes p 0 [] (Cast (slot 0) b) 5 }
@@ -174,7 +175,7 @@ o2 = next 1 10 (from 1 (prepare 1 9)) o1
 abbrev pub o3 : Items
 o3 = next 1 10 (from 3 (prepare 3 7)) o2
 
--- node 1 takes three Commits, delivers, and gives up view 0
+-- replica 1 receives three Commits, delivers, and times out of view 0
 abbrev pub o4 : Items
 o4 = next 1 11 (from 0 (commit 0 6)) o3
 
@@ -187,7 +188,7 @@ o6 = next 1 11 (from 3 (commit 3 8)) o5
 abbrev pub o7 : Items
 o7 = next 1 11 Timeout o6
 
--- with the ViewChanges of nodes 1, 2 and 3 it begins view 1, which node 2 enters
+-- with the ViewChanges of replicas 1, 2 and 3 it starts view 1, which replica 2 enters
 abbrev pub t1 : Items
 t1 = next 2 3 Timeout []
 
@@ -203,14 +204,14 @@ o10 = next 1 12 (from 3 (give_up 3 4 1 [])) o9
 abbrev pub t2 : Items
 t2 = next 2 5 (from 1 renewal) t1
 
--- and commits there with the Prepares of itself and of node 3
+-- and replica 2 commits there with the Prepares of itself and of replica 3
 abbrev pub t3 : Items
 t3 = next 2 7 (from 2 (again 2 5)) t2
 
 abbrev pub t4 : Items
 t4 = next 2 7 (from 3 (again 3 5)) t3
 
--- what was made
+-- the effects of each step
 
 pub zero-commits : makes p 0 z2 (from 3 (prepare 3 7)) 6 ≡ said (commit 0 6 ∷ []) [] 1
 unfolding sha256 digest_bytes hash_after compress rounds schedule first_words spell_batch spell_count spell_value
@@ -301,7 +302,7 @@ module _ (w : World Message) where
   pub signed-two : In two_entered (w 2) → IsSigned pbft p w 2 (state_at p 2 1 0 d)
   signed-two i = sent-claim w 2 two_entered _ (again 2 5) (by_key 2 5 (state_at p 2 1 0 d)) two-prepares i (inl refl) (inl refl) refl
 
--- ---- each move
+-- ---- each step
 
 pub one-claim : (w : World Message) (k leaf : ℕ) (st : List ℕ) → leaf < 2 ^ 4 → k < 4 → (is_correct setup k ≡ true → IsSigned pbft p w k st) → AreSigned w (by_key k leaf st ∷ [])
 one-claim w k leaf st l m h = (by-leaf k leaf st l m, h, tt)
@@ -346,7 +347,7 @@ pub signed-append : (w : World Message) (cs ds : List Claim) → AreSigned w cs 
 signed-append w [] ds h k = k
 signed-append w (c ∷ cs) ds h k = (h.0, h.1, signed-append w cs ds h.2 k)
 
--- the claims of node 1's ViewChange, where these items stand so
+-- the claims of replica 1's ViewChange, given these steps
 pub shown-signed : (w : World Message) → In cast (w 0) → In took_proposal (w 1) → In one_gave_up (w 1) → AreSigned w (certificate_claims p certificate ++ by_key 1 11 (state_change p 1 (certificate ∷ [])) ∷ [])
 shown-signed w i j k = signed-append w (certificate_claims p certificate) (by_key 1 11 (state_change p 1 (certificate ∷ [])) ∷ []) (certificate-signed w i j) (one-claim w 1 11 (state_change p 1 (certificate ∷ [])) (omega arith) (omega arith) (λ q. signed-shown w k))
 
@@ -359,7 +360,7 @@ r13 = let w = world z3 o8 t1 in after r12 (move-one z3 o8 t1 (from 2 (give_up 2 
 pub r14 : IsReached pbft p (world z3 o10 t1)
 r14 = let w = world z3 o9 t1 in after r13 (move-one z3 o9 t1 (from 3 (give_up 3 4 1 [])) 12 (credible w 3 (give_up 3 4 1 []) (omega arith) (empty-fit 3 4) (one-claim w 3 4 (state_change p 1 []) (omega arith) (omega arith) (of-three w (state_change p 1 [])))))
 
--- what stands behind them in the NewView
+-- the claims that follow them in the NewView
 abbrev pub others : List Claim
 others =
     by_key 2 3 (state_change p 1 []) ∷ by_key 3 4 (state_change p 1 []) ∷ by_key 1 12 (state_at p 1 1 0 d) ∷ by_key 1 13 (state_at p 1 1 4 nil) ∷

@@ -1,4 +1,4 @@
--- PBFT on worked examples: four nodes, of which node 0 leads the slots 0 and 4, and node 3 is Byzantine.
+-- PBFT on worked examples: four replicas. Replica 0 leads the slots 0 and 4, and replica 3 is Byzantine.
 use Rattle.std.proofs.Common.{◌≡◌, ℕ, List, [], ◌∷◌, ◌++◌, Some, None, true, false, refl}
 use Rattle.std.specs.Prelude.{replicate}
 use Rattle.sha2.specs.Sha256.{sha256, digest_bytes, hash_after, compress, rounds, schedule, first_words}
@@ -59,7 +59,7 @@ setup = record {
 abbrev pub p : Params
 p = record { setup = setup; epoch = record { 0 = 2 }; leader = node 0; slots = slot 0 ∷ slot 4 ∷ []; directory = directory_of 4 1 4 }
 
--- the batch of no requests
+-- the empty batch
 abbrev pub b : Batch
 b = []
 
@@ -69,7 +69,7 @@ d = digest_of p (Value_batch b)
 abbrev pub nil : List ℕ
 nil = digest_of p Nil
 
--- node k's signature, by a leaf, of a PrePrepare (1), Prepare (2) or Commit (3) of the view at the slot
+-- the signature of replica k with a leaf, on a PrePrepare (1), Prepare (2) or Commit (3) of the view at the slot
 abbrev pub sig : ℕ → ℕ → ℕ → ℕ → ℕ → List ℕ → List ℕ
 sig k leaf kind v s e = signature p k leaf (state_at p kind v s e)
 
@@ -86,7 +86,7 @@ next me leaf i xs = and_then pbft p me xs i leaf
 abbrev pub from : ℕ → Message → Input Message
 from k msg = Receive (node k) msg
 
--- ---- the normal case. The leader casts the batch at slot 0, with leaf 5 as its next
+-- ---- the normal case. The leader casts the batch at slot 0; its next leaf is 5
 
 abbrev pub proposal : Message
 proposal = PrePrepare 0 (slot 0) (Value_batch b) (sig 0 5 1 0 0 d)
@@ -100,7 +100,8 @@ casts_once = refl
 casts_its_own : makes p 0 [] (Cast (slot 1) b) 5 ≡ said [] [] 0
 casts_its_own = refl
 
--- node 1 takes the PrePrepare, and says so. One of another node, of another view or with nil it does not take
+-- replica 1 accepts the PrePrepare and sends a Prepare. It ignores one of another replica, of another view, or for
+-- nil
 
 abbrev pub prepare : ℕ → ℕ → Message
 prepare k leaf = Prepare 0 (slot 0) d (sig k leaf 2 0 0 d)
@@ -117,7 +118,8 @@ not_in_another_view = refl
 not_nil : asks p 1 [] (from 0 (PrePrepare 0 (slot 0) Nil [])) ≡ None
 not_nil = refl
 
--- its own Prepare is the first, a second one of node 1 and one of the primary are none, that of node 3 the second
+-- its own Prepare is the first. A second one of replica 1 and one of the primary do not count; that of replica 3 is
+-- the second
 abbrev pub once : List (Item Message)
 once = next 1 10 (from 0 (prepare 0 8)) (next 1 10 (from 1 (prepare 1 9)) (next 1 10 (from 1 (prepare 1 9)) (next 1 9 (from 0 proposal) [])))
 
@@ -150,7 +152,7 @@ good_certificate = refl
 abbrev pub and_commit : ℕ → List (Item Message) → List (Item Message)
 and_commit k xs = next 1 11 (from k (commit k 10)) xs
 
--- two Commits, one of them twice, decide nothing; the third decides
+-- two Commits, one of them received twice, decide nothing; the third one decides
 two : delivered pbft p 1 (and_commit 1 (and_commit 0 (and_commit 0 prepared))) 0 ≡ None
 unfolding sha256 digest_bytes hash_after compress rounds schedule first_words spell_batch spell_count spell_value
 two = refl
@@ -159,7 +161,7 @@ three : delivered pbft p 1 (and_commit 3 (and_commit 1 (and_commit 0 (and_commit
 unfolding sha256 digest_bytes hash_after compress rounds schedule first_words spell_batch spell_count spell_value
 three = refl
 
--- ---- a change of views with one certificate. Node 1 is the primary of view 1
+-- ---- a view change with one certificate. Replica 1 is the primary of view 1
 
 abbrev pub give_up : ℕ → ℕ → ℕ → List Certificate → Message
 give_up k leaf v cs = ViewChange v cs (signature p k leaf (state_change p v cs))
@@ -177,7 +179,7 @@ waiting = next 1 12 (from 2 (give_up 2 3 1 [])) (next 1 12 (from 1 (give_up 1 11
 abbrev pub changes : List Change
 changes = change 1 11 1 (certificate ∷ []) ∷ change 2 3 1 [] ∷ change 3 4 1 [] ∷ []
 
--- the third ViewChange makes the NewView: the leaves 12 and 13 sign the PrePrepares, 14 the NewView
+-- the third ViewChange makes the NewView due: the leaves 12 and 13 sign the PrePrepares, 14 the NewView
 abbrev pub renewal : Message
 renewal = NewView 1 changes (sig 1 12 1 1 0 d ∷ sig 1 13 1 1 4 nil ∷ []) (signature p 1 14 (state_new p 1))
 
@@ -185,7 +187,7 @@ renews : makes p 1 waiting (from 3 (give_up 3 4 1 [])) 12 ≡ said (renewal ∷ 
 unfolding sha256 digest_bytes hash_after compress rounds schedule first_words spell_batch spell_count spell_value
 renews = refl
 
--- node 2, which took nothing, takes it: Prepares for the batch and for nil
+-- replica 2, which accepted nothing before, enters the view: it sends Prepares for the batch and for nil
 abbrev pub strings_of_it : List (List ℕ)
 strings_of_it = string_of p (Value_batch b) ∷ string_of p (Value_batch b) ∷ string_of p Nil ∷ []
 
@@ -193,14 +195,14 @@ enters : makes p 2 [] (from 1 renewal) 5 ≡ said (Prepare 1 (slot 0) d (sig 2 5
 unfolding sha256 digest_bytes hash_after compress rounds schedule first_words spell_batch spell_count spell_value
 enters = refl
 
--- once, and from its primary alone
+-- it enters once, and only by a NewView of the primary
 enters_once : makes p 2 (next 2 5 (from 1 renewal) []) (from 1 renewal) 7 ≡ said [] [] 0
 enters_once = refl
 
 enters_of_the_primary : makes p 2 [] (from 3 renewal) 5 ≡ said [] [] 0
 enters_of_the_primary = refl
 
--- where Prepares were there before the NewView, each slot's Commit stands behind its Prepare
+-- if Prepares came before the NewView, each slot's Commit follows its Prepare
 abbrev pub early : List (Item Message)
 early = next 2 5 (from 3 (Prepare 1 (slot 0) d (sig 3 5 2 1 0 d))) (next 2 5 (from 0 (Prepare 1 (slot 0) d (sig 0 6 2 1 0 d))) [])
 
@@ -211,7 +213,7 @@ in_order = refl
 abbrev pub entered : List (Item Message)
 entered = next 2 5 (from 1 renewal) early
 
--- its certificate of view 1 has the signature that stood in the NewView
+-- its certificate of view 1 has the signature of the PrePrepare in the NewView
 keeps_again : kept p 2 entered ≡ record { slot = slot 0; view = 1; value = Value_batch b; sig = sig 1 12 1 1 0 d; prepares = record { by = node 0; sig = sig 0 6 2 1 0 d } ∷ record { by = node 3; sig = sig 3 5 2 1 0 d } ∷ [] } ∷ []
 unfolding sha256 digest_bytes hash_after compress rounds schedule first_words spell_batch spell_count spell_value
 keeps_again = refl
@@ -223,7 +225,7 @@ delivers : delivered pbft p 2 (commit_again 3 (commit_again 1 (commit_again 0 en
 unfolding sha256 digest_bytes hash_after compress rounds schedule first_words spell_batch spell_count spell_value
 delivers = refl
 
--- ---- with no certificate the choice is nil at each slot
+-- ---- with no certificate, the choice is nil at each slot
 
 abbrev pub empty_waiting : List (Item Message)
 empty_waiting = next 1 12 (from 2 (give_up 2 3 1 [])) (next 1 12 (from 1 (give_up 1 11 1 [])) [])
@@ -231,7 +233,8 @@ empty_waiting = next 1 12 (from 2 (give_up 2 3 1 [])) (next 1 12 (from 1 (give_u
 empty_view : makes p 1 empty_waiting (from 3 (give_up 3 4 1 [])) 12 ≡ said (NewView 1 (change 1 11 1 [] ∷ change 2 3 1 [] ∷ change 3 4 1 [] ∷ []) (sig 1 12 1 1 0 nil ∷ sig 1 13 1 1 4 nil ∷ []) (signature p 1 14 (state_new p 1)) ∷ []) (string_of p Nil ∷ string_of p Nil ∷ []) 3
 empty_view = refl
 
--- ---- with two of different views the choice is that of the higher view, of the least node in a tie. View 2 is node 2's
+-- ---- of two certificates the one of the higher view is chosen, in a tie that of the lowest replica. Replica 2 is
+-- primary of view 2
 
 abbrev pub votes : ℕ → ℕ → List Signed
 votes j k = record { by = node j; sig = [] } ∷ record { by = node k; sig = [] } ∷ []
@@ -250,14 +253,15 @@ higher_view = refl
 least_node : choice (change 0 2 2 (of_view 1 (Value_batch b) (votes 0 2) ∷ []) ∷ change 1 3 2 (of_view 1 Nil (votes 0 2) ∷ []) ∷ []) 0 ≡ Value_batch b
 least_node = refl
 
--- a certificate of the primary's Prepare, of one node twice, and in view 0 with nil, is not good; one that is not good is not kept
+-- a certificate is not good with a Prepare of the primary, with two of one replica, or in view 0 with nil. A
+-- ViewChange with one is not stored
 not_good : (is_good p (of_view 0 (Value_batch b) (votes 0 1)) ≡ false) × (is_good p (of_view 0 (Value_batch b) (votes 1 1)) ≡ false) × (is_good p (of_view 0 Nil (votes 1 3)) ≡ false)
 not_good = (refl, refl, refl)
 
 not_kept : makes p 2 both_views (from 3 (give_up 3 4 2 (of_view 1 Nil (votes 1 2) ∷ []))) 1 ≡ said [] [] 0
 not_kept = refl
 
--- ---- one node alone: a proposal is prepared at once, and with its own Commit it is delivered
+-- ---- one replica alone: a proposal is prepared at once, and delivered with its own Commit
 
 abbrev pub alone : Params
 alone = record p { setup = record setup { f = 0; n = 1; quorum = 1; faulty = [] } }
@@ -291,7 +295,7 @@ new_bytes : state_new p 1 ≡ replicate 32 7 ++ (0 ∷ 0 ∷ 0 ∷ 0 ∷ 0 ∷ 0
 unfolding wide_bytes
 new_bytes = refl
 
--- claims stand in the order of the bytes: those of the certificates, the ViewChange's own, the PrePrepares', the message's
+-- claims in the order of the bytes: of the certificates, the ViewChange itself, the PrePrepares, the message itself
 its_claims : claims p 2 (NewView 2 (change 1 3 2 (of_view 0 (Value_batch b) (votes 1 3) ∷ []) ∷ []) ((1 ∷ []) ∷ (2 ∷ []) ∷ (3 ∷ []) ∷ []) (4 ∷ [])) ≡
     claim 0 (state_at p 1 0 0 d) [] ∷ claim 1 (state_at p 2 0 0 d) [] ∷ claim 3 (state_at p 2 0 0 d) [] ∷
     claim 1 (state_change p 2 (of_view 0 (Value_batch b) (votes 1 3) ∷ [])) (signature p 1 3 (state_change p 2 (of_view 0 (Value_batch b) (votes 1 3) ∷ []))) ∷

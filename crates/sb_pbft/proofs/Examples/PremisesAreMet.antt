@@ -1,4 +1,4 @@
--- The premises of the laws and facts can be met: the run's world meets them.
+-- The premises of the laws and facts can be met: the world of the example run meets them.
 use Rattle.std.proofs.Common.{◌≡◌, ◌⊎◌, ℕ, Bool, true, false, cond, eqb, List, [], ◌∷◌, refl, sym, ap, ◌∙◌, subst, inl, inr}
 use Rattle.sha2.specs.Sha256.{sha256, digest_bytes, hash_after, compress, rounds, schedule, first_words}
 use Rattle.iss_base.specs.Lists.{In, same_bytes}
@@ -22,7 +22,7 @@ use Rattle.sb_pbft.proofs.Examples.FourReplicas.{b, certificate, d, from, give_u
 use Rattle.sb_pbft.proofs.Safety.PbftIsSafe.{decided-views, pbft-safe, roots}
 use Rattle.sb_pbft.proofs.Examples.ByzantineRun.{Items, again, cast, certificate-signed, delivers, good, last, o10, r17, signed-again, signed-all, signed-one, signed-shown, signed-two, t3, t4, two-commits, two_gave_up, z3}
 
--- ---- its strings are separate: the empty one, that of the batch, that of nil
+-- ---- its strings have distinct digests: the empty one, that of the batch, that of nil
 
 abbrev OneOf : List ℕ → Type 0
 OneOf s = (s ≡ string_of p (Value_batch b)) ⊎ (s ≡ string_of p Nil)
@@ -99,9 +99,10 @@ one-string x y (inr (inr e)) (inr (inr f)) h = e ∙ sym f
 separate : Separate (IsString last)
 separate x y h k e = one-string x y (is-one x h) (is-one y k) e
 
--- ---- what the premises of the facts are met by
+-- ---- the premises of the facts
 
--- node 1 committed the batch in view 0, showed its certificate, and proposed it again in view 1, where node 2 prepared it
+-- replica 1 committed the batch in view 0, showed its certificate, and proposed it again in view 1, where replica 2
+-- prepared it
 committed : HasVoted p last 1 3 0 0 d
 committed = record { correct = refl; signed = signed-one last (inr (inr (inr (inr (inr (inr (inr (inl refl)))))))) }
 
@@ -124,7 +125,7 @@ is-certificate = record {
   known = batch-known;
 }
 
--- node 2 gave up for view 1 before it committed there
+-- replica 2 left view 0 before it committed there
 record IsQuietAt : Type 0 where
   item : Item Message
   before : Items
@@ -145,7 +146,7 @@ quiet-at = record {
   committed_it = subst (λ (z : Made Message). In {A = To × Message} (To_all, Commit 1 (slot 0) d (sig 2 7 3 1 0 d)) z.sends) (sym two-commits) (inl refl);
 }
 
--- and what the facts and laws give of it
+-- what the facts and laws say of this world
 its-view : (v : ℕ) × IsDecidedView p last v 0 d
 its-view = decided-views p good last r17 1 0 (Value_batch b) refl delivers
 

@@ -1,4 +1,5 @@
--- Each leaf that signs in a step of PBFT is of one statement; whatever other claim of its own a node sends, it was told before or sent before.
+-- Each leaf signs one statement in a step. Any other claim of the replica in a message that it sends was received
+-- before or sent before.
 use Rattle.std.proofs.Common.{◌≡◌, ◌⊎◌, ◌<◌, ◌+◌, ◌*◌, ◌&&◌, ◌++◌, ◌∷◌, ◌∙◌, ℕ, suc, Bool, true, false, cond, List, [], length, length-append, take, Option, Some, None, refl, sym, ap, subst, inl, inr, arith}
 use Rattle.std.proofs.lemmas.Bool.{eq-eqb, false≢true}
 use Rattle.std.specs.Prelude.{is_some, ◌==◌}
@@ -62,7 +63,7 @@ behind-none : {A : Type 0} (o more : Option A) (x : A) → o ≡ None → first_
 behind-none {A = A} o more x none h = subst (λ (z : Option A). first_of z more ≡ Some x) none h
 
 module _ (p : Params) (me : ℕ) where
-  -- ---- claims that were seen
+  -- ---- claims seen before
 
   abbrev Seen : List (Item Message) → Claim → Type 0
   Seen xs c = WasSeen pbft p me xs c
@@ -81,7 +82,7 @@ module _ (p : Params) (me : ℕ) where
 
   -- ---- the signature of a proposal's PrePrepare
 
-  -- in a NewView it stands where the slot stands
+  -- in a NewView: the k-th signature is that of the k-th slot
   chosen-refines : (by v : ℕ) (ys : List Change) (ss : List Slot) (sigs : List (List ℕ)) (s : ℕ) (sig : List ℕ) → sig_for s ss sigs ≡ Some sig →
       In (claim by (state_at p 1 v s (digest_of p (choice ys s))) sig) (chosen_claims p by v ys ss sigs)
   chosen-refines by v ys [] sigs s sig h = absurd (cc)
@@ -104,7 +105,7 @@ module _ (p : Params) (me : ℕ) where
       ∙ ap (λ (b : Bool). cond (b && enters p m from.0 v ys sigs) (sig_for s p.slots sigs) None) within
       ∙ ap (λ (b : Bool). cond b (sig_for s p.slots sigs) None) enters_it
 
-  -- of an own cast, or of the leader's message
+  -- of an own cast, or in the message of the leader
   module _ (in_range : p.leader.0 < p.setup.n) where
     abbrev first_state : Slot × Batch → List ℕ
     first_state a = state_at p 1 0 a.0.0 (digest_of p (Value_batch a.1))
@@ -146,7 +147,7 @@ module _ (p : Params) (me : ℕ) where
         let k : when ((v == 0) && (s == a.0.0)) (first_sig p me y.leaf a y.input) ≡ Some sig = subst (λ (z : Option (Slot × Batch)). offered_sig p me z v s y ≡ Some sig) is h in
         (when-is ((v == 0) && (s == a.0.0)) (first_sig p me y.leaf a y.input) sig k).is
 
-    -- what stands for a proposal of a node's list was seen
+    -- the claim of a proposal's PrePrepare was seen
     proposal-seen : (xs : List (Item Message)) (v s : ℕ) (x : Value) (sig : List ℕ) → AreMade pbft p me xs → proposal p me (inputs xs) v s ≡ Some x → proposal_sig p me xs v s ≡ Some sig →
         Seen xs (claim (primary p v) (state_at p 1 v s (digest_of p x)) sig)
     proposal-seen [] v s x sig made h g = absurd (cc)
@@ -227,7 +228,7 @@ module _ (p : Params) (me : ℕ) where
               subst (λ (z : Claim). Seen r.now z) (sym u.is) (prepare-seen r.now v s.0 d u.vote (in-take (2 * p.setup.f) u.vote (prepares p (inputs r.now) v s.0 d) u.stands))
         ])
 
-  -- ---- what is signed by the leaves of a step
+  -- ---- what the leaves of a step sign
 
   abbrev choices : ℕ → List Change → List Slot → List (List ℕ)
   choices v ys [] = []
@@ -274,7 +275,7 @@ module _ (p : Params) (me : ℕ) where
       by-next p me leaf (state_at p 1 v s.0 (digest_of p (choice ys s.0))) (choices v ys ss) c (choices-by (suc leaf) v ys ss c h)
 
 module _ (p : Params) (good : IsGoodParams pbft p) (me : ℕ) (xs : List (Item Message)) (i : Said) (made : AreMade pbft p me xs) where
-  -- where a claim of a step is from
+  -- the origin of each claim in a step
   abbrev IsFrom : ℕ → List (List ℕ) → Claim → Type 0
   IsFrom leaf statements c = IsSignedBy p me leaf statements c ⊎ (ComesWith pbft p c i ⊎ Seen p me xs c)
 

@@ -1,4 +1,5 @@
--- What a correct node signed it stated of its own: a claim of its own inside a certificate that it sends on is an old one.
+-- A correct replica made each of its claims in a message of its own. Its claim inside a certificate that it forwards
+-- is an earlier one.
 use Rattle.std.proofs.Common.{◌≡◌, ◌⊎◌, ◌<◌, ◌+◌, ◌*◌, ◌++◌, ◌∷◌, ◌∙◌, ℕ, Bool, true, false, cond, List, [], length, take, Option, Some, None, refl, sym, ap, subst, inl, inr, arith, add-zero}
 use Rattle.std.proofs.Math.Nat.{mod-eq_of_lt}
 use Rattle.std.proofs.lemmas.Bool.{false≢true}
@@ -42,7 +43,7 @@ use Rattle.sb_pbft.proofs.Voting.OnePrepareAView.{Rule, rule-of, signed-draft}
 use Rattle.sb_pbft.proofs.Voting.ViewsGrow.{Offers, Said, SameInput, chosen-is, entered, offer-is, offered-is}
 use Rattle.sb_pbft.proofs.Voting.VotersAreDistinct.{commit-of-is, in-take, in-voters, prepare-of-is}
 
--- ---- the statements that a message makes anew
+-- ---- the statements that a message is the first to make
 
 abbrev pub States : Params → ℕ → Message → List ℕ → Type 0
 States p me (PrePrepare v slot x sig) t = t ≡ state_at p 1 v slot.0 (digest_of p x)
@@ -79,14 +80,14 @@ module _ (p : Params) (me : ℕ) where
       go true q rest = (first, inl refl, refl, ap (λ (z : ℕ). state_at p 1 v z (digest_of p (choice xs z))) (is-eq r.0 s q))
       go false q rest = let k : has_slot s rs ≡ true = rw q at h in let z = rest k in (z.0, inr z.1, z.2, z.3)
 
-  -- the claim of a NewView that is taken on the choice at a slot
+  -- the claim on the choice at a slot, of a NewView that starts its view
   pub view-claim : (m : Mode) (from v s : ℕ) (xs : List Change) (sigs : List (List ℕ)) (sig : List ℕ) → enters p m from v xs sigs ≡ true → has_slot s p.slots ≡ true → (c : Claim) × In c (claims p from (NewView v xs sigs sig)) × (c.by.0 ≡ primary p v) × (c.statement ≡ state_at p 1 v s (digest_of p (choice xs s)))
   view-claim m from v s xs sigs sig h w =
       let e = entered p m from v xs sigs h in
       let r = chosen-at from v xs p.slots sigs s w e.signed in
       (r.0, in_right r.0 (changes_claims p xs) _ (in_left r.0 (chosen_claims p from v xs p.slots sigs) _ r.1), r.2 ∙ e.by, r.3)
 
-  -- the message that a cast sends
+  -- the message that a cast causes
   pub cast-sends : (xs : List (Item Message)) (s : Slot) (b : Batch) (leaf : ℕ) → me ≡ p.leader.0 → ◌≡◌ {A = Option (Slot × Batch)} (asked p me (inputs xs) (Cast s b)) (Some (s, b)) →
       In {A = To × Message} (To_all, sign p me leaf (DraftPrePrepare s (Value_batch b))) (makes p me xs (Cast s b) leaf).sends
   cast-sends xs s b leaf leads h =
@@ -94,7 +95,7 @@ module _ (p : Params) (me : ℕ) where
       let first : first_draft p me (asked p me (inputs xs) (Cast s b)) ≡ d ∷ [] = ap (first_draft p me) h ∙ ap (λ (t : Bool). cond t d (DraftPrepare 0 s (digest_of p (Value_batch b))) ∷ []) (is-same me p.leader.0 leads) in
       subst (λ (z : List Draft). In {A = To × Message} (To_all, sign p me leaf d) (sign_all p me leaf (z ++ by_slot p me xs (Cast s b) p.slots))) (sym first) (inl refl)
 
-  -- ---- where a claim that is passed on stood: in a message that came, or in one of its own
+  -- ---- the origin of a forwarded claim: a received message, or one of its own
   pub data Source (xs : List (Item Message)) (by : ℕ) (t : List ℕ) : Type 0 where
     came : (x : Item Message) → In x xs → (from : NodeId) (msg : Message) → x.input ≡ Receive from msg → Says pbft p from.0 msg by t → Source xs by t
     sent : (x : Item Message) → In x xs → (to : To) (msg : Message) → In {A = To × Message} (to, msg) x.made.sends → Says pbft p me msg me t → by ≡ me → Source xs by t
@@ -134,7 +135,7 @@ module _ (p : Params) (me : ℕ) where
           (says-by p.leader.0 (PrePrepare 0 a.0 (Value_batch a.1) told.sig) (claim p.leader.0 (state_at p 1 0 a.0.0 (digest_of p (Value_batch a.1))) told.sig) (primary p 0) _ (inl refl) (sym primary-zero) refl)
     ]
 
-    -- a proposal stands on a claim of its view's primary
+    -- a proposal has the claim of its view's primary
     pub proposal-source : (xs : List (Item Message)) (v s : ℕ) (x : Value) → AreMade pbft p me xs → proposal p me (inputs xs) v s ≡ Some x → Source xs (primary p v) (state_at p 1 v s (digest_of p x))
     proposal-source [] v s x made h = absurd (cc)
     proposal-source (y ∷ ys) v s x made h = elim (first-cases (chosen p (mode p (inputs ys)) y.input v s) (first_of (proposal p me (inputs ys) v s) (offered (offer p me (mode p (inputs ys)) y.input) v s)) x h) [
@@ -155,7 +156,7 @@ module _ (p : Params) (me : ℕ) where
       ]
     ]
 
-  -- votes stand on claims of those who voted
+  -- votes have the claims of the voters
   pub prepare-source : (xs : List (Item Message)) (v s : ℕ) (d : List ℕ) (x : Signed) → In x (prepares p (inputs xs) v s d) → Source xs x.by.0 (state_at p 2 v s d)
   prepare-source xs v s d x i =
       let k = in-voters (prepare_of p (inputs xs) v s) d 0 p.setup.n x i in
@@ -174,10 +175,10 @@ module _ (p : Params) (me : ℕ) where
       let same : state_at p 3 v b.slot.0 k.ballot.digest ≡ state_at p 3 v s d = ap (λ (z : ℕ). state_at p 3 v z k.ballot.digest) b.at_slot ∙ ap (λ (z : List ℕ). state_at p 3 v s z) k.digest in
       source-in xs r.0 x.by.0 (state_at p 3 v s d) b.from m (subst (λ (z : Said). In z (inputs xs)) b.input r.1) (says-by b.from.0 m (claim b.from.0 (state_at p 3 v b.slot.0 k.ballot.digest) k.ballot.sig) x.by.0 _ (inl refl) b.by same)
 
--- ---- what is passed on
+-- ---- forwarded claims
 
 module _ (p : Params) (good : IsGoodParams pbft p) (me : ℕ) where
-  -- the claims of a certificate that is kept
+  -- the claims of a stored certificate
   pub certificate-source : (xs : List (Item Message)) (c : Certificate) (t : Claim) → AreMade pbft p me xs → In c (kept p me xs) → In t (certificate_claims p c) → Source p me xs t.by.0 t.statement
   certificate-source xs c t made k i =
       let r = kept-from p me xs c k in
@@ -256,6 +257,6 @@ passes p good w legal me i leaf correct may to msg t h k =
     let said = subst (λ (z : Message). Says pbft p me z me t) d.is k in
     subst (λ (z : Message). States p me z t ⊎ IsOld pbft p me (w me) i me t) (sym d.is) (draft-passes p good me (w me) i d.leaf d.draft t (legal.made me) r said)
 
--- what a correct node signed, it sent in a message that makes the statement
+-- a correct replica sent each statement that it signed in a message that makes it
 pub stated : (p : Params) → IsGoodParams pbft p → (w : World Message) → IsReached pbft p w → (i : ℕ) (t : List ℕ) → is_correct p.setup i ≡ true → IsSigned pbft p w i t → IsStated pbft p (States p) w i t
 stated p good w reached = signed-stated pbft p (States p) refl (passes p good) w reached

@@ -1,4 +1,4 @@
--- What was heard fits its formats, and so does what is proposed of it.
+-- If all received messages are well-formed, so is each proposal of the replica.
 use Rattle.std.proofs.Common.{◌≡◌, ◌<◌, ◌+◌, ◌&&◌, ◌++◌, ◌∷◌, ◌∙◌, ℕ, suc, Bool, true, false, cond, List, [], length, Option, Some, None, refl, sym, subst, inl, inr, arith}
 use Rattle.std.proofs.lemmas.Bool.{false≢true, ltb-true}
 use Rattle.std.specs.List.{list_all}
@@ -79,7 +79,7 @@ pub mode-low : (p : Params) (l : List Said) → AreFit p l → (mode p l).view <
 mode-low p [] h = omega arith
 mode-low p (i ∷ l) h = mode-after-low p (mode p l) i h.0 (mode-low p l h.1)
 
--- ---- what stands in messages
+-- ---- the contents of messages
 
 pub fits-certificate-at : (version from : ℕ) (cs : List Certificate) (c : Certificate) → fits_certificates version from cs ≡ true → In c cs → fits_certificate version c ≡ true
 fits-certificate-at version from [] c h i = absurd i
@@ -123,7 +123,7 @@ choice-fits version s xs h = go (best s (certificates_of xs)) refl
         let r = certificate-from c xs i.0 in
         certificate-value version c (fits-certificate-at version 0 r.0.certificates c (change-certificates version r.0.view r.0.certificates r.0.sig (fits-change-at version 0 xs r.0 h r.1)) r.2)
 
--- ---- what is proposed
+-- ---- proposals
 
 module _ (p : Params) (me : ℕ) where
   offered-fits : (m : Mode) (i : Said) (a : Slot × Batch) → FitsInput p i → Offers p me m i a → fits_value p.setup.version (Value_batch a.1) ≡ true
@@ -152,9 +152,9 @@ module _ (p : Params) (me : ℕ) where
     ]
   ]
 
--- ---- and its signature
+-- ---- the signatures of proposals
 
--- there is a signature exactly where there is a value
+-- there is a signature exactly if there is a value
 pub data Paired (o : Option Value) (q : Option (List ℕ)) : Type 0 where
   neither_one : o ≡ None → q ≡ None → Paired o q
   both_are : (x : Value) (sig : List ℕ) → o ≡ Some x → q ≡ Some sig → is_signature sig ≡ true → Paired o q
@@ -227,7 +227,7 @@ module _ (p : Params) (good : IsGoodParams pbft p) (me : ℕ) where
       (paired-chosen m x.input v s f.0)
       (paired-first (proposal p me (inputs xs) v s) (proposal_sig p me xs v s) (offered (offer p me m x.input) v s) (offered_sig p me (offer p me m x.input) v s x) (paired xs v s f.1) (paired-offered m x v s f.0))
 
-  -- where a value is proposed its PrePrepare's signature is there
+  -- a proposal has the signature of its PrePrepare
   pub proposal-shape : (xs : List (Item Message)) (v s : ℕ) (x : Value) → AreFit p (inputs xs) → proposal p me (inputs xs) v s ≡ Some x → is_signature (or_empty (proposal_sig p me xs v s)) ≡ true
   proposal-shape xs v s x f h = go (paired xs v s f)
     where

@@ -1,4 +1,4 @@
--- What is sent is read again, where all that was heard is.
+-- What is sent decodes, if all that was received did.
 use Rattle.std.proofs.Common.{◌≡◌, ◌<◌, ◌≤◌, ◌+◌, ◌*◌, ◌^◌, ◌&&◌, ◌∷◌, ℕ, zero, suc, Bool, true, false, not, cond, List, [], length, take, Option, Some, None, refl, sym, ap, subst, inl, inr, arith}
 use Rattle.std.proofs.lemmas.Bool.{eq-eqb, le-leb, leb-true, lt-ltb, ltb-true}
 use Rattle.std.specs.List.{list_all}
@@ -84,7 +84,7 @@ ready-is p me l old s x h = go ((mode p l).active && not (has (mode p l).view s 
         let a = and-true (mode p l).active (not (has (mode p l).view s old)) q in
         record { active = a.0; fresh = not-true (has (mode p l).view s old) a.1; prepared = prepared-is p me l (mode p l).view s x r }
 
--- what a certificate was kept for
+-- the proposal that a certificate was stored for
 pub record IsMadeHere (p : Params) (me : ℕ) (xs : List (Item Message)) (old : List Certificate) (ss : List Slot) (c : Certificate) : Type 0 where
   pub slot : Slot
   pub value : Value
@@ -104,7 +104,7 @@ certified-here p me xs old (t ∷ ts) c h = go (ready p me (inputs xs) old t.0) 
     go (Some x) q (inl e) r = record { slot = t; value = x; within = inl refl; ready = ready-is p me (inputs xs) old t.0 x q; is = e }
     go (Some x) q (inr i) r = wider (r i)
 
--- what is kept was made at some moment
+-- each stored certificate was made at some step
 pub record IsKeptFrom (p : Params) (me : ℕ) (xs : List (Item Message)) (c : Certificate) : Type 0 where
   pub now : List (Item Message)
   pub moment : Front now xs
@@ -140,7 +140,7 @@ tops-length cs (t ∷ ts) = go (best t.0 cs) (tops-length cs ts)
     go None h = omega (arith, h)
     go (Some e) h = omega (arith, h)
 
--- the first number that is allowed may be lower
+-- a lower first number is allowed too
 lower-from : (version a b : ℕ) (cs : List Certificate) → a ≤ b → fits_certificates version b cs ≡ true → fits_certificates version a cs ≡ true
 lower-from version a b [] l h = refl
 lower-from version a b (c ∷ cs) l h =
@@ -160,7 +160,7 @@ tops-fit version from cs (t ∷ ts) a h = go (best t.0 cs) refl (tops-fit versio
         let same : t.0 ≡ e.slot.0 = sym i.1 in
         both _ _ (both _ _ (le-leb from e.slot.0 (subst (λ (z : ℕ). from ≤ z) same a.0)) (h e i.0)) (subst (λ (z : ℕ). fits_certificates version (suc z) (tops cs ts) ≡ true) same r)
 
--- ---- ViewChanges that are kept
+-- ---- stored ViewChanges
 
 pub changes-fit : (version from : ℕ) (g : ℕ → Option Change) (k m : ℕ) → from ≤ k → ((j : ℕ) (x : Change) → g j ≡ Some x → (x.node.0 ≡ j) × (fits_change version x.view x.certificates x.sig ≡ true)) → fits_changes version from (changes_from g k m) ≡ true
 changes-fit version from g k zero l h = refl

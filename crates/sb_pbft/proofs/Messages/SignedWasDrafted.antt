@@ -1,4 +1,4 @@
--- What a correct node signed was drafted by a rule, and of which kind the draft is.
+-- Each statement that a correct replica signed is that of a message it sent, of a known kind.
 use Rattle.std.proofs.Common.{◌≡◌, ◌∷◌, ◌∙◌, ℕ, true, List, [], refl, sym, ap, subst, inl, inr, arith}
 use Rattle.iss_base.specs.Lists.{In}
 use Rattle.iss_base.proofs.Lists.{in_left, in_right}
@@ -66,7 +66,7 @@ module _ (p : Params) (me leaf : ℕ) where
   makes-commit (DraftNewView u ys) v s e (inl h) = let k = other-kind 3 1 v u _ _ h.2 in absurd (omega (arith, k))
   makes-commit (DraftNewView u ys) v s e (inr h) = let k = other-kind 3 5 v u _ _ h in absurd (omega (arith, k))
 
-  -- a ViewChange of that view, whose certificates stand among these by slot, view and digest
+  -- a ViewChange for that view, whose certificates have these slots, views and digests
   pub record MakesChange (d : Draft) (v : ℕ) (cs : List Certificate) : Type 0 where
     pub certificates : List Certificate
     pub is : SameDraft d (DraftViewChange v certificates)
@@ -82,7 +82,7 @@ module _ (p : Params) (me leaf : ℕ) where
   makes-change (DraftNewView u ys) v cs (inl h) = let k = other-kind 4 1 v u _ _ h.2 in absurd (omega (arith, k))
   makes-change (DraftNewView u ys) v cs (inr h) = let k = other-kind 4 5 v u _ _ h in absurd (omega (arith, k))
 
-  -- a PrePrepare of view 0, or of the choice in a NewView
+  -- a PrePrepare of view 0, or one for a choice in a NewView
   pub data MakesProposal (d : Draft) (v s : ℕ) (e : List ℕ) : Type 0 where
     at_first : (t : Slot) (x : Value) → SameDraft d (DraftPrePrepare t x) → v ≡ 0 → t.0 ≡ s → digest_of p x ≡ e → MakesProposal d v s e
     at_new : (ys : List Change) (t : Slot) → SameDraft d (DraftNewView v ys) → In t p.slots → t.0 ≡ s → digest_of p (choice ys s) ≡ e → MakesProposal d v s e
@@ -97,7 +97,7 @@ module _ (p : Params) (me leaf : ℕ) where
       at_new ys h.0 (ap (λ (z : ℕ). DraftNewView z ys) (sym r.view)) h.1 (sym r.slot) (ap (λ (z : ℕ). digest_of p (choice ys z)) r.slot ∙ sym r.digest)
   makes-proposal (DraftNewView u ys) v s e (inr h) = let k = other-kind 1 5 v u _ _ h in absurd (omega (arith, k))
 
--- ---- what was signed was drafted
+-- ---- what was signed was sent
 
 module _ (p : Params) (good : IsGoodParams pbft p) (w : World Message) (reached : IsReached pbft p w) where
   pub record IsDraftedBy (i : ℕ) (t : List ℕ) : Type 0 where
@@ -129,7 +129,7 @@ module _ (p : Params) (good : IsGoodParams pbft p) (w : World Message) (reached 
         states = subst (λ (z : Message). States p i z t) d.is s.states;
       }
 
-  -- among all that the node drafted
+  -- among all messages of the replica
   pub among : (i : ℕ) (t : List ℕ) (d : IsDraftedBy i t) (e : Draft) → SameDraft d.draft e → In e (drafted p i (w i))
   among i t d e same = drafted-in p i (w i) d.before d.item e d.front (subst (λ (z : Draft). In z (drafts p i d.before d.item.input)) same d.stands)
 

@@ -1,4 +1,4 @@
--- The laws of PBFT's single steps.
+-- The laws of single steps hold of PBFT.
 use Rattle.std.proofs.Common.{◌≡◌, ◌<◌, ◌≤◌, ◌+◌, ◌*◌, ◌&&◌, ◌++◌, ◌∷◌, ℕ, Bool, true, false, not, cond, List, [], length, Option, Some, None, refl, sym, ap, inl, inr, arith}
 use Rattle.std.specs.Prelude.{◌==◌}
 use Rattle.iss_base.specs.Lists.{In}
@@ -66,7 +66,7 @@ slot-uses p me xs i s ss =
     let c = commit-uses p (mode p (i ∷ inputs xs)).view s (ready p me (i ∷ inputs xs) (kept p me xs) s.0) in
     omega (arith, a, b, c)
 
--- a signature a slot, or two
+-- one signature for each slot, or two
 one-a-slot : (p : Params) (me : ℕ) (xs : List (Item Message)) (i : Input Message) (ss : List Slot) → ((s : Slot) → answers p me xs i s ≡ []) → uses_all p (by_slot p me xs i ss) ≤ length ss
 one-a-slot p me xs i [] none = omega arith
 one-a-slot p me xs i (s ∷ ss) none =

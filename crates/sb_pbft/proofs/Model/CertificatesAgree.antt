@@ -1,4 +1,4 @@
--- What is prepared, committed and ready, read off what is held, is what the list's functions say.
+-- Prepared, committed and due Commits, computed from the state, are those of the history.
 use Rattle.std.proofs.Common.{◌≡◌, ◌+◌, ◌*◌, ◌&&◌, ◌∷◌, ◌∙◌, ℕ, zero, suc, Bool, true, false, not, cond, List, length, Option, Some, None, refl, sym, ap}
 use Rattle.std.specs.Prelude.{nat_le}
 use Rattle.iss_base.specs.Lists.{same_bytes}
@@ -15,7 +15,7 @@ use Rattle.sb_pbft.specs.Turns.{bare, committed_at, is_of, model, only_if, place
 use Rattle.sb_pbft.specs.declared.proposals.Proposal.{Proposal}
 use Rattle.sb_pbft.proofs.ViewChange.HighestCertificates.{AreLow, has-top}
 
--- ---- how many voted does not hang on their signatures
+-- ---- the number of votes does not depend on their signatures
 
 abbrev bare-vote : (d : List ℕ) (k : ℕ) (o : Option Ballot) (n : ℕ) → ℕ
 bare-vote d k None n = n
@@ -41,7 +41,7 @@ bare-voters g d k (suc m) =
 -- ---- what is prepared and committed
 
 module _ (p : Params) (me : ℕ) (xs : List (Item Message)) where
-  -- a value that passes a test, and the proposal of it that passes the same
+  -- the same test for a value and for its proposal
   passing : (q : Option (List ℕ)) (x : Value) (a b : Bool) → a ≡ b → ◌≡◌ {A = Option Proposal} (when a (record { value = x; digest = digest_of p x; sig = or_empty q })) (placed p (when b x) q)
   passing q x true b h = ap (λ (t : Bool). placed p (when t x) q) h
   passing q x false b h = ap (λ (t : Bool). placed p (when t x) q) h
@@ -62,7 +62,7 @@ module _ (p : Params) (me : ℕ) (xs : List (Item Message)) where
       go None = refl
       go (Some x) = passing (proposal_sig p me xs v s) x _ _ (ap (nat_le (2 * p.setup.f + 1)) (bare-voters (commit_of p (inputs xs) v s) (digest_of p x) 0 p.setup.n))
 
-  -- ---- what is ready, of these certificates that are kept
+  -- ---- due Commits, given these stored certificates
 
   pub ready-model : (ks : List Certificate) (s : ℕ) → AreLow (mode p (inputs xs)).view ks →
       cond ((mode p (inputs xs)).active && not (is_of (mode p (inputs xs)).view (best s ks))) (prepared_at p (model p me xs) (mode p (inputs xs)).view s) None ≡

@@ -1,4 +1,4 @@
--- What a step delivers: of the slots that were not delivered those that are committed in the view that it touched.
+-- A step delivers, of the slots that were not delivered, those that are committed in the view that it touched.
 use Rattle.std.proofs.Common.{◌≡◌, ◌≢◌, ◌⊎◌, ◌<◌, ◌≤◌, ◌∷◌, ◌∙◌, ℕ, zero, suc, List, [], Option, Some, None, refl, sym, ap, inl, inr, arith}
 use Rattle.iss_base.specs.Lists.{first_of}
 use Rattle.iss_base.proofs.Lists.{first_of-none, same_or_not}
@@ -13,7 +13,7 @@ use Rattle.sb_pbft.proofs.Voting.AcceptedAndDecided.{committed-is}
 use Rattle.sb_pbft.proofs.Basics.{first-none, none-from}
 use Rattle.sb_pbft.proofs.Voting.ViewsGrow.{Said, seen}
 
--- ---- the lowest of the views
+-- ---- the lowest view with a value
 
 both-none : (a b : Option Value) → first_of a b ≡ None → (a ≡ None) × (b ≡ None)
 both-none None b h = (refl, h)
@@ -35,7 +35,7 @@ all-none : (f : ℕ → Option Value) (n : ℕ) → ((w : ℕ) → w ≤ n → f
 all-none f zero h = h 0 (omega arith)
 all-none f (suc n) h = first-none (lowest f n) (f (suc n)) (all-none f n (λ w l. h w (omega (arith, l)))) ∙ h (suc n) (omega arith)
 
--- where one view alone may have a value
+-- if only one view may have a value
 lowest-one : (f : ℕ → Option Value) (n v : ℕ) → ((w : ℕ) → w ≢ v → f w ≡ None) → (n < v → f v ≡ None) → lowest f n ≡ f v
 lowest-one f zero v others high = elim (same_or_not 0 v) [
   | inl e ↦ ap f e
@@ -52,7 +52,7 @@ lowest-one f (suc n) v others high = elim (same_or_not (suc n) v) [
     higher : (n v : ℕ) → n < v → suc n ≢ v → suc n < v
     higher n v l off = grind (arith, l, off)
 
--- ---- what is not delivered is committed in no view
+-- ---- a slot that is not delivered is committed in no view
 
 module _ (p : Params) (me : ℕ) where
   pub none-above : (l : List Said) (v s : ℕ) → (mode p l).view < v → committed p me l v s ≡ None
@@ -70,7 +70,7 @@ module _ (p : Params) (me : ℕ) where
       low-or-high : (a b : ℕ) → (a ≤ b) ⊎ (b < a)
       low-or-high a b = grind (arith)
 
-  -- a step that changes what is committed at the slot in one view alone
+  -- a step that changes what is committed at the slot in one view only
   pub newly-delivered : (x : Item Message) (xs : List (Item Message)) (v s : ℕ) → ((w : ℕ) → w ≢ v → committed p me (inputs (x ∷ xs)) w s ≡ committed p me (inputs xs) w s) →
       delivered pbft p me (x ∷ xs) s ≡ first_of (delivered pbft p me xs s) (committed p me (inputs (x ∷ xs)) v s)
   newly-delivered x xs v s same = go (delivered pbft p me xs s) refl
@@ -80,7 +80,7 @@ module _ (p : Params) (me : ℕ) where
       go None h =
           lowest-one (λ w. committed p me (inputs (x ∷ xs)) w s) (mode p (inputs (x ∷ xs))).view v (λ w off. same w off ∙ none-committed xs w s h) (none-above (inputs (x ∷ xs)) v s)
 
-  -- a step that changes nothing of what is committed at the slot
+  -- a step that does not change what is committed at the slot
   pub nothing-delivered : (x : Item Message) (xs : List (Item Message)) (s : ℕ) → ((w : ℕ) → committed p me (inputs (x ∷ xs)) w s ≡ committed p me (inputs xs) w s) → delivered pbft p me (x ∷ xs) s ≡ delivered pbft p me xs s
   nothing-delivered x xs s same = newly-delivered x xs 0 s (λ w off. same w) ∙ go (delivered pbft p me xs s) refl
     where

@@ -1,4 +1,4 @@
--- What a step that touches some slots delivers, and the drafts that it makes slot by slot.
+-- The deliveries and messages of a step that touches some slots, slot by slot.
 use Rattle.std.proofs.Common.{◌≡◌, ◌⊎◌, ◌≤◌, ◌∷◌, ◌++◌, ◌∙◌, ℕ, suc, cond, List, [], Option, Some, None, refl, sym, ap, subst, inl, inr, arith}
 use Rattle.std.specs.Prelude.{is_some}
 use Rattle.iss_base.specs.Lists.{In, first_of}
@@ -24,7 +24,7 @@ use Rattle.sb_pbft.proofs.ViewChange.HighestCertificates.{NotAt}
 abbrev Delivery : Type 0
 Delivery = Slot × Value
 
--- ---- what stands among deliveries
+-- ---- members of the deliveries
 
 pub record IsNew (p : Params) (h : Held) (v : ℕ) (s : Slot) (y : Value) : Type 0 where
   pub proposal : Proposal
@@ -73,7 +73,7 @@ module _ (p : Params) (me : ℕ) (x : Item Message) (xs : List (Item Message)) w
   newly-mid : (v s : ℕ) → newly_at p (mid p me x xs) v s ≡ cond (is_some (delivered pbft p me xs s)) None (placed p (committed p me (inputs (x ∷ xs)) v s) (proposal_sig p me (x ∷ xs) v s))
   newly-mid v s = ap (λ (o : Option Proposal). cond (is_some (delivered pbft p me xs s)) None o) (committed-mid p me x xs v s)
 
-  -- what is new: not delivered before, and committed now
+  -- what is to be delivered: not delivered before, and committed now
   pub record Comes (v s : ℕ) (y : Value) : Type 0 where
     pub before : delivered pbft p me xs s ≡ None
     pub now : committed p me (inputs (x ∷ xs)) v s ≡ Some y
@@ -110,7 +110,7 @@ module _ (p : Params) (me : ℕ) (x : Item Message) (xs : List (Item Message)) w
           })
       back s y now before (inr off) = absurd (none-some y (sym before ∙ (sym (nothing-delivered p me x xs s.0 (touches.still s.0 off)) ∙ now)))
 
-  -- what is settled, of what is held with the input
+  -- the settled state, from the state with the input
   pub settles : (v : ℕ) (ss : List Slot) (h : Held) → AreAscending 0 p.slots → Touches p me x xs v ss → h ≡ mid p me x xs →
       (settled_all p h v ss ≡ model p me (x ∷ xs)) × Delivers pbft p me xs (x ∷ xs) (deliveries p h v ss)
   settles v ss h rising t e = (

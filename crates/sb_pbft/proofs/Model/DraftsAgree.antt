@@ -1,4 +1,4 @@
--- The drafts of a step, slot by slot, by what is held.
+-- The messages of a step, slot by slot, computed from the state, are those of the history.
 use Rattle.std.proofs.Common.{◌≡◌, ◌≢◌, ◌∷◌, ◌++◌, ◌∙◌, ℕ, suc, Bool, false, cond, List, [], Option, Some, None, refl, sym, ap, append_assoc, append-nil, inl, inr, arith}
 use Rattle.iss_base.specs.Lists.{In}
 use Rattle.iss_request.specs.Slots.{AreAscending}
@@ -14,7 +14,7 @@ use Rattle.sb_pbft.proofs.Model.SlotsAreIndependent.{drafts-each, drafts_each}
 use Rattle.sb_pbft.proofs.Model.SettledAgrees.{mid, ready-mid}
 use Rattle.sb_pbft.proofs.ViewChange.HighestCertificates.{above, nothing-left}
 
--- behind each step, and at the start, nothing is ready
+-- at the start and after each step no Commit is due
 pub calm : (p : Params) (me : ℕ) (xs : List (Item Message)) (t : Slot) → In t p.slots → ready p me (inputs xs) (kept p me xs) t.0 ≡ None
 calm p me [] t i = refl
 calm p me (x ∷ xs) t i = nothing-left p me x xs t i
@@ -50,7 +50,7 @@ module _ (p : Params) (me : ℕ) (x : Item Message) (xs : List (Item Message)) w
       drafts_all p (mid p me x xs) answers v ss ≡ by_slot p me xs x.input ss
   all-said answers v from ss rising same = drafts-each p (mid p me x xs) answers v from ss rising ∙ each-said answers v ss same
 
-  -- ---- at one of them, where nothing is answered
+  -- ---- at one of them, if the replica does not answer
 
   pub none-said : (ss : List Slot) → ((t : Slot) → In t ss → answer p me (mode p (inputs xs)) x.input t ≡ []) → ((t : Slot) → In t ss → is-ready t ≡ None) → by_slot p me xs x.input ss ≡ []
   none-said [] silent quiet = refl

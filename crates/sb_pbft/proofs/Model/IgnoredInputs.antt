@@ -1,4 +1,4 @@
--- The turns of inputs that change nothing: votes that do not count, a view that is not entered, a Timeout in the last one.
+-- Inputs that change nothing: votes that do not count, a NewView that starts no view, a timeout in the last view.
 use Rattle.std.proofs.Common.{◌≡◌, ◌+◌, ◌&&◌, ◌∷◌, ◌++◌, ◌∙◌, ℕ, Bool, true, false, not, cond, List, [], None, refl, sym, ap}
 use Rattle.std.proofs.lemmas.Bool.{and_right}
 use Rattle.std.specs.Prelude.{◌==◌}
@@ -31,7 +31,7 @@ module _ (p : Params) (me leaf : ℕ) (xs : List (Item Message)) where
   abbrev pub item : Said → Item Message
   item i = record { input = i; leaf = leaf; made = pbft.makes p me xs i leaf }
 
-  -- nothing is read of the input, and nothing said
+  -- nothing depends on the input, and nothing is sent
   pub record ChangesNothing (i : Said) : Type 0 where
     pub stays : mode p (i ∷ inputs xs) ≡ mode p (inputs xs)
     pub values : (v s : ℕ) → proposal p me (i ∷ inputs xs) v s ≡ proposal p me (inputs xs) v s
@@ -72,7 +72,7 @@ module _ (p : Params) (me leaf : ℕ) (xs : List (Item Message)) where
           change = λ w k. sym (c.changes w k) j;
         }
 
-  -- ---- proposals where the input has none
+  -- ---- proposals, if the input has none
 
   same-values : (v s : ℕ) → first_of (proposal p me (inputs xs) v s) None ≡ proposal p me (inputs xs) v s
   same-values v s = first_of-none (proposal p me (inputs xs) v s)
@@ -115,7 +115,7 @@ module _ (p : Params) (me leaf : ℕ) (xs : List (Item Message)) where
       unasked = refl;
     }
 
-  -- ---- a Timeout in the last view
+  -- ---- a timeout in the last view
 
   pub timeout-nothing : passes (mode p (inputs xs)) ≡ false → ChangesNothing Timeout
   timeout-nothing last = record {
@@ -131,7 +131,7 @@ module _ (p : Params) (me leaf : ℕ) (xs : List (Item Message)) where
     unasked = refl;
   }
 
-  -- ---- a view that is not entered
+  -- ---- a NewView that starts no view
 
   pub new-view-nothing : (from : NodeId) (v : ℕ) (changes : List Change) (sigs : List (List ℕ)) (sig : List ℕ) → enters p (mode p (inputs xs)) from.0 v changes sigs ≡ false →
       ChangesNothing (Receive from (NewView v changes sigs sig))

@@ -1,4 +1,4 @@
--- The turn of a NewView that is taken: all slots are touched, in its view.
+-- The step of a NewView that starts its view agrees with the history. It touches all slots, in its view.
 use mathlib.Core.Bool.{and-true as with-true}
 use Rattle.std.proofs.Common.{◌≡◌, ◌&&◌, ◌∷◌, ◌++◌, ◌∙◌, ℕ, Bool, true, false, not, cond, List, [], Option, Some, None, refl, sym, ap}
 use Rattle.std.proofs.lemmas.Bool.{and_left, and_right, eqb-true, false_from_ne_true, ne_eqb}
@@ -62,7 +62,7 @@ module _ (p : Params) (me leaf : ℕ) (xs : List (Item Message)) (rising : AreAs
   sig-on : (w s : ℕ) → proposal_sig p me (new ∷ xs) w s ≡ first_of (cond (is-here w s) (sig_for s p.slots sigs) None) (proposal_sig p me xs w s)
   sig-on w s = λ j. first_of (cond (here w s j) (sig_for s p.slots sigs) None) (first_of-none (proposal_sig p me xs w s) j)
 
-  -- a view that is entered had none
+  -- a view that is entered had no proposals
   fresh : (s : ℕ) → proposal p me (inputs xs) v s ≡ None
   fresh s = none-from (proposal p me (inputs xs) v s) (λ x h. not-newer (mode p (inputs xs)) v (seen p me (inputs xs) v s x h) (views.entered p (mode p (inputs xs)) from.0 v vs sigs yes).newer)
 
@@ -104,7 +104,7 @@ module _ (p : Params) (me leaf : ℕ) (xs : List (Item Message)) (rising : AreAs
     one = λ t j w off. committed-apart w t.0 (and_left (w == v) (has_slot t.0 p.slots) (ne_eqb w v off));
   }
 
-  -- ---- what is said
+  -- ---- its messages
 
   abbrev answers : Bool
   answers = not (me == primary p v)

@@ -1,4 +1,5 @@
--- The turns of a Cast and of a PrePrepare: where there is a proposal already nothing changes, else its slot is touched in view 0.
+-- The steps of a Cast and of a PrePrepare agree with the history: if a proposal exists, nothing changes; else the
+-- slot is touched in view 0.
 use Rattle.std.proofs.Common.{◌≡◌, ◌≢◌, ◌⊎◌, ◌&&◌, ◌∷◌, ◌++◌, ◌∙◌, ℕ, Bool, true, false, cond, List, [], Option, Some, None, refl, sym, ap, subst, inl, inr, arith}
 use Rattle.std.proofs.lemmas.Bool.{and_left, and_right, cases_Bool, eqb-true, false≢true, ne_eqb}
 use Rattle.std.specs.Prelude.{is_some, ◌==◌}
@@ -37,7 +38,7 @@ keeps None d h = absurd (false≢true h)
 keeps (Some x) d h = refl
 
 module _ (p : Params) (me leaf : ℕ) (xs : List (Item Message)) where
-  -- of the input nothing counts but what it offers
+  -- only the batch that the input offers matters
   pub record OffersAlone (i : Said) : Type 0 where
     pub stays : (m : Mode) → mode_after p m i ≡ m
     pub chooses : (m : Mode) (v s : ℕ) → chosen p m i v s ≡ None
@@ -75,7 +76,7 @@ module _ (p : Params) (me leaf : ℕ) (xs : List (Item Message)) where
     hashes = refl;
   }
 
-  -- what is accepted is read off what is held
+  -- the accepted batch is computed from the state
   asked-same : (o : Option (Slot × Batch)) → free (model p me xs) o ≡ asked_of p me (inputs xs) o
   asked-same None = refl
   asked-same (Some a) = go (proposal p me (inputs xs) 0 a.0.0)
@@ -101,7 +102,7 @@ module _ (p : Params) (me leaf : ℕ) (xs : List (Item Message)) where
     change-on : (v k : ℕ) → change_of p (i ∷ inputs xs) v k ≡ change_of p (inputs xs) v k
     change-on v k = ap (first_of (change_of p (inputs xs) v k)) (alone.changes v k) ∙ first_of-none (change_of p (inputs xs) v k)
 
-    -- ---- where nothing is accepted
+    -- ---- if nothing is accepted
 
     record Unread (v s : ℕ) (o : Option (Slot × Batch)) : Type 0 where
       value : first_of (proposal p me (inputs xs) v s) (offered o v s) ≡ proposal p me (inputs xs) v s
@@ -155,7 +156,7 @@ module _ (p : Params) (me leaf : ℕ) (xs : List (Item Message)) where
       unasked = h;
     }
 
-    -- ---- where a batch is accepted
+    -- ---- if a batch is accepted
 
     module _ (a : Slot × Batch) (h : ◌≡◌ {A = Option (Slot × Batch)} (asked p me (inputs xs) i) (Some a)) where
       is : IsAsked p me (inputs xs) i a
@@ -170,7 +171,7 @@ module _ (p : Params) (me leaf : ℕ) (xs : List (Item Message)) where
       sig-with : (v s : ℕ) → proposal_sig p me (item p me leaf xs i ∷ xs) v s ≡ first_of (proposal_sig p me xs v s) (when (at-first v s) (first_sig p me leaf a i))
       sig-with v s = sig-on v s ∙ ap (λ (o : Option (Slot × Batch)). first_of (proposal_sig p me xs v s) (offered_sig p me o v s (item p me leaf xs i))) is.offered
 
-      -- ---- elsewhere all is as it was
+      -- ---- nothing changes elsewhere
 
       elsewhere : (v s : ℕ) → (v ≢ 0) ⊎ (s ≢ a.0.0) → at-first v s ≡ false
       elsewhere v s (inl off) = and_left (v == 0) (s == a.0.0) (ne_eqb v 0 off)
@@ -197,7 +198,7 @@ module _ (p : Params) (me leaf : ℕ) (xs : List (Item Message)) where
         one = λ t j w off. committed-apart w t.0 (inl off);
       }
 
-      -- ---- what is held with it
+      -- ---- the state with the proposal
 
       abbrev first : Proposal
       first = first_proposal p a (first_sig p me leaf a i)

@@ -1,4 +1,5 @@
--- A step that touches some slots in one view: what is settled at these, of what its input gives, is what is held behind it.
+-- A step that touches some slots in one view: the state with the input, settled at these slots, is the state of the
+-- new history.
 use Rattle.std.proofs.Common.{◌≡◌, ◌≢◌, ◌⊎◌, ◌||◌, ◌∷◌, ◌∙◌, ℕ, cond, List, [], Option, Some, None, refl, sym, ap, subst, inl, inr, arith}
 use Rattle.std.specs.Prelude.{is_some}
 use Rattle.iss_base.specs.Lists.{In, first_of}
@@ -22,7 +23,7 @@ use Rattle.sb_pbft.proofs.Model.SlotsAreIndependent.{done-inside, done-outside, 
 use Rattle.sb_pbft.proofs.ViewChange.HighestCertificates.{AreLow, NotAt, certified-at, certified-other, kept-low, made}
 use Rattle.sb_pbft.proofs.Voting.ViewsGrow.{grows}
 
--- where a slot stands
+-- the position of a slot
 pub where-is : (s : ℕ) (ss : List Slot) → ((t : Slot) × In t ss × (t.0 ≡ s)) ⊎ NotAt s ss
 where-is s [] = inr (λ t i e. absurd i)
 where-is s (t ∷ ts) = elim (same_or_not t.0 s) [
@@ -38,7 +39,7 @@ settled-rest p h v [] = refl
 settled-rest p h v (s ∷ ss) = settled-rest p (settled p h v s) v ss
 
 module _ (p : Params) (me : ℕ) (x : Item Message) (xs : List (Item Message)) where
-  -- what is held with the input, and nothing settled yet
+  -- the state with the input, before anything is settled
   abbrev pub mid : Held
   mid = record (model p me (x ∷ xs)) { top = λ s. best s (kept p me xs); done = λ s. is_some (delivered pbft p me xs s) }
 

@@ -1,4 +1,4 @@
--- What is settled slot by slot is settled at each slot by what was held before: a slot does not touch another one.
+-- Settling one slot does not change another: each slot is settled by its state before the step.
 use Rattle.std.proofs.Common.{◌≡◌, ◌≢◌, ◌&&◌, ◌||◌, ◌∷◌, ◌++◌, ◌∙◌, ℕ, suc, Bool, not, cond, List, [], Option, Some, None, refl, sym, ap, subst, inl, inr, arith}
 use Rattle.std.specs.Prelude.{is_some}
 use Rattle.iss_base.specs.Lists.{In, first_of}
@@ -76,7 +76,7 @@ module _ (p : Params) where
       done-inside (settled p h v u) v (suc u.0) us t a.1 i ∙
       (ap (λ (b : Bool). b || is_some (newly_at p (settled p h v u) v t.0)) (done-other h v u t.0 off) ∙ ap (λ (o : Option Proposal). h.done t.0 || is_some o) (newly-other h v u t.0 off))
 
-  -- ---- drafts and deliveries, each by what was held at first
+  -- ---- messages and deliveries, each by the state before the step
 
   abbrev pub drafts_each : Held → Bool → ℕ → List Slot → List Draft
   drafts_each h answers v [] = []

@@ -1,4 +1,4 @@
--- The turn of a Timeout, at which no slot is touched.
+-- The step of a timeout agrees with the history. It touches no slot.
 use Rattle.std.proofs.Common.{◌≡◌, ◌+◌, ◌&&◌, ◌∷◌, ◌++◌, ◌∙◌, ℕ, Bool, true, false, not, cond, List, [], None, refl, sym, ap, append-nil}
 use Rattle.iss_base.proofs.Lists.{first_of-none}
 use Rattle.iss_request.specs.Slots.{AreAscending}
@@ -17,7 +17,7 @@ use Rattle.sb_pbft.proofs.Model.DeliveriesAgree.{delivers-is}
 use Rattle.sb_pbft.proofs.Model.SettledAgrees.{Touches, held-is, mid}
 use Rattle.sb_pbft.proofs.Model.VotesTouchOneSlot.{BringsNone, touches-none}
 
--- the certificates that a ViewChange holds
+-- the certificates in a ViewChange
 pub tops-same : (p : Params) (me : ℕ) (xs : List (Item Message)) (ss : List Slot) → tops_of (model p me xs).top ss ≡ tops (kept p me xs) ss
 tops-same p me xs [] = refl
 tops-same p me xs (s ∷ ss) = ap (λ (z : List Certificate). cons_some ((model p me xs).top s.0) z) (tops-same p me xs ss)
@@ -39,7 +39,7 @@ module _ (p : Params) (me leaf : ℕ) (xs : List (Item Message)) (rising : AreAs
     commits = λ w s k. first_of-none (commit_of p (inputs xs) w s k);
   }
 
-  -- no node that has given its view up is ready
+  -- no Commit is due after a timeout
   quiet : (s : ℕ) → ready p me (inputs (item ∷ xs)) (kept p me xs) s ≡ None
   quiet s = ap (λ (z : Mode). cond (z.active && not (has z.view s (kept p me xs))) (prepared p me (inputs (item ∷ xs)) z.view s) None) mode-next
 

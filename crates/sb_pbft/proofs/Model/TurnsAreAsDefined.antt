@@ -1,4 +1,4 @@
--- What an input makes of what is held is what the list's functions say.
+-- Each step computed from the state agrees with the definitions over the history.
 use Rattle.std.proofs.Common.{◌&&◌, ◌∷◌, ℕ, false, not, List, []}
 use Rattle.std.proofs.lemmas.Bool.{cond_both}
 use Rattle.std.specs.Prelude.{◌==◌}

@@ -1,4 +1,4 @@
--- The turn of a ViewChange, at which no slot is touched.
+-- The step of a ViewChange agrees with the history. It touches no slot.
 use Rattle.std.proofs.Common.{◌≡◌, ◌∷◌, ◌++◌, ◌∙◌, ℕ, cond, List, [], None, refl, sym, ap, append-nil}
 use Rattle.iss_base.specs.Lists.{In, first_of}
 use Rattle.iss_base.proofs.Lists.{first_of-none}

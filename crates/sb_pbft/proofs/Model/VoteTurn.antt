@@ -1,4 +1,4 @@
--- The turns of a Prepare and of a Commit are what the list's functions say.
+-- The steps of a Prepare and of a Commit agree with the history.
 use Rattle.std.proofs.Common.{◌≡◌, ◌≢◌, ◌∷◌, ◌∙◌, ℕ, true, false, List, [], Option, Some, None, refl, sym, ap, inl, inr}
 use Rattle.iss_base.specs.Lists.{In, first_of}
 use Rattle.iss_base.proofs.Lists.{first_of-none}
@@ -25,7 +25,7 @@ bare-first : (a b : Option Ballot) → first_of (bare a) (bare b) ≡ bare (firs
 bare-first None b = refl
 bare-first (Some x) b = refl
 
--- of one slot the others stand apart
+-- the other slots are not affected
 pub not-other : (slot u : Slot) → u.0 ≢ slot.0 → (w : Slot) → In w (slot ∷ []) → w.0 ≡ u.0 → ⊥
 not-other slot u off w (inl q) e = off (sym e ∙ ap (λ (z : Slot). z.0) q)
 not-other slot u off w (inr j) e = absurd j
@@ -47,7 +47,7 @@ module _ (p : Params) (me : ℕ) (from : NodeId) (v : ℕ) (slot : Slot) (d sig 
     change = λ w k. sym (first_of-none (change_of p (inputs xs) w k)) j;
   }
 
-  -- where the slot is one of the segment
+  -- if the slot is in the segment
   pub commit-turns : TurnsTo p me xs (Receive from (Commit v slot d sig)) leaf (at_slots p (and_commit p (model p me xs) (Receive from (Commit v slot d sig))) false v (slot ∷ []))
   commit-turns =
       let made = pbft.makes p me xs (Receive from (Commit v slot d sig)) leaf in

@@ -1,4 +1,4 @@
--- What a Prepare and a Commit touch: their slot, in their view.
+-- A Prepare or a Commit touches its slot in its view, and nothing else.
 use Rattle.std.proofs.Common.{◌≡◌, ◌≢◌, ◌⊎◌, ◌+◌, ◌*◌, ◌&&◌, ◌∷◌, ◌∙◌, ℕ, Bool, true, false, not, cond, List, [], length, Option, Some, None, refl, sym, ap, subst, inl, inr, arith}
 use Rattle.std.specs.Prelude.{◌==◌, nat_le}
 use Rattle.std.proofs.lemmas.Bool.{and_left, and_right, ne_eqb}
@@ -25,7 +25,7 @@ use Rattle.sb_pbft.proofs.ViewChange.HighestCertificates.{NotAt}
 use Rattle.sb_pbft.proofs.Voting.ViewsGrow.{Said}
 
 module _ (p : Params) where
-  -- of the votes and the proposal alone
+  -- depends on the votes and the proposal only
   abbrev passes_with : ℕ → (ℕ → Option Ballot) → Option Value → Option Value
   passes_with most g None = None
   passes_with most g (Some x) = when (nat_le most (length (voters g (digest_of p x) 0 p.setup.n))) x
@@ -50,7 +50,7 @@ module _ (p : Params) where
       committed-by (i ∷ l) v s (prepared p me (i ∷ l) v s) ∙
       ((λ j. passes_with (2 * p.setup.f + 1) (λ k. g k j) (h j)) ∙ sym (committed-by l v s (prepared p me l v s)))
 
-  -- ---- votes that are elsewhere
+  -- ---- votes elsewhere
 
   not-at : (from w t v s k : ℕ) → (v ≢ w) ⊎ (s ≢ t) → is_at from w t v s k ≡ false
   not-at from w t v s k (inl off) = and_right (from == k) _ (and_left (v == w) (s == t) (ne_eqb v w off))
@@ -73,7 +73,7 @@ module _ (p : Params) where
   pub at-slot : (slot : Slot) (s : ℕ) → NotAt s (slot ∷ []) → s ≢ slot.0
   at-slot slot s off e = off slot (inl refl) (sym e)
 
-  -- ---- what votes leave as it is
+  -- ---- what votes do not change
 
   module _ (me : ℕ) (i : Said) (l : List Said) where
     pub ready-same : (ks : List Certificate) (s : ℕ) → mode p (i ∷ l) ≡ mode p l → prepared p me (i ∷ l) (mode p l).view s ≡ prepared p me l (mode p l).view s → ready p me (i ∷ l) ks s ≡ ready p me l ks s
@@ -81,7 +81,7 @@ module _ (p : Params) where
         ap (λ z. cond (z.active && not (has z.view s ks)) (prepared p me (i ∷ l) z.view s) None) m ∙
         ap (λ (o : Option Value). cond ((mode p l).active && not (has (mode p l).view s ks)) o None) h
 
-  -- ---- an input that brings no vote and no proposal
+  -- ---- an input without votes and proposals
 
   module _ (me : ℕ) (x : Item Message) (xs : List (Item Message)) where
     pub record BringsNone : Type 0 where
@@ -93,7 +93,7 @@ module _ (p : Params) where
       prepared-still : (v s : ℕ) → prepared p me (inputs (x ∷ xs)) v s ≡ prepared p me (inputs xs) v s
       prepared-still v s = prepared-same me x.input (inputs xs) v s (none.values v s) (λ k. none.prepares v s k)
 
-      -- in the own view nothing becomes ready
+      -- no Commit becomes due in the current view
       pub quiet-still : mode p (inputs (x ∷ xs)) ≡ mode p (inputs xs) → (t : Slot) → In t p.slots → ready p me (inputs (x ∷ xs)) (kept p me xs) t.0 ≡ None
       quiet-still m t i = ready-same me x.input (inputs xs) (kept p me xs) t.0 m (prepared-still (mode p (inputs xs)).view t.0) ∙ calm p me xs t i
 

@@ -1,5 +1,5 @@
--- What follows of the facts of single correct nodes: one digest a view, one digest from a decided view on, and where
--- batches come from.
+-- Agreement from the facts about single correct replicas: one digest a view, the decided digest in all later views,
+-- and an accepting quorum for each batch.
 use Rattle.std.proofs.Common.{◌≡◌, ◌⊎◌, ◌<◌, ◌≤◌, ◌+◌, ◌*◌, ◌%◌, ◌||◌, ◌∷◌, ◌∙◌, ℕ, zero, suc, Bool, true, false, List, length, Option, Some, None, refl, sym, ap, subst, inl, inr, arith, true≢false}
 use Rattle.std.proofs.lemmas.Bool.{cases_Bool, cases_eq, cases_lt, eq-eqb, eqb-true, false≢true, lt-ltb, or_left}
 use Rattle.std.specs.Prelude.{nat_lt, ◌==◌}
@@ -41,7 +41,7 @@ module _ (p : Params) (w : World Message) where
   abbrev pub Accepted : ℕ → ℕ → Batch → Type 0
   Accepted j s b = In {A = Slot × Batch} (record { 0 = s }, b) (accepts (w j))
 
-  -- a value was prepared in a view: its primary and 2f others said so, as far as they are correct
+  -- a value was prepared in a view: the correct ones among its primary and 2f backups voted for it
   pub record Certified (v s : ℕ) (x : Value) : Type 0 where
     pub makers : List ℕ
     pub count : length makers ≡ 2 * p.setup.f
@@ -51,14 +51,14 @@ module _ (p : Params) (w : World Message) where
     pub rest : (j : ℕ) → mem j makers ≡ true → Granted j (state_at p 2 v s (digest_of p x))
     pub known : IsKnown p w x
 
-  -- 2f+1 good ViewChanges for v
+  -- 2f+1 good ViewChanges for view v
   pub record Backed (v : ℕ) (xs : List Change) : Type 0 where
     pub enough : are_enough p v xs ≡ true
     pub signed : AreTrue p w (changes_claims p xs)
     pub each : (x : Change) → In x xs → Granted x.node.0 (state_change p v x.certificates)
     pub certs : (c : Certificate) → In c (certificates_of xs) → (c.view < v) × Certified c.view c.slot.0 c.value
 
-  -- why a node voted: in view 0 it accepted the batch, above it is the choice
+  -- the reason of a vote: in view 0 an accepted batch, above it the choice of ViewChanges
   pub record Accepts (j s : ℕ) (d : List ℕ) : Type 0 where
     pub batch : Batch
     pub digest : digest_of p (Value_batch batch) ≡ d
@@ -79,7 +79,7 @@ module _ (p : Params) (w : World Message) where
     pub digest : digest_of p value ≡ d
     pub good : Certified v s value
 
-  -- the facts of each correct node
+  -- the facts about each correct replica
   pub record NodeFacts : Type 0 where
     pub one_pre : (j v s : ℕ) (d e : List ℕ) → is_correct p.setup j ≡ true → Signed j (state_at p 1 v s d) → Signed j (state_at p 1 v s e) → d ≡ e
     pub one_prepare : (j v s : ℕ) (d e : List ℕ) → is_correct p.setup j ≡ true → Signed j (state_at p 2 v s d) → Signed j (state_at p 2 v s e) → d ≡ e
@@ -95,7 +95,7 @@ module _ (p : Params) (w : World Message) where
     nodes-is : p.setup.n ≡ 3 * p.setup.f + 1
     nodes-is = good.nodes
 
-    -- two lists of 2f+1 different nodes share a correct one
+    -- quorum intersection: two lists of 2f+1 distinct replicas share a correct one
     pub meet-lists : (xs ys : List ℕ) → distinct xs ≡ true → distinct ys ≡ true → all_below p.setup.n xs ≡ true → all_below p.setup.n ys ≡ true → 2 * p.setup.f + 1 ≤ length xs → 2 * p.setup.f + 1 ≤ length ys → Meets p (λ k. mem k xs) (λ k. mem k ys)
     meet-lists xs ys dx dy bx by lx ly =
         let n = nodes-is in
@@ -140,7 +140,7 @@ module _ (p : Params) (w : World Message) where
           let nd = d.count in
           meet-lists (primary p v ∷ c.makers) (primary p v ∷ d.makers) c.apart d.apart (voters-below v c.makers c.below) (voters-below v d.makers d.below) (omega (arith, nc)) (omega (arith, nd))
 
-      -- two lists of voters share a correct one
+      -- two lists of voters share a correct replica
       pub same-view : (v s : ℕ) (x y : Value) → Certified v s x → Certified v s y → digest_of p x ≡ digest_of p y
       same-view v s x y c d =
           let m = meet-voters v s x y c d in
@@ -152,7 +152,8 @@ module _ (p : Params) (w : World Message) where
           let m = meet-voters v s x x c c in
           elim (why v s m.node (digest_of p x) m.correct (voted v s m.node x c m.first m.correct)) [ inl a ↦ let e = a.0 in absurd (omega (arith, e, l)) | inr a ↦ a.1 ]
 
-      -- the ViewChanges of v meet the Commits of a lower view: the best certificate is not below these
+      -- a correct replica is in both the ViewChanges for v and the Commits of a lower view, so the best certificate
+      -- is not below these Commits
       covered : (u v s : ℕ) (d : List ℕ) (xs : List Change) → u < v → IsDecidedView p w u s d → Backed v xs → (e : Certificate) × Is (best s (certificates_of xs)) e × (u ≤ e.view)
       covered u v s d xs l k b =
           let has = enough-changes p v xs b.enough in
@@ -167,14 +168,14 @@ module _ (p : Params) (w : World Message) where
           let e = r.2 in
           (r.0, r.1, omega (arith, hi, e))
 
-      -- the best certificate of good ViewChanges is good, and of a lower view
+      -- the best certificate of good ViewChanges is valid and of a lower view
       lower : (v s : ℕ) (xs : List Change) (e : Certificate) → Backed v xs → Is (best s (certificates_of xs)) e → (e.view < v) × Certified e.view s e.value
       lower v s xs e b h =
           let i = best-in s (certificates_of xs) e h in
           let c = b.certs e i.0 in
           (c.0, subst (λ (z : ℕ). Certified e.view z e.value) i.1 c.1)
 
-      -- from a decided view on, good certificates of the slot have its digest
+      -- once a view decided a slot, valid certificates of the slot in that view or a higher one have its digest
       later : (n u v s : ℕ) (d : List ℕ) (x : Value) → v < n → u ≤ v → IsDecidedView p w u s d → Certified v s x → digest_of p x ≡ d
       later zero u v s d x l m k c = absurd (omega (arith, l))
       later (suc n) u v s d x l m k c = elim (cases_eq u v) [
@@ -195,7 +196,7 @@ module _ (p : Params) (w : World Message) where
       pub later-same : (u v s : ℕ) (d : List ℕ) (x : Value) → u ≤ v → IsDecidedView p w u s d → Certified v s x → digest_of p x ≡ d
       later-same u v s d x m k c = later (suc v) u v s d x (omega arith) m k c
 
-      -- ---- a certificate with a batch leads down to a quorum of view 0 that accepted it
+      -- ---- if a certificate holds a batch, a quorum accepted it in view 0
 
       module _ (sep : Separate (IsString w)) where
         pub one-known : (x y : Value) → IsKnown p w x → IsKnown p w y → digest_of p x ≡ digest_of p y → x ≡ y
@@ -247,7 +248,7 @@ module _ (p : Params) (w : World Message) where
         pub rooted : (v s : ℕ) (b : Batch) → Certified v s (Value_batch b) → IsRooted p w s b
         rooted v s b c = down (suc v) v s b (omega arith) c
 
-        -- what deliveries show
+        -- what deliveries imply
 
         pub agree : (u v s : ℕ) (x y : Value) → IsDecidedView p w u s (digest_of p x) → Certified u s x → IsDecidedView p w v s (digest_of p y) → Certified v s y → x ≡ y
         agree u v s x y k c m d = elim (cases_lt v u) [

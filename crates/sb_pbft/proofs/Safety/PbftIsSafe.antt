@@ -1,4 +1,4 @@
--- Each world that moves lead to is a broadcast, and the facts that this stands on.
+-- Each reachable world is a Sequenced Broadcast, by the facts that agreement follows from.
 use Rattle.std.proofs.Common.{◌≡◌, ◌<◌, ◌∷◌, ◌∙◌, ℕ, List, Some, sym, ap, subst, inl, inr, arith}
 use Rattle.iss_base.specs.Lists.{In}
 use Rattle.iss_request.specs.declared.ids.Slot.{Slot}
@@ -28,7 +28,7 @@ use Rattle.sb_pbft.proofs.Voting.OnePrepareAView.{SameDraft, rule-of, signed-dra
 use Rattle.sb_pbft.proofs.Safety.SeenClaimsAreTrue.{IsDelivered, delivered-shown}
 use Rattle.sb_pbft.proofs.Voting.ViewsGrow.{grows}
 
--- ---- drafts of messages that were sent
+-- ---- messages that were sent
 
 module _ (p : Params) (me leaf : ℕ) where
   sent-change : (d : Draft) (v : ℕ) (cs : List Certificate) (sig : List ℕ) → ViewChange v cs sig ≡ sign p me leaf d → SameDraft d (DraftViewChange v cs)

@@ -1,4 +1,4 @@
--- What a correct node has seen: claims that were made, values that were hashed, and what these certify.
+-- What a correct replica received: its claims are true, its values were hashed, and so its certificates are valid.
 use Rattle.std.proofs.Common.{◌≡◌, ◌≤◌, ◌+◌, ◌*◌, ◌++◌, ◌∷◌, ◌∙◌, ℕ, zero, suc, Bool, true, false, not, cond, List, [], length, take, Option, Some, None, refl, sym, ap, subst, inl, inr, arith, true≢false}
 use Rattle.std.proofs.lemmas.Bool.{eq-eqb, eqb-true, false≢true, leb-true, or_cases, or_left}
 use Rattle.std.specs.Prelude.{nat_le, ◌==◌}
@@ -88,7 +88,7 @@ in-if true x xs e h = h
 in-if false x xs e h = absurd (false≢true e)
 
 module _ (p : Params) (good : IsGoodParams pbft p) (w : World Message) (legal : IsLegal pbft p w) where
-  -- ---- claims that came
+  -- ---- received claims
 
   pub came-credible : (i : ℕ) (x : Item Message) (from : NodeId) (msg : Message) → In x (w i) → x.input ≡ Receive from msg → IsCredible pbft p (Verifies p) (IsSigned pbft p w) from.0 msg
   came-credible i x from msg h q = subst (λ (y : Said). MayCome pbft p w i y) q (legal.came i x h)
@@ -102,7 +102,7 @@ module _ (p : Params) (good : IsGoodParams pbft p) (w : World Message) (legal : 
       let signed : IsSigned pbft p w i t = record { item = x; taken = k; to = to; msg = msg; sent = h; claim = s.claim; made = s.stands; by = s.named; is = s.is } in
       subst (λ (z : ℕ). IsSigned pbft p w z t) (sym e) signed
 
-  -- ---- what came fits
+  -- ---- received messages are well-formed
 
   pub come-fits : (i : ℕ) (input : Said) → MayCome pbft p w i input → FitsInput p input
   come-fits i (Cast s b) h = batch-fits p b h.1
@@ -124,7 +124,7 @@ module _ (p : Params) (good : IsGoodParams pbft p) (w : World Message) (legal : 
     source-part xs by t sub (came x k from msg q s) = came x (sub x k) from msg q s
     source-part xs by t sub (sent x k to msg h s e) = sent x (sub x k) to msg h s e
 
-    -- ---- values that were hashed
+    -- ---- hashed values
 
     pub hashed-here : (x : Item Message) (before : List (Item Message)) (v : Value) → In x (w i) → x.made ≡ makes p i before x.input x.leaf → In (string_of p v) (strings p i (inputs before) x.input) → fits_value p.setup.version v ≡ true → IsKnown p w v
     hashed-here x before v k made h f = record {
@@ -153,7 +153,7 @@ module _ (p : Params) (good : IsGoodParams pbft p) (w : World Message) (legal : 
     entered-choice x before from v s ys sigs sig e h =
         entered-known x before from v ys sigs sig (choice ys s) e (in_right (string_of p (choice ys s)) (value_strings p (certificates_of ys)) (choice_strings p ys p.slots) (in-choices p ys s p.slots h)) (choice-fits p.setup.version s ys (entry-fits x before from v ys sigs sig e).changes)
 
-    -- the batch that is accepted
+    -- the accepted batch
     asked-in : (l : List Said) (input : Said) (a : Slot × Batch) → Offers p i (mode p l) input a → ◌≡◌ {A = Option (Slot × Batch)} (asked p i l input) (Some a) → In (string_of p (Value_batch a.1)) (strings p i l input)
     asked-in l input a o h = elim o.cause [
       | inl mine ↦
@@ -186,7 +186,7 @@ module _ (p : Params) (good : IsGoodParams pbft p) (w : World Message) (legal : 
       ]
     ]
 
-    -- ---- what is prepared, and what is committed
+    -- ---- prepared and committed values
 
     pub certified-from : (xs : List (Item Message)) (v s : ℕ) (x : Value) → Part xs → AreMade pbft p i xs → proposal p i (inputs xs) v s ≡ Some x → nat_le (2 * p.setup.f) (length (prepares p (inputs xs) v s (digest_of p x))) ≡ true → Certified p w v s x
     certified-from xs v s x sub made h enough =
@@ -225,7 +225,7 @@ module _ (p : Params) (good : IsGoodParams pbft p) (w : World Message) (legal : 
           each = λ j m. let y = node-vote j votes m in subst (λ (z : ℕ). Granted p w z (state_at p 3 v s d)) y.2 (source-granted i y.0.by.0 (state_at p 3 v s d) (source-part xs y.0.by.0 _ sub (commit-source p i xs v s d y.0 y.1)));
         }
 
-    -- what is delivered
+    -- delivered values
     pub record IsDelivered (s : ℕ) (x : Value) : Type 0 where
       pub view : ℕ
       pub shown : Certified p w view s x

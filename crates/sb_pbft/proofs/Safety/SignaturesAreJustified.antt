@@ -1,4 +1,4 @@
--- Why correct nodes sign what they sign: the facts of single nodes in a world that moves lead to.
+-- Facts about single correct replicas in a reachable world: they vote once, and each signature has a reason.
 use Rattle.std.proofs.Common.{◌≡◌, ◌<◌, ◌∷◌, ◌∙◌, ℕ, true, List, sym, ap, subst, inl, inr, arith}
 use Rattle.iss_request.specs.declared.ids.Slot.{Slot}
 use Rattle.iss_request.specs.declared.requests.Batch.{Batch}
@@ -69,7 +69,7 @@ module _ (p : Params) (good : IsGoodParams pbft p) (w : World Message) (reached 
     pub one-commit-signed : (v s : ℕ) (d e : List ℕ) → IsSigned pbft p w i (state_at p 3 v s d) → IsSigned pbft p w i (state_at p 3 v s e) → d ≡ e
     one-commit-signed v s d e a b = same-proposed v s d e (commit-refines v s d a) (commit-refines v s e b)
 
-    -- ---- what a NewView stands on
+    -- ---- the ViewChanges of a NewView
 
     record IsStarted (t : List ℕ) (b : By i t) (v : ℕ) (ys : List Change) : Type 0 where
       pub backed_by : Backed p w v ys
@@ -89,7 +89,7 @@ module _ (p : Params) (good : IsGoodParams pbft p) (w : World Message) (reached 
               known = λ n h. subst (λ (z : List Change). IsKnown p w (choice z n)) (sym s.changes) (completed-known p good w legal i b.item b.before c.from v n c.certificates c.sig b.taken b.made c.input s.completes sub h);
             }
 
-  -- some correct node signed one of 2f+1 ViewChanges
+  -- at least one of 2f+1 ViewChanges is signed by a correct replica
   some-change : (v : ℕ) (xs : List Change) → Backed p w v xs → (j : ℕ) × (cs : List Certificate) × (is_correct p.setup j ≡ true) × IsSigned pbft p w j (state_change p v cs)
   some-change v xs b =
       let has = enough-changes p v xs b.enough in
@@ -99,7 +99,7 @@ module _ (p : Params) (good : IsGoodParams pbft p) (w : World Message) (reached 
       let correct = subst (λ (z : ℕ). is_correct p.setup z ≡ true) (sym x.2) m.correct in
       (x.0.node.0, x.0.certificates, correct, b.each x.0 x.1 correct)
 
-  -- so no NewView of a correct node is of view 0
+  -- hence no correct replica signs a NewView for view 0
   new-above : (v : ℕ) (xs : List Change) → Backed p w v xs → 0 < v
   new-above v xs b =
       let r = some-change v xs b in
@@ -134,7 +134,7 @@ module _ (p : Params) (good : IsGoodParams pbft p) (w : World Message) (reached 
         go : By i (state_at p 1 v s d) → By i (state_at p 1 v s e) → d ≡ e
         go x y = by x y (proposal-draft v s d x) (proposal-draft v s e y)
 
-    -- ---- why
+    -- ---- reasons of signatures
 
     accepts-of : (t : List ℕ) (b : By i t) (slot : Slot) (batch : Batch) (d : List ℕ) → Asked p i (inputs b.before) b.item.input (slot, batch) → digest_of p (Value_batch batch) ≡ d → Accepts p w i slot.0 d
     accepts-of t b slot batch d asks e = record {

@@ -1,4 +1,5 @@
--- The facts of single correct nodes: one vote a view and slot, why it was given, and what a ViewChange shows.
+-- Facts about single correct replicas: one vote for each view and slot, the reason of each vote, and what a
+-- ViewChange shows.
 use Rattle.std.proofs.Common.{◌≡◌, ◌<◌, ◌+◌, ◌∷◌, ◌∙◌, ℕ, true, List, [], Some, sym, ap, subst, inl, inr, arith}
 use Rattle.iss_base.specs.Lists.{In}
 use Rattle.iss_base.proofs.Lists.{in_append}
@@ -24,7 +25,7 @@ use Rattle.sb_pbft.proofs.Messages.SentDecodes.{ready-is}
 use Rattle.sb_pbft.proofs.Voting.OnePrepareAView.{Asked, Proposed, Rule, SameDraft, by_cast, by_changes, by_proposal, by_timeout, by_view, by_votes, drafted, no-change, no-commit, no-new, no-pre, proposed-on, rule-of, same-prepare}
 use Rattle.sb_pbft.proofs.Voting.ViewsGrow.{Said, SameInput, proposed-offer}
 
--- ---- of one node's list
+-- ---- in one replica's history
 
 -- each Commit is for the proposal
 pub commit-proposed : (p : Params) (me : ℕ) (xs : List (Item Message)) (v : ℕ) (s : Slot) (d : List ℕ) → In (DraftCommit v s d) (drafted p me xs) → Proposed p me (inputs xs) v s.0 d
@@ -57,7 +58,7 @@ record SameFirst (s t : Slot) (x y : Value) : Type 0 where
 same-first : (s t : Slot) (x y : Value) → SameDraft (DraftPrePrepare s x) (DraftPrePrepare t y) → SameFirst s t x y
 same-first s t x y h = record { slot = cc; value = cc }
 
--- a PrePrepare of view 0 is of the batch that is accepted
+-- a PrePrepare of view 0 is for an accepted batch
 pub record IsFirst (p : Params) (me : ℕ) (xs : List (Item Message)) (i : Said) (s : Slot) (x : Value) : Type 0 where
   pub batch : Batch
   pub asked : Asked p me (inputs xs) i (s, batch)
@@ -85,7 +86,7 @@ first-proposed p me (y ∷ ys) s x h = elim (in_append (DraftPrePrepare s x) (dr
 same-view-change : (v u : ℕ) (cs ds : List Certificate) → SameDraft (DraftViewChange v cs) (DraftViewChange u ds) → v ≡ u
 same-view-change v u cs ds h = cc
 
--- nobody gives up for view 0
+-- nobody sends a ViewChange for view 0
 pub change-above : (p : Params) (me : ℕ) (xs : List (Item Message)) (i : Said) (v : ℕ) (cs : List Certificate) → Rule p me xs i (DraftViewChange v cs) → 0 < v
 change-above p me xs i v cs (by_cast a q b e) = absurd (no-change-pre v cs a.0 (Value_batch a.1) e)
 change-above p me xs i v cs (by_proposal a q b e) = absurd (no-change-prepare v 0 cs a.0 (digest_of p (Value_batch a.1)) e)
@@ -94,7 +95,7 @@ change-above p me xs i v cs (by_timeout a b e) = let k = same-view-change v ((mo
 change-above p me xs i v cs (by_changes from u ds sig a b e) = absurd (no-change-new v u cs _ e)
 change-above p me xs i v cs (by_view from u ys sigs sig t a b c k e) = absurd (no-change-prepare v u cs t (digest_of p (choice ys t.0)) e)
 
--- why a Prepare was sent
+-- the reason of a Prepare
 pub data IsAnswer (p : Params) (me : ℕ) (xs : List (Item Message)) (i : Said) (v : ℕ) (s : Slot) (d : List ℕ) : Type 0 where
   to_batch : (b : Batch) → Asked p me (inputs xs) i (s, b) → v ≡ 0 → digest_of p (Value_batch b) ≡ d → IsAnswer p me xs i v s d
   to_view : (from : NodeId) (ys : List Change) (sigs : List (List ℕ)) (sig : List ℕ) → SameInput i (Receive from (NewView v ys sigs sig)) → enters p (mode p (inputs xs)) from.0 v ys sigs ≡ true → In s p.slots → digest_of p (choice ys s.0) ≡ d → IsAnswer p me xs i v s d
@@ -115,7 +116,7 @@ answer-of-rule p me xs i v s d (by_view from u ys sigs sig t a b c k e) =
     (subst (λ (z : Slot). In z p.slots) (sym r.slot) k)
     (subst (λ (z : Slot). digest_of p (choice ys z.0) ≡ d) (sym r.slot) (sym r.digest))
 
--- a batch that was accepted at an item stands among those accepted
+-- a batch that a step accepted is among the accepted ones
 pub accepted-in : (xs : List (Item Message)) (x : Item Message) (a : Slot × Batch) → In x xs → x.made.accepted ≡ Some a → In a (accepts xs)
 accepted-in [] x a h e = absurd h
 accepted-in (y ∷ ys) x a (inl q) e = accepts-new y ys a (ap (λ (z : Item Message). z.made.accepted) (sym q) ∙ e)

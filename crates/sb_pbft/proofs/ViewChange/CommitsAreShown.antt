@@ -1,4 +1,4 @@
--- A Commit leaves a certificate, and a later ViewChange holds it or one of a higher view.
+-- Each Commit has a certificate, and a later ViewChange shows it or one of a higher view.
 use Rattle.std.proofs.Common.{◌≡◌, ◌<◌, ◌≤◌, ◌+◌, ◌∷◌, ◌∙◌, ℕ, Bool, true, false, cond, List, [], Option, Some, None, refl, sym, ap, subst, inl, inr, arith}
 use Rattle.iss_base.specs.Lists.{In}
 use Rattle.iss_base.proofs.Lists.{in_append, in_left, in_right}
@@ -66,7 +66,7 @@ record SameCommit (v w : ℕ) (s t : Slot) (d e : List ℕ) : Type 0 where
 same-commit : (v w : ℕ) (s t : Slot) (d e : List ℕ) → SameDraft (DraftCommit v s d) (DraftCommit w t e) → SameCommit v w s t d e
 same-commit v w s t d e h = record { view = cc; slot = cc; digest = cc }
 
--- a Commit is of the view that the node is in
+-- a Commit is of the current view
 pub record Commits (p : Params) (me : ℕ) (xs : List (Item Message)) (i : Said) (v : ℕ) (s : Slot) (d : List ℕ) : Type 0 where
   pub value : Value
   pub within : In s p.slots
@@ -177,7 +177,7 @@ change-view p me (x ∷ xs) w cs h = elim (in_append (DraftViewChange w cs) (dra
   | inr k ↦ let r = change-view p me xs w cs k in let g = (grows p (mode p (inputs xs)) x.input).view in omega (arith, r, g)
 ]
 
--- a ViewChange holds, for each slot that the node has committed, a certificate of that view or a higher one
+-- a ViewChange shows, for each slot that the replica committed, a certificate of that view or a higher one
 pub covers : (p : Params) (me : ℕ) (xs : List (Item Message)) (v : ℕ) (s : Slot) (d : List ℕ) (w : ℕ) (cs : List Certificate) → In (DraftCommit v s d) (drafted p me xs) → In (DraftViewChange w cs) (drafted p me xs) → v < w → Covered s v cs
 covers p me [] v s d w cs h k l = absurd h
 covers p me (x ∷ xs) v s d w cs h k l = elim (in_append (DraftViewChange w cs) (drafts p me xs x.input) (drafted p me xs) k) [

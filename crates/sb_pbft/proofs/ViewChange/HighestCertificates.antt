@@ -1,5 +1,5 @@
--- The certificates that a node keeps: none is of a view above the own one, of each slot the highest tells whether a
--- Commit was sent in the own view, and behind a step nothing is ready that has none.
+-- The stored certificates: none is above the current view; the highest of a slot says whether a Commit was sent in
+-- this view; after a step no Commit is due.
 use mathlib.Core.Bool.{and-false, and-true}
 use Rattle.std.proofs.Common.{◌≡◌, ◌⊎◌, ◌≤◌, ◌&&◌, ◌||◌, ◌∷◌, ◌++◌, ◌∙◌, ℕ, suc, Bool, true, false, not, cond, List, [], Option, Some, None, refl, sym, ap, subst, inl, inr, arith, true≢false}
 use Rattle.std.proofs.lemmas.Bool.{cases_Bool, eq-eqb, eqb-false, eqb-true, le-ltb, ltb-false, ltb-true, ne_eqb, or_right}
@@ -21,7 +21,7 @@ use Rattle.sb_pbft.specs.Turns.{is_of}
 use Rattle.sb_pbft.proofs.ViewChange.CommitsAreShown.{certified-in}
 use Rattle.sb_pbft.proofs.Voting.ViewsGrow.{Said, grows}
 
--- ---- the views of what is kept
+-- ---- the views of stored certificates
 
 module _ (p : Params) (me : ℕ) where
   certify-view : (xs : List (Item Message)) (s : Slot) (o : Option Value) (cs : List Certificate) (c : Certificate) → In c (certify p me xs s o cs) → (c.view ≡ (mode p (inputs xs)).view) ⊎ In c cs
@@ -48,7 +48,7 @@ module _ (p : Params) (me : ℕ) where
 abbrev pub AreLow : ℕ → List Certificate → Type 0
 AreLow v cs = (c : Certificate) → In c cs → c.view ≤ v
 
--- c is in front of what is best behind it
+-- c is compared with the best of the rest
 front-of : (v : ℕ) (c : Certificate) (o : Option Certificate) → c.view ≤ v → ((e : Certificate) → o ≡ Some e → e.view ≤ v) → ((v == c.view) || is_of v o) ≡ is_of v (higher c o)
 front-of v c None l h = or-alone (v == c.view)
 front-of v c (Some e) l h = elim (cases_Bool (nat_lt c.view e.view)) [
@@ -83,7 +83,7 @@ has-top v s (c ∷ cs) low = let rest = has-top v s cs (λ e i. low e (inr i)) i
 
 -- ---- slots that ascend
 
--- the slot is none of these
+-- the slot is not one of these
 abbrev pub NotAt : ℕ → List Slot → Type 0
 NotAt s ss = (t : Slot) → In t ss → t.0 ≡ s → ⊥
 
@@ -92,7 +92,7 @@ above from [] t a h = absurd h
 above from (s ∷ ss) t a (inl e) = let q = ap (λ (z : Slot). z.0) e in let l = a.0 in omega (arith, q, l)
 above from (s ∷ ss) t a (inr h) = let l = a.0 in let m = above (suc s.0) ss t a.1 h in omega (arith, l, m)
 
--- ---- behind a step nothing is ready
+-- ---- after a step no Commit is due
 
 has-here : (v s : ℕ) (c : Certificate) (cs : List Certificate) → In c cs → c.view ≡ v → c.slot.0 ≡ s → has v s cs ≡ true
 has-here v s c [] h e f = absurd h
@@ -143,9 +143,9 @@ module _ (p : Params) (me : ℕ) where
           ready-not l (new ++ kept p me xs) slot.0
           (has-here (mode p l).view slot.0 c (new ++ kept p me xs) (in_left c new (kept p me xs) (certified-in p me (x ∷ xs) (kept p me xs) p.slots slot y h e)) refl refl)
 
-  -- ---- what stands at a slot behind a step
+  -- ---- a slot after a step
 
-  -- the certificate of a value that is ready
+  -- the certificate of a value whose Commit is due
   abbrev pub made : List (Item Message) → Slot → Option Value → Option Certificate
   made xs slot None = None
   made xs slot (Some x) = Some (certificate p me xs (mode p (inputs xs)).view slot x)

@@ -1,4 +1,4 @@
--- What ViewChanges show: good certificates, and with 2f+1 of them what a new view stands on.
+-- Stored ViewChanges hold valid certificates, and a NewView has those of 2f+1 distinct replicas.
 use Rattle.std.proofs.Common.{◌≡◌, ◌≤◌, ◌+◌, ◌*◌, ◌&&◌, ◌++◌, ◌∷◌, ◌∙◌, ℕ, zero, suc, true, not, cond, List, [], length, Option, Some, None, refl, sym, ap, subst, inl, inr, arith}
 use Rattle.std.proofs.lemmas.Bool.{eq-eqb, le-leb, lt-ltb}
 use Rattle.std.specs.Prelude.{is_some, ◌==◌}
@@ -37,7 +37,7 @@ use Rattle.sb_pbft.proofs.Safety.SeenClaimsAreTrue.{Entry, Part, all-fit, came-c
 use Rattle.sb_pbft.proofs.Voting.ViewsGrow.{Said, SameInput, entered}
 use Rattle.sb_pbft.proofs.Voting.VotersAreDistinct.{node-vote}
 
--- ---- those that a node keeps are good, of different nodes
+-- ---- the stored ViewChanges are good and of distinct replicas
 
 are-kept : (p : Params) (v from : ℕ) (g : ℕ → Option Change) (k m : ℕ) → from ≤ k → k + m ≤ p.setup.n → ((j : ℕ) (x : Change) → g j ≡ Some x → (x.node.0 ≡ j) × (x.view ≡ v) × (all_good p v x.certificates ≡ true)) → are_changes p v from (changes_from g k m) ≡ true
 are-kept p v from g k zero l u h = refl
@@ -98,7 +98,7 @@ module _ (p : Params) (good : IsGoodParams pbft p) (w : World Message) (legal : 
       }
 
   module _ (i : ℕ) where
-    -- of a NewView that is taken
+    -- of a NewView that starts its view
     pub entered-backed : (x : Item Message) (before : List (Item Message)) (from : NodeId) (v : ℕ) (ys : List Change) (sigs : List (List ℕ)) (sig : List ℕ) → Entry p good w legal i x before from v ys sigs sig → Backed p w v ys
     entered-backed x before from v ys sigs sig e =
         let n = entered p (mode p (inputs before)) from.0 v ys sigs e.enters_it in
@@ -111,7 +111,7 @@ module _ (p : Params) (good : IsGoodParams pbft p) (w : World Message) (legal : 
         let f = fits-certificate-at p.setup.version 0 r.0.certificates c (change-certificates p.setup.version r.0.view r.0.certificates r.0.sig (fits-change-at p.setup.version 0 ys r.0 fit.changes r.1)) r.2 in
         entered-known p good w legal i x before from v ys sigs sig c.value e (in_left (string_of p c.value) (value_strings p (certificates_of ys)) (choice_strings p ys p.slots) (in-values p c (certificates_of ys) k)) (certificate-value p.setup.version c f))
 
-    -- ---- ViewChanges that are kept
+    -- ---- stored ViewChanges
 
     change-here : (x : Item Message) (before : List (Item Message)) (k : ℕ) (v : ℕ) (y : Change) → In x (w i) → x.made ≡ makes p i before x.input x.leaf → IsKeptChange p v k y x.input → change_of p (inputs before) v k ≡ None → (c : Certificate) → In c y.certificates → IsKnown p w c.value
     change-here x before k v y taken made is fresh c j =
@@ -140,7 +140,7 @@ module _ (p : Params) (good : IsGoodParams pbft p) (w : World Message) (legal : 
         let credible = came-credible p good w legal i n.item y.node (ViewChange v y.certificates y.sig) (sub n.item n.taken) (n.is ∙ r.2.input) in
         credible.signed t (subst (λ (z : ℕ). In t (change_claims p y.node.0 z y.certificates y.sig)) r.2.view j)
 
-    -- 2f+1 that are kept
+    -- 2f+1 stored ViewChanges
     pub made-backed : (xs : List (Item Message)) (v : ℕ) → Part p good w legal i xs → AreMade pbft p i xs → length (changes p (inputs xs) v) ≡ 2 * p.setup.f + 1 → Backed p w v (changes p (inputs xs) v)
     made-backed xs v sub made h =
         let ys = changes p (inputs xs) v in
@@ -148,7 +148,7 @@ module _ (p : Params) (good : IsGoodParams pbft p) (w : World Message) (legal : 
         (λ t k. let r = claim-change p t ys k in let g = in-changes (change_of p (inputs xs) v) 0 p.setup.n r.0 r.1 in change-true xs v g.node r.0 sub g.kept t r.2)
         (λ c k. let r = certificate-from c ys k in let g = in-changes (change_of p (inputs xs) v) 0 p.setup.n r.0 r.1 in change-known xs g.node v r.0 sub made g.kept c r.2)
 
-    -- and the values of their choice
+    -- and the values that they choose
     pub completed-known : (x : Item Message) (before : List (Item Message)) (from : NodeId) (v s : ℕ) (cs : List Certificate) (sig : List ℕ) → In x (w i) → x.made ≡ makes p i before x.input x.leaf → SameInput x.input (Receive from (ViewChange v cs sig)) → completes p i (inputs before) x.input v ≡ true → Part p good w legal i (x ∷ before) → has_slot s p.slots ≡ true → IsKnown p w (choice (changes p (x.input ∷ inputs before) v) s)
     completed-known x before from v s cs sig taken made q h sub m =
         let l = inputs before in

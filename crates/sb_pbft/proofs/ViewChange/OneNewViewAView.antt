@@ -1,4 +1,4 @@
--- The ViewChanges that a node keeps, and that it makes one NewView of a view.
+-- The stored ViewChanges, and that a replica sends one NewView for each view.
 use Rattle.std.proofs.Common.{◌≡◌, ◌<◌, ◌≤◌, ◌+◌, ◌*◌, ◌&&◌, ◌∷◌, ◌∙◌, ℕ, zero, suc, Bool, true, List, [], length, Option, Some, None, refl, sym, ap, subst, inl, inr, arith}
 use Rattle.std.proofs.lemmas.Bool.{eqb-true, ltb-true}
 use Rattle.std.specs.Prelude.{nat_le, nat_lt, ◌==◌}
@@ -24,7 +24,7 @@ use Rattle.sb_pbft.proofs.Basics.{first-keeps, first-none, none-from, same-some,
 use Rattle.sb_pbft.proofs.Voting.OnePrepareAView.{Rule, SameDraft, by_cast, by_changes, by_proposal, by_timeout, by_view, by_votes, drafted, rule-of}
 use Rattle.sb_pbft.proofs.Voting.ViewsGrow.{Said, SameInput}
 
--- ---- where a ViewChange that is kept comes from
+-- ---- each stored ViewChange was received
 
 pub record IsKeptChange (p : Params) (v k : ℕ) (x : Change) (i : Said) : Type 0 where
   pub input : SameInput i (Receive x.node (ViewChange v x.certificates x.sig))
@@ -59,7 +59,7 @@ change-of-is p (i ∷ l) v k x h = elim (first-cases (change_of p l v k) (change
   | inr a ↦ (i, inl refl, change-in-is p i v k x a.1)
 ]
 
--- the ViewChanges that a function of the node gives
+-- the ViewChanges that a function of the replica selects
 pub record IsGiven (g : ℕ → Option Change) (k m : ℕ) (x : Change) : Type 0 where
   pub node : ℕ
   pub kept : g node ≡ Some x
@@ -152,7 +152,7 @@ new-rule p me xs i v ys (by_changes from w cs sig a b e) =
     subst (λ (z : ℕ). made_new p me (i ∷ inputs xs) z ≡ Some ys) (sym r.0) (made ∙ ap (λ (z : List Change). Some z) (sym r.1))
 new-rule p me xs i v ys (by_view from w zs sigs sig t a b c k e) = absurd (no-prepare v w ys t (digest_of p (choice zs t.0)) e)
 
--- a NewView holds the ViewChanges that are kept
+-- a NewView holds the stored ViewChanges
 pub record StartsWith (p : Params) (me : ℕ) (xs : List (Item Message)) (i : Said) (v : ℕ) (ys : List Change) : Type 0 where
   pub completes : completes p me (inputs xs) i v ≡ true
   pub changes : ys ≡ changes p (i ∷ inputs xs) v
@@ -167,7 +167,7 @@ starts-with p me xs i v ys (by_changes from w cs sig a b e) =
     subst (λ (z : ℕ). StartsWith p me xs i z ys) (sym r.0) (record { completes = b; changes = r.1 })
 starts-with p me xs i v ys (by_view from w zs sigs sig t a b c k e) = absurd (no-prepare v w ys t (digest_of p (choice zs t.0)) e)
 
--- it is made at a ViewChange
+-- it is sent at a ViewChange
 pub record IsFromChange (i : Said) (v : ℕ) : Type 0 where
   pub from : NodeId
   pub certificates : List Certificate

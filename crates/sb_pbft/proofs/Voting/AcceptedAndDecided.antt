@@ -1,4 +1,4 @@
--- What is asked for, and what is decided, by the rules.
+-- Which batch a replica accepts, and which values are decided.
 use Rattle.std.proofs.Common.{◌≡◌, ◌+◌, ◌*◌, ◌&&◌, ◌∷◌, ℕ, zero, suc, Bool, true, not, List, [], length, Option, Some, None, refl, sym, subst, inl, inr}
 use Rattle.std.specs.Prelude.{nat_le, ◌==◌}
 use Rattle.iss_base.specs.Lists.{first_of}
@@ -19,7 +19,7 @@ use Rattle.pbft_views.specs.Choice.{choice}
 use Rattle.sb_pbft.specs.Rules.{Mode, asked, asked_of, chosen, commits, committed, committed_with, enters, is_open, lowest, mode, offer, offered, prepared, prepared_with, prepares, proposal, unless}
 use Rattle.sb_pbft.proofs.Basics.{IsWhen, when-is}
 
--- ---- what is asked for
+-- ---- accepted batches
 
 pub record IsAsked (p : Params) (me : ℕ) (l : List (Input Message)) (i : Input Message) (a : Slot × Batch) : Type 0 where
   pub offered : ◌≡◌ {A = Option (Slot × Batch)} (offer p me (mode p l) i) (Some a)
@@ -65,7 +65,7 @@ offer-within p me m (Receive from (ViewChange v cs sig)) a h = absurd (cc)
 offer-within p me m (Receive from (NewView v xs sigs sig)) a h = absurd (cc)
 offer-within p me m Timeout a h = absurd (cc)
 
--- ---- what is decided
+-- ---- decided values
 
 offered-slot : (o : Option (Slot × Batch)) (v s : ℕ) (x : Value) → offered o v s ≡ Some x → (a : Slot × Batch) × (◌≡◌ {A = Option (Slot × Batch)} o (Some a)) × (s ≡ a.0.0)
 offered-slot None v s x h = absurd (cc)

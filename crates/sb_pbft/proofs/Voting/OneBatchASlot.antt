@@ -1,4 +1,4 @@
--- A node accepts one batch at a slot: it accepts where it has no proposal of view 0 yet, and has one from then on.
+-- A replica accepts one batch for a slot: only if it has no proposal of view 0 there, and then it has one.
 use Rattle.std.proofs.Common.{◌≡◌, ◌&&◌, ◌∙◌, ℕ, Bool, true, List, [], ◌∷◌, refl, sym, subst, ap, inl, inr, Option, Some, None}
 use Rattle.std.specs.Prelude.{◌==◌}
 use Rattle.iss_base.specs.Lists.{In, first_of}
@@ -37,7 +37,7 @@ offered-there s b = (Value_batch b, ap (λ (t : Bool). when ((0 == 0) && t) (Val
 asked-by : (p : Params) (me : ℕ) (y : Item Message) (l : List (Item Message)) (s : Slot) (b : Batch) → AreMade pbft p me (y ∷ l) → y.made.accepted ≡ Some (s, b) → IsAsked p me (inputs l) y.input (s, b)
 asked-by p me y l s b m e = asked-is p me (inputs l) y.input (s, b) (sym (ap (λ (z : Made Message). z.accepted) m.0) ∙ e)
 
--- what was accepted is proposed
+-- an accepted batch is the proposal
 proposed : (p : Params) (me : ℕ) (l : List (Item Message)) → AreMade pbft p me l → (s : Slot) (b : Batch) → In {A = Slot × Batch} (s, b) (accepts l) → RefinesOrShowsCore (proposal p me (inputs l) 0 s.0)
 proposed p me [] m s b i = absurd i
 proposed p me (y ∷ l) m s b i =
@@ -50,7 +50,7 @@ proposed p me (y ∷ l) m s b i =
           there-first (proposal p me (inputs l) 0 s.0) (offered (offer p me (mode p (inputs l)) y.input) 0 s.0) (proposed p me l m.1 s b old)
     ])
 
--- and where there is a proposal nothing is accepted
+-- if there is a proposal, nothing is accepted
 fresh : (p : Params) (me : ℕ) (y : Item Message) (l : List (Item Message)) (s : Slot) (b c : Batch) → AreMade pbft p me (y ∷ l) → y.made.accepted ≡ Some (s, b) → In {A = Slot × Batch} (s, c) (accepts l) → ⊥
 fresh p me y l s b c m e i = none-there (proposal p me (inputs l) 0 s.0) (asked-by p me y l s b m e).fresh (proposed p me l m.1 s c i)
   where

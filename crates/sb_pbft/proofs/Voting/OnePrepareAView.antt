@@ -1,4 +1,4 @@
--- What a node sends, by the rule that makes it; and that it sends one Prepare for a view and slot.
+-- The messages that a replica sends, by the rule that causes them, and that it sends one Prepare for a view and slot.
 use Rattle.std.proofs.Common.{◌≡◌, ◌+◌, ◌&&◌, ◌++◌, ◌∷◌, ◌∙◌, ℕ, Bool, true, false, not, cond, List, [], Option, Some, None, refl, sym, ap, subst, inl, inr}
 use Rattle.std.specs.Prelude.{◌==◌}
 use Rattle.iss_base.specs.Lists.{In}
@@ -32,7 +32,7 @@ SameDraft a b = a ≡ b
 abbrev pub Asked : Params → ℕ → List Said → Said → Slot × Batch → Type 0
 Asked p me l i a = ◌≡◌ {A = Option (Slot × Batch)} (asked p me l i) (Some a)
 
--- the messages of an input, by the rule that makes them
+-- the messages of an input, by the rule that causes them
 pub data Rule (p : Params) (me : ℕ) (xs : List (Item Message)) (i : Said) (d : Draft) : Type 0 where
   by_cast : (a : Slot × Batch) → Asked p me (inputs xs) i a → (me == p.leader.0) ≡ true → SameDraft d (DraftPrePrepare a.0 (Value_batch a.1)) → Rule p me xs i d
   by_proposal : (a : Slot × Batch) → Asked p me (inputs xs) i a → (me == p.leader.0) ≡ false → SameDraft d (DraftPrepare 0 a.0 (digest_of p (Value_batch a.1))) → Rule p me xs i d
@@ -97,7 +97,7 @@ rule-of p me xs i d h = elim (in_append d (lead p me xs i) (by_slot p me xs i p.
   | inr k ↦ slot-rule p me xs i d p.slots (λ s q. q) k
 ]
 
--- ---- all that a node drafted, and that what it sent is of it
+-- ---- each sent message was drafted
 
 abbrev pub drafted : Params → ℕ → List (Item Message) → List Draft
 drafted p me [] = []
@@ -127,7 +127,7 @@ sent-drafted p me (y ∷ ys) x to msg made (inl e) k =
     let sends = subst (λ (z : Made Message). In {A = To × Message} (to, msg) z.sends) (ap (λ (z : Item Message). z.made) e ∙ is) k in
     record { older = ys; input = y.input; made = signed-draft p me y.leaf (drafts p me ys y.input) to msg sends }
 
--- ---- a proposal for each Prepare
+-- ---- each Prepare has a proposal
 
 pub record Proposed (p : Params) (me : ℕ) (l : List Said) (v s : ℕ) (d : List ℕ) : Type 0 where
   pub value : Value

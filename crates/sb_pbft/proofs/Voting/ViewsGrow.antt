@@ -1,4 +1,4 @@
--- Facts of one node's list: its view only grows, and a proposal stays.
+-- Facts about one replica's history: its view only grows, and a proposal never changes.
 use Rattle.std.proofs.Common.{◌≡◌, ◌⊎◌, ◌<◌, ◌≤◌, ◌+◌, ◌&&◌, ◌∷◌, ◌∙◌, ℕ, Bool, true, false, not, cond, List, [], length, Option, Some, None, refl, sym, ap, subst, inl, inr, arith, true≢false}
 use Rattle.std.proofs.lemmas.Bool.{eqb-true, ltb-true, or_cases}
 use Rattle.std.specs.Prelude.{nat_lt, ◌==◌}
@@ -38,7 +38,7 @@ pub record Grows (m u : Mode) : Type 0 where
 stays : (m : Mode) → Grows m m
 stays m = record { view = omega arith; active = λ e a. a }
 
--- what a view that is entered was before
+-- the view before a view is entered
 abbrev pub IsNewer : Mode → ℕ → Type 0
 IsNewer m v = (m.view < v) ⊎ ((m.view ≡ v) × (m.active ≡ false))
 
@@ -84,7 +84,7 @@ grows p m (Receive from (NewView v xs sigs sig)) = grows-if m (record { view = v
     up v (inr e) = let q = e.0 in record { view = omega arith; active = λ e a. refl }
 grows p m Timeout = grows-if m (record { view = m.view + 1; active = false }) (passes m) (λ h. record { view = omega arith; active = λ e a. absurd (omega arith) })
 
--- ---- where a proposal comes from
+-- ---- the origin of a proposal
 
 pub record IsChosen (p : Params) (m : Mode) (i : Said) (v s : ℕ) (x : Value) : Type 0 where
   pub from : NodeId
@@ -177,7 +177,7 @@ offer-is p me m (Receive from (ViewChange v cs sig)) a h = absurd (cc)
 offer-is p me m (Receive from (NewView v xs sigs sig)) a h = absurd (cc)
 offer-is p me m Timeout a h = absurd (cc)
 
--- ---- proposals stay
+-- ---- proposals never change
 
 pub record Seen (m : Mode) (v : ℕ) : Type 0 where
   pub view : v ≤ m.view
@@ -216,7 +216,7 @@ persists p me l i v s x h =
     first-none (chosen p (mode p l) i v s) (first_of (proposal p me l v s) (offered (offer p me (mode p l) i) v s)) (no-chosen p (mode p l) i v s (seen p me l v s x h))
     ∙ first-keeps (proposal p me l v s) (offered (offer p me (mode p l) i) v s) x h
 
--- what is accepted, and what a NewView chooses, is the proposal
+-- an accepted batch, and the choice of a NewView, is the proposal
 
 pub proposed-offer : (p : Params) (me : ℕ) (l : List Said) (i : Said) (a : Slot × Batch) → ◌≡◌ {A = Option (Slot × Batch)} (asked p me l i) (Some a) → proposal p me (i ∷ l) 0 a.0.0 ≡ Some (Value_batch a.1)
 proposed-offer p me l i a h =

@@ -1,4 +1,4 @@
--- The votes that a node keeps: where they come from, and that they are of different nodes.
+-- The stored votes: each was received, and voters are distinct.
 use Rattle.std.proofs.Common.{◌≡◌, ◌<◌, ◌≤◌, ◌+◌, ◌&&◌, ◌∷◌, ◌∙◌, ℕ, zero, suc, Bool, true, false, not, cond, List, [], take, Option, Some, None, refl, sym, ap, subst, inl, inr, arith}
 use Rattle.std.proofs.lemmas.Bool.{eqb-true, false≢true}
 use Rattle.std.specs.Prelude.{◌==◌}
@@ -19,7 +19,7 @@ use Rattle.sb_pbft.specs.Rules.{Ballot, commit_in, commit_of, cons_vote, is_at, 
 use Rattle.sb_pbft.proofs.Basics.{when-is}
 use Rattle.sb_pbft.proofs.Voting.ViewsGrow.{Said, SameInput}
 
--- ---- where they come from
+-- ---- each was received
 
 pub record IsPrepare (p : Params) (v s k : ℕ) (b : Ballot) (i : Said) : Type 0 where
   pub from : NodeId
@@ -97,7 +97,7 @@ commit-of-is p (i ∷ l) v s k b h = elim (first-cases (commit_of p l v s k) (co
   | inr a ↦ (i, inl refl, commit-in-is p i v s k b a.1)
 ]
 
--- ---- who voted for a digest
+-- ---- the voters for a digest
 
 pub record IsVoted (g : ℕ → Option Ballot) (d : List ℕ) (k m : ℕ) (x : Signed) : Type 0 where
   pub ballot : Ballot
@@ -131,7 +131,7 @@ in-voters g d k (suc m) x h = go (in-voters g d (suc k) m x) (g k) refl h
     go r None e i = voted-more g d k m x (r i)
     go r (Some b) e i = with_it r b e (same_bytes d b.digest) refl i
 
--- whoever is named voted
+-- each replica that is listed voted
 pub node-vote : (j : ℕ) (xs : List Signed) → mem j (nodes_of xs) ≡ true → (x : Signed) × In x xs × (x.by.0 ≡ j)
 node-vote j [] h = absurd (false≢true h)
 node-vote j (x ∷ xs) h = elim (mem-cases j x.by.0 (nodes_of xs) h) [
@@ -158,7 +158,7 @@ voters-apart g d k (suc m) = go (voters-apart g d (suc k) m) (g k)
     go r None = r
     go r (Some b) = with_it r b.sig (same_bytes d b.digest)
 
--- ---- the least of them
+-- ---- the first of them
 
 pub in-take : {A : Type 0} (n : ℕ) (x : A) (xs : List A) → In x (take n xs) → In x xs
 in-take zero x xs h = absurd h
