@@ -1,4 +1,4 @@
--- The choice is the certificate of the highest view, of the least node in a tie.
+-- The choice is the value of the certificate of the highest view, of the lowest replica in a tie.
 use Rattle.std.proofs.Common.{◌≡◌, ℕ, suc, ◌<◌, ◌≤◌, Bool, true, false, cond, List, [], ◌∷◌, ◌++◌, arith, refl, inl, inr, sym, ◌∙◌, subst, ap, Option, Some, None}
 use Rattle.std.specs.Prelude.{◌==◌, nat_lt}
 use Rattle.std.proofs.lemmas.Bool.{cases_Bool, eqb-true, eqb-false, eq-eqb, ltb-true, ltb-false}
@@ -31,7 +31,7 @@ certificate-from c (x ∷ xs) h = elim (in_append c x.certificates (certificates
 
 -- ---- the best of a list
 
--- c against what is best behind it
+-- c compared with the best of the rest
 pub data Against (c : Certificate) (o : Option Certificate) : Type 0 where
   alone : o ≡ None → Is (higher c o) c → Against c o
   wins : (e : Certificate) → Is o e → e.view ≤ c.view → Is (higher c o) c → Against c o
@@ -86,7 +86,7 @@ best-max s (d ∷ ds) c (inr i) h = elim (cases_Bool (d.slot.0 == s)) [
     here at r (wins e q l k) = let v = ap (λ (z : Certificate). z.view) (same-one (best s ds) r.0 e r.1 q) in let m = r.2 in (d, best-here s d ds at ∙ k, omega (arith, v, l, m))
     here at r (loses e q l k) = let v = ap (λ (z : Certificate). z.view) (same-one (best s ds) r.0 e r.1 q) in let m = r.2 in (e, best-here s d ds at ∙ k, omega (arith, v, m))
 
--- ---- the best of two lists, one behind the other
+-- ---- the best of two concatenated lists
 
 -- no certificate of the slot in the list is of a higher view
 abbrev NoHigher : ℕ → List Certificate → ℕ → Type 0
@@ -128,7 +128,7 @@ split s (c ∷ cs) ds = elim (cases_Bool (c.slot.0 == s)) [
     other t (front e q i h g) = front e (best-other s c (cs ++ ds) t ∙ q) (inr i) (with-first s c cs e.view (λ at. absurd (eqb-false c.slot.0 s t at)) h) g
     other t (behind q h) = behind (best-other s c (cs ++ ds) t ∙ q) (lower-first s c cs (best s ds) (λ at. absurd (eqb-false c.slot.0 s t at)) h)
 
-    -- c is not below what is best behind it
+    -- c is not below the best of the rest
     first : Is (best s (c ∷ (cs ++ ds))) c → NoHigher s cs c.view → NoHigher s ds c.view → Split s (c ∷ cs) ds
     first q h g = front c q (inl refl) (with-first s c cs c.view (λ at. omega arith) h) g
 
@@ -148,7 +148,7 @@ split s (c ∷ cs) ds = elim (cases_Bool (c.slot.0 == s)) [
 
 -- ---- the choice
 
--- what is best of ViewChanges
+-- the best certificate of ViewChanges
 data Chosen (xs : List Change) (s : ℕ) : Type 0 where
   none : best s (certificates_of xs) ≡ None → ((y : Change) (d : Certificate) → In y xs → In d y.certificates → d.slot.0 ≡ s → ⊥) → Chosen xs s
   some : (e : Certificate) → Is (best s (certificates_of xs)) e → IsHighest xs s e → Chosen xs s

@@ -1,4 +1,4 @@
--- The best of certificates that stand one behind the other.
+-- The best of concatenated lists of certificates.
 use Rattle.std.proofs.Common.{◌≡◌, ℕ, ◌+◌, ◌<◌, Bool, true, false, cond, List, [], ◌∷◌, ◌++◌, length, get_or, take, arith, refl, sym, ◌∙◌, ap, append_assoc, append-nil, Option, Some, None}
 use Rattle.std.specs.Prelude.{◌==◌, nat_lt}
 use Rattle.std.proofs.lemmas.Bool.{eq-eqb, le-ltb, ne_eqb, lt-ltb, ltb-true, ltb-false}
@@ -42,7 +42,7 @@ pub certificates-append : (xs ys : List Change) → certificates_of (xs ++ ys) �
 certificates-append [] ys = refl
 certificates-append (x ∷ xs) ys = ap (λ (z : List Certificate). x.certificates ++ z) (certificates-append xs ys) ∙ sym (append_assoc x.certificates (certificates_of xs) (certificates_of ys))
 
--- ---- one more of a row
+-- ---- one certificate more
 
 best-next : (s : ℕ) (cs : List Certificate) (i : ℕ) (c : Certificate) (o : Option Certificate) → i < length cs → c ≡ get_or cs i c → o ≡ best s (take i cs) → best s (take (i + 1) cs) ≡ further o (best s (c ∷ []))
 best-next s cs i c o lt is h =

@@ -1,4 +1,4 @@
--- What good certificates and ViewChanges have.
+-- The properties of good certificates and ViewChanges.
 use Rattle.std.proofs.Common.{◌≡◌, ℕ, suc, ◌+◌, ◌*◌, ◌<◌, ◌≤◌, Bool, true, false, ◌&&◌, ◌||◌, not, List, [], ◌∷◌, length, arith, refl, inl, inr, sym, ◌∙◌, subst, ap}
 use Rattle.std.specs.Prelude.{◌==◌, nat_lt, nat_le}
 use Rattle.std.proofs.lemmas.Bool.{eqb-true, eq-eqb, leb-true, ltb-true, false≢true, true≢false}
@@ -117,7 +117,7 @@ change-at p v from (y ∷ ys) x h (inr i) =
     let o = r.low in
     record { low = omega (arith, l, o); high = r.high; view = r.view; good = r.good }
 
--- whoever is named made one of them
+-- each replica that is listed sent one of them
 pub maker-at : (j : ℕ) (xs : List Change) → mem j (makers_of xs) ≡ true → (x : Change) × In x xs × (x.node.0 ≡ j)
 maker-at j [] h = absurd (false≢true h)
 maker-at j (x ∷ xs) h = elim (mem-cases j x.node.0 (makers_of xs) h) [

@@ -1,4 +1,4 @@
--- What digests, strings and statements tell.
+-- Digests, strings and statements determine what they are of.
 use Rattle.std.proofs.Common.{◌≡◌, ℕ, true, List, [], ◌∷◌, ◌++◌, length, refl, sym, ap, ◌∙◌, inl, inr, suc}
 use Rattle.sha2.proofs.Facts256.{length-sha256}
 use Rattle.iss_base.specs.Lists.{In}
@@ -19,7 +19,7 @@ use Rattle.pbft_wire.proofs.Fields.{value-again}
 good-same : (x y : Value) → Good x [] ≡ Good y [] → x ≡ y
 good-same x y h = cc
 
--- values that have a spelling are told apart by their strings
+-- distinct values with encodings have distinct strings
 pub one-value : (p : Params) (x y : Value) → fits_value p.setup.version x ≡ true → fits_value p.setup.version y ≡ true → string_of p x ≡ string_of p y → x ≡ y
 one-value p x y h k e =
     let v = p.setup.version in
@@ -43,9 +43,9 @@ at-same p k l v w s t d e h =
     let b = wide-same 7 s t d e a.behind in
     record { kind = a.kind; view = a.number; slot = b.0; digest = b.1 }
 
--- ---- a ViewChange's statement says which certificates it holds
+-- ---- the statement of a ViewChange determines its certificates up to slot, view and digest
 
--- a certificate of that slot, view and digest
+-- there is a certificate of that slot, view and digest
 pub record HasMark (p : Params) (c : Certificate) (cs : List Certificate) : Type 0 where
   pub other : Certificate
   pub stands : In other cs

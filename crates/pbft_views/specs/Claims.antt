@@ -17,7 +17,7 @@ abbrev pub vote_claims : Params → ℕ → ℕ → List ℕ → List Signed →
 vote_claims p v s d [] = []
 vote_claims p v s d (x ∷ xs) = claim x.by.0 (state_at p 2 v s d) x.sig ∷ vote_claims p v s d xs
 
--- of the primary's PrePrepare, and of the Prepares
+-- the claims of a certificate: the primary's PrePrepare, and the Prepares
 abbrev pub certificate_claims : Params → Certificate → List Claim
 certificate_claims p c =
     claim (primary p c.view) (state_at p 1 c.view c.slot.0 (digest_of p c.value)) c.sig ∷ vote_claims p c.view c.slot.0 (digest_of p c.value) c.prepares
@@ -33,7 +33,8 @@ abbrev pub changes_claims : Params → List Change → List Claim
 changes_claims p [] = []
 changes_claims p (x ∷ xs) = change_claims p x.node.0 x.view x.certificates x.sig ++ changes_claims p xs
 
--- the k-th signature of a PrePrepare is over the segment's k-th slot and its choice; those past the slots are no claims
+-- the k-th signature is on the PrePrepare for the choice at the segment's k-th slot; signatures beyond the slots are
+-- no claims
 abbrev pub chosen_claims : Params → ℕ → ℕ → List Change → List Slot → List (List ℕ) → List Claim
 chosen_claims p by v xs [] sigs = []
 chosen_claims p by v xs (s ∷ ss) [] = []

@@ -1,4 +1,4 @@
--- Certificates and ViewChanges have one spelling.
+-- Certificates and ViewChanges have one encoding.
 use Rattle.std.proofs.Common.{◌≡◌, ℕ, ◌&&◌, Bool, true, List, ◌∷◌, ◌++◌, length, append_assoc, refl, sym, ap, ◌∙◌, subst}
 use Rattle.std.specs.Prelude.{nat_le}
 use Rattle.std.specs.Int.{to_be_bytes, w16, w64}

@@ -1,4 +1,4 @@
--- Counts and values in rows of fields have one spelling.
+-- Counts and values have one encoding.
 use Rattle.std.proofs.Common.{◌≡◌, ℕ, ◌^◌, Bool, true, List, [], ◌∷◌, ◌++◌, length, append-nil, refl, sym, ap, ◌∙◌, inl, inr}
 use Rattle.std.specs.Prelude.{nat_le}
 use Rattle.std.specs.Int.{to_be_bytes, w16, w64}
@@ -68,7 +68,7 @@ module _ (version : ℕ) where
   value-fits Nil bytes h = refl
   value-fits (Value_batch b) bytes h = both (nat_le (length b) (requests_most version)) (list_all has_spelling b) (le-leb (length b) (requests_most version) h.0) (spelled-all b h.1)
 
-  -- a value that fits is read from its spelling, and from nothing else
+  -- a well-formed value is read from its encoding, and from nothing else
   pub value-again : (v : Value) (rest : List ℕ) → fits_value version v ≡ true → parse_value version (spell_value version v ++ rest) ≡ Good v rest
   value-again v rest h =
       let grammar = value_grammar version in

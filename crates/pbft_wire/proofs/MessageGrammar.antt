@@ -1,4 +1,4 @@
--- A message has one spelling.
+-- A message has one encoding.
 use Rattle.std.proofs.Common.{zero, suc, ◌≡◌, ℕ, ◌==◌, ◌&&◌, Bool, true, false, List, [], ◌∷◌, ◌++◌, length, append_assoc, refl, sym, ap, ◌∙◌, subst, ◌⊎◌, inl, inr}
 use Rattle.std.specs.Prelude.{nat_le}
 use Rattle.std.specs.Int.{to_be_bytes, w16, w64}
@@ -54,7 +54,7 @@ sigs-parts (suc many) bytes rest sigs e =
       counted = ap suc others.counted;
     })
 
--- a Prepare or a Commit, by what it is made of
+-- a Prepare or a Commit, by its constructor
 record IsAt (make : ℕ → Slot → List ℕ → List ℕ → Message) (bytes rest : List ℕ) (msg : Message) : Type 0 where
   pub view : ℕ
   pub slot : Slot
@@ -103,7 +103,7 @@ at-again make v slot x sig rest e =
     (then_good _ _ _ rest rest sig msg (signature_again sig rest c.1) (done_good msg rest))))
 
 module _ (version : ℕ) where
-  -- ---- ViewChanges in a row
+  -- ---- lists of ViewChanges
 
   node_change-again : (x : Change) (from : ℕ) (rest : List ℕ) → fits_node_change version from x ≡ true → parse_node_change version from (node_change_bytes version x ++ rest) ≡ Good x rest
   unfolding parse_node_change
@@ -126,7 +126,7 @@ module _ (version : ℕ) where
   node_change-exact : IsExact (parse_node_change version) (fits_node_change version) (node_change_bytes version)
   node_change-exact = record { again = node_change-again; parts = node_change-parts }
 
-  -- ---- the five messages. Each behind its number
+  -- ---- the five messages, each after its number
 
   abbrev IsMessage : ℕ → List ℕ → List ℕ → Message → Type 0
   IsMessage kind bytes rest msg = IsText (fits version msg) (message_bytes version msg) (kind ∷ bytes) rest
@@ -289,7 +289,7 @@ module _ (version : ℕ) where
   message-again (ViewChange v cs sig) rest e = kind-again 4 (change_bytes version v cs sig) rest _ refl (change_message-again v cs sig rest e)
   message-again (NewView v xs sigs sig) rest e = kind-again 5 (to_be_bytes w16 v ++ (length xs ∷ (flat_map (node_change_bytes version) xs ++ (length sigs ∷ (flat_map as_is sigs ++ sig))))) rest _ refl (new_view-again v xs sigs sig rest e)
 
-  -- a spelling that is the number of no message
+  -- an encoding that is the number of no message
   none : (rest : List ℕ) → IsBad (parse version (0 ∷ rest))
   none rest = (0, rw parse-is (first_bad (such_that is_known byte) (fields_of version) (0 ∷ rest) 0 (test_failed is_known byte (0 ∷ rest) rest 0 (byte_again 0 rest) refl)))
 
@@ -303,7 +303,7 @@ module _ (version : ℕ) where
     whole = λ msg. whole msg (fits version msg) refl;
   }
 
-  -- what is read from its spelling has one
+  -- a message that is read from its encoding has one
   pub fits-read : (msg : Message) → ((rest : List ℕ) → parse version (spell version msg ++ rest) ≡ Good msg rest) → fits version msg ≡ true
   fits-read msg h = (message-parts (spell version msg ++ []) [] msg (h [])).fits
 

@@ -1,4 +1,4 @@
--- Fields that are written one after the other are the strings and statements.
+-- The written fields, concatenated, are the strings and statements.
 use Rattle.std.proofs.Common.{◌≡◌, ℕ, suc, ◌<◌, ◌^◌, List, [], ◌∷◌, ◌++◌, length, map, append_assoc, refl, ap, ◌∙◌}
 use Rattle.std.specs.Int.{to_be_bytes, w16, w64}
 use Rattle.std.specs.List.{flat_map}
@@ -37,7 +37,7 @@ pub length-marks : (p : Params) (cs : List Certificate) → length (map (mark_of
 length-marks p [] = refl
 length-marks p (c ∷ cs) = ap suc (length-marks p cs)
 
--- a ViewChange's statement by the marks of its certificates
+-- the statement of a ViewChange, from the marks of its certificates
 pub change-written : (p : Params) (v version : ℕ) (ms : List Mark) (cs : List Certificate) (a b c d e : Written) → v < 2 ^ 16 → ms ≡ map (mark_of p) cs → a ≡ and_bytes (start version) (statement_head p 3) → b ≡ and_bytes a (4 ∷ []) →
     c ≡ and_bytes b (to_be_bytes w16 v) → d ≡ and_bytes c (length ms ∷ []) → e ≡ and_bytes d (flat_map mark_bytes ms) → e.bytes ≡ state_change p v cs
 change-written p v version ms cs a b c d e lv hm ha hb hc hd he =

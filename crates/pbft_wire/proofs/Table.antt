@@ -1,4 +1,4 @@
--- What has a spelling is a row of the table, and a row of the table is the spelling.
+-- A message has an encoding exactly if the table relates it to these bytes.
 use Rattle.std.proofs.Common.{◌≡◌, ◌↔◌, ℕ, suc, ◌^◌, ◌==◌, ◌&&◌, Bool, true, List, [], ◌∷◌, ◌++◌, length, append-nil, refl, sym, ap, ◌∙◌, subst}
 use Rattle.std.specs.Prelude.{nat_le}
 use Rattle.std.specs.Int.{to_be_bytes, w16, w64}
@@ -19,7 +19,7 @@ use Rattle.pbft_wire.specs.Messages.{AreSpelledChanges, AreSpelledSignatures, Is
 use Rattle.pbft_wire.proofs.Fields.{value-bytes, value-fits, value-spelled}
 use Rattle.pbft_wire.proofs.MessageGrammar.{message-again, message-parts}
 
--- it has a spelling, which these bytes are
+-- it has an encoding, and these bytes are it
 pub record Spells (ok : Bool) (text bytes : List ℕ) : Type 0 where
   pub fits : ok ≡ true
   pub is : bytes ≡ text
@@ -185,7 +185,7 @@ module _ (version : ℕ) where
             ∙ ap (λ (z : List ℕ). 5 ∷ (to_be_bytes w16 v ++ (length xs ∷ (flat_map (node_change_bytes version) xs ++ (length sigs ∷ (z ++ sig)))))) signed.is;
       }
 
-  -- what is read of bytes, and all of them, is what the table relates to them
+  -- bytes decode as a message exactly if the table relates the two
   pub message-related : (msg : Message) (bytes : List ℕ) → (parse version bytes ≡ Good msg []) ↔ IsSpelledMessage version msg bytes
   message-related msg bytes = (
     (λ h.

@@ -1,4 +1,4 @@
--- Fields that are written one after the other are the message.
+-- The written fields, concatenated, are the encoding of the message.
 use Rattle.std.proofs.Common.{◌≡◌, ℕ, List, [], ◌∷◌, ◌++◌, append_assoc}
 use Rattle.std.specs.Int.{to_be_bytes, w16, w64}
 use Rattle.iss_request.specs.Fields.{Written, and_bytes}

@@ -1,4 +1,4 @@
-//! The messages from their bytes, field by field in the order of the parsers.
+//! Decodes messages, field by field in the order of the parsers.
 ghost use Rattle.std.specs.Int.{w64};
 ghost use Rattle.std.specs.Prelude.{◌≡◌, ℕ, List, nat_le, IfOk, Err};
 ghost use Rattle.iss_request.specs.Fields.{IsRead, IsUnreadable};
@@ -44,7 +44,7 @@ pub(crate) fn slot_follows(last: Option<Slot>, slot: u64) -> bool
     }
 }
 
-// The next node's number, where it rises.
+// Reads the next replica. It has to be above `last`; otherwise it is the bad field.
 fn read_node(last: Option<NodeId>, f: &mut Fields) -> Result<u8, DecodeError>
     ensures ok { IfOk result (λ k. IsRead (such_that (λ n. nat_le (after_node last) n) byte) f.old f.new k) }
     ensures bad { (at : ℕ) → result ≡ Err (DecodeError.BadField at) → IsUnreadable (such_that (λ n. nat_le (after_node last) n) byte) f.old at }
@@ -57,7 +57,7 @@ fn read_node(last: Option<NodeId>, f: &mut Fields) -> Result<u8, DecodeError>
     Ok(node)
 }
 
-// The next slot, where it rises.
+// Reads the next slot. It has to be above `last`; otherwise it is the bad field.
 fn read_slot(last: Option<Slot>, f: &mut Fields) -> Result<u64, DecodeError>
     ensures ok { IfOk result (λ s. IsRead (such_that (λ n. nat_le (after_slot last) n) (number w64)) f.old f.new s) }
     ensures bad { (at : ℕ) → result ≡ Err (DecodeError.BadField at) → IsUnreadable (such_that (λ n. nat_le (after_slot last) n) (number w64)) f.old at }
@@ -113,7 +113,7 @@ fn read_certificates(
     Ok(certificates)
 }
 
-// The ViewChange of a node, behind the node's number.
+// Reads the rest of a replica's ViewChange, after the replica's number.
 fn read_change(alloc: Global, node: NodeId, f: &mut Fields) -> Result<Change, DecodeError>
     ensures ok { IfOk result (λ x. IsRead (parse_change f.old.version node.0) f.old f.new x) }
     ensures bad { (at : ℕ) → result ≡ Err (DecodeError.BadField at) → IsUnreadable (parse_change f.old.version node.0) f.old at }
@@ -171,7 +171,7 @@ fn read_signatures(alloc: Global, many: u8, f: &mut Fields) -> Result<Seq<Bytes>
 
 // ---- messages
 
-/// Reads the message at the front. `BadField` names the first field that does not fit.
+/// Reads the message at the front. `BadField` has the position of the first field that does not decode.
 pub fn read(alloc: Global, f: &mut Fields) -> Result<Message, DecodeError>
     ensures ok { IfOk result (λ m. IsRead (parse f.old.version) f.old f.new m) }
     ensures bad { (at : ℕ) → result ≡ Err (DecodeError.BadField at) → IsUnreadable (parse f.old.version) f.old at }
@@ -204,7 +204,7 @@ fn read_pre_prepare(alloc: Global, f: &mut Fields) -> Result<Message, DecodeErro
     })
 }
 
-// What a Prepare and a Commit say.
+// The fields of a Prepare or a Commit.
 #[derive(Drop)]
 struct At {
     view: u16,
@@ -271,7 +271,7 @@ fn read_view_change(alloc: Global, f: &mut Fields) -> Result<Message, DecodeErro
     ensures ok { IfOk result (λ m. IsRead (parse_view_change f.old.version) f.old f.new m) }
     ensures bad { (at : ℕ) → result ≡ Err (DecodeError.BadField at) → IsUnreadable (parse_view_change f.old.version) f.old at }
 {
-    // Its sender's number stands outside of the message.
+    // The sender is not part of the encoding, so any number will do here.
     let change = read_change(alloc, NodeId(0), f)?;
     let Change {
         view,

@@ -1,4 +1,4 @@
-//! The messages as bytes. What has no spelling is found first, and written as the number of no message.
+//! Encodes messages. A message without an encoding is detected first, and written as the number of no message.
 ghost use Rattle.std.specs.Prelude.{◌≡◌, ◌≤◌, ◌∷◌, ◌++◌, ℕ, List, true, length, OnOk};
 ghost use Rattle.std.specs.List.{flat_map, list_all};
 ghost use Rattle.iss_request.specs.Fields.{and_bytes};
@@ -17,7 +17,7 @@ use iss_request::{
 };
 use iss_sb::{are_signers, put_signers};
 
-// ---- what has a spelling
+// ---- which messages have an encoding
 
 fn requests_fit(requests: &[Request]) -> bool
     ensures { result ≡ list_all has_spelling requests.now }
@@ -39,7 +39,7 @@ fn value_fits(version: u8, value: &Value) -> bool
 fn certificate_fits(version: u8, c: &Certificate) -> bool
     ensures { result ≡ fits_certificate version c.now }
 {
-    // Their ranges are part of the answer.
+    // The ranges of these fields are part of the contract.
     let _slot = c.slot.0;
     let _view = c.view;
     value_fits(version, &c.value)
@@ -337,8 +337,8 @@ fn put_message(msg: &Message, out: &mut Writer) -> Result<(), NoMemory>
     }
 }
 
-/// Writes a message: its number, its fields, its signature. One that has no spelling is written as bytes that no reader
-/// takes.
+/// Writes a message: its number, its fields, its signature. A message without an encoding (such as one with slots
+/// that do not ascend) is written as bytes that do not decode.
 // rule: PBFT: A message has one encoding, with replicas and slots strictly ascending
 pub fn write(msg: &Message, out: &mut Writer) -> Result<(), NoMemory>
     ensures { OnOk result (out.new ≡ and_bytes out.old (spell out.old.version msg.now)) }

@@ -1,4 +1,4 @@
--- What holds of one node's list, if each item is what the rules make.
+-- Facts about one node's history in which each step is what the rules make.
 use Rattle.std.proofs.Common.{◌≡◌, ◌+◌, ℕ, Bool, true, false, ◌&&◌, ◌==◌, not, if◌then◌else◌, List, [], ◌∷◌, Option, Some, None, is_some, refl, sym, ap, ◌∙◌, subst, inl, inr, ◌⊎◌, arith, true≢false}
 use Rattle.std.proofs.lemmas.Bool.{leb-true, le-leb}
 use Rattle.iss_base.specs.Lists.{In, same_bytes}
@@ -27,7 +27,7 @@ use Rattle.iss_base.proofs.Quorum.{count-mono, or_right_true}
 abbrev pub Same : Input Word → Input Word → Type 0
 Same x y = x ≡ y
 
--- ---- what is asked for
+-- ---- accepted batches
 
 pub none-is : {A : Type 0} (o : Option A) → not (is_some o) ≡ true → o ≡ None
 none-is None h = refl
@@ -40,7 +40,7 @@ pub record IsOpen (p : Params) (s : ℕ) (xs : List (Item Word)) : Type 0 where
 open-is : (p : Params) (s : ℕ) (xs : List (Item Word)) → is_open p s xs ≡ true → IsOpen p s xs
 open-is p s xs h = let t = and-true (has_slot s p.slots) (not (is_some (taken s xs))) h in record { within = t.0; fresh = none-is (taken s xs) t.1 }
 
--- the leader's word on a slot
+-- the leader's batch for a slot
 pub record IsTold (p : Params) (i : Input Word) (a : Slot × Batch) : Type 0 where
   pub sig : List ℕ
   pub input : Same i (Receive p.leader (Say a.0 a.1 sig))
@@ -74,7 +74,7 @@ asked p me xs (Receive from (Say slot batch sig)) a h = go ((from.0 == p.leader.
         subst (λ (z : Slot × Batch). IsAsked p me xs (Receive from (Say slot batch sig)) z) (some-injective {A = Slot × Batch} (slot, batch) a r)
         (record { free = open-is p slot.0 xs t.1; cause = inr (record { sig = sig; input = ap (λ (k : NodeId). Receive k (Say slot batch sig)) leader }) })
 
--- ---- what is made
+-- ---- effects
 
 pub accepted-is : (p : Params) (me leaf : ℕ) (cast : Bool) (o : Option (Slot × Batch)) → (made_of p me leaf cast o).accepted ≡ o
 accepted-is p me leaf cast None = refl
@@ -85,7 +85,7 @@ made-accepted p me x xs a made h =
     let is : x.made ≡ makes p me xs x.input x.leaf = made.0 in
     sym (accepted-is p me x.leaf (is_cast x.input) (asks p me xs x.input)) ∙ sym (ap (λ (z : Made Word). z.accepted) is) ∙ h
 
--- ---- what was taken
+-- ---- the batch of a slot
 
 batch_for-is : (s : ℕ) (o : Option (Slot × Batch)) (b : Batch) → batch_for s o ≡ Some b → ◌≡◌ {A = Option (Slot × Batch)} o (Some (record { 0 = s }, b))
 batch_for-is s None b h = absurd (cc)
@@ -98,7 +98,7 @@ batch_for-is s (Some a) b h = go (a.0.0 == s) refl h
         let batches : a.1 ≡ b = some-injective a.1 b r in
         ap (λ (z : Slot). let o : Option (Slot × Batch) = Some (z, a.1) in o) slots ∙ ap (λ (z : Batch). let o : Option (Slot × Batch) = Some (record { 0 = s }, z) in o) batches
 
--- what was taken at a slot was accepted there
+-- the batch of a slot was accepted there
 pub taken-accepted : (xs : List (Item Word)) (s : ℕ) (b : Batch) → taken s xs ≡ Some b → In {A = Slot × Batch} (record { 0 = s }, b) (accepts xs)
 taken-accepted [] s b h = absurd (cc)
 taken-accepted (x ∷ xs) s b h = elim (first-cases (taken s xs) (batch_for s x.made.accepted) b h) [
@@ -106,7 +106,7 @@ taken-accepted (x ∷ xs) s b h = elim (first-cases (taken s xs) (batch_for s x.
   | inr a ↦ accepts-new x xs (record { 0 = s }, b) (batch_for-is s x.made.accepted b a.1)
 ]
 
--- and what is accepted was taken, since nothing had been
+-- an accepted batch is that of its slot, since there was none
 pub accepted-taken : (p : Params) (me : ℕ) (xs : List (Item Word)) (a : Slot × Batch) → AreMade echo p me xs → In a (accepts xs) → taken a.0.0 xs ≡ Some a.1
 accepted-taken p me [] a made h = absurd h
 accepted-taken p me (x ∷ xs) a made h = elim (accepts-cases x xs a h) [
@@ -119,7 +119,7 @@ accepted-taken p me (x ∷ xs) a made h = elim (accepts-cases x xs a h) [
 pub once : (p : Params) (me : ℕ) (xs : List (Item Word)) (s : Slot) (b c : Batch) → AreMade echo p me xs → In {A = Slot × Batch} (s, b) (accepts xs) → In {A = Slot × Batch} (s, c) (accepts xs) → b ≡ c
 once p me xs s b c made h k = some-injective b c (sym (accepted-taken p me xs (s, b) made h) ∙ accepted-taken p me xs (s, c) made k)
 
--- ---- where what was accepted comes from, and what goes out with it
+-- ---- the origin of accepted batches, and what is sent for them
 
 pub record IsAccepted (p : Params) (me : ℕ) (xs : List (Item Word)) (a : Slot × Batch) : Type 0 where
   pub item : Item Word
@@ -137,7 +137,7 @@ accepted-cause p me (x ∷ xs) a made h = elim (accepts-cases x xs a h) [
   | inr k ↦ let r = accepted-cause p me xs a made.1 k in record { item = r.item; stands = inr r.stands; cause = r.cause; hashed = r.hashed }
 ]
 
--- a message whose claims state the digest of what was accepted
+-- a message with a claim on the digest of the accepted batch
 pub record IsSentFor (p : Params) (me : ℕ) (xs : List (Item Word)) (msg : Word) : Type 0 where
   pub accepted : Slot × Batch
   pub stands : In accepted (accepts xs)
@@ -205,7 +205,7 @@ has_echo-is s d k (x ∷ xs) h = elim (or-cases (is_echo s d k x.input) (has_ech
   | inr a ↦ let r = has_echo-is s d k xs a in (r.0, inr r.1, r.2)
 ]
 
--- ---- what is decided
+-- ---- decided values
 
 pub record IsDecided (p : Params) (xs : List (Item Word)) (s : ℕ) (v : Value) : Type 0 where
   pub batch : Batch

@@ -1,4 +1,4 @@
--- One echo more, as the set of those that were heard tells it.
+-- One echo more in the set of received echoes.
 use Rattle.std.proofs.Common.{◌≡◌, Bool, true, false, ◌==◌, ◌&&◌, refl, ap, ◌∙◌}
 use Rattle.std.specs.Cmp.Lexicographic.{slice_cmp}
 use Rattle.std.specs.Ordering.{is_eq, nat_cmp, ordering_then}

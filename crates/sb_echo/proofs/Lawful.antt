@@ -1,4 +1,4 @@
--- The laws of echo's single steps.
+-- The laws of single steps hold of echo.
 use Rattle.std.proofs.Common.{◌≡◌, ◌≤◌, ◌<◌, ◌+◌, ◌^◌, ℕ, Bool, true, false, List, ◌∷◌, ◌++◌, length, Option, Some, None, refl, sym, ap, subst, inl, inr, arith}
 use Rattle.sha2.proofs.Facts256.{length-sha256}
 use Rattle.iss_base.specs.Lists.{In}
@@ -34,7 +34,7 @@ named p from (Echo slot d sig) c (inr h) = absurd h
 no-word : (s : Slot) (b : Batch) (from : NodeId) (msg : Word) → Same (Cast s b) (Receive from msg) → ⊥
 no-word s b from msg h = cc
 
--- a cast that is asked for is the leader's
+-- only the leader accepts a cast
 own : (p : Params) (me : ℕ) (xs : List (Item Word)) (s : Slot) (b : Batch) (x : Slot × Batch) → asks p me xs (Cast s b) ≡ Some x → IsOwn p me (Cast s b) x
 own p me xs s b x h = elim (asked p me xs (Cast s b) x h).cause [
   | inl o ↦ o
@@ -56,7 +56,7 @@ used-is p me leaf false (Some a) = omega arith
 one-all : (k : NodeId) → To_one k ≡ To_all → ⊥
 one-all k h = cc
 
--- echo sends to all alone
+-- echo sends only to all
 to-all : (p : Params) (me leaf : ℕ) (cast : Bool) (o : Option (Slot × Batch)) (k : NodeId) (msg : Word) → In {A = To × Word} (To_one k, msg) (made_of p me leaf cast o).sends → ⊥
 to-all p me leaf cast None k msg h = h
 to-all p me leaf true (Some a) k msg (inl e) = one-all k (ap (λ (z : To × Word). z.0) e)
@@ -65,9 +65,9 @@ to-all p me leaf true (Some a) k msg (inr (inr h)) = h
 to-all p me leaf false (Some a) k msg (inl e) = one-all k (ap (λ (z : To × Word). z.0) e)
 to-all p me leaf false (Some a) k msg (inr h) = h
 
--- ---- what is sent is read again
+-- ---- what is sent decodes
 
--- a batch that is asked for with an input that is read again is read again
+-- the batch of an input that decodes decodes
 asked-read : (p : Params) (me : ℕ) (xs : List (Item Word)) (i : Input Word) (a : Slot × Batch) → IsHeard echo p i → asks p me xs i ≡ Some a → IsReadBatch p a.1
 asked-read p me xs i a heard h = elim (asked p me xs i a h).cause [
   | inl own ↦ subst (λ (z : Input Word). IsHeard echo p z) own.input heard

@@ -1,4 +1,4 @@
--- What echo's places and tests say of the lists that it stands for.
+-- The state and tests of echo agree with the history that they represent.
 use Rattle.std.proofs.Common.{◌≡◌, ◌≢◌, ℕ, zero, suc, Bool, true, false, ◌&&◌, ◌==◌, if◌then◌else◌, List, ◌∷◌, Option, Some, None, is_some, refl, sym, ap, ◌∙◌, subst, inl, inr, arith, true≢false}
 use Rattle.iss_base.specs.Lists.{In, same_bytes}
 use Rattle.iss_base.specs.Quorum.{count_below}
@@ -32,7 +32,7 @@ some-place p None v = refl
 some-place p (Some b) None = refl
 some-place p (Some b) (Some v) = refl
 
--- a test that is not passed by an equal number is passed by none
+-- equal numbers pass the same tests
 pub apart : (a s : ℕ) → (a == s) ≡ false → s ≢ a
 apart a s h e = true≢false (sym (same-is a s (sym e)) ∙ h)
 
@@ -43,7 +43,7 @@ other a s ne = go (a == s) refl
     go true q = absurd (ne (sym (is-same a s q)))
     go false q = refl
 
--- ---- what is decided with an input more
+-- ---- what is decided with one input more
 
 -- the input is no echo at a slot of the segment
 abbrev pub IsQuiet : Params → ℕ → Input Word → Type 0
@@ -62,7 +62,7 @@ decide-quiet p s x xs quiet (Some b) = go (has_slot s p.slots) refl
         let same = count-alike (λ k. has_echo s (digest_of p b) k (x ∷ xs)) (λ k. has_echo s (digest_of p b) k xs) p.setup.n (λ k. quiet-echo s (digest_of p b) k x xs (quiet q (digest_of p b) k)) in
         rw same refl
 
--- an echo is none at another slot
+-- an echo does not count at another slot
 pub echo-apart : (from : NodeId) (slot : Slot) (d sig : List ℕ) (s : ℕ) (e : List ℕ) (k : ℕ) → (slot.0 == s) ≡ false → is_echo s e k (Receive from (Echo_word slot d sig)) ≡ false
 echo-apart from slot d sig s e k h = rw h (never (from.0 == k))
   where

@@ -1,4 +1,4 @@
--- Each leaf that signs in a step of echo is of one statement, and no claim is passed on.
+-- Each leaf signs one statement in a step of echo, and no claim is forwarded.
 use Rattle.std.proofs.Common.{◌≡◌, ◌∙◌, ◌+◌, ℕ, Bool, true, false, List, [], ◌∷◌, length, Option, Some, None, refl, sym, ap, subst, inl, inr, add-zero}
 use Rattle.std.specs.Prelude.{slice_get}
 use Rattle.iss_base.specs.Lists.{In}

@@ -1,5 +1,5 @@
--- The premises can be met: a world that moves lead to, with a Byzantine node, in which claims were signed and a slot
--- was delivered.
+-- The premises can be met: a reachable world with a Byzantine node, in which claims were signed and a slot was
+-- delivered.
 use Rattle.std.proofs.Common.{◌≡◌, ◌<◌, ◌^◌, ℕ, Bool, true, false, cond, eqb, List, [], ◌∷◌, Some, refl, sym, ap, ◌∙◌, subst, inl, inr, arith, true≢false}
 use Rattle.sha2.specs.Sha256.{sha256, digest_bytes, hash_after, compress, rounds, schedule, first_words}
 use Rattle.iss_base.specs.Lists.{In, same_bytes}
@@ -47,7 +47,7 @@ good = record {
   directory = refl;
 }
 
--- ---- worlds in which the nodes 0 and 1 took something
+-- ---- worlds in which the nodes 0 and 1 have a history
 
 abbrev world : List (Item Word) → List (Item Word) → World Word
 world xs ys i = cond (eqb i 0) xs (cond (eqb i 1) ys [])
@@ -62,7 +62,7 @@ first-move input leaf may = record { node = 0; correct = refl; input = input; ma
 move-one : (xs ys : List (Item Word)) (input : Input Word) (leaf : ℕ) → MayCome echo p (world xs ys) 1 input → Move echo p (world xs ys) (world xs (and_then echo p 1 ys input leaf))
 move-one xs ys input leaf may = record { node = 1; correct = refl; input = input; may = may; leaf = leaf; takes = refl; others = λ i ne. rw (eqb-other i 1 ne) refl }
 
--- ---- what may come
+-- ---- deliveries
 
 abbrev IsRead : Word → Type 0
 IsRead msg = IsReadMessage echo p msg
@@ -76,7 +76,7 @@ said-read = say-again 1 (slot 0) b (sig 0 1 5) (omega arith) (signature-shape ec
 echo-read : (k : ℕ) → IsRead (Echo (slot 0) d (sig k 2 0))
 echo-read k = echo-again 1 (slot 0) d (sig k 2 0) (omega arith) (digest-length p b) (signature-shape echo p good k 0 (statement p 2 0 d))
 
--- what a key signs verifies
+-- a signature by the key verifies
 verified-by : (k kind leaf : ℕ) → k < 4 → leaf < 2 ^ 4 → Verifies p (claim k (statement p kind 0 d) (sig k kind leaf))
 verified-by k kind leaf below few = signature-verifies echo p good k leaf (statement p kind 0 d) below few
 
@@ -94,7 +94,7 @@ claimed w k msg st sig l e r v s = record { named = l; read = r; verified = λ c
     shown c (inl q) r = subst (λ (z : Claim). is_correct setup z.by.0 ≡ true → IsSigned echo p w z.by.0 z.statement) (sym q) s r
     shown c (inr h) r = absurd h
 
--- ---- the run: node 0 casts, node 1 takes its word and the echoes of nodes 0, 1 and 3
+-- ---- the run: node 0 casts, node 1 receives its batch and the echoes of nodes 0, 1 and 3
 
 abbrev w1 : World Word
 w1 = world cast []
@@ -123,7 +123,7 @@ echo-signed ys = signed-by (world cast ys) 0 _ (Echo (slot 0) d (sig 0 2 6)) (st
 own-signed : IsSigned echo p w3 1 (statement p 2 0 d)
 own-signed = signed-by w3 1 _ (Echo (slot 0) d (sig 1 2 9)) (statement p 2 0 d) (sig 1 2 9) (inr (inl refl)) (inl refl) refl
 
--- what a Byzantine node claims nobody has to have signed
+-- a Byzantine node's claim need not be signed in the history
 none-signed : is_correct setup 3 ≡ true → IsSigned echo p w4 3 (statement p 2 0 d)
 none-signed h = absurd (true≢false (sym h))
 
@@ -142,7 +142,7 @@ delivers : delivered echo p 1 (w5 1) 0 ≡ Some (Value_batch b)
 unfolding sha256 digest_bytes hash_after compress rounds schedule first_words spell_batch spell_count spell_value
 delivers = refl
 
--- ---- its strings are separate: it hashed one
+-- ---- no two of its strings have one digest: it hashed one
 
 abbrev OnlyIn : List (List ℕ) → Type 0
 OnlyIn [] = Unit {0}
@@ -197,6 +197,6 @@ record ArePremisesMet : Type 0 where
 premises-met : ArePremisesMet
 premises-met = record { params = p; world_of = w5; are_good = good; is_reached = reached; are_separate = separate; was_signed = echo-signed (echo_from 3 (echo_from 1 (echo_from 0 word))); was_delivered = delivers }
 
--- and what the laws give of it
+-- what the laws say of it
 its-broadcast : IsBroadcast echo p w5
 its-broadcast = echo-safe p w5 good reached separate

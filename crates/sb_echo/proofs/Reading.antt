@@ -1,4 +1,4 @@
--- A message that is read field by field is what the parser finds.
+-- Reading a message field by field is what the parser does.
 use Rattle.std.proofs.Common.{◌≡◌, ℕ, Bool, ◌==◌, ◌||◌, if◌then◌else◌, refl}
 use Rattle.iss_request.specs.Fields.{IsRead, IsUnreadable, Reading}
 use Rattle.iss_request.specs.Parsing.{Parser, byte}

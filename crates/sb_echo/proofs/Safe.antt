@@ -1,5 +1,5 @@
--- Legal lists make a broadcast: a quorum of echoes decides, and two quorums share a correct node, which took one batch
--- a slot.
+-- Legal histories are a Sequenced Broadcast: a quorum of echoes decides, two quorums share a correct node, and this
+-- accepted one batch for a slot.
 use Rattle.std.proofs.Common.{◌≡◌, ◌≤◌, ℕ, Bool, true, List, Some, refl, sym, ap, ◌∙◌, subst, inl, inr, arith}
 use Rattle.std.proofs.lemmas.Bool.{leb-true}
 use Rattle.iss_base.specs.Lists.{In}
@@ -34,7 +34,7 @@ record Took (p : Params) (w : World Word) (k s : ℕ) (d : List ℕ) : Type 0 wh
   pub stands : In {A = Slot × Batch} (record { 0 = s }, batch) (accepts (w k))
   pub is : digest_of p batch ≡ d
 
--- what a delivered value rests on
+-- what a delivered value follows from
 record Rests (p : Params) (w : World Word) (i s : ℕ) (v : Value) : Type 0 where
   pub batch : Batch
   pub value : v ≡ Value_batch batch
@@ -42,14 +42,14 @@ record Rests (p : Params) (w : World Word) (i s : ℕ) (v : Value) : Type 0 wher
   pub enough : p.setup.quorum ≤ count_below (λ k. has_echo s (digest_of p batch) k (w i)) p.setup.n
 
 module _ (p : Params) (w : World Word) (legal : IsLegal echo p w) where
-  -- who signed a slot and a digest took a batch of that digest there
+  -- a correct node that signed a slot and a digest accepted a batch of this digest there
   signed-took : (k kind s : ℕ) (d : List ℕ) → IsSigned echo p w k (statement p kind s d) → Took p w k s d
   signed-took k kind s d h =
       let r = sent-for p k (w k) h.item h.to h.msg (legal.made k) h.taken h.sent in
       let same = statement-same 7 p tag r.kind kind r.accepted.0.0 s (digest_of p r.accepted.1) d (sym (r.states h.claim h.made) ∙ h.is) in
       subst (λ (t : ℕ). Took p w k t d) same.number (record { batch = r.accepted.1; stands = r.stands; is = same.behind })
 
-  -- what came to a node
+  -- what a node received
   came-signed : (i : ℕ) (x : Item Word) (from : NodeId) (msg : Word) → In x (w i) → x.input ≡ Receive from msg → IsCredible echo p (Verifies p) (IsSigned echo p w) from.0 msg
   came-signed i x from msg h q = subst (λ (y : Input Word). MayCome echo p w i y) q (legal.came i x h)
 
@@ -72,7 +72,7 @@ module _ (p : Params) (w : World Word) (legal : IsLegal echo p w) where
       let c = came-signed i x p.leader (Say a.0 a.1 t.sig) h t.input in
       signed-took p.leader.0 1 a.0.0 (digest_of p a.1) (c.signed (claim p.leader.0 (statement p 1 a.0.0 (digest_of p a.1)) t.sig) (inl refl) correct)
 
-  -- what was accepted has a spelling: it was cast so, or read
+  -- an accepted batch has an encoding: it was cast so, or decoded
   accepted-read : (i : ℕ) (a : Slot × Batch) → In a (accepts (w i)) → IsReadBatch p a.1
   accepted-read i a h =
       let r = accepted-cause p i (w i) a (legal.made i) h in
@@ -90,11 +90,11 @@ module _ (p : Params) (w : World Word) (legal : IsLegal echo p w) where
   one i s b c h k = once p i (w i) s b c (legal.made i) h k
 
   module _ (sep : Separate (IsString w)) where
-    -- batches of one digest that were accepted at a slot are one
+    -- accepted batches of one slot with one digest are equal
     same-batch : (i j : ℕ) (s : Slot) (b c : Batch) → In {A = Slot × Batch} (s, b) (accepts (w i)) → In {A = Slot × Batch} (s, c) (accepts (w j)) → digest_of p b ≡ digest_of p c → b ≡ c
     same-batch i j s b c h k e = one-batch p b c (accepted-read i (s, b) h) (sep (string_of p b) (string_of p c) (a-string i (s, b) h) (a-string j (s, c) k) e)
 
-    -- what a node took of the digest of a batch that another accepted is that batch
+    -- if a node accepted a batch with the digest of a batch that another accepted, they are equal
     took-is : (k i s : ℕ) (b : Batch) → Took p w k s (digest_of p b) → In {A = Slot × Batch} (record { 0 = s }, b) (accepts (w i)) → In {A = Slot × Batch} (record { 0 = s }, b) (accepts (w k))
     took-is k i s b t h =
         let same = same-batch k i (record { 0 = s }) t.batch b t.stands h t.is in
@@ -129,7 +129,7 @@ module _ (p : Params) (w : World Word) (legal : IsLegal echo p w) where
             second = took-is m.node j t.0 c (echo-took j t.0 (digest_of p c) m.node m.second m.correct) k;
           }
 
-      -- what a correct leader's segment delivers, the leader had accepted
+      -- a correct leader accepted what its segment delivers
       owned : (i : ℕ) (s : Slot) (b : Batch) → is_correct p.setup p.leader.0 ≡ true → In {A = Slot × Batch} (s, b) (accepts (w i)) → In {A = Slot × Batch} (s, b) (accepts (w p.leader.0))
       owned i s b correct h =
           let r = accepted-cause p i (w i) (s, b) (legal.made i) h in
@@ -141,7 +141,7 @@ module _ (p : Params) (w : World Word) (legal : IsLegal echo p w) where
       holds-is : (b c : Batch) → Value_batch b ≡ Value_batch c → b ≡ c
       holds-is b c e = cc
 
-      -- a batch that is delivered
+      -- a delivered batch
       record Lies (i : ℕ) (s : Slot) (b : Batch) : Type 0 where
         pub stands : In {A = Slot × Batch} (s, b) (accepts (w i))
         pub enough : p.setup.quorum ≤ count_below (λ k. has_echo s.0 (digest_of p b) k (w i)) p.setup.n

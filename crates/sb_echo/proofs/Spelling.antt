@@ -1,4 +1,4 @@
--- A message has one spelling.
+-- A message has one encoding.
 use Rattle.std.proofs.Common.{◌≡◌, ℕ, ◌+◌, ◌-◌, ◌^◌, ◌<◌, ◌==◌, ◌&&◌, ◌||◌, Bool, true, false, if◌then◌else◌, List, [], ◌∷◌, ◌++◌, length, append_assoc, refl, sym, ap, ◌∙◌, subst, ◌⊎◌, ◌↔◌, inl, inr, true≢false}
 use Rattle.std.specs.Prelude.{nat_lt}
 use Rattle.std.specs.Int.{to_be_bytes, w64}
@@ -20,7 +20,7 @@ use Rattle.sb_echo.specs.declared.word.Word.{Word}
 use Rattle.sb_echo.specs.declared.word.Word.TheVariants.{Say, Echo}
 use Rattle.sb_echo.specs.Echo.{IsSpelledWord, parse, parse_echo, parse_say, spell}
 
--- by a version of the formats
+-- in one version of the formats
 module _ (version : ℕ) where
   -- ---- the parts of the parser
 
@@ -60,7 +60,7 @@ module _ (version : ℕ) where
   unfolding parse_echo
   parse_echo-is = refl
 
-  -- ---- what has a spelling
+  -- ---- which messages have an encoding
 
   abbrev fits-say : Slot → List ℕ → Bool
   fits-say slot sig = nat_lt slot.0 (2 ^ 64) && is_signature sig
@@ -84,7 +84,7 @@ module _ (version : ℕ) where
   both : (a b : Bool) → a ≡ true → b ≡ true → (a && b) ≡ true
   both a b p q = rw (p, q) refl
 
-  -- ---- what is read is spelled so
+  -- ---- what decodes has this encoding
 
   say-only : (bytes rest : List ℕ) (msg : Word) → parse_say version bytes ≡ Good msg rest → 1 ∷ bytes ≡ spell version msg ++ rest
   say-only bytes rest msg h =
@@ -136,12 +136,12 @@ module _ (version : ℕ) where
           let read : parse_echo mid ≡ Good msg rest = rw q at r in
           ap (λ (x : ℕ). x ∷ mid) two ∙ echo-only mid rest msg read
 
-  -- ---- what is spelled is read
+  -- ---- an encoding decodes
 
   abbrev Whole : Word → Type 0
   Whole msg = ((rest : List ℕ) → parse version (spell version msg ++ rest) ≡ Good msg rest) ⊎ ((rest : List ℕ) → IsBad (parse version (spell version msg ++ rest)))
 
-  -- a spelling that is the number of no message
+  -- an encoding that is the number of no message
   none : (rest : List ℕ) → IsBad (parse version (0 ∷ rest))
   none rest = (0, rw parse-is (first_bad (such_that known byte) after_message (0 ∷ rest) 0 (test_failed known byte (0 ∷ rest) rest 0 (byte_again 0 rest) refl)))
 
@@ -216,7 +216,7 @@ module _ (version : ℕ) where
   good-bad : (m : Word) (rest : List ℕ) (at : ℕ) → Good m rest ≡ Bad at → ⊥
   good-bad m rest at h = cc
 
-  -- the batch of a word that is read as it is spelled is read so too
+  -- if a message decodes from its encoding, so does its batch
   pub say-read : (slot : Slot) (batch : Batch) (sig : List ℕ) → IsReadAgain (spell version) (parse version) (Say slot batch sig) → IsReadAgain (spell_value version) (parse_value version) (Value_batch batch)
   say-read slot batch sig h = go (fits-say slot sig) refl
     where
@@ -233,7 +233,7 @@ module _ (version : ℕ) where
             | inr bad ↦ absurd (never (say-bad slot batch sig lt t.1 q [] (bad (sig ++ []))))
           ]
 
-  -- what has a spelling is read again
+  -- a message with an encoding decodes
   pub say-again : (slot : Slot) (batch : Batch) (sig : List ℕ) → slot.0 < 2 ^ 64 → is_signature sig ≡ true → IsReadAgain (spell_value version) (parse_value version) (Value_batch batch) → IsReadAgain (spell version) (parse version) (Say slot batch sig)
   say-again slot batch sig lt shape h rest = say-good slot batch sig lt shape (both (nat_lt slot.0 (2 ^ 64)) (is_signature sig) (lt-ltb slot.0 (2 ^ 64) lt) shape) rest (h (sig ++ rest))
 

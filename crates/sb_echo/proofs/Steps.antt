@@ -1,4 +1,4 @@
--- Each rule's step from a list that echo stands for.
+-- Each rule's step, from a state that represents a history.
 use Rattle.std.proofs.Common.{◌≡◌, ◌+◌, ℕ, Bool, true, false, not, ◌&&◌, ◌||◌, ◌==◌, if◌then◌else◌, List, [], ◌∷◌, Option, Some, None, is_some, refl, sym, ap, ◌∙◌, subst, ◌↔◌, IsTrue, true≢false}
 use Rattle.std.specs.Prelude.{nat_le}
 use Rattle.iss_base.specs.Lists.{first_of, same_bytes}
@@ -29,7 +29,7 @@ use Rattle.sb_echo.proofs.Bytes.{is-same, same-is}
 use Rattle.sb_echo.proofs.Facts.{accepted-is, decided-stays, none-is}
 use Rattle.sb_echo.proofs.Marks.{IsQuiet, count-alike, decide-quiet, delivers-at, echo-apart, newly, other, some-place}
 
--- what was taken out of a slot is what is decided now, and was not before; what was taken there is o
+-- the value that is delivered is decided now, and was not before; the batch that was accepted there is o
 record IsAt (p : Params) (o : Option Batch) (before now out : Option Value) : Type 0 where
   pub value : out ≡ newly before now
   pub place : (if is_some out then Some Delivered else place_for p o before) ≡ place_for p o now
@@ -140,7 +140,7 @@ module _ (m : Echo) (p : Params) (me : ℕ) (xs : List (Item Word)) (st : Refine
   pub idle_echo-taken : (from : NodeId) (slot : Slot) (d sig : List ℕ) (leaf : ℕ) (e : Effects Word) → has_slot slot.0 p.slots ≡ false → IsNothing e → IsTaken echo p me xs (Receive from (Echo_word slot d sig)) leaf e
   idle_echo-taken from slot d sig leaf e out nothing = idle-taken (Receive from (Echo_word slot d sig)) leaf e refl (outside-quiet from slot d sig out) nothing
 
-  -- ---- a batch that is taken, with an input that is no echo
+  -- ---- an input that is no echo and makes the node accept a batch
 
   record IsFree (s : ℕ) : Type 0 where
     pub within : has_slot s p.slots ≡ true
@@ -297,7 +297,7 @@ module _ (m : Echo) (p : Params) (me : ℕ) (xs : List (Item Word)) (st : Refine
           (λ s ne. elsewhere s (other slot.0 s ne)) e.delivers delivers;
     }
 
-  -- ---- how many leaves are used
+  -- ---- the number of leaves used
 
   pub cast-used : (slot : Slot) (batch : Batch) (leaf : ℕ) (b : Bool) → may_cast m p slot ≡ b → (makes p me xs (Cast slot batch) leaf).used ≡ (if b then 2 else 0)
   cast-used slot batch leaf b h = ap (λ (o : Option (Slot × Batch)). (made_of p me leaf true o).used) (asks-as-cast slot batch b h) ∙ go b
@@ -313,7 +313,7 @@ module _ (m : Echo) (p : Params) (me : ℕ) (xs : List (Item Word)) (st : Refine
       go true = refl
       go false = refl
 
-  -- ---- what the trait's tests answer
+  -- ---- the tests of the trait
 
   no-some : (a : Slot × Batch) → ◌≡◌ {A = Option (Slot × Batch)} None (Some a) → ⊥
   no-some a h = cc
@@ -334,11 +334,11 @@ module _ (m : Echo) (p : Params) (me : ℕ) (xs : List (Item Word)) (st : Refine
   pub asks-of-say : (i : Input Word) (from : NodeId) (msg : Word) (slot : Slot) (batch : Batch) (sig : List ℕ) (b : Bool) → i ≡ Receive from msg → msg ≡ Say slot batch sig → may_take m p from slot ≡ b → asks p me xs i ≡ (if b then Some (slot, batch) else None)
   asks-of-say i from msg slot batch sig b e q h = ap (λ (i : Input Word). asks p me xs i) (e ∙ ap (λ (w : Word). Receive from w) q) ∙ asks-as-say from slot batch sig b h
 
--- nothing taken yet
+-- the initial state
 pub start-refines : (m : Echo) (p : Params) (me : ℕ) → m.me.0 ≡ me → m.places.entries ≡ [] → ((s : ℕ) (d : List ℕ) (k : ℕ) → has m.heard s d k ≡ false) → Refines m p me []
 start-refines m p me same none unheard = record { node = same; places = λ s. rw none refl; heard = λ s d k within. unheard s d k }
 
--- ---- what is sent
+-- ---- messages
 
 pub echoed-words : (p : Params) (me leaf : ℕ) (slot : Slot) (batch : Batch) (d sig : List ℕ) → d ≡ digest_of p batch → sig ≡ signature p me leaf (statement p 2 slot.0 d) →
     ◌≡◌ {A = List (To × Word)} ((To_all, Echo_word slot d sig) ∷ []) (words p me leaf false (slot, batch))

@@ -1,4 +1,4 @@
--- Fields that are written one after the other are the strings, statements and messages.
+-- The written fields, concatenated, are the strings, statements and messages.
 use Rattle.std.proofs.Common.{◌≡◌, ◌<◌, ◌^◌, ℕ, true, List, [], ◌∷◌, ◌++◌, length, append_assoc, refl}
 use Rattle.std.specs.Int.{to_be_bytes, w64}
 use Rattle.std.proofs.lemmas.Bool.{lt-ltb}
@@ -19,7 +19,7 @@ start version = record { version = version; bytes = [] }
 pub statement-written : (p : Params) (kind s : ℕ) (digest : List ℕ) (version : ℕ) (a b c d : Written) → s < 2 ^ 64 → a ≡ and_bytes (start version) (statement_head p 6) → b ≡ and_bytes a (kind ∷ []) → c ≡ and_bytes b (to_be_bytes w64 s) → d ≡ and_bytes c digest → d.bytes ≡ statement p kind s digest
 statement-written p kind s digest version a b c d lt ha hb hc hd = let same = eight-is s lt in rw (hd, hc, hb, ha, same) (simp append_assoc)
 
--- a message that has a spelling
+-- a message with an encoding
 say-spelled : (version : ℕ) (slot : Slot) (batch : Batch) (sig : List ℕ) → slot.0 < 2 ^ 64 → is_signature sig ≡ true →
     1 ∷ to_be_bytes w64 slot.0 ++ spell_value version (Value_batch batch) ++ sig ≡ spell version (Say slot batch sig)
 say-spelled version slot batch sig lt shape = let low = lt-ltb slot.0 (2 ^ 64) lt in rw (low, shape) refl

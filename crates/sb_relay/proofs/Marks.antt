@@ -1,4 +1,4 @@
--- What the relay's tests and marks say of the lists that it stands for.
+-- The tests and lists of the relay agree with the history that they represent.
 use Rattle.std.proofs.Common.{◌≡◌, ℕ, Bool, true, false, not, ◌+◌, ◌&&◌, ◌||◌, ◌==◌, if◌then◌else◌, List, [], ◌∷◌, ◌++◌, Option, Some, None, is_some, refl, sym, ap, ◌∙◌, subst, inl, inr, arith, true≢false}
 use Rattle.std.proofs.lemmas.Bool.{eq-eqb}
 use Rattle.std.proofs.lemmas.List.Folds.{list_any-append}
@@ -34,11 +34,11 @@ is_some-first : {A : Type 0} (a b : Option A) → is_some (first_of a b) ≡ (is
 is_some-first None b = refl
 is_some-first (Some x) b = refl
 
--- one mark more
+-- one slot more
 marked : (s : ℕ) (slots : List Slot) (slot : Slot) → has_slot s (slots ++ slot ∷ []) ≡ (has_slot s slots || (slot.0 == s))
 marked s slots slot = list_any-append (λ t. t.0 == s) slots (slot ∷ []) ∙ ap (λ b. has_slot s slots || b) (or-alone (slot.0 == s))
 
--- the leader's word on a slot of the segment, in one input
+-- the leader's batch for a slot of the segment, in one input
 abbrev word : Params → ℕ → Input Say → Option Value
 word p s i = if has_slot s p.slots then says p.leader.0 s i else None
 
@@ -59,11 +59,11 @@ decided-start p me s = go (has_slot s p.slots)
 decided-stays : (p : Params) (me : ℕ) (xs : List (Item Say)) (y : Item Say) (s : ℕ) (x : Value) → decided p me xs s ≡ Some x → decided p me (y ∷ xs) s ≡ Some x
 decided-stays p me xs y s x h = decided-more p me y xs s ∙ ap (λ (o : Option Value). first_of o (word p s y.input)) h
 
--- what is delivered is what is decided
+-- what is delivered is decided
 pub delivered-is : (p : Params) (me : ℕ) (xs : List (Item Say)) (s : ℕ) → delivered relay p me xs s ≡ decided p me xs s
 delivered-is p me = delivered-decided relay p me (decided-start p me) (decided-stays p me)
 
--- what an input that is the leader's word says
+-- what the leader's message says
 pub record IsWord (p : Params) (s : ℕ) (from : NodeId) (msg : Say) (x : Value) : Type 0 where
   pub within : has_slot s p.slots ≡ true
   pub leads : from.0 ≡ p.leader.0
@@ -89,7 +89,7 @@ no-word-cast p s slot batch = decided-start p 0 s
 no-word-timeout : (p : Params) (s : ℕ) → word p s Timeout ≡ None
 no-word-timeout p s = decided-start p 0 s
 
--- what may be delivered, from its test
+-- what may be delivered, by the test
 pub record MayDeliver (m : Relay) (p : Params) (from : NodeId) (slot : Slot) : Type 0 where
   pub leads : from.0 ≡ p.leader.0
   pub within : has_slot slot.0 p.slots ≡ true
@@ -124,7 +124,7 @@ module _ (m : Relay) (p : Params) (me : ℕ) (xs : List (Item Say)) (st : Refine
   asks-as : (slot : Slot) (batch : Batch) (b : Bool) → may_cast m p slot ≡ b → asks p me xs (Cast slot batch) ≡ (if b then Some (slot, batch) else None)
   asks-as slot batch b h = asks-is slot batch ∙ ap (λ (b : Bool). let o : Option (Slot × Batch) = if b then Some (slot, batch) else None in o) h
 
-  -- the marks after one input more
+  -- the lists after one input more
   refines-more : (i : Input Say) (leaf : ℕ) (n : Relay) → n.me ≡ m.me →
       ((s : ℕ) → has_slot s n.cast ≡ (is_for s (made_of (asks p me xs i)).accepted || has_slot s m.cast)) →
       ((s : ℕ) → has_slot s n.delivered ≡ (has_slot s m.delivered || is_some (word p s i))) →
@@ -135,7 +135,7 @@ module _ (m : Relay) (p : Params) (me : ℕ) (xs : List (Item Say)) (st : Refine
     delivered = λ s. delivers s ∙ ap (λ b. b || is_some (word p s i)) (st.delivered s) ∙ sym (is_some-first (decided p me xs s) (word p s i)) ∙ ap (λ (o : Option Value). is_some o) (sym (decided-more p me (record { input = i; leaf = leaf; made = made_of (asks p me xs i) }) xs s));
   }
 
-  -- an input that accepts nothing and holds no word that is new
+  -- an input that accepts nothing and has no new batch of the leader
   idle-refines : (i : Input Say) (leaf : ℕ) → asks p me xs i ≡ None → ((s : ℕ) → (has_slot s m.delivered || is_some (word p s i)) ≡ has_slot s m.delivered) → Refines m p me (and_then relay p me xs i leaf)
   idle-refines i leaf none old = refines-more i leaf m refl (λ s. rw none refl) (λ s. sym (old s))
 
@@ -153,7 +153,7 @@ module _ (m : Relay) (p : Params) (me : ℕ) (xs : List (Item Say)) (st : Refine
     delivers = rw nothing.delivers (Delivers-nothing relay p me xs i leaf (λ s x d o. old s x (decided-new i leaf s.0 x d o) o));
   }
 
-  -- a cast that is not taken, and time that has run out
+  -- a cast that is refused, and a timeout
   pub idle_cast-refines : (slot : Slot) (batch : Batch) (leaf : ℕ) → may_cast m p slot ≡ false → Refines m p me (and_then relay p me xs (Cast slot batch) leaf)
   idle_cast-refines slot batch leaf h = idle-refines (Cast slot batch) leaf (asks-as slot batch false h) (λ s. rw (no-word-cast p s slot batch) (or-alone (has_slot s m.delivered)))
 
@@ -166,7 +166,7 @@ module _ (m : Relay) (p : Params) (me : ℕ) (xs : List (Item Say)) (st : Refine
   pub idle_timeout-taken : (leaf : ℕ) (e : Effects Say) → IsNothing e → IsTaken relay p me xs Timeout leaf e
   idle_timeout-taken leaf e nothing = idle-taken Timeout leaf e refl (λ s x w o. let n = no-word-timeout p s.0 in absurd (cc)) nothing
 
-  -- a cast that is taken
+  -- a cast that is accepted
   pub cast-refines : (slot : Slot) (batch : Batch) (leaf : ℕ) (n : Relay) → may_cast m p slot ≡ true → n.me ≡ m.me → n.cast ≡ m.cast ++ slot ∷ [] → n.delivered ≡ m.delivered → Refines n p me (and_then relay p me xs (Cast slot batch) leaf)
   cast-refines slot batch leaf n h same casts delivers =
       let asked = asks-as slot batch true h in
@@ -186,7 +186,7 @@ module _ (m : Relay) (p : Params) (me : ℕ) (xs : List (Item Say)) (st : Refine
         delivers = rw delivers (Delivers-nothing relay p me xs (Cast slot batch) leaf (λ s x d o. let w = decided-new (Cast slot batch) leaf s.0 x d o in let n = no-word-cast p s.0 slot batch in absurd (cc)));
       }
 
-  -- a word that may be delivered is new, and the other way round
+  -- a message is to be delivered exactly if its batch is new
   may-from : (from : NodeId) (msg : Say) (s : ℕ) (x : Value) → word p s (Receive from msg) ≡ Some x → has_slot s m.delivered ≡ false → may_deliver m p from msg.slot ≡ true
   may-from from msg s x w fresh =
       let k = word-is p s from msg x w in

@@ -1,4 +1,5 @@
--- The relay is a broadcast: what is sent was accepted, what is taken was sent, and the leader accepts one batch a slot.
+-- The relay is a Sequenced Broadcast: what is sent was accepted, what is delivered was sent, and the leader accepts
+-- one batch for a slot.
 use Rattle.std.proofs.Common.{◌≡◌, ◌<◌, ◌≤◌, ◌^◌, ℕ, Bool, true, false, not, ◌&&◌, ◌||◌, ◌==◌, if◌then◌else◌, List, [], ◌∷◌, Option, Some, None, refl, sym, ap, ◌∙◌, subst, inl, inr, arith, true≢false}
 use Rattle.std.proofs.lemmas.Bool.{eq-eqb}
 use Rattle.iss_base.specs.Lists.{In}
@@ -31,7 +32,7 @@ use Rattle.sb_relay.proofs.Spelling.{say-again}
 abbrev Same : Input Say → Input Say → Type 0
 Same x y = x ≡ y
 
--- what an input that is asked for is
+-- the batch that an input asks for
 record IsAsked (p : Params) (me : ℕ) (xs : List (Item Say)) (i : Input Say) (slot : Slot) (batch : Batch) : Type 0 where
   cast : Same i (Cast slot batch)
   leads : me ≡ p.leader.0
@@ -79,7 +80,7 @@ cast-of (x ∷ xs) s b h = elim (accepts-cases x xs (s, b) h) [
     or_true true = refl
     or_true false = refl
 
--- the leader's word stands in the list
+-- the leader's message is in the history
 said-told : (p : Params) (xs : List (Item Say)) (s : ℕ) (v : Value) → said p.leader.0 s xs ≡ Some v → (msg : Say) × (x : Item Say) × (v ≡ Value_batch msg.batch) × (msg.slot.0 ≡ s) × In x xs × (x.input ≡ Receive p.leader msg)
 said-told p [] s v h = absurd (cc)
 said-told p (x ∷ xs) s v h = elim (first-cases (said p.leader.0 s xs) (says p.leader.0 s x.input) v h) [
@@ -115,11 +116,11 @@ sent-accepted p me (y ∷ xs) x to msg made (inl e) sent =
     accepts-new y xs (msg.slot, msg.batch) (ap (λ (z : Made Say). z.accepted) made.0 ∙ accepted-is (asks p me xs y.input) ∙ asked_for)
 sent-accepted p me (y ∷ xs) x to msg made (inr h) sent = accepts-old y xs (msg.slot, msg.batch) (sent-accepted p me xs x to msg made.1 h sent)
 
--- where a batch is accepted, none was cast before
+-- if a batch is accepted, none was cast before
 fresh-at : (p : Params) (me : ℕ) (x : Item Say) (xs : List (Item Say)) (s : Slot) (b : Batch) → AreMade relay p me (x ∷ xs) → x.made.accepted ≡ Some (s, b) → was_cast s.0 xs ≡ false
 fresh-at p me x xs s b made h = (asked p me xs x.input s b (sym (accepted-is (asks p me xs x.input)) ∙ (sym (ap (λ (z : Made Say). z.accepted) made.0) ∙ h))).fresh
 
--- a node accepts one batch at a slot
+-- a node accepts one batch for a slot
 pub once : (p : Params) (me : ℕ) (xs : List (Item Say)) (s : Slot) (b c : Batch) → AreMade relay p me xs → In {A = Slot × Batch} (s, b) (accepts xs) → In {A = Slot × Batch} (s, c) (accepts xs) → b ≡ c
 once p me [] s b c made h k = absurd h
 once p me (x ∷ xs) s b c made h k = elim (accepts-cases x xs (s, b) h) [
@@ -134,13 +135,13 @@ once p me (x ∷ xs) s b c made h k = elim (accepts-cases x xs (s, b) h) [
 ]
 
 module _ (p : Params) (w : World Say) (legal : IsLegal relay p w) where
-  -- what the leader told a node, it had accepted
+  -- what the leader sent, it had accepted
   told : (i : ℕ) (x : Item Say) (msg : Say) → In x (w i) → x.input ≡ Receive p.leader msg → In {A = Slot × Batch} (msg.slot, msg.batch) (accepts (w p.leader.0))
   told i x msg h q =
       let sent : IsSent w p.leader.0 i msg = subst (λ (y : Input Say). MayCome relay p w i y) q (legal.came i x h) in
       sent-accepted p p.leader.0 (w p.leader.0) sent.item sent.to msg (legal.made p.leader.0) sent.taken sent.sent
 
-  -- what is delivered, the leader accepted at the slot
+  -- the leader accepted each delivered value at its slot
   owned : (i s : ℕ) (v : Value) → delivered relay p i (w i) s ≡ Some v → (b : Batch) × (v ≡ Value_batch b) × In {A = Slot × Batch} (record { 0 = s }, b) (accepts (w p.leader.0))
   owned i s v d =
       let h = decided-said p i (w i) s v (sym (delivered-is p i (w i) s) ∙ d) in
@@ -148,7 +149,7 @@ module _ (p : Params) (w : World Say) (legal : IsLegal relay p w) where
       let slot : t.0.slot ≡ record { 0 = s } = slot-is t.0.slot (record { 0 = s }) t.3 in
       (t.0.batch, t.2, subst (λ (x : Slot). In {A = Slot × Batch} (x, t.0.batch) (accepts (w p.leader.0))) slot (told i t.1 t.0 t.4 t.5))
 
-  -- a batch that is delivered, the leader accepted
+  -- the leader accepted each delivered batch
   owned_batch : (i : ℕ) (s : Slot) (b : Batch) → delivered relay p i (w i) s.0 ≡ Some (Value_batch b) → In {A = Slot × Batch} (s, b) (accepts (w p.leader.0))
   owned_batch i s b d =
       let a = owned i s.0 (Value_batch b) d in
@@ -172,13 +173,13 @@ no-leaves : (o : Option (Slot × Batch)) → (made_of o).used ≤ 0
 no-leaves None = omega arith
 no-leaves (Some a) = omega arith
 
--- the relay sends to all alone
+-- the relay sends only to all
 not-one : (o : Option (Slot × Batch)) (k : NodeId) (msg : Say) (n : ℕ) → In {A = To × Say} (To_one k, msg) (made_of o).sends → k.0 < n
 not-one None k msg n h = absurd h
 not-one (Some a) k msg n (inl e) = let to : To_one k ≡ To_all = ap (λ (z : To × Say). z.0) e in cc
 not-one (Some a) k msg n (inr h) = absurd h
 
--- the batch of a cast that was heard is read again, and so is the Say of it
+-- the batch of a received cast decodes, and so does the message with it
 sent-again : (p : Params) (me : ℕ) (xs : List (Item Say)) (i : Input Say) (to : To) (msg : Say) → IsGoodParams relay p → IsHeard relay p i → In {A = To × Say} (to, msg) (made_of (asks p me xs i)).sends → IsReadMessage relay p msg
 sent-again p me xs i to msg good heard sent =
     let a = asked p me xs i msg.slot msg.batch (sent-is (asks p me xs i) to msg sent) in
