@@ -42,7 +42,8 @@ pub record IsHighest (xs : List Change) (s : ℕ) (c : Certificate) : Type 0 whe
   pub holds : In c change.certificates
   pub slot : c.slot.0 ≡ s
   pub high : (y : Change) (d : Certificate) → In y xs → In d y.certificates → d.slot.0 ≡ s → d.view ≤ c.view
-  pub least : (y : Change) (d : Certificate) → In y xs → In d y.certificates → d.slot.0 ≡ s → d.view ≡ c.view → change.node.0 ≤ y.node.0
+  pub least : (y : Change) (d : Certificate) → In y xs → In d y.certificates → d.slot.0 ≡ s → d.view ≡ c.view →
+      change.node.0 ≤ y.node.0
 
 pub data IsChoice (xs : List Change) (s : ℕ) : Value → Type 0 where
   nothing : ((y : Change) (d : Certificate) → In y xs → In d y.certificates → d.slot.0 ≡ s → ⊥) → IsChoice xs s Nil

@@ -41,7 +41,8 @@ fn put_vote_claims(
     all: &mut Seq<Claim>,
 ) -> Result<(), NoMemory>
     requires { statement.now ≡ state_at p.now 2 mark.now.view mark.now.slot.0 mark.now.digest }
-    ensures { OnOk result (all.new ≡ all.old ++ vote_claims p.now mark.now.view mark.now.slot.0 mark.now.digest votes.now) }
+    ensures { OnOk result
+        (all.new ≡ all.old ++ vote_claims p.now mark.now.view mark.now.slot.0 mark.now.digest votes.now) }
 {
     match votes {
         [] => Ok(()),
@@ -145,7 +146,8 @@ fn put_chosen_claim(
     sig: &Bytes,
     all: &mut Seq<Claim>,
 ) -> Result<(), NoMemory>
-    ensures { OnOk result (all.new ≡ all.old ++ claim by.0 (state_at p.now 1 view slot.0 (digest_of p.now (choice changes.now slot.0))) sig.now ∷ []) }
+    ensures { OnOk result (all.new ≡ all.old ++
+        claim by.0 (state_at p.now 1 view slot.0 (digest_of p.now (choice changes.now slot.0))) sig.now ∷ []) }
 {
     let digest = choice_digest(alloc, p, slot, changes);
     let statement = state_at(alloc, p, PRE_PREPARE, view, slot, &digest)?;

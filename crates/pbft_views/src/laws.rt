@@ -20,5 +20,6 @@ pub fn a_view_begins_with_a_quorum()
 /// The choice at a slot is the value of the certificate of the highest view, that of the lowest replica in a tie, and
 /// nil if there is no certificate.
 pub fn the_choice_is_the_highest()
-    ensures { (p : Params) (v from s : ℕ) (xs : List Change) → are_changes p v from xs ≡ true → IsChoice xs s (choice xs s) }
+    ensures { (p : Params) (v from s : ℕ) (xs : List Change) → are_changes p v from xs ≡ true →
+        IsChoice xs s (choice xs s) }
 {}

@@ -36,7 +36,8 @@ fits_value version (Value_batch b) = nat_le (length b) (requests_most version) &
 abbrev pub fits_certificate : ℕ → Certificate → Bool
 fits_certificate version c =
     fits_slot c.slot.0 &&
-    (fits_view c.view && (fits_value version c.value && (is_signature c.sig && (fits_count (length c.prepares) && are_signers 0 c.prepares))))
+    (fits_view c.view && (fits_value version c.value &&
+    (is_signature c.sig && (fits_count (length c.prepares) && are_signers 0 c.prepares))))
 
 abbrev pub slot_of : Certificate → ℕ
 slot_of c = c.slot.0
@@ -49,13 +50,15 @@ abbrev pub fits_certificates : ℕ → ℕ → List Certificate → Bool
 fits_certificates version from cs = all_ascend (fits_from version) slot_of from cs
 
 abbrev pub fits_change : ℕ → ℕ → List Certificate → List ℕ → Bool
-fits_change version v cs sig = fits_view v && ((fits_count (length cs) && fits_certificates version 0 cs) && is_signature sig)
+fits_change version v cs sig =
+    fits_view v && ((fits_count (length cs) && fits_certificates version 0 cs) && is_signature sig)
 
 -- ---- encoding
 
 abbrev pub certificate_bytes : ℕ → Certificate → List ℕ
 certificate_bytes version c =
-    to_be_bytes w64 c.slot.0 ++ (to_be_bytes w16 c.view ++ (spell_value version c.value ++ (c.sig ++ (length c.prepares ∷ flat_map spell_signed c.prepares))))
+    to_be_bytes w64 c.slot.0 ++ (to_be_bytes w16 c.view ++
+    (spell_value version c.value ++ (c.sig ++ (length c.prepares ∷ flat_map spell_signed c.prepares))))
 
 abbrev pub change_bytes : ℕ → ℕ → List Certificate → List ℕ → List ℕ
 change_bytes version v cs sig = to_be_bytes w16 v ++ (length cs ∷ (flat_map (certificate_bytes version) cs ++ sig))
@@ -70,7 +73,8 @@ pub record IsSpelledCertificate (version : ℕ) (c : Certificate) (bytes : List 
   pub signed : is_signature c.sig ≡ true
   pub few : length c.prepares ≤ 255
   pub votes : AreSigners 0 c.prepares
-  pub row : bytes ≡ to_be_bytes w64 c.slot.0 ++ (to_be_bytes w16 c.view ++ (value ++ (c.sig ++ (length c.prepares ∷ flat_map spell_signed c.prepares))))
+  pub row : bytes ≡ to_be_bytes w64 c.slot.0 ++
+      (to_be_bytes w16 c.view ++ (value ++ (c.sig ++ (length c.prepares ∷ flat_map spell_signed c.prepares))))
 
 -- the slots ascend strictly, from this one on
 abbrev pub AreSpelledCertificates : ℕ → ℕ → List Certificate → List ℕ → Type 0

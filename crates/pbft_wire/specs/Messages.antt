@@ -40,7 +40,8 @@ fits version (Prepare v slot d sig) = fits_at v slot.0 d sig
 fits version (Commit v slot d sig) = fits_at v slot.0 d sig
 fits version (ViewChange v cs sig) = fits_change version v cs sig
 fits version (NewView v xs sigs sig) =
-    fits_view v && ((fits_count (length xs) && fits_changes version 0 xs) && ((fits_count (length sigs) && list_all is_signature sigs) && is_signature sig))
+    fits_view v && ((fits_count (length xs) && fits_changes version 0 xs) &&
+    ((fits_count (length sigs) && list_all is_signature sigs) && is_signature sig))
 
 -- ---- encoding. A message without one is written as the number of no message
 
@@ -55,7 +56,8 @@ as_is sig = sig
 
 abbrev pub new_bytes : ℕ → ℕ → List Change → List (List ℕ) → List ℕ → List ℕ
 new_bytes version v xs sigs sig =
-    to_be_bytes w16 v ++ (length xs ∷ (flat_map (node_change_bytes version) xs ++ (length sigs ∷ (flat_map as_is sigs ++ sig))))
+    to_be_bytes w16 v ++
+    (length xs ∷ (flat_map (node_change_bytes version) xs ++ (length sigs ∷ (flat_map as_is sigs ++ sig))))
 
 abbrev pub message_bytes : ℕ → Message → List ℕ
 message_bytes version (PrePrepare v slot x sig) = 1 ∷ at_bytes v slot.0 (spell_value version x ++ sig)
@@ -76,12 +78,14 @@ spell version msg = if fits version msg then message_bytes version msg else no_m
 abbrev pub AreSpelledChanges : ℕ → ℕ → List Change → List ℕ → Type 0
 AreSpelledChanges version from [] bytes = bytes ≡ []
 AreSpelledChanges version from (x ∷ xs) bytes =
-    (first : List ℕ) × (others : List ℕ) × (from ≤ x.node.0) × IsSpelledChange version x.view x.certificates x.sig first ×
+    (first : List ℕ) × (others : List ℕ) × (from ≤ x.node.0) ×
+    IsSpelledChange version x.view x.certificates x.sig first ×
     AreSpelledChanges version (suc x.node.0) xs others × (bytes ≡ x.node.0 ∷ (first ++ others))
 
 abbrev pub AreSpelledSignatures : List (List ℕ) → List ℕ → Type 0
 AreSpelledSignatures [] bytes = bytes ≡ []
-AreSpelledSignatures (sig ∷ sigs) bytes = (others : List ℕ) × (is_signature sig ≡ true) × AreSpelledSignatures sigs others × (bytes ≡ sig ++ others)
+AreSpelledSignatures (sig ∷ sigs) bytes =
+    (others : List ℕ) × (is_signature sig ≡ true) × AreSpelledSignatures sigs others × (bytes ≡ sig ++ others)
 
 -- a Prepare or a Commit
 pub record IsSpelledAt (kind v s : ℕ) (d sig bytes : List ℕ) : Type 0 where
@@ -109,7 +113,8 @@ IsSpelledMessage version (PrePrepare v slot x sig) bytes =
     ((value : List ℕ) × IsSpelledValue version x value × (bytes ≡ 1 ∷ at_bytes v slot.0 (value ++ sig)))
 IsSpelledMessage version (Prepare v slot d sig) bytes = IsSpelledAt 2 v slot.0 d sig bytes
 IsSpelledMessage version (Commit v slot d sig) bytes = IsSpelledAt 3 v slot.0 d sig bytes
-IsSpelledMessage version (ViewChange v cs sig) bytes = (fields : List ℕ) × IsSpelledChange version v cs sig fields × (bytes ≡ 4 ∷ fields)
+IsSpelledMessage version (ViewChange v cs sig) bytes =
+    (fields : List ℕ) × IsSpelledChange version v cs sig fields × (bytes ≡ 4 ∷ fields)
 IsSpelledMessage version (NewView v xs sigs sig) bytes = IsSpelledNew version v xs sigs sig bytes
 
 -- ---- decoding
@@ -168,7 +173,8 @@ is_known n = (n == 1) || ((n == 2) || ((n == 3) || ((n == 4) || (n == 5))))
 abbrev pub fields_of : ℕ → ℕ → Parser Message
 fields_of version n =
     if n == 1 then parse_pre_prepare version else
-    (if n == 2 then parse_at prepare else (if n == 3 then parse_at commit else (if n == 4 then parse_view_change version else parse_new_view version)))
+    (if n == 2 then parse_at prepare else
+    (if n == 3 then parse_at commit else (if n == 4 then parse_view_change version else parse_new_view version)))
 
 -- the message's number says which fields follow
 unfoldable pub parse : ℕ → Parser Message

@@ -126,7 +126,8 @@ pub fn state_change(
 // rule: PBFT: A ViewChange signs the slot, view and digest of each prepared certificate
 pub fn state_marked(alloc: Global, p: &Params, view: u16, marks: &[Mark]) -> Result<Bytes, NoMemory>
     requires { length marks.now ≤ 255 }
-    ensures { IfOk result (λ s. (cs : List Certificate) → marks.now ≡ map (mark_of p.now) cs → s ≡ state_change p.now view cs) }
+    ensures { IfOk result (λ s.
+        (cs : List Certificate) → marks.now ≡ map (mark_of p.now) cs → s ≡ state_change p.now view cs) }
 {
     let mut out = Writer::new(alloc, p.setup.version);
     put_head(p, TAG, &mut out)?;

@@ -177,7 +177,8 @@ fn put_certificate(c: &Certificate, out: &mut Writer) -> Result<(), NoMemory>
 
 fn put_certificates(certificates: &[Certificate], out: &mut Writer) -> Result<(), NoMemory>
     requires { fits_certificates out.old.version 0 certificates.now ≡ true }
-    ensures { OnOk result (out.new ≡ and_bytes out.old (flat_map (certificate_bytes out.old.version) certificates.now)) }
+    ensures { OnOk result
+        (out.new ≡ and_bytes out.old (flat_map (certificate_bytes out.old.version) certificates.now)) }
 {
     for certificate in certificates {
         put_certificate(certificate, out)?;
@@ -251,7 +252,8 @@ fn put_pre_prepare(
     sig: &[u8],
     out: &mut Writer,
 ) -> Result<(), NoMemory>
-    ensures { OnOk result (out.new ≡ and_bytes out.old (1 ∷ at_bytes view slot.0 (spell_value out.old.version value.now ++ sig.now))) }
+    ensures { OnOk result
+        (out.new ≡ and_bytes out.old (1 ∷ at_bytes view slot.0 (spell_value out.old.version value.now ++ sig.now))) }
 {
     out.put_u8(PRE_PREPARE)?;
     out.put_u16(view)?;
@@ -270,7 +272,8 @@ fn put_new_view(
     requires few { length changes.now ≤ 255 }
     requires few_signatures { length signatures.now ≤ 255 }
     requires good { fits_changes out.old.version 0 changes.now ≡ true }
-    ensures { OnOk result (out.new ≡ and_bytes out.old (5 ∷ new_bytes out.old.version view changes.now signatures.now sig.now)) }
+    ensures { OnOk result
+        (out.new ≡ and_bytes out.old (5 ∷ new_bytes out.old.version view changes.now signatures.now sig.now)) }
 {
     out.put_u8(NEW_VIEW)?;
     out.put_u16(view)?;
@@ -288,7 +291,8 @@ fn put_view_change(
     out: &mut Writer,
 ) -> Result<(), NoMemory>
     requires { fits_change out.old.version view certificates.now sig.now ≡ true }
-    ensures { OnOk result (out.new ≡ and_bytes out.old (4 ∷ change_bytes out.old.version view certificates.now sig.now)) }
+    ensures { OnOk result
+        (out.new ≡ and_bytes out.old (4 ∷ change_bytes out.old.version view certificates.now sig.now)) }
 {
     out.put_u8(VIEW_CHANGE)?;
     put_change(view, certificates, sig, out)

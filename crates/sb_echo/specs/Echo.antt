@@ -75,7 +75,8 @@ is_open p s xs = has_slot s p.slots && not (is_some (taken s xs))
 -- rule: Echo: A node takes the leader's first batch for a slot and echoes its digest once
 abbrev pub asks : Params → ℕ → List (Item Word) → Input Word → Option (Slot × Batch)
 asks p me xs (Cast slot batch) = if (me == p.leader.0) && is_open p slot.0 xs then Some (slot, batch) else None
-asks p me xs (Receive from (Say slot batch sig)) = if (from.0 == p.leader.0) && is_open p slot.0 xs then Some (slot, batch) else None
+asks p me xs (Receive from (Say slot batch sig)) =
+    if (from.0 == p.leader.0) && is_open p slot.0 xs then Some (slot, batch) else None
 asks p me xs (Receive from (Echo slot d sig)) = None
 asks p me xs Timeout = None
 
@@ -91,7 +92,8 @@ words p me leaf false a = (To_all, echo_of p me leaf a) ∷ []
 
 abbrev pub made_of : Params → ℕ → ℕ → Bool → Option (Slot × Batch) → Made Word
 made_of p me leaf cast None = record { sends = []; accepted = None; strings = []; used = 0 }
-made_of p me leaf cast (Some a) = record { sends = words p me leaf cast a; accepted = Some a; strings = string_of p a.1 ∷ []; used = cond cast 2 1 }
+made_of p me leaf cast (Some a) =
+    record { sends = words p me leaf cast a; accepted = Some a; strings = string_of p a.1 ∷ []; used = cond cast 2 1 }
 
 abbrev pub makes : Params → ℕ → List (Item Word) → Input Word → ℕ → Made Word
 makes p me xs input leaf = made_of p me leaf (is_cast input) (asks p me xs input)
@@ -127,16 +129,19 @@ decided p me xs s = decide p s xs (taken s xs)
 abbrev pub IsSpelledWord : ℕ → Word → List ℕ → Type 0
 IsSpelledWord version (Say slot batch sig) bytes =
     (slot.0 < 2 ^ 64) × (is_signature sig ≡ true)
-    × ((value : List ℕ) × IsSpelledValue version (Value_batch batch) value × (bytes ≡ 1 ∷ to_be_bytes w64 slot.0 ++ value ++ sig))
+    × ((value : List ℕ) × IsSpelledValue version (Value_batch batch) value ×
+    (bytes ≡ 1 ∷ to_be_bytes w64 slot.0 ++ value ++ sig))
 IsSpelledWord version (Echo slot d sig) bytes =
     (slot.0 < 2 ^ 64) × (length d ≡ 32) × (is_signature sig ≡ true) × (bytes ≡ 2 ∷ to_be_bytes w64 slot.0 ++ d ++ sig)
 
 -- a message without an encoding is written as the number of no message
 abbrev pub spell : ℕ → Word → List ℕ
 spell version (Say slot batch sig) =
-    if nat_lt slot.0 (2 ^ 64) && is_signature sig then 1 ∷ to_be_bytes w64 slot.0 ++ spell_value version (Value_batch batch) ++ sig else 0 ∷ []
+    if nat_lt slot.0 (2 ^ 64) && is_signature sig then
+    1 ∷ to_be_bytes w64 slot.0 ++ spell_value version (Value_batch batch) ++ sig else 0 ∷ []
 spell version (Echo slot d sig) =
-    if nat_lt slot.0 (2 ^ 64) && ((length d == 32) && is_signature sig) then 2 ∷ to_be_bytes w64 slot.0 ++ d ++ sig else 0 ∷ []
+    if nat_lt slot.0 (2 ^ 64) && ((length d == 32) && is_signature sig) then 2 ∷ to_be_bytes w64 slot.0 ++ d ++ sig else
+    0 ∷ []
 
 unfoldable pub parse_say : ℕ → Parser Word
 parse_say version = do

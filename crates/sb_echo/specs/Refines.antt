@@ -71,12 +71,15 @@ one_at slot None = []
 one_at slot (Some x) = (slot, x) ∷ []
 
 -- a batch was accepted at a slot: it waits, or is delivered if a quorum had echoed it
-pub record HasTaken (p : Params) (old new : Echo) (slot : Slot) (batch : Batch) (d : List ℕ) (e : Effects Word) : Type 0 where
+pub record HasTaken (p : Params) (old new : Echo) (slot : Slot) (batch : Batch) (d : List ℕ)
+    (e : Effects Word) : Type 0 where
   pub digest : d ≡ digest_of p batch
   pub node : new.me ≡ old.me
   pub heard : new.heard ≡ old.heard
   pub places : (s : ℕ) →
-      place_at s new ≡ (if slot.0 == s then Some (if is_heard old p slot.0 d then Delivered else Waiting d (Value_batch batch)) else place_at s old)
+      place_at s new ≡
+      (if slot.0 == s then Some (if is_heard old p slot.0 d then Delivered else Waiting d (Value_batch batch)) else
+      place_at s old)
   pub sends : e.sends ≡ []
   pub accepted : e.accepted ≡ Some (slot, batch)
   pub hashed : e.hashed ≡ string_of p batch ∷ []

@@ -146,7 +146,8 @@ impl Echo {
     ) -> Result<Effects<Word>, NoMemory>
         requires good { IsGoodParams echo p.now }
         requires enough { 2 ≤ left_of keys.old }
-        ensures { IfOk result (λ e. IsTrueStep echo Refines p.now self.old self.new (Input.Cast slot batch) keys.old keys.new e) }
+        ensures { IfOk result (λ e.
+            IsTrueStep echo Refines p.now self.old self.new (Input.Cast slot batch) keys.old keys.new e) }
     {
         if !self.may_cast(p, slot) {
             return Ok(Effects::nothing(alloc));
@@ -184,7 +185,8 @@ impl Echo {
         requires good { IsGoodParams echo p.now }
         requires enough { 2 ≤ left_of keys.old }
         ensures { IfOk result (λ e. (sig : List ℕ) →
-            IsTrueStep echo Refines p.now self.old self.new (Input.Receive from (Word.Say slot batch sig)) keys.old keys.new e) }
+            IsTrueStep echo Refines p.now self.old self.new
+            (Input.Receive from (Word.Say slot batch sig)) keys.old keys.new e) }
     {
         if !self.may_take(p, from, slot) {
             return Ok(Effects::nothing(alloc));
@@ -209,7 +211,8 @@ impl Echo {
     ) -> Result<Effects<Word>, NoMemory>
         requires { IsGoodParams echo p.now }
         ensures { IfOk result (λ e. (sig : List ℕ) (keys : KeyState) → 2 ≤ left_of keys →
-            IsTrueStep echo Refines p.now self.old self.new (Input.Receive from (Word.Echo slot digest sig)) keys keys e) }
+            IsTrueStep echo Refines p.now self.old self.new
+            (Input.Receive from (Word.Echo slot digest sig)) keys keys e) }
     {
         if !is_inside(p, slot) {
             return Ok(Effects::nothing(alloc));

@@ -132,5 +132,6 @@ fn one_claim(
 /// Bytes decode as a message exactly if the table relates the two. The function computes nothing: its contract is the
 /// theorem.
 pub fn words_are_exact()
-    ensures { (version : ℕ) (msg : Word) (bytes : List ℕ) → (parse version bytes ≡ Good msg []) ↔ IsSpelledWord version msg bytes }
+    ensures { (version : ℕ) (msg : Word) (bytes : List ℕ) → (parse version bytes ≡ Good msg []) ↔
+        IsSpelledWord version msg bytes }
 {}

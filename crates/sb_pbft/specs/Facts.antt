@@ -37,7 +37,9 @@ pub record HaveOneVote (p : Params) (w : World Message) : Type 0 where
 
 -- after its ViewChange for view v a correct replica sends no Commit of a view below v
 abbrev pub AreQuiet : Params → World Message → Type 0
-AreQuiet p w = (i v c : ℕ) (x y : Item Message) (before : List (Item Message)) (cs : List Certificate) (slot : Slot) (to other : To) (d sig tag : List ℕ) →
+AreQuiet p w =
+    (i v c : ℕ) (x y : Item Message) (before : List (Item Message)) (cs : List Certificate) (slot : Slot)
+    (to other : To) (d sig tag : List ℕ) →
     Front (y ∷ before) (w i) → In x before → In {A = To × Message} (to, ViewChange v cs sig) x.made.sends →
     In {A = To × Message} (other, Commit c slot d tag) y.made.sends → v ≤ c
 
@@ -50,7 +52,9 @@ pub record Shows (cs : List Certificate) (s v : ℕ) : Type 0 where
 
 -- its ViewChange for a higher view has such a certificate for each slot that it committed
 abbrev pub AreShown : Params → World Message → Type 0
-AreShown p w = (i v s u : ℕ) (d : List ℕ) (cs : List Certificate) → HasVoted p w i 3 v s d → IsSigned pbft p w i (state_change p u cs) → v < u → Shows cs s v
+AreShown p w =
+    (i v s u : ℕ) (d : List ℕ) (cs : List Certificate) → HasVoted p w i 3 v s d →
+    IsSigned pbft p w i (state_change p u cs) → v < u → Shows cs s v
 
 -- ---- certificates
 
@@ -83,7 +87,8 @@ pub record AreChosen (p : Params) (w : World Message) : Type 0 where
 
 -- valid certificates of one view and slot have one digest
 abbrev pub HaveOneDigest : Params → World Message → Type 0
-HaveOneDigest p w = (c e : Certificate) → IsCertificate p w c → IsCertificate p w e → c.view ≡ e.view → c.slot.0 ≡ e.slot.0 →
+HaveOneDigest p w =
+    (c e : Certificate) → IsCertificate p w c → IsCertificate p w e → c.view ≡ e.view → c.slot.0 ≡ e.slot.0 →
     digest_of p c.value ≡ digest_of p e.value
 
 -- ---- decided views
@@ -103,11 +108,15 @@ IsDecidedView p w v s d = IsQuorum p (λ j. IsSigned pbft p w j (state_at p 3 v 
 
 -- once view u decided a slot, each valid certificate of the slot in u or a higher view has the decided digest
 abbrev pub AreFixed : Params → World Message → Type 0
-AreFixed p w = (u s : ℕ) (d : List ℕ) (c : Certificate) → IsDecidedView p w u s d → IsCertificate p w c → c.slot.0 ≡ s → u ≤ c.view → digest_of p c.value ≡ d
+AreFixed p w =
+    (u s : ℕ) (d : List ℕ) (c : Certificate) → IsDecidedView p w u s d → IsCertificate p w c → c.slot.0 ≡ s →
+    u ≤ c.view → digest_of p c.value ≡ d
 
 -- each value that a correct replica delivers was decided in some view
 abbrev pub AreDecided : Params → World Message → Type 0
-AreDecided p w = (i s : ℕ) (x : Value) → is_correct p.setup i ≡ true → delivered pbft p i (w i) s ≡ Some x → (v : ℕ) × IsDecidedView p w v s (digest_of p x)
+AreDecided p w =
+    (i s : ℕ) (x : Value) → is_correct p.setup i ≡ true → delivered pbft p i (w i) s ≡ Some x →
+    (v : ℕ) × IsDecidedView p w v s (digest_of p x)
 
 -- ---- where batches come from
 
@@ -118,7 +127,9 @@ pub record IsRooted (p : Params) (w : World Message) (s : ℕ) (b : Batch) : Typ
 
 -- a correct replica accepts one batch for a slot
 abbrev pub AreOnce : Params → World Message → Type 0
-AreOnce p w = (i : ℕ) (s : Slot) (b c : Batch) → In {A = Slot × Batch} (s, b) (accepts (w i)) → In {A = Slot × Batch} (s, c) (accepts (w i)) → b ≡ c
+AreOnce p w =
+    (i : ℕ) (s : Slot) (b c : Batch) → In {A = Slot × Batch} (s, b) (accepts (w i)) →
+    In {A = Slot × Batch} (s, c) (accepts (w i)) → b ≡ c
 
 -- if a valid certificate holds a batch, such a quorum accepted it in view 0
 abbrev pub AreRooted : Params → World Message → Type 0

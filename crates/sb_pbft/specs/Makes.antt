@@ -54,7 +54,8 @@ chosen_sig p m (Receive from (PrePrepare w slot x sig)) v s = None
 chosen_sig p m (Receive from (Prepare w slot d sig)) v s = None
 chosen_sig p m (Receive from (Commit w slot d sig)) v s = None
 chosen_sig p m (Receive from (ViewChange w cs sig)) v s = None
-chosen_sig p m (Receive from (NewView w xs sigs sig)) v s = cond ((v == w) && (has_slot s p.slots && enters p m from.0 w xs sigs)) (sig_for s p.slots sigs) None
+chosen_sig p m (Receive from (NewView w xs sigs sig)) v s =
+    cond ((v == w) && (has_slot s p.slots && enters p m from.0 w xs sigs)) (sig_for s p.slots sigs) None
 chosen_sig p m Timeout v s = None
 
 -- the signature of the PrePrepare of 'proposal', by the same recursion
@@ -77,7 +78,8 @@ has v s (c ∷ cs) = ((v == c.view) && (s == c.slot.0)) || has v s cs
 -- the value for which a Commit is due: it is prepared in the current view, which is active and has no certificate for
 -- the slot. The list l includes the input; the certificates are those from before it
 abbrev pub ready : Params → ℕ → List (Input Message) → List Certificate → ℕ → Option Value
-ready p me l kept s = cond ((mode p l).active && not (has (mode p l).view s kept)) (prepared p me l (mode p l).view s) None
+ready p me l kept s =
+    cond ((mode p l).active && not (has (mode p l).view s kept)) (prepared p me l (mode p l).view s) None
 
 -- a prepared certificate with the Prepares of the 2f lowest replicas
 abbrev pub certificate : Params → ℕ → List (Item Message) → ℕ → Slot → Value → Certificate
@@ -120,19 +122,24 @@ pub data Draft : Type 0 where
 -- the leader sends a PrePrepare for the batch that it accepts, a backup a Prepare
 abbrev pub first_draft : Params → ℕ → Option (Slot × Batch) → List Draft
 first_draft p me None = []
-first_draft p me (Some a) = cond (me == p.leader.0) (DraftPrePrepare a.0 (Value_batch a.1)) (DraftPrepare 0 a.0 (digest_of p (Value_batch a.1))) ∷ []
+first_draft p me (Some a) =
+    cond (me == p.leader.0) (DraftPrePrepare a.0 (Value_batch a.1))
+    (DraftPrepare 0 a.0 (digest_of p (Value_batch a.1))) ∷ []
 
 -- the messages that come first: for an accepted batch, a due NewView, or a timeout
 abbrev pub lead : Params → ℕ → List (Item Message) → Input Message → List Draft
 lead p me xs (Cast slot batch) = first_draft p me (asked p me (inputs xs) (Cast slot batch))
-lead p me xs (Receive from (PrePrepare v slot x sig)) = first_draft p me (asked p me (inputs xs) (Receive from (PrePrepare v slot x sig)))
+lead p me xs (Receive from (PrePrepare v slot x sig)) =
+    first_draft p me (asked p me (inputs xs) (Receive from (PrePrepare v slot x sig)))
 lead p me xs (Receive from (Prepare v slot d sig)) = []
 lead p me xs (Receive from (Commit v slot d sig)) = []
 lead p me xs (Receive from (ViewChange v cs sig)) =
     cond (completes p me (inputs xs) (Receive from (ViewChange v cs sig)) v)
     (DraftNewView v (changes p (Receive from (ViewChange v cs sig) ∷ inputs xs) v) ∷ []) []
 lead p me xs (Receive from (NewView v changes sigs sig)) = []
-lead p me xs Timeout = cond (passes (mode p (inputs xs))) (DraftViewChange ((mode p (inputs xs)).view + 1) (tops (kept p me xs) p.slots) ∷ []) []
+lead p me xs Timeout =
+    cond (passes (mode p (inputs xs)))
+    (DraftViewChange ((mode p (inputs xs)).view + 1) (tops (kept p me xs) p.slots) ∷ []) []
 
 -- the Prepare of a backup for the slot when it enters a new view
 abbrev pub answer : Params → ℕ → Mode → Input Message → Slot → List Draft
@@ -142,7 +149,8 @@ answer p me m (Receive from (Prepare v slot d sig)) s = []
 answer p me m (Receive from (Commit v slot d sig)) s = []
 answer p me m (Receive from (ViewChange v cs sig)) s = []
 answer p me m (Receive from (NewView v xs sigs sig)) s =
-    cond (enters p m from.0 v xs sigs && not (me == primary p v)) (DraftPrepare v s (digest_of p (choice xs s.0)) ∷ []) []
+    cond (enters p m from.0 v xs sigs && not (me == primary p v))
+    (DraftPrepare v s (digest_of p (choice xs s.0)) ∷ []) []
 answer p me m Timeout s = []
 
 -- the Commit for the slot, if one is due
@@ -155,7 +163,8 @@ abbrev pub by_slot : Params → ℕ → List (Item Message) → Input Message �
 by_slot p me xs i [] = []
 by_slot p me xs i (s ∷ ss) =
     answer p me (mode p (inputs xs)) i s ++
-    (commit_draft p (mode p (i ∷ inputs xs)).view s (ready p me (i ∷ inputs xs) (kept p me xs) s.0) ++ by_slot p me xs i ss)
+    (commit_draft p (mode p (i ∷ inputs xs)).view s (ready p me (i ∷ inputs xs) (kept p me xs) s.0) ++
+    by_slot p me xs i ss)
 
 abbrev pub drafts : Params → ℕ → List (Item Message) → Input Message → List Draft
 drafts p me xs i = lead p me xs i ++ by_slot p me xs i p.slots
@@ -165,7 +174,8 @@ drafts p me xs i = lead p me xs i ++ by_slot p me xs i p.slots
 -- signatures of a NewView's PrePrepares, slot by slot
 abbrev pub choice_sigs : Params → ℕ → ℕ → ℕ → List Change → List Slot → List (List ℕ)
 choice_sigs p me leaf v xs [] = []
-choice_sigs p me leaf v xs (s ∷ ss) = signature p me leaf (state_at p 1 v s.0 (digest_of p (choice xs s.0))) ∷ choice_sigs p me (suc leaf) v xs ss
+choice_sigs p me leaf v xs (s ∷ ss) =
+    signature p me leaf (state_at p 1 v s.0 (digest_of p (choice xs s.0))) ∷ choice_sigs p me (suc leaf) v xs ss
 
 -- the number of one-time keys that a message takes
 abbrev pub uses : Params → Draft → ℕ
@@ -177,11 +187,13 @@ uses p (DraftNewView v xs) = length p.slots + 1
 
 -- a NewView signs its PrePrepares first, and then itself
 abbrev pub sign : Params → ℕ → ℕ → Draft → Message
-sign p me leaf (DraftPrePrepare slot x) = PrePrepare 0 slot x (signature p me leaf (state_at p 1 0 slot.0 (digest_of p x)))
+sign p me leaf (DraftPrePrepare slot x) =
+    PrePrepare 0 slot x (signature p me leaf (state_at p 1 0 slot.0 (digest_of p x)))
 sign p me leaf (DraftPrepare v slot d) = Prepare v slot d (signature p me leaf (state_at p 2 v slot.0 d))
 sign p me leaf (DraftCommit v slot d) = Commit v slot d (signature p me leaf (state_at p 3 v slot.0 d))
 sign p me leaf (DraftViewChange v cs) = ViewChange v cs (signature p me leaf (state_change p v cs))
-sign p me leaf (DraftNewView v xs) = NewView v xs (choice_sigs p me leaf v xs p.slots) (signature p me (leaf + length p.slots) (state_new p v))
+sign p me leaf (DraftNewView v xs) =
+    NewView v xs (choice_sigs p me leaf v xs p.slots) (signature p me (leaf + length p.slots) (state_new p v))
 
 -- each message is sent to all
 abbrev pub sign_all : Params → ℕ → ℕ → List Draft → List (To × Message)
@@ -210,18 +222,21 @@ asked_strings p (Some a) = string_of p (Value_batch a.1) ∷ []
 -- is entered. A NewView that is sent or entered adds those of its choices, slot by slot
 abbrev pub strings : Params → ℕ → List (Input Message) → Input Message → List (List ℕ)
 strings p me l (Cast slot batch) = asked_strings p (asked p me l (Cast slot batch))
-strings p me l (Receive from (PrePrepare v slot x sig)) = asked_strings p (asked p me l (Receive from (PrePrepare v slot x sig)))
+strings p me l (Receive from (PrePrepare v slot x sig)) =
+    asked_strings p (asked p me l (Receive from (PrePrepare v slot x sig)))
 strings p me l (Receive from (Prepare v slot d sig)) = []
 strings p me l (Receive from (Commit v slot d sig)) = []
 strings p me l (Receive from (ViewChange v cs sig)) =
     cond (all_good p v cs && not (is_some (change_of p l v from.0))) (value_strings p cs) [] ++
-    cond (completes p me l (Receive from (ViewChange v cs sig)) v) (choice_strings p (changes p (Receive from (ViewChange v cs sig) ∷ l) v) p.slots) []
+    cond (completes p me l (Receive from (ViewChange v cs sig)) v)
+    (choice_strings p (changes p (Receive from (ViewChange v cs sig) ∷ l) v) p.slots) []
 strings p me l (Receive from (NewView v xs sigs sig)) =
     cond (enters p (mode p l) from.0 v xs sigs) (value_strings p (certificates_of xs) ++ choice_strings p xs p.slots) []
 strings p me l Timeout = []
 
 abbrev pub made_of : Params → ℕ → ℕ → Option (Slot × Batch) → List (List ℕ) → List Draft → Made Message
-made_of p me leaf a strings ds = record { sends = sign_all p me leaf ds; accepted = a; strings = strings; used = uses_all p ds }
+made_of p me leaf a strings ds =
+    record { sends = sign_all p me leaf ds; accepted = a; strings = strings; used = uses_all p ds }
 
 abbrev pub makes : Params → ℕ → List (Item Message) → Input Message → ℕ → Made Message
 makes p me xs i leaf = made_of p me leaf (asked p me (inputs xs) i) (strings p me (inputs xs) i) (drafts p me xs i)

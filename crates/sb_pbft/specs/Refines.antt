@@ -88,14 +88,16 @@ pub record HasDelivered (p : Params) (old new : Pbft) (v s : ℕ) (taken : Optio
   pub value : taken ≡ value_in (newly_at p (held old) v s)
 
 -- if the replica answers, a Prepare for the proposal was sent
-pub record Answers (p : Params) (answers : Bool) (v : ℕ) (slot : Slot) (m : Pbft) (before later : KeyState) (e f : Effects Message) : Type 0 where
+pub record Answers (p : Params) (answers : Bool) (v : ℕ) (slot : Slot) (m : Pbft) (before later : KeyState)
+    (e f : Effects Message) : Type 0 where
   pub sent : Sent p (cond answers (prepares_to v slot ((held m).proposal v slot.0)) []) before later e.sends f.sends
   pub delivers : f.delivers ≡ e.delivers
   pub accepted : f.accepted ≡ e.accepted
   pub hashed : f.hashed ≡ e.hashed
 
 -- if a Commit was due at the slot, its certificate is stored and the Commit sent
-pub record Commits (p : Params) (slot : Slot) (old new : Pbft) (before later : KeyState) (e f : Effects Message) : Type 0 where
+pub record Commits (p : Params) (slot : Slot) (old new : Pbft) (before later : KeyState)
+    (e f : Effects Message) : Type 0 where
   pub node : new.me ≡ old.me
   pub holds : held new ≡ certified p (held old) slot
   pub sent : Sent p (commits_to (held old).mode.view slot (ready_at p (held old) slot.0)) before later e.sends f.sends
@@ -113,7 +115,8 @@ pub record HandsOver (p : Params) (v : ℕ) (slot : Slot) (old new : Pbft) (e f 
   pub hashed : f.hashed ≡ e.hashed
 
 -- each of these slots was settled, in order
-pub record Settles (p : Params) (answers : Bool) (v : ℕ) (slots : List Slot) (old new : Pbft) (before later : KeyState) (e f : Effects Message) : Type 0 where
+pub record Settles (p : Params) (answers : Bool) (v : ℕ) (slots : List Slot) (old new : Pbft) (before later : KeyState)
+    (e f : Effects Message) : Type 0 where
   pub node : new.me ≡ old.me
   pub holds : held new ≡ settled_all p (held old) v slots
   pub sent : Sent p (drafts_all p (held old) answers v slots) before later e.sends f.sends
@@ -122,7 +125,8 @@ pub record Settles (p : Params) (answers : Bool) (v : ℕ) (slots : List Slot) (
   pub hashed : f.hashed ≡ e.hashed
 
 -- the effects are those of the turn t, signed from this leaf on
-pub record IsTurn (p : Params) (new : Pbft) (me leaf : ℕ) (t : Turn) (e : Effects Message) (before later : KeyState) : Type 0 where
+pub record IsTurn (p : Params) (new : Pbft) (me leaf : ℕ) (t : Turn) (e : Effects Message)
+    (before later : KeyState) : Type 0 where
   pub holds : held new ≡ t.held
   pub sends : e.sends ≡ sign_all p me leaf t.drafts
   pub used : later.used ≡ leaf + uses_all p t.drafts
@@ -132,13 +136,16 @@ pub record IsTurn (p : Params) (new : Pbft) (me leaf : ℕ) (t : Turn) (e : Effe
 
 -- the contract of a step: if the keys are the replica's own, it is the turn of its state; with any keys its effects
 -- are within the segment
-pub record Does (p : Params) (old new : Pbft) (i : Input Message) (before later : KeyState) (e : Effects Message) : Type 0 where
+pub record Does (p : Params) (old new : Pbft) (i : Input Message) (before later : KeyState)
+    (e : Effects Message) : Type 0 where
   pub node : new.me ≡ old.me
-  pub turns : AreKeysOf old.me.0 p.setup.keys before → IsTurn p new old.me.0 before.used (turn p old.me.0 before.used (held old) i) e before later
+  pub turns : AreKeysOf old.me.0 p.setup.keys before →
+      IsTurn p new old.me.0 before.used (turn p old.me.0 before.used (held old) i) e before later
   pub within : IsWithin pbft p before later e
 
 -- the effects of accepting a batch at the slot, with its value and digest
-pub record HasAccepted (p : Params) (slot : Slot) (batch : Batch) (x : Value) (d : List ℕ) (e : Effects Message) : Type 0 where
+pub record HasAccepted (p : Params) (slot : Slot) (batch : Batch) (x : Value) (d : List ℕ)
+    (e : Effects Message) : Type 0 where
   pub value : x ≡ Value_batch batch
   pub digest : d ≡ digest_of p (Value_batch batch)
   pub sends : e.sends ≡ []
@@ -160,7 +167,8 @@ is_due p m v before =
     (nat_lt before (2 * p.setup.f + 1) && (length (changes_at p (held m) v) == 2 * p.setup.f + 1))
 
 -- if it is due, the NewView with the stored ViewChanges was sent, and the strings of its choices hashed
-pub record Renews (p : Params) (due : Bool) (m : Pbft) (v : ℕ) (before later : KeyState) (e f : Effects Message) : Type 0 where
+pub record Renews (p : Params) (due : Bool) (m : Pbft) (v : ℕ) (before later : KeyState)
+    (e f : Effects Message) : Type 0 where
   pub sent : Sent p (cond due (DraftNewView v (changes_at p (held m) v) ∷ []) []) before later e.sends f.sends
   pub hashed : f.hashed ≡ e.hashed ++ cond due (choice_strings p (changes_at p (held m) v) p.slots) []
   pub accepted : f.accepted ≡ e.accepted
@@ -168,4 +176,5 @@ pub record Renews (p : Params) (due : Bool) (m : Pbft) (v : ℕ) (before later :
 
 -- a new view's proposals at these slots: the values that these ViewChanges choose, with their signatures
 abbrev pub chosen_among : Params → ℕ → List Change → List Slot → List (List ℕ) → ℕ → ℕ → Option Proposal
-chosen_among p v xs slots sigs w s = cond ((w == v) && has_slot s slots) (placed p (Some (choice xs s)) (sig_for s slots sigs)) None
+chosen_among p v xs slots sigs w s =
+    cond ((w == v) && has_slot s slots) (placed p (Some (choice xs s)) (sig_for s slots sigs)) None

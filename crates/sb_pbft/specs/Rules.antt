@@ -35,7 +35,8 @@ is_newer m v = nat_lt m.view v || ((m.view == v) && not m.active)
 -- whether a NewView starts its view: it is of the primary, has 2f+1 good ViewChanges, and a signature for each slot
 -- rule: PBFT: A replica enters a view above its own, or its inactive own one, by the primary's NewView
 abbrev pub enters : Params → Mode → ℕ → ℕ → List Change → List (List ℕ) → Bool
-enters p m from v xs sigs = is_newer m v && (are_enough p v xs && ((from == primary p v) && (nat_lt 0 v && (length sigs == length p.slots))))
+enters p m from v xs sigs =
+    is_newer m v && (are_enough p v xs && ((from == primary p v) && (nat_lt 0 v && (length sigs == length p.slots))))
 
 -- whether a timeout has an effect: views are at most 65,535
 abbrev pub passes : Mode → Bool
@@ -47,7 +48,8 @@ mode_after p m (Receive from (PrePrepare v slot x sig)) = m
 mode_after p m (Receive from (Prepare v slot d sig)) = m
 mode_after p m (Receive from (Commit v slot d sig)) = m
 mode_after p m (Receive from (ViewChange v cs sig)) = m
-mode_after p m (Receive from (NewView v xs sigs sig)) = cond (enters p m from.0 v xs sigs) (record { view = v; active = true }) m
+mode_after p m (Receive from (NewView v xs sigs sig)) =
+    cond (enters p m from.0 v xs sigs) (record { view = v; active = true }) m
 mode_after p m Timeout = cond (passes m) (record { view = m.view + 1; active = false }) m
 
 abbrev pub mode : Params → List (Input Message) → Mode
@@ -87,13 +89,15 @@ chosen p m (Receive from (PrePrepare w slot x sig)) v s = None
 chosen p m (Receive from (Prepare w slot d sig)) v s = None
 chosen p m (Receive from (Commit w slot d sig)) v s = None
 chosen p m (Receive from (ViewChange w cs sig)) v s = None
-chosen p m (Receive from (NewView w xs sigs sig)) v s = when ((v == w) && (has_slot s p.slots && enters p m from.0 w xs sigs)) (choice xs s)
+chosen p m (Receive from (NewView w xs sigs sig)) v s =
+    when ((v == w) && (has_slot s p.slots && enters p m from.0 w xs sigs)) (choice xs s)
 chosen p m Timeout v s = None
 
 -- the replica's proposal at (v, s): the value of the PrePrepare that it sent or accepted
 abbrev pub proposal : Params → ℕ → List (Input Message) → ℕ → ℕ → Option Value
 proposal p me [] v s = None
-proposal p me (i ∷ l) v s = first_of (chosen p (mode p l) i v s) (first_of (proposal p me l v s) (offered (offer p me (mode p l) i) v s))
+proposal p me (i ∷ l) v s =
+    first_of (chosen p (mode p l) i v s) (first_of (proposal p me l v s) (offered (offer p me (mode p l) i) v s))
 
 -- the batch, if there is no proposal yet
 abbrev pub unless : Option Value → Slot × Batch → Option (Slot × Batch)
@@ -122,7 +126,8 @@ abbrev pub prepare_in : Params → Input Message → ℕ → ℕ → ℕ → Opt
 prepare_in p (Cast slot batch) v s k = None
 prepare_in p (Receive from (PrePrepare w slot x sig)) v s k = None
 prepare_in p (Receive from (Prepare w slot d sig)) v s k =
-    when (is_at from.0 w slot.0 v s k && (has_slot slot.0 p.slots && not (from.0 == primary p w))) (record { digest = d; sig = sig })
+    when (is_at from.0 w slot.0 v s k && (has_slot slot.0 p.slots && not (from.0 == primary p w)))
+    (record { digest = d; sig = sig })
 prepare_in p (Receive from (Commit w slot d sig)) v s k = None
 prepare_in p (Receive from (ViewChange w cs sig)) v s k = None
 prepare_in p (Receive from (NewView w xs sigs sig)) v s k = None
@@ -138,7 +143,8 @@ abbrev pub commit_in : Params → Input Message → ℕ → ℕ → ℕ → Opti
 commit_in p (Cast slot batch) v s k = None
 commit_in p (Receive from (PrePrepare w slot x sig)) v s k = None
 commit_in p (Receive from (Prepare w slot d sig)) v s k = None
-commit_in p (Receive from (Commit w slot d sig)) v s k = when (is_at from.0 w slot.0 v s k && has_slot slot.0 p.slots) (record { digest = d; sig = sig })
+commit_in p (Receive from (Commit w slot d sig)) v s k =
+    when (is_at from.0 w slot.0 v s k && has_slot slot.0 p.slots) (record { digest = d; sig = sig })
 commit_in p (Receive from (ViewChange w cs sig)) v s k = None
 commit_in p (Receive from (NewView w xs sigs sig)) v s k = None
 commit_in p Timeout v s k = None
@@ -193,7 +199,8 @@ change_in p (Receive from (PrePrepare w slot x sig)) v k = None
 change_in p (Receive from (Prepare w slot d sig)) v k = None
 change_in p (Receive from (Commit w slot d sig)) v k = None
 change_in p (Receive from (ViewChange w cs sig)) v k =
-    when (((from.0 == k) && (v == w)) && all_good p w cs) (record { node = from; view = w; certificates = cs; sig = sig })
+    when (((from.0 == k) && (v == w)) && all_good p w cs)
+    (record { node = from; view = w; certificates = cs; sig = sig })
 change_in p (Receive from (NewView w xs sigs sig)) v k = None
 change_in p Timeout v k = None
 

@@ -106,7 +106,8 @@ newly_at p h v s = cond (h.done s) None (committed_at p h v s)
 
 -- with the prepared certificate stored, if a Commit is due
 abbrev pub certified : Params → Held → Slot → Held
-certified p h slot = record h { top = set_at h.top slot.0 (first_of (certificate_of p h slot (ready_at p h slot.0)) (h.top slot.0)) }
+certified p h slot =
+    record h { top = set_at h.top slot.0 (first_of (certificate_of p h slot (ready_at p h slot.0)) (h.top slot.0)) }
 
 -- with the slot marked as delivered, if it is to be delivered
 abbrev pub handed : Params → Held → ℕ → ℕ → Held
@@ -125,7 +126,8 @@ prepares_to v slot (Some q) = DraftPrepare v slot q.digest ∷ []
 
 -- a Prepare, if the replica answers, before the Commit
 abbrev pub drafts_at : Params → Held → Bool → ℕ → Slot → List Draft
-drafts_at p h answers v slot = cond answers (prepares_to v slot (h.proposal v slot.0)) [] ++ commits_to h.mode.view slot (ready_at p h slot.0)
+drafts_at p h answers v slot =
+    cond answers (prepares_to v slot (h.proposal v slot.0)) [] ++ commits_to h.mode.view slot (ready_at p h slot.0)
 
 abbrev pub delivery : Slot → Option Proposal → List (Slot × Value)
 delivery slot None = []
@@ -183,12 +185,14 @@ first_proposal p a sig = record { value = Value_batch a.1; digest = digest_of p 
 
 -- the PrePrepare or Prepare for an accepted batch is sent first
 abbrev pub and_said : Params → ℕ → Slot × Batch → Turn → Turn
-and_said p me a t = record t { drafts = first_draft p me (Some a) ++ t.drafts; strings = asked_strings p (Some a); accepted = Some a }
+and_said p me a t =
+    record t { drafts = first_draft p me (Some a) ++ t.drafts; strings = asked_strings p (Some a); accepted = Some a }
 
 abbrev pub accepts_of : Params → ℕ → ℕ → Held → Input Message → Option (Slot × Batch) → Turn
 accepts_of p me leaf h i None = idle h
 accepts_of p me leaf h i (Some a) =
-    and_said p me a (at_slots p (with_proposal h 0 a.0.0 (first_proposal p a (first_sig p me leaf a i))) false 0 (a.0 ∷ []))
+    and_said p me a
+    (at_slots p (with_proposal h 0 a.0.0 (first_proposal p a (first_sig p me leaf a i))) false 0 (a.0 ∷ []))
 
 abbrev pub and_prepare : Params → Held → Input Message → Held
 and_prepare p h i = record h { prepare = λ v s k. first_of (h.prepare v s k) (prepare_in p i v s k) }
@@ -220,7 +224,8 @@ changed p me h u from v cs = record (idle u) {
 
 -- the proposals of a NewView
 abbrev pub chosen_at : Params → ℕ → List Change → List (List ℕ) → ℕ → ℕ → Option Proposal
-chosen_at p v xs sigs w s = cond ((w == v) && has_slot s p.slots) (placed p (Some (choice xs s)) (sig_for s p.slots sigs)) None
+chosen_at p v xs sigs w s =
+    cond ((w == v) && has_slot s p.slots) (placed p (Some (choice xs s)) (sig_for s p.slots sigs)) None
 
 abbrev pub entered : Params → Held → ℕ → List Change → List (List ℕ) → Held
 entered p h v xs sigs = record h {
@@ -246,18 +251,23 @@ gives_up p h = record (idle (record h { mode = record { view = h.mode.view + 1; 
 abbrev pub turn : Params → ℕ → ℕ → Held → Input Message → Turn
 turn p me leaf h (Cast slot batch) = accepts_of p me leaf h (Cast slot batch) (asked_at p me h (Cast slot batch))
 turn p me leaf h (Receive from (PrePrepare v slot x sig)) =
-    accepts_of p me leaf h (Receive from (PrePrepare v slot x sig)) (asked_at p me h (Receive from (PrePrepare v slot x sig)))
+    accepts_of p me leaf h (Receive from (PrePrepare v slot x sig))
+    (asked_at p me h (Receive from (PrePrepare v slot x sig)))
 turn p me leaf h (Receive from (Prepare v slot d sig)) =
     cond (has_slot slot.0 p.slots && not (from.0 == primary p v))
     (at_slots p (and_prepare p h (Receive from (Prepare v slot d sig))) false v (slot ∷ [])) (idle h)
 turn p me leaf h (Receive from (Commit v slot d sig)) =
-    cond (has_slot slot.0 p.slots) (at_slots p (and_commit p h (Receive from (Commit v slot d sig))) false v (slot ∷ [])) (idle h)
-turn p me leaf h (Receive from (ViewChange v cs sig)) = changed p me h (and_change p h (Receive from (ViewChange v cs sig))) from v cs
-turn p me leaf h (Receive from (NewView v xs sigs sig)) = cond (enters p h.mode from.0 v xs sigs) (begins p me h v xs sigs) (idle h)
+    cond (has_slot slot.0 p.slots)
+    (at_slots p (and_commit p h (Receive from (Commit v slot d sig))) false v (slot ∷ [])) (idle h)
+turn p me leaf h (Receive from (ViewChange v cs sig)) =
+    changed p me h (and_change p h (Receive from (ViewChange v cs sig))) from v cs
+turn p me leaf h (Receive from (NewView v xs sigs sig)) =
+    cond (enters p h.mode from.0 v xs sigs) (begins p me h v xs sigs) (idle h)
 turn p me leaf h Timeout = cond (passes h.mode) (gives_up p h) (idle h)
 
 -- the turn agrees with the definitions over the whole history
-pub record TurnsTo (p : Params) (me : ℕ) (xs : List (Item Message)) (i : Input Message) (leaf : ℕ) (t : Turn) : Type 0 where
+pub record TurnsTo (p : Params) (me : ℕ) (xs : List (Item Message)) (i : Input Message) (leaf : ℕ)
+    (t : Turn) : Type 0 where
   pub held : t.held ≡ model p me (and_then pbft p me xs i leaf)
   pub drafts : t.drafts ≡ drafts p me xs i
   pub strings : t.strings ≡ strings p me (inputs xs) i

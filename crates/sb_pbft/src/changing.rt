@@ -145,7 +145,8 @@ impl Pbft {
     ) -> Result<(), NoMemory>
         requires good { IsGoodParams pbft p.now }
         requires enough { length p.now.slots + 1 ≤ left_of keys.old }
-        ensures { OnOk result (Renews p.now (is_due p.now self.now view before) self.now view keys.old keys.new effects.old effects.new) }
+        ensures { OnOk result
+            (Renews p.now (is_due p.now self.now view before) self.now view keys.old keys.new effects.old effects.new) }
     {
         if !self.is_due(p, view, before) {
             return Ok(());
@@ -166,7 +167,8 @@ impl Pbft {
         requires good { IsGoodParams pbft p.now }
         requires enough { 2 * length p.now.slots + 1 ≤ left_of keys.old }
         ensures { IfOk result (λ e. Does p.now self.old self.new
-            (Input.Receive change.node (Message.ViewChange change.view change.certificates change.sig)) keys.old keys.new e) }
+            (Input.Receive change.node
+            (Message.ViewChange change.view change.certificates change.sig)) keys.old keys.new e) }
     {
         let view = change.view;
         let mut effects = Effects::nothing(alloc);
@@ -229,7 +231,8 @@ impl Pbft {
         requires good { IsGoodParams pbft p.now }
         requires enough { 2 * length p.now.slots + 1 ≤ left_of keys.old }
         ensures { IfOk result (λ e. (sig : List ℕ) →
-            Does p.now self.old self.new (Input.Receive from (Message.NewView view changes signatures sig)) keys.old keys.new e) }
+            Does p.now self.old self.new
+            (Input.Receive from (Message.NewView view changes signatures sig)) keys.old keys.new e) }
     {
         let mut effects = Effects::nothing(alloc);
         let shown = changes.as_slice();

@@ -48,7 +48,8 @@ pub fn what_is_delivered_was_decided()
 /// If a valid prepared certificate holds a batch, then 2f+1 replicas, the leader among them, accepted the batch. This
 /// assumes that no two hashed strings have one digest.
 pub fn batches_come_from_a_quorum()
-    ensures { (p : Params) (w : World Message) → IsGoodParams pbft p → IsReached pbft p w → Separate (IsString w) → AreRooted p w }
+    ensures { (p : Params) (w : World Message) → IsGoodParams pbft p → IsReached pbft p w → Separate (IsString w) →
+        AreRooted p w }
 {}
 
 /// A correct replica accepts one batch for a slot, however often it receives it.

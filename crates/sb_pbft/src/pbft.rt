@@ -60,7 +60,9 @@ impl Pbft {
     ) -> Result<Effects<Message>, NoMemory>
         requires good { IsGoodParams pbft p.now }
         requires enough { 2 * length p.now.slots + 1 ≤ left_of keys.old }
-        ensures { IfOk result (λ e. Does p.now self.old self.new (Input.Receive from (Message.PrePrepare view slot value sig)) keys.old keys.new e) }
+        ensures { IfOk result (λ e.
+            Does p.now self.old self.new
+            (Input.Receive from (Message.PrePrepare view slot value sig)) keys.old keys.new e) }
     {
         match value {
             Value::Nil => Ok(Effects::nothing(alloc)),

@@ -38,7 +38,8 @@ impl PreparedCertificates {
     /// Stores a certificate in place of its slot's earlier one. The replica's view only grows, so the last one stored
     /// is of the highest view.
     pub fn put(&mut self, certificate: Certificate) -> Result<(), NoMemory>
-        ensures { OnOk result ((s : ℕ) → top_at self.new s ≡ set_at (top_at self.old) certificate.slot.0 (Some certificate) s) }
+        ensures { OnOk result
+            ((s : ℕ) → top_at self.new s ≡ set_at (top_at self.old) certificate.slot.0 (Some certificate) s) }
     {
         self.highest.insert(certificate.slot.0, certificate)?;
         Ok(())

@@ -49,7 +49,8 @@ impl Proposals {
 
     /// Stores the proposal of the view at the slot, in place of an earlier one.
     pub fn put(&mut self, view: u16, slot: Slot, proposal: Proposal) -> Result<(), NoMemory>
-        ensures { OnOk result ((v s : ℕ) → proposal_at self.new v s ≡ set_at2 (proposal_at self.old) view slot.0 (Some proposal) v s) }
+        ensures { OnOk result
+            ((v s : ℕ) → proposal_at self.new v s ≡ set_at2 (proposal_at self.old) view slot.0 (Some proposal) v s) }
     {
         let place = Place { view, slot: slot.0 };
         self.all.insert(place, proposal)?;

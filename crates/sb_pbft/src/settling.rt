@@ -196,7 +196,8 @@ impl Pbft {
     ) -> Result<(), NoMemory>
         requires good { IsGoodParams pbft p.now }
         requires enough { 2 ≤ left_of keys.old }
-        ensures { OnOk result (Settles p.now answers view (slot ∷ []) self.old self.new keys.old keys.new effects.old effects.new) }
+        ensures { OnOk result
+            (Settles p.now answers view (slot ∷ []) self.old self.new keys.old keys.new effects.old effects.new) }
     {
         self.prepare_if_asked(alloc, p, answers, view, slot, keys, effects)?;
         self.commit(alloc, p, slot, keys, effects)?;
@@ -217,7 +218,8 @@ impl Pbft {
     ) -> Result<(), NoMemory>
         requires good { IsGoodParams pbft p.now }
         requires enough { 2 * length slots.now ≤ left_of keys.old }
-        ensures { OnOk result (Settles p.now answers view slots.now self.old self.new keys.old keys.new effects.old effects.new) }
+        ensures { OnOk result
+            (Settles p.now answers view slots.now self.old self.new keys.old keys.new effects.old effects.new) }
     {
         for slot in slots {
             self.settle_at(alloc, p, answers, view, *slot, keys, effects)?;

@@ -51,7 +51,8 @@ impl Votes {
         sig: Bytes,
     ) -> Result<(), NoMemory>
         ensures { OnOk result ((v s k : ℕ) → vote_at self.new v s k ≡
-            first_of (vote_at self.old v s k) (when (is_at node.0 view slot.0 v s k) (record { digest = digest; sig = sig }))) }
+            first_of (vote_at self.old v s k)
+            (when (is_at node.0 view slot.0 v s k) (record { digest = digest; sig = sig }))) }
     {
         let mark = Mark {
             view,

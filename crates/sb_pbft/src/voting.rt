@@ -39,7 +39,9 @@ impl Pbft {
     ) -> Result<Effects<Message>, NoMemory>
         requires good { IsGoodParams pbft p.now }
         requires enough { 2 * length p.now.slots + 1 ≤ left_of keys.old }
-        ensures { IfOk result (λ e. Does p.now self.old self.new (Input.Receive from (Message.Prepare view slot digest sig)) keys.old keys.new e) }
+        ensures { IfOk result (λ e.
+            Does p.now self.old self.new
+            (Input.Receive from (Message.Prepare view slot digest sig)) keys.old keys.new e) }
     {
         if !counts(p, from, view, slot) {
             return Ok(Effects::nothing(alloc));
@@ -64,7 +66,8 @@ impl Pbft {
         requires good { IsGoodParams pbft p.now }
         requires enough { 2 * length p.now.slots + 1 ≤ left_of keys.old }
         ensures { IfOk result (λ e. (sig : List ℕ) →
-            Does p.now self.old self.new (Input.Receive from (Message.Commit view slot digest sig)) keys.old keys.new e) }
+            Does p.now self.old self.new
+            (Input.Receive from (Message.Commit view slot digest sig)) keys.old keys.new e) }
     {
         if !has_slot(p, slot) {
             return Ok(Effects::nothing(alloc));

@@ -48,5 +48,6 @@ impl Say {
 /// Bytes decode as a message exactly if the table relates the two. The function computes nothing: its contract is the
 /// theorem.
 pub fn say_is_exact()
-    ensures { (version : ℕ) (said : Say) (bytes : List ℕ) → (parse version bytes ≡ Good said []) ↔ IsSpelledSay version said bytes }
+    ensures { (version : ℕ) (said : Say) (bytes : List ℕ) → (parse version bytes ≡ Good said []) ↔
+        IsSpelledSay version said bytes }
 {}
