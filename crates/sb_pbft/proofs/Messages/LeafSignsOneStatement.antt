@@ -40,10 +40,10 @@ use Rattle.sb_pbft.proofs.ViewChange.CommitsAreShown.{change-rule}
 use Rattle.sb_pbft.proofs.ViewChange.OneNewViewAView.{change-of-is, in-changes, starts-with}
 use Rattle.sb_pbft.proofs.Messages.OwnClaimsWereSent.{cast-sends, input-item, offer-asked, primary-zero}
 use Rattle.sb_pbft.proofs.Messages.SentDecodes.{in-tops, kept-from}
-use Rattle.sb_pbft.proofs.Voting.OnePrepareAView.{Rule, rule-of}
+use Rattle.sb_pbft.proofs.History.OnePrepareAView.{Rule, rule-of}
 use Rattle.sb_pbft.proofs.Model.ProposalsAreSigned.{chosen-signed, proposal-signed}
-use Rattle.sb_pbft.proofs.Voting.ViewsGrow.{Offers, Said, SameInput, chosen-is, entered, offer-is, offered-is}
-use Rattle.sb_pbft.proofs.Voting.VotersAreDistinct.{in-take, in-voters, prepare-of-is}
+use Rattle.sb_pbft.proofs.History.ViewsGrow.{Offers, Said, SameInput, chosen-is, entered, offer-is, offered-is}
+use Rattle.sb_pbft.proofs.History.VotersAreDistinct.{in-take, in-voters, prepare-of-is}
 
 -- ---- options
 

@@ -39,9 +39,9 @@ use Rattle.sb_pbft.proofs.Basics.{is-same}
 use Rattle.sb_pbft.proofs.ViewChange.CommitsAreShown.{change-rule}
 use Rattle.sb_pbft.proofs.ViewChange.OneNewViewAView.{change-of-is, in-changes, starts-with}
 use Rattle.sb_pbft.proofs.Messages.SentDecodes.{in-tops, kept-from}
-use Rattle.sb_pbft.proofs.Voting.OnePrepareAView.{Rule, rule-of, signed-draft}
-use Rattle.sb_pbft.proofs.Voting.ViewsGrow.{Offers, Said, SameInput, chosen-is, entered, offer-is, offered-is}
-use Rattle.sb_pbft.proofs.Voting.VotersAreDistinct.{commit-of-is, in-take, in-voters, prepare-of-is}
+use Rattle.sb_pbft.proofs.History.OnePrepareAView.{Rule, rule-of, signed-draft}
+use Rattle.sb_pbft.proofs.History.ViewsGrow.{Offers, Said, SameInput, chosen-is, entered, offer-is, offered-is}
+use Rattle.sb_pbft.proofs.History.VotersAreDistinct.{commit-of-is, in-take, in-voters, prepare-of-is}
 
 -- ---- the statements that a message is the first to make
 

@@ -30,8 +30,8 @@ use Rattle.pbft_views.proofs.Choices.{best-in, certificate-from}
 use Rattle.sb_pbft.specs.Makes.{chosen_sig, first_sig, inputs, offered_sig, or_empty, proposal_sig, sig_for}
 use Rattle.sb_pbft.specs.Pbft.{pbft}
 use Rattle.sb_pbft.specs.Rules.{Mode, asked, chosen, enters, mode, mode_after, offer, offered, passes, proposal, when}
-use Rattle.sb_pbft.proofs.Voting.AcceptedAndDecided.{asked-is}
-use Rattle.sb_pbft.proofs.Voting.ViewsGrow.{Offers, Said, chosen-is, entered, offer-is, offered-is}
+use Rattle.sb_pbft.proofs.History.AcceptedAndDecided.{asked-is}
+use Rattle.sb_pbft.proofs.History.ViewsGrow.{Offers, Said, chosen-is, entered, offer-is, offered-is}
 
 abbrev pub FitsInput : Params → Said → Type 0
 FitsInput p (Cast s b) = fits_value p.setup.version (Value_batch b) ≡ true

@@ -36,12 +36,12 @@ use Rattle.pbft_views.proofs.Statements.{digest-length}
 use Rattle.sb_pbft.specs.Makes.{Draft, DraftNewView, certificate, certified, certify, choice_sigs, drafts, has, inputs, kept, makes, ready, sign, tops}
 use Rattle.sb_pbft.specs.Pbft.{pbft}
 use Rattle.sb_pbft.specs.Rules.{Ballot, change_of, changes, changes_from, cons_some, cons_vote, mode, prepare_of, prepared, prepares, proposal, voters}
-use Rattle.sb_pbft.proofs.Voting.AcceptedAndDecided.{IsPrepared, asked-is, prepared-is}
+use Rattle.sb_pbft.proofs.History.AcceptedAndDecided.{IsPrepared, asked-is, prepared-is}
 use Rattle.sb_pbft.proofs.Messages.ReceivedIsWellFormed.{AreFit, FitsInput, asked-fits, fit-in, heard-all, heard-fits, mode-low, new-fits, proposal-fits, proposal-shape}
 use Rattle.sb_pbft.proofs.ViewChange.OneNewViewAView.{change-of-is, completes-is}
-use Rattle.sb_pbft.proofs.Voting.OnePrepareAView.{Rule, by_cast, by_changes, by_proposal, by_timeout, by_view, by_votes, rule-of, signed-draft}
-use Rattle.sb_pbft.proofs.Voting.ViewsGrow.{Said, offer-is}
-use Rattle.sb_pbft.proofs.Voting.VotersAreDistinct.{prepare-of-is}
+use Rattle.sb_pbft.proofs.History.OnePrepareAView.{Rule, by_cast, by_changes, by_proposal, by_timeout, by_view, by_votes, rule-of, signed-draft}
+use Rattle.sb_pbft.proofs.History.ViewsGrow.{Said, offer-is}
+use Rattle.sb_pbft.proofs.History.VotersAreDistinct.{prepare-of-is}
 
 -- ---- votes
 

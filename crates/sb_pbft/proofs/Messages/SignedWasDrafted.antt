@@ -21,7 +21,7 @@ use Rattle.pbft_views.proofs.Statements.{HasMark, at-same, change-same}
 use Rattle.sb_pbft.specs.Makes.{Draft, DraftCommit, DraftNewView, DraftPrePrepare, DraftPrepare, DraftViewChange, drafts, makes, sign}
 use Rattle.sb_pbft.specs.Pbft.{pbft}
 use Rattle.sb_pbft.proofs.Messages.OwnClaimsWereSent.{States, stated}
-use Rattle.sb_pbft.proofs.Voting.OnePrepareAView.{Rule, SameDraft, drafted, rule-of, signed-draft}
+use Rattle.sb_pbft.proofs.History.OnePrepareAView.{Rule, SameDraft, drafted, rule-of, signed-draft}
 
 pub drafted-in : (p : Params) (me : ℕ) (xs before : List (Item Message)) (x : Item Message) (d : Draft) → Front (x ∷ before) xs → In d (drafts p me before x.input) → In d (drafted p me xs)
 drafted-in p me [] before x d f h = absurd (cc)

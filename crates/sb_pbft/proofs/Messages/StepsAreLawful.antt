@@ -25,7 +25,7 @@ use Rattle.pbft_views.proofs.Claimed.{named}
 use Rattle.sb_pbft.specs.Makes.{Draft, DraftNewView, DraftPrePrepare, DraftPrepare, DraftViewChange, answer, by_slot, commit_draft, drafts, first_draft, inputs, kept, lead, ready, sign_all, uses, uses_all}
 use Rattle.sb_pbft.specs.Pbft.{pbft}
 use Rattle.sb_pbft.specs.Rules.{Mode, asked, changes, completes, enters, mode, passes, proposal}
-use Rattle.sb_pbft.proofs.Voting.AcceptedAndDecided.{asked-is, cast-when, cast_test, decided-is, offer-within, proposal-within}
+use Rattle.sb_pbft.proofs.History.AcceptedAndDecided.{asked-is, cast-when, cast_test, decided-is, offer-within, proposal-within}
 use Rattle.sb_pbft.proofs.Messages.SentDecodes.{sent-again}
 use Rattle.sb_pbft.proofs.Code.SettleRefines.{uses-both}
 

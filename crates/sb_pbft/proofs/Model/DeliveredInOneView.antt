@@ -9,9 +9,9 @@ use Rattle.pbft_wire.specs.declared.messages.Message.{Message}
 use Rattle.sb_pbft.specs.Makes.{inputs}
 use Rattle.sb_pbft.specs.Pbft.{decided, pbft}
 use Rattle.sb_pbft.specs.Rules.{committed, lowest, mode}
-use Rattle.sb_pbft.proofs.Voting.AcceptedAndDecided.{committed-is}
+use Rattle.sb_pbft.proofs.History.AcceptedAndDecided.{committed-is}
 use Rattle.sb_pbft.proofs.Basics.{first-none, none-from}
-use Rattle.sb_pbft.proofs.Voting.ViewsGrow.{Said, seen}
+use Rattle.sb_pbft.proofs.History.ViewsGrow.{Said, seen}
 
 -- ---- the lowest view with a value
 

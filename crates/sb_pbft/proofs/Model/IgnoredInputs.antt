@@ -25,7 +25,7 @@ use Rattle.sb_pbft.proofs.Model.DraftsAgree.{none-said}
 use Rattle.sb_pbft.proofs.Model.DeliveriesAgree.{delivers-is}
 use Rattle.sb_pbft.proofs.Model.SettledAgrees.{Touches, held-is, mid}
 use Rattle.sb_pbft.proofs.Model.VotesTouchOneSlot.{BringsNone, quiet-still, touches-none}
-use Rattle.sb_pbft.proofs.Voting.ViewsGrow.{Said}
+use Rattle.sb_pbft.proofs.History.ViewsGrow.{Said}
 
 module _ (p : Params) (me leaf : ℕ) (xs : List (Item Message)) where
   abbrev pub item : Said → Item Message

@@ -31,8 +31,8 @@ use Rattle.sb_pbft.proofs.Model.SettledAgrees.{Touches, mid}
 use Rattle.sb_pbft.proofs.Model.IgnoredInputs.{item}
 use Rattle.sb_pbft.proofs.ViewChange.HighestCertificates.{NotAt}
 use Rattle.sb_pbft.proofs.Model.VotesTouchOneSlot.{committed-same, prepared-same}
-use Rattle.sb_pbft.proofs.Voting.ViewsGrow.{Said, not-newer, proposed-choice, seen}
-use Rattle.sb_pbft.proofs.Voting.ViewsGrow as views
+use Rattle.sb_pbft.proofs.History.ViewsGrow.{Said, not-newer, proposed-choice, seen}
+use Rattle.sb_pbft.proofs.History.ViewsGrow as views
 
 module _ (p : Params) (me leaf : ℕ) (xs : List (Item Message)) (rising : AreAscending 0 p.slots) (from : NodeId) (v : ℕ) (vs : List Change) (sigs : List (List ℕ)) (sig : List ℕ)
     (yes : enters p (mode p (inputs xs)) from.0 v vs sigs ≡ true) where

@@ -23,14 +23,14 @@ use Rattle.sb_pbft.specs.Rules.{Mode, asked, asked_of, change_in, change_of, cho
 use Rattle.sb_pbft.specs.Turns.{Held, TurnsTo, accepts_of, and_said, asked_at, at_slots, bare, drafts_all, first_proposal, free, model, placed, with_proposal}
 use Rattle.sb_pbft.specs.declared.proposals.Proposal.{Proposal}
 use Rattle.sb_pbft.proofs.Model.DraftsAgree.{calm, slot-said}
-use Rattle.sb_pbft.proofs.Voting.AcceptedAndDecided.{IsAsked, asked-is, offer-within}
+use Rattle.sb_pbft.proofs.History.AcceptedAndDecided.{IsAsked, asked-is, offer-within}
 use Rattle.sb_pbft.proofs.Basics.{first-none}
 use Rattle.sb_pbft.proofs.Model.DeliveriesAgree.{settles}
 use Rattle.sb_pbft.proofs.Model.ProposalsAreSigned.{proposal-signed, unsigned}
 use Rattle.sb_pbft.proofs.Model.SettledAgrees.{Touches, mid}
 use Rattle.sb_pbft.proofs.Model.IgnoredInputs.{ChangesNothing, item, still-turns}
 use Rattle.sb_pbft.proofs.Model.VotesTouchOneSlot.{at-slot, committed-same, in-slots, prepared-same, ready-same}
-use Rattle.sb_pbft.proofs.Voting.ViewsGrow.{Said}
+use Rattle.sb_pbft.proofs.History.ViewsGrow.{Said}
 use Rattle.sb_pbft.proofs.Model.VoteTurn.{not-other}
 
 keeps : {A : Type 0} (o d : Option A) → is_some o ≡ true → first_of o d ≡ o

@@ -16,7 +16,7 @@ use Rattle.pbft_wire.specs.declared.messages.Message.TheVariants.{Commit, NewVie
 use Rattle.pbft_views.specs.Choice.{choice}
 use Rattle.sb_pbft.specs.Makes.{chosen_sig, first_sig, inputs, offered_sig, proposal_sig, sig_for}
 use Rattle.sb_pbft.specs.Rules.{Mode, chosen, enters, mode, offer, offered, proposal, when}
-use Rattle.sb_pbft.proofs.Voting.ViewsGrow.{Said, entered}
+use Rattle.sb_pbft.proofs.History.ViewsGrow.{Said, entered}
 
 some-first : {A B : Type 0} (a b : Option A) (c d : Option B) → is_some a ≡ is_some c → is_some b ≡ is_some d → is_some (first_of a b) ≡ is_some (first_of c d)
 some-first None b None d h g = g

@@ -21,7 +21,7 @@ use Rattle.sb_pbft.proofs.Model.CertificatesAgree.{committed-model, ready-model}
 use Rattle.sb_pbft.proofs.Model.DeliveredInOneView.{newly-delivered, nothing-delivered}
 use Rattle.sb_pbft.proofs.Model.SlotsAreIndependent.{done-inside, done-outside, top-inside, top-outside}
 use Rattle.sb_pbft.proofs.ViewChange.HighestCertificates.{AreLow, NotAt, certified-at, certified-other, kept-low, made}
-use Rattle.sb_pbft.proofs.Voting.ViewsGrow.{grows}
+use Rattle.sb_pbft.proofs.History.ViewsGrow.{grows}
 
 -- the position of a slot
 pub where-is : (s : ℕ) (ss : List Slot) → ((t : Slot) × In t ss × (t.0 ≡ s)) ⊎ NotAt s ss

@@ -19,7 +19,7 @@ use Rattle.sb_pbft.proofs.Model.DraftsAgree.{none-said}
 use Rattle.sb_pbft.proofs.Model.DeliveriesAgree.{delivers-is}
 use Rattle.sb_pbft.proofs.Model.SettledAgrees.{Touches, held-is, mid}
 use Rattle.sb_pbft.proofs.Model.VotesTouchOneSlot.{BringsNone, quiet-still, touches-none}
-use Rattle.sb_pbft.proofs.Voting.ViewsGrow.{Said}
+use Rattle.sb_pbft.proofs.History.ViewsGrow.{Said}
 
 module _ (p : Params) (me : ℕ) (from : NodeId) (v : ℕ) (cs : List Certificate) (sig : List ℕ) (leaf : ℕ) (xs : List (Item Message)) (rising : AreAscending 0 p.slots) where
   abbrev said : Said

@@ -22,7 +22,7 @@ use Rattle.sb_pbft.specs.Rules.{Ballot, commit_of, committed, committed_with, is
 use Rattle.sb_pbft.proofs.Model.DraftsAgree.{calm}
 use Rattle.sb_pbft.proofs.Model.SettledAgrees.{Touches}
 use Rattle.sb_pbft.proofs.ViewChange.HighestCertificates.{NotAt}
-use Rattle.sb_pbft.proofs.Voting.ViewsGrow.{Said}
+use Rattle.sb_pbft.proofs.History.ViewsGrow.{Said}
 
 module _ (p : Params) where
   -- depends on the votes and the proposal only

@@ -24,9 +24,9 @@ use Rattle.sb_pbft.proofs.Safety.SignaturesAreJustified.{node-facts, one-commit-
 use Rattle.sb_pbft.proofs.Safety.DecidedValuesStay.{Certified, NodeFacts, Reason, agree, later-same, rooted, same-view, share}
 use Rattle.sb_pbft.proofs.Messages.SignedWasDrafted.{drafted-in}
 use Rattle.sb_pbft.proofs.ViewChange.CommitsAreShown.{change-view, commit-rule}
-use Rattle.sb_pbft.proofs.Voting.OnePrepareAView.{SameDraft, rule-of, signed-draft}
+use Rattle.sb_pbft.proofs.History.OnePrepareAView.{SameDraft, rule-of, signed-draft}
 use Rattle.sb_pbft.proofs.Safety.SeenClaimsAreTrue.{IsDelivered, delivered-shown}
-use Rattle.sb_pbft.proofs.Voting.ViewsGrow.{grows}
+use Rattle.sb_pbft.proofs.History.ViewsGrow.{grows}
 
 -- ---- messages that were sent
 

@@ -35,12 +35,12 @@ use Rattle.sb_pbft.specs.Facts.{IsDecidedView, IsKnown}
 use Rattle.sb_pbft.specs.Makes.{asked_strings, choice_strings, inputs, makes, strings, value_strings}
 use Rattle.sb_pbft.specs.Pbft.{pbft}
 use Rattle.sb_pbft.specs.Rules.{asked, chosen, commit_of, commits, enters, mode, offer, offered, prepare_of, prepares, proposal}
-use Rattle.sb_pbft.proofs.Voting.AcceptedAndDecided.{asked-is, decided-is}
+use Rattle.sb_pbft.proofs.History.AcceptedAndDecided.{asked-is, decided-is}
 use Rattle.sb_pbft.proofs.Safety.DecidedValuesStay.{Certified, Granted}
 use Rattle.sb_pbft.proofs.Messages.ReceivedIsWellFormed.{AreFit, FitsInput, FitsNew, asked-fits, batch-fits, choice-fits, new-fits}
 use Rattle.sb_pbft.proofs.Messages.OwnClaimsWereSent.{Source, came, commit-source, offer-asked, prepare-source, proposal-source, sent}
-use Rattle.sb_pbft.proofs.Voting.ViewsGrow.{Offers, Said, SameInput, chosen-is, offer-is, offered-is}
-use Rattle.sb_pbft.proofs.Voting.VotersAreDistinct.{in-voters, node-vote, prepare-of-is, voters-apart}
+use Rattle.sb_pbft.proofs.History.ViewsGrow.{Offers, Said, SameInput, chosen-is, offer-is, offered-is}
+use Rattle.sb_pbft.proofs.History.VotersAreDistinct.{in-voters, node-vote, prepare-of-is, voters-apart}
 
 -- ---- lists of votes
 

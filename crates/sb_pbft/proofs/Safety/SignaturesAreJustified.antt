@@ -27,9 +27,9 @@ use Rattle.sb_pbft.proofs.Messages.SignedWasDrafted.{IsDraftedBy, MakesProposal,
 use Rattle.sb_pbft.proofs.ViewChange.CommitsAreShown.{commit-rule, covers}
 use Rattle.sb_pbft.proofs.ViewChange.OneNewViewAView.{IsFromChange, StartsWith, completes-is, from-change, one-new, starts-with}
 use Rattle.sb_pbft.proofs.Messages.SentDecodes.{ready-is}
-use Rattle.sb_pbft.proofs.Voting.OnePrepareAView.{Asked, Proposed, SameDraft, one-prepare}
+use Rattle.sb_pbft.proofs.History.OnePrepareAView.{Asked, Proposed, SameDraft, one-prepare}
 use Rattle.sb_pbft.proofs.Safety.SeenClaimsAreTrue.{Entry, Part, asked-known, certified-from, entered-choice}
-use Rattle.sb_pbft.proofs.Voting.ViewsGrow.{entered}
+use Rattle.sb_pbft.proofs.History.ViewsGrow.{entered}
 use Rattle.sb_pbft.proofs.Safety.VotesAreJustified.{IsAnswer, accepted-in, answer-of-rule, change-above, commit-proposed, first-of-rule, first-proposed, to_batch, to_view}
 
 module _ (p : Params) (good : IsGoodParams pbft p) (w : World Message) (reached : IsReached pbft p w) where

@@ -22,8 +22,8 @@ use Rattle.sb_pbft.specs.Makes.{DraftCommit, DraftNewView, DraftPrePrepare, Draf
 use Rattle.sb_pbft.specs.Rules.{enters, mode, proposal}
 use Rattle.sb_pbft.proofs.ViewChange.CommitsAreShown.{commit-rule, no-change-commit, no-change-new, no-change-pre, no-change-prepare}
 use Rattle.sb_pbft.proofs.Messages.SentDecodes.{ready-is}
-use Rattle.sb_pbft.proofs.Voting.OnePrepareAView.{Asked, Proposed, Rule, SameDraft, by_cast, by_changes, by_proposal, by_timeout, by_view, by_votes, drafted, no-change, no-commit, no-new, no-pre, proposed-on, rule-of, same-prepare}
-use Rattle.sb_pbft.proofs.Voting.ViewsGrow.{Said, SameInput, proposed-offer}
+use Rattle.sb_pbft.proofs.History.OnePrepareAView.{Asked, Proposed, Rule, SameDraft, by_cast, by_changes, by_proposal, by_timeout, by_view, by_votes, drafted, no-change, no-commit, no-new, no-pre, proposed-on, rule-of, same-prepare}
+use Rattle.sb_pbft.proofs.History.ViewsGrow.{Said, SameInput, proposed-offer}
 
 -- ---- in one replica's history
 

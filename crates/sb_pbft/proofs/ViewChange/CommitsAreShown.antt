@@ -16,8 +16,8 @@ use Rattle.pbft_views.specs.Choice.{best, choice}
 use Rattle.pbft_views.proofs.Choices.{best-in, best-max}
 use Rattle.sb_pbft.specs.Makes.{DraftCommit, DraftNewView, DraftPrePrepare, DraftPrepare, DraftViewChange, certificate, certified, certify, drafts, inputs, kept, ready, tops}
 use Rattle.sb_pbft.specs.Rules.{Mode, cons_some, mode, mode_after, passes}
-use Rattle.sb_pbft.proofs.Voting.OnePrepareAView.{Rule, SameDraft, by_cast, by_changes, by_proposal, by_timeout, by_view, by_votes, drafted, rule-of}
-use Rattle.sb_pbft.proofs.Voting.ViewsGrow.{Said, SameInput, grows}
+use Rattle.sb_pbft.proofs.History.OnePrepareAView.{Rule, SameDraft, by_cast, by_changes, by_proposal, by_timeout, by_view, by_votes, drafted, rule-of}
+use Rattle.sb_pbft.proofs.History.ViewsGrow.{Said, SameInput, grows}
 
 -- ---- certificates stay, and each Commit has one
 

@@ -19,7 +19,7 @@ use Rattle.sb_pbft.specs.Makes.{certificate, certified, certify, has, inputs, ke
 use Rattle.sb_pbft.specs.Rules.{mode, prepared}
 use Rattle.sb_pbft.specs.Turns.{is_of}
 use Rattle.sb_pbft.proofs.ViewChange.CommitsAreShown.{certified-in}
-use Rattle.sb_pbft.proofs.Voting.ViewsGrow.{Said, grows}
+use Rattle.sb_pbft.proofs.History.ViewsGrow.{Said, grows}
 
 -- ---- the views of stored certificates
 

@@ -34,8 +34,8 @@ use Rattle.sb_pbft.proofs.ViewChange.OneNewViewAView.{IsKeptChange, change-in-is
 use Rattle.sb_pbft.proofs.Messages.OwnClaimsWereSent.{input-item}
 use Rattle.sb_pbft.proofs.Messages.SentDecodes.{change-fits, changes-fit}
 use Rattle.sb_pbft.proofs.Safety.SeenClaimsAreTrue.{Entry, Part, all-fit, came-credible, come-fits, entered-known, entry-fits, hashed-here, in-choices, in-if, in-values, part-tail, vote-in}
-use Rattle.sb_pbft.proofs.Voting.ViewsGrow.{Said, SameInput, entered}
-use Rattle.sb_pbft.proofs.Voting.VotersAreDistinct.{node-vote}
+use Rattle.sb_pbft.proofs.History.ViewsGrow.{Said, SameInput, entered}
+use Rattle.sb_pbft.proofs.History.VotersAreDistinct.{node-vote}
 
 -- ---- the stored ViewChanges are good and of distinct replicas
 

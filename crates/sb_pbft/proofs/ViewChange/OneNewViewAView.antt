@@ -21,8 +21,8 @@ use Rattle.pbft_views.specs.Good.{all_good, primary}
 use Rattle.sb_pbft.specs.Makes.{DraftCommit, DraftNewView, DraftPrePrepare, DraftPrepare, DraftViewChange, drafts, inputs}
 use Rattle.sb_pbft.specs.Rules.{change_in, change_of, changes, changes_from, completes, cons_some, mode, when}
 use Rattle.sb_pbft.proofs.Basics.{first-keeps, first-none, none-from, same-some, when-is}
-use Rattle.sb_pbft.proofs.Voting.OnePrepareAView.{Rule, SameDraft, by_cast, by_changes, by_proposal, by_timeout, by_view, by_votes, drafted, rule-of}
-use Rattle.sb_pbft.proofs.Voting.ViewsGrow.{Said, SameInput}
+use Rattle.sb_pbft.proofs.History.OnePrepareAView.{Rule, SameDraft, by_cast, by_changes, by_proposal, by_timeout, by_view, by_votes, drafted, rule-of}
+use Rattle.sb_pbft.proofs.History.ViewsGrow.{Said, SameInput}
 
 -- ---- each stored ViewChange was received
 

@@ -17,7 +17,7 @@ use Rattle.pbft_views.specs.Laws.{nodes_of}
 use Rattle.pbft_views.proofs.Numbers.{apart-cons, mem-cases}
 use Rattle.sb_pbft.specs.Rules.{Ballot, commit_in, commit_of, cons_vote, is_at, prepare_in, prepare_of, voters}
 use Rattle.sb_pbft.proofs.Basics.{when-is}
-use Rattle.sb_pbft.proofs.Voting.ViewsGrow.{Said, SameInput}
+use Rattle.sb_pbft.proofs.History.ViewsGrow.{Said, SameInput}
 
 -- ---- each was received
 

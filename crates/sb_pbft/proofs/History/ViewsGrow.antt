@@ -20,7 +20,7 @@ use Rattle.pbft_wire.specs.declared.messages.Message.TheVariants.{Commit, NewVie
 use Rattle.pbft_views.specs.Choice.{choice}
 use Rattle.pbft_views.specs.Good.{are_enough, primary}
 use Rattle.sb_pbft.specs.Rules.{Mode, asked, chosen, enters, is_newer, is_open, mode, mode_after, offer, offered, passes, proposal}
-use Rattle.sb_pbft.proofs.Voting.AcceptedAndDecided.{asked-is}
+use Rattle.sb_pbft.proofs.History.AcceptedAndDecided.{asked-is}
 use Rattle.sb_pbft.proofs.Basics.{first-keeps, first-none, is-same, none-from, when-is}
 
 abbrev pub Said : Type 0

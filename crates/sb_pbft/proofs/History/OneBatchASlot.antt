@@ -18,7 +18,7 @@ use Rattle.sb_pbft.specs.Facts.{AreOnce}
 use Rattle.sb_pbft.specs.Makes.{inputs}
 use Rattle.sb_pbft.specs.Pbft.{pbft}
 use Rattle.sb_pbft.specs.Rules.{asked, chosen, mode, offer, offered, proposal, when}
-use Rattle.sb_pbft.proofs.Voting.AcceptedAndDecided.{IsAsked, asked-is}
+use Rattle.sb_pbft.proofs.History.AcceptedAndDecided.{IsAsked, asked-is}
 use Rattle.sb_pbft.proofs.Basics.{is-same}
 
 abbrev RefinesOrShowsCore : Option Value → Type 0

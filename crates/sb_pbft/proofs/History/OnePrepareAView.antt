@@ -24,7 +24,7 @@ use Rattle.sb_pbft.specs.Makes.{Draft, DraftCommit, DraftNewView, DraftPrePrepar
 use Rattle.sb_pbft.specs.Pbft.{pbft}
 use Rattle.sb_pbft.specs.Rules.{asked, changes, completes, enters, mode, passes, proposal}
 use Rattle.sb_pbft.proofs.Basics.{In-has, in-cond, same-some}
-use Rattle.sb_pbft.proofs.Voting.ViewsGrow.{Said, SameInput, persists, proposed-choice, proposed-offer}
+use Rattle.sb_pbft.proofs.History.ViewsGrow.{Said, SameInput, persists, proposed-choice, proposed-offer}
 
 abbrev pub SameDraft : Draft → Draft → Type 0
 SameDraft a b = a ≡ b
