@@ -13,7 +13,8 @@ swapped true false c = refl
 swapped false true c = refl
 swapped false false c = refl
 
-pub same_heard : (a b : Heard) → is_eq (order a b) ≡ ((a.from == b.from) && ((a.slot == b.slot) && same_bytes a.digest b.digest))
+pub same_heard : (a b : Heard) →
+    is_eq (order a b) ≡ ((a.from == b.from) && ((a.slot == b.slot) && same_bytes a.digest b.digest))
 same_heard a b =
     let slots = same_number a.slot b.slot in
     let nodes = same_number a.from b.from in

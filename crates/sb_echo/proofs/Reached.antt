@@ -52,14 +52,16 @@ good = record {
 abbrev world : List (Item Word) → List (Item Word) → World Word
 world xs ys i = cond (eqb i 0) xs (cond (eqb i 1) ys [])
 
-first-move : (input : Input Word) (leaf : ℕ) → MayCome echo p empty_world 0 input → Move echo p empty_world (world (and_then echo p 0 [] input leaf) [])
+first-move : (input : Input Word) (leaf : ℕ) → MayCome echo p empty_world 0 input →
+    Move echo p empty_world (world (and_then echo p 0 [] input leaf) [])
 first-move input leaf may = record { node = 0; correct = refl; input = input; may = may; leaf = leaf; takes = refl; others = λ i ne. rw (eqb-other i 0 ne) (none (eqb i 1)) }
   where
     none : (t : Bool) → ◌≡◌ {A = List (Item Word)} (cond t [] []) []
     none true = refl
     none false = refl
 
-move-one : (xs ys : List (Item Word)) (input : Input Word) (leaf : ℕ) → MayCome echo p (world xs ys) 1 input → Move echo p (world xs ys) (world xs (and_then echo p 1 ys input leaf))
+move-one : (xs ys : List (Item Word)) (input : Input Word) (leaf : ℕ) → MayCome echo p (world xs ys) 1 input →
+    Move echo p (world xs ys) (world xs (and_then echo p 1 ys input leaf))
 move-one xs ys input leaf may = record { node = 1; correct = refl; input = input; may = may; leaf = leaf; takes = refl; others = λ i ne. rw (eqb-other i 1 ne) refl }
 
 -- ---- deliveries
@@ -80,17 +82,21 @@ echo-read k = echo-again 1 (slot 0) d (sig k 2 0) (omega arith) (digest-length p
 verified-by : (k kind leaf : ℕ) → k < 4 → leaf < 2 ^ 4 → Verifies p (claim k (statement p kind 0 d) (sig k kind leaf))
 verified-by k kind leaf below few = signature-verifies echo p good k leaf (statement p kind 0 d) below few
 
-signed-by : (w : World Word) (k : ℕ) (x : Item Word) (msg : Word) (st sig : List ℕ) → In x (w k) → In {A = To × Word} (To_all, msg) x.made.sends → claims p k msg ≡ claim k st sig ∷ [] → IsSigned echo p w k st
+signed-by : (w : World Word) (k : ℕ) (x : Item Word) (msg : Word) (st sig : List ℕ) → In x (w k) →
+    In {A = To × Word} (To_all, msg) x.made.sends → claims p k msg ≡ claim k st sig ∷ [] → IsSigned echo p w k st
 signed-by w k x msg st sig h s e = record { item = x; taken = h; to = To_all; msg = msg; sent = s; claim = claim k st sig; made = rw e (inl refl); by = refl; is = refl }
 
-claimed : (w : World Word) (k : ℕ) (msg : Word) (st sig : List ℕ) → k < 4 → claims p k msg ≡ claim k st sig ∷ [] → IsRead msg → Verifies p (claim k st sig) → (is_correct setup k ≡ true → IsSigned echo p w k st) → IsCredible echo p (Verifies p) (IsSigned echo p w) k msg
+claimed : (w : World Word) (k : ℕ) (msg : Word) (st sig : List ℕ) → k < 4 → claims p k msg ≡ claim k st sig ∷ [] →
+    IsRead msg → Verifies p (claim k st sig) → (is_correct setup k ≡ true → IsSigned echo p w k st) →
+    IsCredible echo p (Verifies p) (IsSigned echo p w) k msg
 claimed w k msg st sig l e r v s = record { named = l; read = r; verified = λ c h. check c (rw e at h); signed = λ c h q. shown c (rw e at h) q }
   where
     check : (c : Claim) → In c (claim k st sig ∷ []) → Verifies p c
     check c (inl q) = subst (λ (z : Claim). Verifies p z) (sym q) v
     check c (inr h) = absurd h
 
-    shown : (c : Claim) → In c (claim k st sig ∷ []) → is_correct setup c.by.0 ≡ true → IsSigned echo p w c.by.0 c.statement
+    shown : (c : Claim) → In c (claim k st sig ∷ []) → is_correct setup c.by.0 ≡ true →
+        IsSigned echo p w c.by.0 c.statement
     shown c (inl q) r = subst (λ (z : Claim). is_correct setup z.by.0 ≡ true → IsSigned echo p w z.by.0 z.statement) (sym q) s r
     shown c (inr h) r = absurd h
 
@@ -157,7 +163,8 @@ only-in [] s o h = absurd h
 only-in (t ∷ ss) s o (inl e) = e ∙ o.0
 only-in (t ∷ ss) s o (inr h) = only-in ss s o.1 h
 
-only : (xs : List (Item Word)) (x : Item Word) (s : List ℕ) → Only xs → In x xs → In s x.made.strings → s ≡ string_of p b
+only : (xs : List (Item Word)) (x : Item Word) (s : List ℕ) → Only xs → In x xs → In s x.made.strings →
+    s ≡ string_of p b
 only [] x s o h k = absurd h
 only (y ∷ xs) x s o (inl e) k = only-in y.made.strings s o.0 (subst (λ (z : Item Word). In s z.made.strings) e k)
 only (y ∷ xs) x s o (inr h) k = only xs x s o.1 h k
@@ -165,7 +172,8 @@ only (y ∷ xs) x s o (inr h) k = only xs x s o.1 h k
 one-string : (s : List ℕ) → IsHashed w5 s → s ≡ string_of p b
 one-string s h = go (eqb h.node 0) (eqb h.node 1) h.taken
   where
-    go : (t u : Bool) → In h.item (cond t cast (cond u (echo_from 3 (echo_from 1 (echo_from 0 word))) [])) → s ≡ string_of p b
+    go : (t u : Bool) → In h.item (cond t cast (cond u (echo_from 3 (echo_from 1 (echo_from 0 word))) [])) →
+        s ≡ string_of p b
     go true u k = only cast h.item s ((refl, tt), tt) k h.hashed
     go false true k = only (echo_from 3 (echo_from 1 (echo_from 0 word))) h.item s (tt, (tt, (tt, ((refl, tt), tt)))) k h.hashed
     go false false k = absurd k

@@ -29,7 +29,8 @@ nothing-within p k e nothing = record {
 }
 
 -- the step of an echo: it sends nothing, and delivers at its slot
-pub echo-within : (p : Params) (k : KeyState) (e : Effects Word) (slot : Slot) (v : Option Value) → has_slot slot.0 p.slots ≡ true →
+pub echo-within : (p : Params) (k : KeyState) (e : Effects Word) (slot : Slot) (v : Option Value) →
+    has_slot slot.0 p.slots ≡ true →
     e.sends ≡ [] → e.accepted ≡ None → e.delivers ≡ one_at slot v → IsWithin echo p k k e
 echo-within p k e slot v within sends accepted delivers = record {
   delivered = rw delivers (one-within slot v p.slots (has_slot-In slot p.slots within));
@@ -67,12 +68,15 @@ taken-within p m n slot batch d e f before later count free h accepted delivers 
 pub none-used : (k u : ℕ) → u ≡ 0 → k ≡ k + u
 none-used k u h = omega (arith, h)
 
-pub some-used : (before later : KeyState) (count u : ℕ) → later ≡ with_used before count → u ≡ count → later.used ≡ before.used + u
+pub some-used : (before later : KeyState) (count u : ℕ) → later ≡ with_used before count → u ≡ count →
+    later.used ≡ before.used + u
 some-used before later count u h e = let used = ap (λ (k : KeyState). k.used) h in omega (arith, used, e)
 
-pub twice-used : (before mid later : KeyState) → mid ≡ with_used before 1 → later ≡ with_used mid 1 → later ≡ with_used before 2
+pub twice-used : (before mid later : KeyState) → mid ≡ with_used before 1 → later ≡ with_used mid 1 →
+    later ≡ with_used before 2
 twice-used before mid later h k = let n : before.used + 1 + 1 ≡ before.used + 2 = omega arith in k ∙ ap (λ (z : KeyState). with_used z 1) h ∙ ap (λ (n : ℕ). record before { used = n }) n
 
 -- the owner of the keys does not depend on how many are used
-pub same-owner : (me height : ℕ) (before later : KeyState) (count : ℕ) → later ≡ with_used before count → AreKeysOf me height before → AreKeysOf me height later
+pub same-owner : (me height : ℕ) (before later : KeyState) (count : ℕ) → later ≡ with_used before count →
+    AreKeysOf me height before → AreKeysOf me height later
 same-owner me height before later count h own = record { own = ap (λ (k : KeyState). k.secret) h ∙ own.own; tall = ap (λ (k : KeyState). k.height) h ∙ own.tall }

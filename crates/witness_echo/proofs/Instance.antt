@@ -120,7 +120,8 @@ record Fits (w : Net) (i : ℕ) (input : Input Word) (leaf : ℕ) : Type 0 where
   fresh : (x : List ℕ) → In x (made_in R echo i (w.pasts i) 0 input leaf).strings → In x strings
   part : IsPart (log_of R echo i (takes R echo i (w.pasts i) 0 input leaf))
 
-moves : (w : Net) (i : ℕ) (input : Input Word) (leaf : ℕ) → Reached w → Fits w i input leaf → Reached (after w i input leaf)
+moves : (w : Net) (i : ℕ) (input : Input Word) (leaf : ℕ) → Reached w → Fits w i input leaf →
+    Reached (after w i input leaf)
 moves w i input leaf r f =
     let next = takes R echo i (w.pasts i) 0 input leaf in
     let own = as_signed (own_claims echo (params_of R echo i (w.pasts i) 0) i (made_in R echo i (w.pasts i) 0 input leaf).sends) in
@@ -183,7 +184,9 @@ batch-hashed x (inl q) = over-new x (chain_strings S whole) ([] ∷ []) (inl q)
 batch-hashed x (inr none) = absurd none
 
 -- a message with one claim, of node k, which verifies, and is in the book if k is correct
-credible : (w : Net) (k kind leaf : ℕ) (msg : Word) → k < 4 → leaf < 16 → claims instance k msg ≡ claim k (statement instance kind 0 d) (sig k kind leaf) ∷ [] → IsReadMessage echo instance msg →
+credible : (w : Net) (k kind leaf : ℕ) (msg : Word) → k < 4 → leaf < 16 →
+    claims instance k msg ≡ claim k (statement instance kind 0 d) (sig k kind leaf) ∷ [] →
+    IsReadMessage echo instance msg →
     (is_correct four k ≡ true → IsBooked w.book k (statement instance kind 0 d)) → IsCredible echo instance (IsVerified R) (IsBooked w.book) k msg
 credible w k kind leaf msg low few is read booked = record {
   named = low;
@@ -199,7 +202,8 @@ credible w k kind leaf msg low few is read booked = record {
     verified c (inl q) = rw q (own-verifies four k leaf (statement instance kind 0 d) (omega arith) few low)
     verified c (inr none) = absurd none
 
-    signed : (c : Claim) → In c (claim k (statement instance kind 0 d) (sig k kind leaf) ∷ []) → is_correct four c.by.0 ≡ true → IsBooked w.book c.by.0 c.statement
+    signed : (c : Claim) → In c (claim k (statement instance kind 0 d) (sig k kind leaf) ∷ []) →
+        is_correct four c.by.0 ≡ true → IsBooked w.book c.by.0 c.statement
     signed c (inl q) ok = (subst (λ (z : Claim). is_correct four z.by.0 ≡ true → IsBooked w.book z.by.0 z.statement) (sym q) booked) ok
     signed c (inr none) ok = absurd none
 
@@ -289,7 +293,8 @@ by-few x (inr (inl q)) e = absurd (omega (arith, ap (λ (y : Signed). y.by) q, e
 by-few x (inr (inr (inl q))) e = absurd (omega (arith, ap (λ (y : Signed). y.by) q, e))
 by-few x (inr (inr (inr none))) e = none
 
-pub shown : ((w : Cluster Word) → Separate (Among w.strings) → Reach four S R echo w → Ordered four R echo w.pasts) → IsWitness
+pub shown : ((w : Cluster Word) → Separate (Among w.strings) → Reach four S R echo w → Ordered four R echo w.pasts) →
+    IsWitness
 shown composed = record {
   cluster = w5;
   reached = r5.reach;

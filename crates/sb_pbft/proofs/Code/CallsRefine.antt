@@ -69,7 +69,8 @@ module _ (p : Params) (good : IsGoodParams pbft p) (old new : Pbft) (i : Input M
     state = (turned-so me xs st own).holds ∙ (turn-is p me xs i b.used good).held;
   }
 
-  takes : (me : ℕ) (xs : List (Item Message)) → Refines old p me xs → AreKeysOf me p.setup.keys b → IsTaken pbft p me xs i b.used e
+  takes : (me : ℕ) (xs : List (Item Message)) → Refines old p me xs → AreKeysOf me p.setup.keys b →
+      IsTaken pbft p me xs i b.used e
   takes me xs st own =
       let t = turned-so me xs st own in
       let w = turn-is p me xs i b.used good in
@@ -97,10 +98,12 @@ accepts-is p me leaf h i None = refl
 accepts-is p me leaf h i (Some a) = refl
 
 module _ (p : Params) (good : IsGoodParams pbft p) (m : Pbft) (me : ℕ) (xs : List (Item Message)) (st : Refines m p me xs) where
-  asked-so : (i : Input Message) → ◌≡◌ {A = Option (Slot × Batch)} (asked_at p m.me.0 (held m) i) (asked_at p me (model p me xs) i)
+  asked-so : (i : Input Message) →
+      ◌≡◌ {A = Option (Slot × Batch)} (asked_at p m.me.0 (held m) i) (asked_at p me (model p me xs) i)
   asked-so i = ap (λ (k : ℕ). asked_at p k (held m) i) st.node ∙ ap (λ (z : Held). asked_at p me z i) st.state
 
-  pub asks-cast : (slot : Slot) (batch : Batch) → ◌≡◌ {A = Option (Slot × Batch)} (asks p me xs (Cast slot batch)) (when (may_cast p m slot.0) (slot, batch))
+  pub asks-cast : (slot : Slot) (batch : Batch) →
+      ◌≡◌ {A = Option (Slot × Batch)} (asks p me xs (Cast slot batch)) (when (may_cast p m slot.0) (slot, batch))
   asks-cast slot batch =
       sym (turn-is p me xs (Cast slot batch) 0 good).accepted
       ∙ accepts-is p me 0 (model p me xs) (Cast slot batch) (asked_at p me (model p me xs) (Cast slot batch))
@@ -114,7 +117,8 @@ module _ (p : Params) (good : IsGoodParams pbft p) (m : Pbft) (me : ℕ) (xs : L
       (asked_at p me (model p me xs) (Receive from (PrePrepare v slot (Value_batch batch) sig)))
       ∙ sym (asked-so (Receive from (PrePrepare v slot (Value_batch batch) sig))) ∙ told-asked p m slot batch from v sig
 
-  pub asks-of-cast : (i : Input Message) (slot : Slot) (batch : Batch) (t : Bool) → i ≡ Cast slot batch → t ≡ may_cast p m slot.0 →
+  pub asks-of-cast : (i : Input Message) (slot : Slot) (batch : Batch) (t : Bool) → i ≡ Cast slot batch →
+      t ≡ may_cast p m slot.0 →
       ◌≡◌ {A = Option (Slot × Batch)} (when {A = Slot × Batch} t (slot, batch)) (asks p me xs i)
   asks-of-cast i slot batch t is may =
       ap (λ (z : Bool). let x : Slot × Batch = (slot, batch) in when z x) may ∙ sym (asks-cast slot batch) ∙ ap (λ (z : Input Message). asks p me xs z) (sym is)
@@ -142,6 +146,7 @@ module _ (p : Params) (good : IsGoodParams pbft p) (m : Pbft) (me : ℕ) (xs : L
   )
 
 -- a PrePrepare for nil offers no batch
-pub nil-idle : (p : Params) (m : Pbft) (from : NodeId) (v : ℕ) (slot : Slot) (x : Value) (sig : List ℕ) (leaf : ℕ) → x ≡ Nil →
+pub nil-idle : (p : Params) (m : Pbft) (from : NodeId) (v : ℕ) (slot : Slot) (x : Value) (sig : List ℕ) (leaf : ℕ) →
+    x ≡ Nil →
     turn p m.me.0 leaf (held m) (Receive from (PrePrepare v slot x sig)) ≡ idle (held m)
 nil-idle p m from v slot x sig leaf is = ap (λ (z : Value). turn p m.me.0 leaf (held m) (Receive from (PrePrepare v slot z sig))) is

@@ -32,7 +32,8 @@ nothing-within p k e nothing = record {
   few = omega arith;
 }
 
-pub does-nothing : (p : Params) (i : Input Message) (m : Pbft) (k : KeyState) (e : Effects Message) → turn p m.me.0 k.used (held m) i ≡ idle (held m) →
+pub does-nothing : (p : Params) (i : Input Message) (m : Pbft) (k : KeyState) (e : Effects Message) →
+    turn p m.me.0 k.used (held m) i ≡ idle (held m) →
     IsNothing e → Does p m m i k k e
 does-nothing p i m k e stays nothing = record {
   node = refl;
@@ -61,14 +62,16 @@ one-in : (s : Slot) (o : Option Proposal) (slots : List Slot) → In s slots →
 one-in s None slots h = tt
 one-in s (Some q) slots h = (h, tt)
 
-deliveries-in : (p : Params) (h : Held) (v : ℕ) (ss slots : List Slot) → AllIn ss slots → AllIn (slots_of (deliveries p h v ss)) slots
+deliveries-in : (p : Params) (h : Held) (v : ℕ) (ss slots : List Slot) → AllIn ss slots →
+    AllIn (slots_of (deliveries p h v ss)) slots
 deliveries-in p h v [] slots all = tt
 deliveries-in p h v (s ∷ ss) slots all =
     subst (λ (l : List Slot). AllIn l slots) (sym (slots-both (delivery s (newly_at p h v s.0)) (deliveries p (settled p h v s) v ss)))
     (in-both (slots_of (delivery s (newly_at p h v s.0))) (slots_of (deliveries p (settled p h v s) v ss)) slots (one-in s (newly_at p h v s.0) slots all.0)
     (deliveries-in p (settled p h v s) v ss slots all.1))
 
-drafts-few : (p : Params) (h : Held) (answers : Bool) (v : ℕ) (ss : List Slot) → uses_all p (drafts_all p h answers v ss) ≤ 2 * length ss
+drafts-few : (p : Params) (h : Held) (answers : Bool) (v : ℕ) (ss : List Slot) →
+    uses_all p (drafts_all p h answers v ss) ≤ 2 * length ss
 drafts-few p h answers v [] = omega arith
 drafts-few p h answers v (s ∷ ss) =
     let one = slot-few p h answers v s in
@@ -92,7 +95,8 @@ turned p ds h answers v slots strings accepted = record {
 module _ (p : Params) (i : Input Message) (old mid new : Pbft) (b k l : KeyState) (e f : Effects Message) (ds : List Draft) (answers : Bool) (v : ℕ)
     (slots : List Slot) (h : Held)
     (strings : List (List ℕ)) (accepted : Option (Slot × Batch)) where
-  settled-within : Sent p ds b k [] e.sends → e.delivers ≡ [] → e.accepted ≡ accepted → IfSome accepted (λ a. In a.0 p.slots) →
+  settled-within : Sent p ds b k [] e.sends → e.delivers ≡ [] → e.accepted ≡ accepted →
+      IfSome accepted (λ a. In a.0 p.slots) →
       Settles p answers v slots mid new k l e f →
       AllIn slots p.slots → uses_all p ds + 2 * length slots ≤ 2 * length p.slots + 1 → IsWithin pbft p b l f
   settled-within first none takes taken done inside few =
@@ -112,7 +116,8 @@ module _ (p : Params) (i : Input Message) (old mid new : Pbft) (b k l : KeyState
         few = omega (arith, used, all, rest, few);
       }
 
-  pub does-settled : mid.me ≡ old.me → (AreKeysOf old.me.0 p.setup.keys b → held mid ≡ h) → Sent p ds b k [] e.sends → e.delivers ≡ [] →
+  pub does-settled : mid.me ≡ old.me → (AreKeysOf old.me.0 p.setup.keys b → held mid ≡ h) → Sent p ds b k [] e.sends →
+      e.delivers ≡ [] →
       e.accepted ≡ accepted → e.hashed ≡ strings →
       IfSome accepted (λ a. In a.0 p.slots) → turn p old.me.0 b.used (held old) i ≡ turned p ds h answers v slots strings accepted →
       Settles p answers v slots mid new k l e f →

@@ -28,7 +28,8 @@ pub uses-both : (p : Params) (ds es : List Draft) → uses_all p (ds ++ es) ≡ 
 uses-both p [] es = omega arith
 uses-both p (d ∷ ds) es = let h = uses-both p ds es in omega (arith, h)
 
-pub signed-both : (p : Params) (me leaf : ℕ) (ds es : List Draft) → sign_all p me leaf (ds ++ es) ≡ sign_all p me leaf ds ++ sign_all p me
+pub signed-both : (p : Params) (me leaf : ℕ) (ds es : List Draft) →
+    sign_all p me leaf (ds ++ es) ≡ sign_all p me leaf ds ++ sign_all p me
     (leaf + uses_all p ds) es
 signed-both p me leaf [] es = let e : leaf + 0 ≡ leaf = omega arith in rw e refl
 signed-both p me leaf (d ∷ ds) es =
@@ -43,10 +44,12 @@ sent-none p k s t e = record {
   addressed = λ n h. subst (λ (l : List (To × Message)). AreToNodes n l) (sym e) h;
 }
 
-pub own-later : (p : Params) (me n : ℕ) (a b : KeyState) → b ≡ record a { used = a.used + n } → AreKeysOf me p.setup.keys a → AreKeysOf me p.setup.keys b
+pub own-later : (p : Params) (me n : ℕ) (a b : KeyState) → b ≡ record a { used = a.used + n } →
+    AreKeysOf me p.setup.keys a → AreKeysOf me p.setup.keys b
 own-later p me n a b e own = record { own = ap (λ (z : KeyState). z.secret) e ∙ own.own; tall = ap (λ (z : KeyState). z.height) e ∙ own.tall }
 
-pub sent-both : (p : Params) (ds es : List Draft) (a b c : KeyState) (s t u : List (To × Message)) → Sent p ds a b s t → Sent p es b c t u →
+pub sent-both : (p : Params) (ds es : List Draft) (a b c : KeyState) (s t u : List (To × Message)) → Sent p ds a b s t →
+    Sent p es b c t u →
     Sent p (ds ++ es) a c s u
 sent-both p ds es a b c s t u h k = record {
   used =
@@ -64,7 +67,8 @@ sent-both p ds es a b c s t u h k = record {
 }
 
 -- one message, signed with the next leaves
-pub sent-by : (p : Params) (d : Draft) (msg : Message) (k l : KeyState) (s t : List (To × Message)) → l ≡ record k { used = k.used + uses p d } →
+pub sent-by : (p : Params) (d : Draft) (msg : Message) (k l : KeyState) (s t : List (To × Message)) →
+    l ≡ record k { used = k.used + uses p d } →
     ((me : ℕ) → AreKeysOf me p.setup.keys k → msg ≡ sign p me k.used d) → t ≡ s ++ (To_all, msg) ∷ [] → Sent p (d ∷ []) k l s t
 sent-by p d msg k l s t used is e = record {
   used = let n : k.used + uses p d ≡ k.used + (uses p d + 0) = omega arith in used ∙ ap (λ (n : ℕ). record k { used = n }) n;
@@ -77,13 +81,15 @@ sent-by p d msg k l s t used is e = record {
     and-one n (x ∷ xs) h = (h.0, and-one n xs h.1)
 
 -- with the next leaf alone
-pub sent-one : (p : Params) (d : Draft) (msg : Message) (k l : KeyState) (s t : List (To × Message)) → l ≡ record k { used = k.used + 1 } →
+pub sent-one : (p : Params) (d : Draft) (msg : Message) (k l : KeyState) (s t : List (To × Message)) →
+    l ≡ record k { used = k.used + 1 } →
     ((me : ℕ) → AreKeysOf me p.setup.keys k → msg ≡ sign p me k.used d) → uses p d ≡ 1 → t ≡ s ++ (To_all, msg) ∷ [] → Sent p (d ∷ []) k l s t
 sent-one p d msg k l s t used is one e = sent-by p d msg k l s t (used ∙ ap (λ (n : ℕ). record k { used = k.used + n }) (sym one)) is e
 
 -- ---- one slot, and the rest
 
-pub settles-none : (p : Params) (answers : Bool) (v : ℕ) (m : Pbft) (k : KeyState) (e : Effects Message) → Settles p answers v [] m m k k e e
+pub settles-none : (p : Params) (answers : Bool) (v : ℕ) (m : Pbft) (k : KeyState) (e : Effects Message) →
+    Settles p answers v [] m m k k e e
 settles-none p answers v m k e = record {
   node = refl;
   holds = refl;
@@ -134,7 +140,8 @@ settles-one p answers v s m n o a b c e f g i x y z = record {
 
 -- ---- all slots of a loop
 
-prepares-few : (p : Params) (v : ℕ) (s : Slot) (answers : Bool) (o : Option Proposal) → uses_all p (cond answers (prepares_to v s o) []) ≤ 1
+prepares-few : (p : Params) (v : ℕ) (s : Slot) (answers : Bool) (o : Option Proposal) →
+    uses_all p (cond answers (prepares_to v s o) []) ≤ 1
 prepares-few p v s true None = omega arith
 prepares-few p v s true (Some q) = omega arith
 prepares-few p v s false None = omega arith
@@ -145,7 +152,8 @@ commits-few p v s None = omega arith
 commits-few p v s (Some q) = omega arith
 
 -- a slot takes two leaves at most
-pub slot-few : (p : Params) (h : Held) (answers : Bool) (v : ℕ) (s : Slot) → uses_all p (drafts_all p h answers v (s ∷ [])) ≤ 2
+pub slot-few : (p : Params) (h : Held) (answers : Bool) (v : ℕ) (s : Slot) →
+    uses_all p (drafts_all p h answers v (s ∷ [])) ≤ 2
 slot-few p h answers v s =
     let a = prepares-few p v s answers (h.proposal v s.0) in
     let b = commits-few p h.mode.view s (ready_at p h s.0) in
@@ -164,7 +172,8 @@ left-more p answers v s m n a b e f all i h within done =
     (low (2 ^ a.height) a.used (uses_all p ds) all i h (slot-few p (held m) answers v s) within)
 
 -- the contract for the remaining slots
-abbrev pub Owes : Params → Bool → ℕ → List Slot → List Slot → Pbft → KeyState → Effects Message → Pbft → KeyState → Effects Message → Type 0
+abbrev pub Owes : Params → Bool → ℕ → List Slot → List Slot → Pbft → KeyState → Effects Message → Pbft → KeyState →
+    Effects Message → Type 0
 Owes p answers v slots rest m a e now b f =
     (n : Pbft) (k : KeyState) (g : Effects Message) → Settles p answers v rest now n b k f g → Settles p answers v slots m n a k e g
 

@@ -53,12 +53,14 @@ module _ (p : Params) (m : Pbft) (votes : Votes) (from : NodeId) (v : ℕ) (slot
       turn p me leaf (held m) (Receive from (Prepare v slot d sig)) ≡ turned p [] (and_prepare p (held m) (Receive from (Prepare v slot d sig))) false v (slot ∷ []) [] None
   prepare-turn me leaf counts = rw counts refl
 
-  pub prepare-idle : (me leaf : ℕ) → (has_slot slot.0 p.slots && not (from.0 == primary p v)) ≡ false → turn p me leaf (held m) (Receive from (Prepare v slot d sig)) ≡ idle (held m)
+  pub prepare-idle : (me leaf : ℕ) → (has_slot slot.0 p.slots && not (from.0 == primary p v)) ≡ false →
+      turn p me leaf (held m) (Receive from (Prepare v slot d sig)) ≡ idle (held m)
   prepare-idle me leaf out = rw out refl
 
   pub commit-turn : (me leaf : ℕ) → has_slot slot.0 p.slots ≡ true →
       turn p me leaf (held m) (Receive from (Commit v slot d sig)) ≡ turned p [] (and_commit p (held m) (Receive from (Commit v slot d sig))) false v (slot ∷ []) [] None
   commit-turn me leaf inside = rw inside refl
 
-  pub commit-idle : (me leaf : ℕ) → has_slot slot.0 p.slots ≡ false → turn p me leaf (held m) (Receive from (Commit v slot d sig)) ≡ idle (held m)
+  pub commit-idle : (me leaf : ℕ) → has_slot slot.0 p.slots ≡ false →
+      turn p me leaf (held m) (Receive from (Commit v slot d sig)) ≡ idle (held m)
   commit-idle me leaf out = rw out refl

@@ -33,11 +33,13 @@ use Rattle.sb_pbft.proofs.Code.SettleRefines.{grouped, sent-none}
 
 -- ---- concatenated strings
 
-values-both : (p : Params) (cs ds : List Certificate) → value_strings p (cs ++ ds) ≡ value_strings p cs ++ value_strings p ds
+values-both : (p : Params) (cs ds : List Certificate) →
+    value_strings p (cs ++ ds) ≡ value_strings p cs ++ value_strings p ds
 values-both p [] ds = refl
 values-both p (c ∷ cs) ds = ap (λ (l : List (List ℕ)). string_of p c.value ∷ l) (values-both p cs ds)
 
-hashed_both : (p : Params) (cs ds : List Certificate) (e f g : Effects Message) → HasHashed (value_strings p cs) e f → HasHashed (value_strings p ds) f g →
+hashed_both : (p : Params) (cs ds : List Certificate) (e f g : Effects Message) → HasHashed (value_strings p cs) e f →
+    HasHashed (value_strings p ds) f g →
     HasHashed (value_strings p (cs ++ ds)) e g
 hashed_both p cs ds e f g x y = record {
   hashed = y.hashed ∙ ap (λ (l : List (List ℕ)). l ++ value_strings p ds) x.hashed ∙ grouped e.hashed (value_strings p cs) (value_strings p ds)
@@ -57,7 +59,8 @@ cut (y ∷ ys) x is long =
     let n : suc (length ys) - 1 ≡ length ys = omega arith in
     ap (λ (k : ℕ). x ∷ take k ys) n ∙ ap (λ (l : List Change). x ∷ l) (take-length ys) ∙ ap (λ (z : Change). z ∷ ys) is
 
-pub hashed-changes : (p : Params) (l : List Change) (x : Change) (cs : List Certificate) (e f g : Effects Message) → x ≡ get_or l 0 x → 1 ≤ length l →
+pub hashed-changes : (p : Params) (l : List Change) (x : Change) (cs : List Certificate) (e f g : Effects Message) →
+    x ≡ get_or l 0 x → 1 ≤ length l →
     cs ≡ x.certificates →
     HasHashed (value_strings p cs) e f → HasHashed (value_strings p (certificates_of (take (length l - 1) (drop 1 l)))) f g →
     HasHashed (value_strings p (certificates_of l)) e g
@@ -93,7 +96,8 @@ module _ (p : Params) (m : Pbft) (x : Change) where
   then = and_change p (held m) (Receive x.node (ViewChange x.view x.certificates x.sig))
 
   -- an option that has a value keeps it
-  stays-at : (t : Bool) → (t && not (is_some (change_at m.changes x.view x.node.0))) ≡ false → (v k : ℕ) (a b : Bool) → (x.node.0 == k) ≡ a →
+  stays-at : (t : Bool) → (t && not (is_some (change_at m.changes x.view x.node.0))) ≡ false → (v k : ℕ) (a b : Bool) →
+      (x.node.0 == k) ≡ a →
       (v == x.view) ≡ b →
       first_of (change_at m.changes v k) (when ((a && b) && t) x) ≡ change_at m.changes v k
   stays-at t out v k false b ka vb = none-behind (change_at m.changes v k)
@@ -113,7 +117,8 @@ module _ (p : Params) (m : Pbft) (x : Change) where
       none-behind (Some y) = refl
   stays-at true out v k true true ka vb = some-first (change_at m.changes v k) (same out)
     where
-      same : not (is_some (change_at m.changes x.view x.node.0)) ≡ false → not (is_some (change_at m.changes v k)) ≡ false
+      same : not (is_some (change_at m.changes x.view x.node.0)) ≡ false →
+          not (is_some (change_at m.changes v k)) ≡ false
       same h = subst (λ (j : ℕ). not (is_some (change_at m.changes v j)) ≡ false) (eqb-true x.node.0 k ka)
           (subst (λ (w : ℕ). not (is_some (change_at m.changes w x.node.0)) ≡ false) (sym (eqb-true v x.view vb)) h)
 
@@ -130,7 +135,8 @@ module _ (p : Params) (m : Pbft) (x : Change) where
     strings = cond a (value_strings p x.certificates) [] ++ cond b (choice_strings p (changes_at p u x.view) p.slots) [];
   }
 
-  pub change-idle : (me leaf : ℕ) → keeps ≡ false → turn p me leaf (held m) (Receive x.node (ViewChange x.view x.certificates x.sig)) ≡ idle (held m)
+  pub change-idle : (me leaf : ℕ) → keeps ≡ false →
+      turn p me leaf (held m) (Receive x.node (ViewChange x.view x.certificates x.sig)) ≡ idle (held m)
   change-idle me leaf out =
       let same : completes_at p me (held m) (held m) x.view ≡ false =
       ap (λ (t : Bool). ((me == primary p x.view) && nat_le m.view x.view) && t) (never-both (length (changes_at p (held m) x.view)) (2 * p.setup.f + 1))
@@ -171,7 +177,8 @@ module _ (p : Params) (m : Pbft) (x : Change) where
     due-few : uses_all p due-drafts ≤ 2 * length p.slots + 1
     due-few = go (is_due p kept x.view before)
       where
-        go : (t : Bool) → uses_all p (cond t (DraftNewView x.view (changes_at p (held kept) x.view) ∷ []) []) ≤ 2 * length p.slots + 1
+        go : (t : Bool) →
+            uses_all p (cond t (DraftNewView x.view (changes_at p (held kept) x.view) ∷ []) []) ≤ 2 * length p.slots + 1
         go true = omega arith
         go false = omega arith
 
@@ -195,14 +202,17 @@ pub tops-few : (top : ℕ → Option Certificate) (ss : List Slot) → length (t
 tops-few top [] = omega arith
 tops-few top (s ∷ ss) = one-more (top s.0) (tops_of top ss) (length ss) (tops-few top ss)
   where
-    one-more : (o : Option Certificate) (cs : List Certificate) (n : ℕ) → length cs ≤ n → length (cons_some o cs) ≤ suc n
+    one-more : (o : Option Certificate) (cs : List Certificate) (n : ℕ) → length cs ≤ n →
+        length (cons_some o cs) ≤ suc n
     one-more None cs n h = omega (arith, h)
     one-more (Some c) cs n h = omega (arith, h)
 
-pub passed : (p : Params) (m : Pbft) (leaf : ℕ) → passes (held m).mode ≡ true → turn p m.me.0 leaf (held m) Timeout ≡ gives_up p (held m)
+pub passed : (p : Params) (m : Pbft) (leaf : ℕ) → passes (held m).mode ≡ true →
+    turn p m.me.0 leaf (held m) Timeout ≡ gives_up p (held m)
 passed p m leaf may = rw may refl
 
-pub timed-sent : (p : Params) (v : ℕ) (cs ds : List Certificate) (k l : KeyState) (s t : List (To × Message)) → cs ≡ ds → s ≡ [] →
+pub timed-sent : (p : Params) (v : ℕ) (cs ds : List Certificate) (k l : KeyState) (s t : List (To × Message)) →
+    cs ≡ ds → s ≡ [] →
     Sent p (DraftViewChange v cs ∷ []) k l s t →
     Sent p (DraftViewChange v ds ∷ []) k l [] t
 timed-sent p v cs ds k l s t is none sent = subst (λ (z : List Certificate). Sent p (DraftViewChange v z ∷ []) k l [] t) is
@@ -229,7 +239,8 @@ pub record Began (p : Params) (m new : Pbft) (from : NodeId) (v : ℕ) (xs : Lis
   pub nothing : IsNothing none
   pub values : HasHashed (value_strings p (certificates_of xs)) none e
   pub choices : HasHashed (choice_strings p xs slots) e f
-  pub proposed : (w s : ℕ) → proposal_at all w s ≡ first_of (chosen_among p v xs slots sigs w s) (proposal_at m.proposals w s)
+  pub proposed : (w s : ℕ) →
+      proposal_at all w s ≡ first_of (chosen_among p v xs slots sigs w s) (proposal_at m.proposals w s)
   pub follows : answers ≡ not (m.me.0 == primary p v)
   pub settles : Settles p answers v slots (record m { view = v; active = true; proposals = all }) new k l f g
 
@@ -250,7 +261,8 @@ module _ (p : Params) (m new : Pbft) (from : NodeId) (v : ℕ) (xs : List Change
       (subst (λ (z : Bool). Settles p z v p.slots (record m { view = v; active = true; proposals = all }) new k l f g) b.follows b.settles)
       (all-inside p.slots) (omega arith)
 
-  pub begun-does : (ys : List Change) (ss : List (List ℕ)) (slots : List Slot) (sig : List ℕ) → 1 ≤ length p.slots → xs ≡ ys → sigs ≡ ss → slots ≡ p.slots →
+  pub begun-does : (ys : List Change) (ss : List (List ℕ)) (slots : List Slot) (sig : List ℕ) → 1 ≤ length p.slots →
+      xs ≡ ys → sigs ≡ ss → slots ≡ p.slots →
       Began p m new from v xs sigs slots all answers k l none e f g → Does p m new (Receive from (NewView v ys ss sig)) k l g
   begun-does ys ss slots sig some shown signed whole b =
       subst (λ (z : List Change). Does p m new (Receive from (NewView v z ss sig)) k l g) shown
@@ -275,7 +287,8 @@ pub record Kept (p : Params) (m : Pbft) (x : Change) (cs : List Certificate) (al
   pub count : before ≡ length (changes_at p (held m) x.view)
   pub shown : cs ≡ x.certificates
   pub values : HasHashed (value_strings p cs) none e
-  pub kept : (v k : ℕ) → change_at all v k ≡ first_of (change_at m.changes v k) (when ((x.node.0 == k) && (v == x.view)) x)
+  pub kept : (v k : ℕ) →
+      change_at all v k ≡ first_of (change_at m.changes v k) (when ((x.node.0 == k) && (v == x.view)) x)
   pub renews : Renews p (is_due p (record m { changes = all }) x.view before) (record m { changes = all }) x.view k l e f
 
 pub change-does : (p : Params) (m : Pbft) (x : Change) (cs : List Certificate) (all : ViewChanges) (before : ℕ) (k l : KeyState) (none e f : Effects Message) →

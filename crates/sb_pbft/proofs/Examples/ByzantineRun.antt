@@ -58,7 +58,8 @@ Items = List (Item Message)
 abbrev pub world : Items → Items → Items → World Message
 world xs ys zs i = cond (eqb i 0) xs (cond (eqb i 1) ys (cond (eqb i 2) zs []))
 
-pub first-move : (input : Input Message) (leaf : ℕ) → MayCome pbft p empty_world 0 input → Move pbft p empty_world (world (next 0 leaf input []) [] [])
+pub first-move : (input : Input Message) (leaf : ℕ) → MayCome pbft p empty_world 0 input →
+    Move pbft p empty_world (world (next 0 leaf input []) [] [])
 first-move input leaf may = record { node = 0; correct = refl; input = input; may = may; leaf = leaf; takes = refl; others = λ i ne. rw (eqb-other i 0 ne) (none (eqb i 1) (eqb i 2)) }
   where
     none : (t u : Bool) → ◌≡◌ {A = Items} (cond t [] (cond u [] [])) []
@@ -66,13 +67,16 @@ first-move input leaf may = record { node = 0; correct = refl; input = input; ma
     none false true = refl
     none false false = refl
 
-pub move-zero : (xs ys zs : Items) (input : Input Message) (leaf : ℕ) → MayCome pbft p (world xs ys zs) 0 input → Move pbft p (world xs ys zs) (world (next 0 leaf input xs) ys zs)
+pub move-zero : (xs ys zs : Items) (input : Input Message) (leaf : ℕ) → MayCome pbft p (world xs ys zs) 0 input →
+    Move pbft p (world xs ys zs) (world (next 0 leaf input xs) ys zs)
 move-zero xs ys zs input leaf may = record { node = 0; correct = refl; input = input; may = may; leaf = leaf; takes = refl; others = λ i ne. rw (eqb-other i 0 ne) refl }
 
-pub move-one : (xs ys zs : Items) (input : Input Message) (leaf : ℕ) → MayCome pbft p (world xs ys zs) 1 input → Move pbft p (world xs ys zs) (world xs (next 1 leaf input ys) zs)
+pub move-one : (xs ys zs : Items) (input : Input Message) (leaf : ℕ) → MayCome pbft p (world xs ys zs) 1 input →
+    Move pbft p (world xs ys zs) (world xs (next 1 leaf input ys) zs)
 move-one xs ys zs input leaf may = record { node = 1; correct = refl; input = input; may = may; leaf = leaf; takes = refl; others = λ i ne. rw (eqb-other i 1 ne) refl }
 
-pub move-two : (xs ys zs : Items) (input : Input Message) (leaf : ℕ) → MayCome pbft p (world xs ys zs) 2 input → Move pbft p (world xs ys zs) (world xs ys (next 2 leaf input zs))
+pub move-two : (xs ys zs : Items) (input : Input Message) (leaf : ℕ) → MayCome pbft p (world xs ys zs) 2 input →
+    Move pbft p (world xs ys zs) (world xs ys (next 2 leaf input zs))
 move-two xs ys zs input leaf may = record { node = 2; correct = refl; input = input; may = may; leaf = leaf; takes = refl; others = λ i ne. rw (eqb-other i 2 ne) refl }
 
 -- ---- messages that decode
@@ -132,16 +136,20 @@ verified-all w (x ∷ cs) h c (inl e) =
     subst (λ (z : Claim). Verifies p z) (sym (e ∙ k.3)) (signature-verifies pbft p good x.by.0 k.0 x.statement k.2 k.1)
 verified-all w (x ∷ cs) h c (inr i) = verified-all w cs h.2 c i
 
-pub signed-all : (w : World Message) (cs : List Claim) → AreSigned w cs → (c : Claim) → In c cs → is_correct setup c.by.0 ≡ true → IsSigned pbft p w c.by.0 c.statement
+pub signed-all : (w : World Message) (cs : List Claim) → AreSigned w cs → (c : Claim) → In c cs →
+    is_correct setup c.by.0 ≡ true → IsSigned pbft p w c.by.0 c.statement
 signed-all w [] h c i = absurd i
 signed-all w (x ∷ cs) h c (inl e) = subst (λ (z : Claim). is_correct setup z.by.0 ≡ true → IsSigned pbft p w z.by.0 z.statement) (sym e) h.1
 signed-all w (x ∷ cs) h c (inr i) = signed-all w cs h.2 c i
 
-pub credible : (w : World Message) (k : ℕ) (msg : Message) → k < 4 → fits 1 msg ≡ true → AreSigned w (claims p k msg) → IsCredible pbft p (Verifies p) (IsSigned pbft p w) k msg
+pub credible : (w : World Message) (k : ℕ) (msg : Message) → k < 4 → fits 1 msg ≡ true → AreSigned w (claims p k msg) →
+    IsCredible pbft p (Verifies p) (IsSigned pbft p w) k msg
 credible w k msg l f h = record { named = l; read = fits-again 1 msg f; verified = λ c i. verified-all w (claims p k msg) h c i; signed = λ c i. signed-all w (claims p k msg) h c i }
 
 -- a claim in what a replica sent at a step
-pub sent-claim : (w : World Message) (k : ℕ) (item : Item Message) (made : Made Message) (msg : Message) (c : Claim) → item.made ≡ made → In item (w k) → In {A = To × Message} (To_all, msg) made.sends → In c (claims p k msg) → c.by.0 ≡ k → IsSigned pbft p w k c.statement
+pub sent-claim : (w : World Message) (k : ℕ) (item : Item Message) (made : Made Message) (msg : Message) (c : Claim) →
+    item.made ≡ made → In item (w k) → In {A = To × Message} (To_all, msg) made.sends → In c (claims p k msg) →
+    c.by.0 ≡ k → IsSigned pbft p w k c.statement
 sent-claim w k item made msg c e i h s q =
     record { item = item; taken = i; to = To_all; msg = msg; sent = subst (λ (z : Made Message). In {A = To × Message} (To_all, msg) z.sends) (sym e) h; claim = c; made = s; by = q; is = refl }
 
@@ -149,7 +157,8 @@ sent-claim w k item made msg c e i h s q =
 pub of-three : (w : World Message) (st : List ℕ) → is_correct setup 3 ≡ true → IsSigned pbft p w 3 st
 of-three w st h = absurd (true≢false (sym h))
 
-pub by-leaf : (k leaf : ℕ) (st : List ℕ) → leaf < 2 ^ 4 → k < 4 → (n : ℕ) × (n < 2 ^ 4) × (k < 4) × (by_key k leaf st ≡ by_key k n st)
+pub by-leaf : (k leaf : ℕ) (st : List ℕ) → leaf < 2 ^ 4 → k < 4 →
+    (n : ℕ) × (n < 2 ^ 4) × (k < 4) × (by_key k leaf st ≡ by_key k n st)
 by-leaf k leaf st l m = (leaf, l, m, refl)
 
 -- ---- the run. Replica 0 casts, replica 1 prepares, and both commit with the Prepare of replica 3
@@ -304,7 +313,8 @@ module _ (w : World Message) where
 
 -- ---- each step
 
-pub one-claim : (w : World Message) (k leaf : ℕ) (st : List ℕ) → leaf < 2 ^ 4 → k < 4 → (is_correct setup k ≡ true → IsSigned pbft p w k st) → AreSigned w (by_key k leaf st ∷ [])
+pub one-claim : (w : World Message) (k leaf : ℕ) (st : List ℕ) → leaf < 2 ^ 4 → k < 4 →
+    (is_correct setup k ≡ true → IsSigned pbft p w k st) → AreSigned w (by_key k leaf st ∷ [])
 one-claim w k leaf st l m h = (by-leaf k leaf st l m, h, tt)
 
 pub b-read : IsReadBatch p b
@@ -348,7 +358,8 @@ signed-append w [] ds h k = k
 signed-append w (c ∷ cs) ds h k = (h.0, h.1, signed-append w cs ds h.2 k)
 
 -- the claims of replica 1's ViewChange, given these steps
-pub shown-signed : (w : World Message) → In cast (w 0) → In took_proposal (w 1) → In one_gave_up (w 1) → AreSigned w (certificate_claims p certificate ++ by_key 1 11 (state_change p 1 (certificate ∷ [])) ∷ [])
+pub shown-signed : (w : World Message) → In cast (w 0) → In took_proposal (w 1) → In one_gave_up (w 1) →
+    AreSigned w (certificate_claims p certificate ++ by_key 1 11 (state_change p 1 (certificate ∷ [])) ∷ [])
 shown-signed w i j k = signed-append w (certificate_claims p certificate) (by_key 1 11 (state_change p 1 (certificate ∷ [])) ∷ []) (certificate-signed w i j) (one-claim w 1 11 (state_change p 1 (certificate ∷ [])) (omega arith) (omega arith) (λ q. signed-shown w k))
 
 pub r12 : IsReached pbft p (world z3 o8 t1)

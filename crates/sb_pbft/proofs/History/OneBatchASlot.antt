@@ -34,11 +34,13 @@ there-first a b h = (h.0, ap (λ (o : Option Value). first_of o b) h.1)
 offered-there : (s : Slot) (b : Batch) → RefinesOrShowsCore (offered (Some (s, b)) 0 s.0)
 offered-there s b = (Value_batch b, ap (λ (t : Bool). when ((0 == 0) && t) (Value_batch b)) (is-same s.0 s.0 refl))
 
-asked-by : (p : Params) (me : ℕ) (y : Item Message) (l : List (Item Message)) (s : Slot) (b : Batch) → AreMade pbft p me (y ∷ l) → y.made.accepted ≡ Some (s, b) → IsAsked p me (inputs l) y.input (s, b)
+asked-by : (p : Params) (me : ℕ) (y : Item Message) (l : List (Item Message)) (s : Slot) (b : Batch) →
+    AreMade pbft p me (y ∷ l) → y.made.accepted ≡ Some (s, b) → IsAsked p me (inputs l) y.input (s, b)
 asked-by p me y l s b m e = asked-is p me (inputs l) y.input (s, b) (sym (ap (λ (z : Made Message). z.accepted) m.0) ∙ e)
 
 -- an accepted batch is the proposal
-proposed : (p : Params) (me : ℕ) (l : List (Item Message)) → AreMade pbft p me l → (s : Slot) (b : Batch) → In {A = Slot × Batch} (s, b) (accepts l) → RefinesOrShowsCore (proposal p me (inputs l) 0 s.0)
+proposed : (p : Params) (me : ℕ) (l : List (Item Message)) → AreMade pbft p me l → (s : Slot) (b : Batch) →
+    In {A = Slot × Batch} (s, b) (accepts l) → RefinesOrShowsCore (proposal p me (inputs l) 0 s.0)
 proposed p me [] m s b i = absurd i
 proposed p me (y ∷ l) m s b i =
     first-there (chosen p (mode p (inputs l)) y.input 0 s.0) (first_of (proposal p me (inputs l) 0 s.0) (offered (offer p me (mode p (inputs l)) y.input) 0 s.0))
@@ -51,14 +53,16 @@ proposed p me (y ∷ l) m s b i =
     ])
 
 -- if there is a proposal, nothing is accepted
-fresh : (p : Params) (me : ℕ) (y : Item Message) (l : List (Item Message)) (s : Slot) (b c : Batch) → AreMade pbft p me (y ∷ l) → y.made.accepted ≡ Some (s, b) → In {A = Slot × Batch} (s, c) (accepts l) → ⊥
+fresh : (p : Params) (me : ℕ) (y : Item Message) (l : List (Item Message)) (s : Slot) (b c : Batch) →
+    AreMade pbft p me (y ∷ l) → y.made.accepted ≡ Some (s, b) → In {A = Slot × Batch} (s, c) (accepts l) → ⊥
 fresh p me y l s b c m e i = none-there (proposal p me (inputs l) 0 s.0) (asked-by p me y l s b m e).fresh (proposed p me l m.1 s c i)
   where
     none-there : (o : Option Value) → o ≡ None → RefinesOrShowsCore o → ⊥
     none-there None h t = absurd (let wrong = t.1 in cc)
     none-there (Some x) h t = absurd (cc)
 
-once : (p : Params) (me : ℕ) (l : List (Item Message)) → AreMade pbft p me l → (s : Slot) (b c : Batch) → In {A = Slot × Batch} (s, b) (accepts l) → In {A = Slot × Batch} (s, c) (accepts l) → b ≡ c
+once : (p : Params) (me : ℕ) (l : List (Item Message)) → AreMade pbft p me l → (s : Slot) (b c : Batch) →
+    In {A = Slot × Batch} (s, b) (accepts l) → In {A = Slot × Batch} (s, c) (accepts l) → b ≡ c
 once p me [] m s b c h k = absurd h
 once p me (y ∷ l) m s b c h k = elim (accepts-cases y l (s, b) h) [
   | inl q ↦ elim (accepts-cases y l (s, c) k) [

@@ -49,7 +49,8 @@ pub record IsEntered (p : Params) (m : Mode) (from v : ℕ) (xs : List Change) (
   pub above : 0 < v
   pub signed : length sigs ≡ length p.slots
 
-pub entered : (p : Params) (m : Mode) (from v : ℕ) (xs : List Change) (sigs : List (List ℕ)) → enters p m from v xs sigs ≡ true → IsEntered p m from v xs sigs
+pub entered : (p : Params) (m : Mode) (from v : ℕ) (xs : List Change) (sigs : List (List ℕ)) →
+    enters p m from v xs sigs ≡ true → IsEntered p m from v xs sigs
 entered p m from v xs sigs h =
     let a = and-true (is_newer m v) _ h in
     let b = and-true (are_enough p v xs) _ a.1 in
@@ -96,7 +97,8 @@ pub record IsChosen (p : Params) (m : Mode) (i : Said) (v s : ℕ) (x : Value) :
   pub within : has_slot s p.slots ≡ true
   pub value : choice changes s ≡ x
 
-pub chosen-is : (p : Params) (m : Mode) (i : Said) (v s : ℕ) (x : Value) → chosen p m i v s ≡ Some x → IsChosen p m i v s x
+pub chosen-is : (p : Params) (m : Mode) (i : Said) (v s : ℕ) (x : Value) → chosen p m i v s ≡ Some x →
+    IsChosen p m i v s x
 chosen-is p m (Cast t b) v s x h = absurd (cc)
 chosen-is p m (Receive from (PrePrepare w t y sig)) v s x h = absurd (cc)
 chosen-is p m (Receive from (Prepare w t d sig)) v s x h = absurd (cc)
@@ -148,13 +150,15 @@ pub record Offers (p : Params) (me : ℕ) (m : Mode) (i : Said) (a : Slot × Bat
   pub within : has_slot a.0.0 p.slots ≡ true
   pub cause : IsOwn p me i a ⊎ IsTold p me i a
 
-open-is : (p : Params) (m : Mode) (s : ℕ) → is_open p m s ≡ true → (m.view ≡ 0) × (m.active ≡ true) × (has_slot s p.slots ≡ true)
+open-is : (p : Params) (m : Mode) (s : ℕ) → is_open p m s ≡ true →
+    (m.view ≡ 0) × (m.active ≡ true) × (has_slot s p.slots ≡ true)
 open-is p m s h =
     let a = and-true (m.view == 0) (m.active && has_slot s p.slots) h in
     let b = and-true m.active (has_slot s p.slots) a.1 in
     (eqb-true m.view 0 a.0, b.0, b.1)
 
-pub offer-is : (p : Params) (me : ℕ) (m : Mode) (i : Said) (a : Slot × Batch) → ◌≡◌ {A = Option (Slot × Batch)} (offer p me m i) (Some a) → Offers p me m i a
+pub offer-is : (p : Params) (me : ℕ) (m : Mode) (i : Said) (a : Slot × Batch) →
+    ◌≡◌ {A = Option (Slot × Batch)} (offer p me m i) (Some a) → Offers p me m i a
 offer-is p me m (Cast s b) a h =
     let w = when-is {A = Slot × Batch} ((me == p.leader.0) && is_open p m s.0) (s, b) a h in
     let t = and-true (me == p.leader.0) (is_open p m s.0) w.test in
@@ -193,10 +197,12 @@ not-newer m v h (inr e) = true≢false (sym (h.active (sym e.0)) ∙ e.1)
 pub no-chosen : (p : Params) (m : Mode) (i : Said) (v s : ℕ) → Seen m v → chosen p m i v s ≡ None
 no-chosen p m i v s h = none-from (chosen p m i v s) (λ x e. let c = chosen-is p m i v s x e in not-newer m v h (entered p m c.from.0 v c.changes c.sigs c.enters).newer)
 
-enters-mode : (p : Params) (m : Mode) (from : NodeId) (v : ℕ) (xs : List Change) (sigs : List (List ℕ)) (sig : List ℕ) → enters p m from.0 v xs sigs ≡ true → Seen (mode_after p m (Receive from (NewView v xs sigs sig))) v
+enters-mode : (p : Params) (m : Mode) (from : NodeId) (v : ℕ) (xs : List Change) (sigs : List (List ℕ)) (sig : List ℕ) →
+    enters p m from.0 v xs sigs ≡ true → Seen (mode_after p m (Receive from (NewView v xs sigs sig))) v
 enters-mode p m from v xs sigs sig h = subst (λ (z : Bool). Seen (cond z (record { view = v; active = true }) m) v) (sym h) (record { view = omega arith; active = λ e. refl })
 
-pub seen : (p : Params) (me : ℕ) (l : List Said) (v s : ℕ) (x : Value) → proposal p me l v s ≡ Some x → Seen (mode p l) v
+pub seen : (p : Params) (me : ℕ) (l : List Said) (v s : ℕ) (x : Value) → proposal p me l v s ≡ Some x →
+    Seen (mode p l) v
 seen p me [] v s x h = absurd (cc)
 seen p me (i ∷ l) v s x h = elim (first-cases (chosen p (mode p l) i v s) (first_of (proposal p me l v s) (offered (offer p me (mode p l) i) v s)) x h) [
   | inl a ↦ let c = chosen-is p (mode p l) i v s x a in subst (λ (z : Said). Seen (mode_after p (mode p l) z) v) (sym c.input) (enters-mode p (mode p l) c.from v c.changes c.sigs c.sig c.enters)
@@ -211,14 +217,16 @@ seen p me (i ∷ l) v s x h = elim (first-cases (chosen p (mode p l) i v s) (fir
   ]
 ]
 
-pub persists : (p : Params) (me : ℕ) (l : List Said) (i : Said) (v s : ℕ) (x : Value) → proposal p me l v s ≡ Some x → proposal p me (i ∷ l) v s ≡ Some x
+pub persists : (p : Params) (me : ℕ) (l : List Said) (i : Said) (v s : ℕ) (x : Value) → proposal p me l v s ≡ Some x →
+    proposal p me (i ∷ l) v s ≡ Some x
 persists p me l i v s x h =
     first-none (chosen p (mode p l) i v s) (first_of (proposal p me l v s) (offered (offer p me (mode p l) i) v s)) (no-chosen p (mode p l) i v s (seen p me l v s x h))
     ∙ first-keeps (proposal p me l v s) (offered (offer p me (mode p l) i) v s) x h
 
 -- an accepted batch, and the choice of a NewView, is the proposal
 
-pub proposed-offer : (p : Params) (me : ℕ) (l : List Said) (i : Said) (a : Slot × Batch) → ◌≡◌ {A = Option (Slot × Batch)} (asked p me l i) (Some a) → proposal p me (i ∷ l) 0 a.0.0 ≡ Some (Value_batch a.1)
+pub proposed-offer : (p : Params) (me : ℕ) (l : List Said) (i : Said) (a : Slot × Batch) →
+    ◌≡◌ {A = Option (Slot × Batch)} (asked p me l i) (Some a) → proposal p me (i ∷ l) 0 a.0.0 ≡ Some (Value_batch a.1)
 proposed-offer p me l i a h =
     let k = asked-is p me l i a h in
     let o = offer-is p me (mode p l) i a k.offered in

@@ -29,7 +29,8 @@ pub record IsPrepare (p : Params) (v s k : ℕ) (b : Ballot) (i : Said) : Type 0
   pub at_slot : slot.0 ≡ s
   pub other : (k == primary p v) ≡ false
 
-pub prepare-in-is : (p : Params) (i : Said) (v s k : ℕ) (b : Ballot) → prepare_in p i v s k ≡ Some b → IsPrepare p v s k b i
+pub prepare-in-is : (p : Params) (i : Said) (v s k : ℕ) (b : Ballot) → prepare_in p i v s k ≡ Some b →
+    IsPrepare p v s k b i
 prepare-in-is p (Cast t c) v s k b h = absurd (cc)
 prepare-in-is p (Receive from (PrePrepare w t x sig)) v s k b h = absurd (cc)
 prepare-in-is p (Receive from (Prepare w t d sig)) v s k b h =
@@ -55,7 +56,8 @@ prepare-in-is p (Receive from (ViewChange w cs sig)) v s k b h = absurd (cc)
 prepare-in-is p (Receive from (NewView w xs sigs sig)) v s k b h = absurd (cc)
 prepare-in-is p Timeout v s k b h = absurd (cc)
 
-pub prepare-of-is : (p : Params) (l : List Said) (v s k : ℕ) (b : Ballot) → prepare_of p l v s k ≡ Some b → (i : Said) × In i l × IsPrepare p v s k b i
+pub prepare-of-is : (p : Params) (l : List Said) (v s k : ℕ) (b : Ballot) → prepare_of p l v s k ≡ Some b →
+    (i : Said) × In i l × IsPrepare p v s k b i
 prepare-of-is p [] v s k b h = absurd (cc)
 prepare-of-is p (i ∷ l) v s k b h = elim (first-cases (prepare_of p l v s k) (prepare_in p i v s k) b h) [
   | inl a ↦ let r = prepare-of-is p l v s k b a in (r.0, inr r.1, r.2)
@@ -90,7 +92,8 @@ commit-in-is p (Receive from (ViewChange w cs sig)) v s k b h = absurd (cc)
 commit-in-is p (Receive from (NewView w xs sigs sig)) v s k b h = absurd (cc)
 commit-in-is p Timeout v s k b h = absurd (cc)
 
-pub commit-of-is : (p : Params) (l : List Said) (v s k : ℕ) (b : Ballot) → commit_of p l v s k ≡ Some b → (i : Said) × In i l × IsCommit v s k b i
+pub commit-of-is : (p : Params) (l : List Said) (v s k : ℕ) (b : Ballot) → commit_of p l v s k ≡ Some b →
+    (i : Said) × In i l × IsCommit v s k b i
 commit-of-is p [] v s k b h = absurd (cc)
 commit-of-is p (i ∷ l) v s k b h = elim (first-cases (commit_of p l v s k) (commit_in p i v s k) b h) [
   | inl a ↦ let r = commit-of-is p l v s k b a in (r.0, inr r.1, r.2)
@@ -107,7 +110,8 @@ pub record IsVoted (g : ℕ → Option Ballot) (d : List ℕ) (k m : ℕ) (x : S
   pub low : k ≤ x.by.0
   pub high : x.by.0 < k + m
 
-voted-more : (g : ℕ → Option Ballot) (d : List ℕ) (k m : ℕ) (x : Signed) → IsVoted g d (suc k) m x → IsVoted g d k (suc m) x
+voted-more : (g : ℕ → Option Ballot) (d : List ℕ) (k m : ℕ) (x : Signed) → IsVoted g d (suc k) m x →
+    IsVoted g d k (suc m) x
 voted-more g d k m x a =
     let l = a.low in
     let h = a.high in
@@ -120,14 +124,17 @@ in-voters g d k (suc m) x h = go (in-voters g d (suc k) m x) (g k) refl h
     vote : List ℕ → Signed
     vote sig = record { by = record { 0 = k }; sig = sig }
 
-    with_it : (In x (voters g d (suc k) m) → IsVoted g d (suc k) m x) → (b : Ballot) → g k ≡ Some b → (t : Bool) → same_bytes d b.digest ≡ t → In x (cond t (vote b.sig ∷ voters g d (suc k) m) (voters g d (suc k) m)) → IsVoted g d k (suc m) x
+    with_it : (In x (voters g d (suc k) m) → IsVoted g d (suc k) m x) → (b : Ballot) → g k ≡ Some b → (t : Bool) →
+        same_bytes d b.digest ≡ t → In x (cond t (vote b.sig ∷ voters g d (suc k) m) (voters g d (suc k) m)) →
+        IsVoted g d k (suc m) x
     with_it r b e false q i = voted-more g d k m x (r i)
     with_it r b e true q (inl i) =
         let n : x.by.0 ≡ k = ap (λ (z : Signed). z.by.0) i in
         record { ballot = b; kept = ap g n ∙ e; digest = sym (same_bytes-is d b.digest q); sig = sym (ap (λ (z : Signed). z.sig) i); low = omega (arith, n); high = omega (arith, n) }
     with_it r b e true q (inr i) = voted-more g d k m x (r i)
 
-    go : (In x (voters g d (suc k) m) → IsVoted g d (suc k) m x) → (o : Option Ballot) → g k ≡ o → In x (cons_vote d k o (voters g d (suc k) m)) → IsVoted g d k (suc m) x
+    go : (In x (voters g d (suc k) m) → IsVoted g d (suc k) m x) → (o : Option Ballot) → g k ≡ o →
+        In x (cons_vote d k o (voters g d (suc k) m)) → IsVoted g d k (suc m) x
     go r None e i = voted-more g d k m x (r i)
     go r (Some b) e i = with_it r b e (same_bytes d b.digest) refl i
 
@@ -154,7 +161,8 @@ voters-apart g d k (suc m) = go (voters-apart g d (suc k) m) (g k)
     with_it r sig false = r
     with_it r sig true = apart-cons k (nodes_of (voters g d (suc k) m)) fresh r
 
-    go : distinct (nodes_of (voters g d (suc k) m)) ≡ true → (o : Option Ballot) → distinct (nodes_of (cons_vote d k o (voters g d (suc k) m))) ≡ true
+    go : distinct (nodes_of (voters g d (suc k) m)) ≡ true → (o : Option Ballot) →
+        distinct (nodes_of (cons_vote d k o (voters g d (suc k) m))) ≡ true
     go r None = r
     go r (Some b) = with_it r b.sig (same_bytes d b.digest)
 

@@ -74,16 +74,19 @@ module _ (p : Params) (me : ℕ) where
   seen-front : (a xs : List (Item Message)) (c : Claim) → Front a xs → Seen a c → Seen xs c
   seen-front a xs c f h = record { item = h.item; taken = front-in h.item a xs f h.taken; holds = h.holds }
 
-  came-with : (x : Item Message) (xs : List (Item Message)) (from : NodeId) (msg : Message) (c : Claim) → In x xs → x.input ≡ Receive from msg → In c (claims p from.0 msg) → Seen xs c
+  came-with : (x : Item Message) (xs : List (Item Message)) (from : NodeId) (msg : Message) (c : Claim) → In x xs →
+      x.input ≡ Receive from msg → In c (claims p from.0 msg) → Seen xs c
   came-with x xs from msg c k e h = record { item = x; taken = k; holds = inl (subst (λ (z : Said). ComesWith pbft p c z) (sym e) h) }
 
-  came-among : (xs : List (Item Message)) (from : NodeId) (msg : Message) (c : Claim) → In (Receive from msg) (inputs xs) → In c (claims p from.0 msg) → Seen xs c
+  came-among : (xs : List (Item Message)) (from : NodeId) (msg : Message) (c : Claim) →
+      In (Receive from msg) (inputs xs) → In c (claims p from.0 msg) → Seen xs c
   came-among xs from msg c k h = let r = input-item xs (Receive from msg) k in came-with r.item xs from msg c r.taken r.is h
 
   -- ---- the signature of a proposal's PrePrepare
 
   -- in a NewView: the k-th signature is that of the k-th slot
-  chosen-refines : (by v : ℕ) (ys : List Change) (ss : List Slot) (sigs : List (List ℕ)) (s : ℕ) (sig : List ℕ) → sig_for s ss sigs ≡ Some sig →
+  chosen-refines : (by v : ℕ) (ys : List Change) (ss : List Slot) (sigs : List (List ℕ)) (s : ℕ) (sig : List ℕ) →
+      sig_for s ss sigs ≡ Some sig →
       In (claim by (state_at p 1 v s (digest_of p (choice ys s))) sig) (chosen_claims p by v ys ss sigs)
   chosen-refines by v ys [] sigs s sig h = absurd (cc)
   chosen-refines by v ys (r ∷ rs) [] s sig h = absurd (cc)
@@ -92,7 +95,8 @@ module _ (p : Params) (me : ℕ) where
       wanted : ℕ → List ℕ → Claim
       wanted t z = claim by (state_at p 1 v t (digest_of p (choice ys t))) z
 
-      go : (b : Bool) → (r.0 == s) ≡ b → cond b (Some g) (sig_for s rs gs) ≡ Some sig → (sig_for s rs gs ≡ Some sig → In (wanted s sig) (chosen_claims p by v ys rs gs)) →
+      go : (b : Bool) → (r.0 == s) ≡ b → cond b (Some g) (sig_for s rs gs) ≡ Some sig →
+          (sig_for s rs gs ≡ Some sig → In (wanted s sig) (chosen_claims p by v ys rs gs)) →
           In (wanted s sig) (chosen_claims p by v ys (r ∷ rs) (g ∷ gs))
       go true q k rest = inl (ap (λ (z : List ℕ). wanted s z) (sym (some-injective g sig k)) ∙ ap (λ (t : ℕ). wanted t g) (sym (is-eq r.0 s q)))
       go false q k rest = inr (rest k)
@@ -110,7 +114,8 @@ module _ (p : Params) (me : ℕ) where
     abbrev first_state : Slot × Batch → List ℕ
     first_state a = state_at p 1 0 a.0.0 (digest_of p (Value_batch a.1))
 
-    cast-seen : (y : Item Message) (ys : List (Item Message)) (a : Slot × Batch) (sig : List ℕ) → y.made ≡ makes p me ys y.input y.leaf →
+    cast-seen : (y : Item Message) (ys : List (Item Message)) (a : Slot × Batch) (sig : List ℕ) →
+        y.made ≡ makes p me ys y.input y.leaf →
         ◌≡◌ {A = Option (Slot × Batch)} (asked p me (inputs ys) y.input) (Some a) → me ≡ p.leader.0 → SameInput y.input (Cast a.0 a.1) → first_sig p me y.leaf a y.input ≡ sig →
         Seen (y ∷ ys) (claim (primary p 0) (first_state a) sig)
     cast-seen y ys a sig made asks leads is h =
@@ -126,7 +131,8 @@ module _ (p : Params) (me : ℕ) where
         let by_is : me ≡ primary p 0 = leads ∙ sym (primary-zero p me in_range) in
         subst (λ (k : ℕ). Seen (y ∷ ys) (claim k (first_state a) sig)) by_is (subst (λ (z : List ℕ). Seen (y ∷ ys) (claim me (first_state a) z)) sig_is seen)
 
-    told-seen : (y : Item Message) (ys : List (Item Message)) (a : Slot × Batch) (told sig : List ℕ) → SameInput y.input (Receive p.leader (PrePrepare 0 a.0 (Value_batch a.1) told)) →
+    told-seen : (y : Item Message) (ys : List (Item Message)) (a : Slot × Batch) (told sig : List ℕ) →
+        SameInput y.input (Receive p.leader (PrePrepare 0 a.0 (Value_batch a.1) told)) →
         first_sig p me y.leaf a y.input ≡ sig → Seen (y ∷ ys) (claim (primary p 0) (first_state a) sig)
     told-seen y ys a told sig is h =
         let seen = came-with y (y ∷ ys) p.leader (PrePrepare 0 a.0 (Value_batch a.1) told) (claim p.leader.0 (first_state a) told) (inl refl) is (inl refl) in
@@ -134,7 +140,8 @@ module _ (p : Params) (me : ℕ) where
         subst (λ (k : ℕ). Seen (y ∷ ys) (claim k (first_state a) sig)) (sym (primary-zero p me in_range))
         (subst (λ (z : List ℕ). Seen (y ∷ ys) (claim p.leader.0 (first_state a) z)) sig_is seen)
 
-    offer-seen : (y : Item Message) (ys : List (Item Message)) (a : Slot × Batch) (sig : List ℕ) → y.made ≡ makes p me ys y.input y.leaf →
+    offer-seen : (y : Item Message) (ys : List (Item Message)) (a : Slot × Batch) (sig : List ℕ) →
+        y.made ≡ makes p me ys y.input y.leaf →
         ◌≡◌ {A = Option (Slot × Batch)} (asked p me (inputs ys) y.input) (Some a) → Offers p me (mode p (inputs ys)) y.input a → first_sig p me y.leaf a y.input ≡ sig →
         Seen (y ∷ ys) (claim (primary p 0) (first_state a) sig)
     offer-seen y ys a sig made asks o h = elim o.cause [
@@ -142,13 +149,15 @@ module _ (p : Params) (me : ℕ) where
       | inr told ↦ told-seen y ys a told.sig sig told.input h
     ]
 
-    offered-sig-is : (o : Option (Slot × Batch)) (a : Slot × Batch) (v s : ℕ) (y : Item Message) (sig : List ℕ) → o ≡ Some a → offered_sig p me o v s y ≡ Some sig → first_sig p me y.leaf a y.input ≡ sig
+    offered-sig-is : (o : Option (Slot × Batch)) (a : Slot × Batch) (v s : ℕ) (y : Item Message) (sig : List ℕ) →
+        o ≡ Some a → offered_sig p me o v s y ≡ Some sig → first_sig p me y.leaf a y.input ≡ sig
     offered-sig-is o a v s y sig is h =
         let k : when ((v == 0) && (s == a.0.0)) (first_sig p me y.leaf a y.input) ≡ Some sig = subst (λ (z : Option (Slot × Batch)). offered_sig p me z v s y ≡ Some sig) is h in
         (when-is ((v == 0) && (s == a.0.0)) (first_sig p me y.leaf a y.input) sig k).is
 
     -- the claim of a proposal's PrePrepare was seen
-    proposal-seen : (xs : List (Item Message)) (v s : ℕ) (x : Value) (sig : List ℕ) → AreMade pbft p me xs → proposal p me (inputs xs) v s ≡ Some x → proposal_sig p me xs v s ≡ Some sig →
+    proposal-seen : (xs : List (Item Message)) (v s : ℕ) (x : Value) (sig : List ℕ) → AreMade pbft p me xs →
+        proposal p me (inputs xs) v s ≡ Some x → proposal_sig p me xs v s ≡ Some sig →
         Seen xs (claim (primary p v) (state_at p 1 v s (digest_of p x)) sig)
     proposal-seen [] v s x sig made h g = absurd (cc)
     proposal-seen (y ∷ ys) v s x sig made h g =
@@ -166,10 +175,12 @@ module _ (p : Params) (me : ℕ) where
         o : Option (Slot × Batch)
         o = offer p me m y.input
 
-        later : chosen p m y.input v s ≡ None → first_of (proposal_sig p me ys v s) (offered_sig p me o v s y) ≡ Some sig
+        later : chosen p m y.input v s ≡ None →
+            first_of (proposal_sig p me ys v s) (offered_sig p me o v s y) ≡ Some sig
         later none = behind-none (chosen_sig p m y.input v s) _ sig (none-too _ _ (chosen-signed p me m y.input v s) none) g
 
-        from-view : chosen p m y.input v s ≡ Some x → Seen (y ∷ ys) (claim (primary p v) (state_at p 1 v s (digest_of p x)) sig)
+        from-view : chosen p m y.input v s ≡ Some x →
+            Seen (y ∷ ys) (claim (primary p v) (state_at p 1 v s (digest_of p x)) sig)
         from-view a =
             let c = chosen-is p m y.input v s x a in
             let e = entered p m c.from.0 v c.changes c.sigs c.enters in
@@ -180,7 +191,8 @@ module _ (p : Params) (me : ℕ) where
             subst (λ (z : Value). Seen (y ∷ ys) (claim (primary p v) (state_at p 1 v s (digest_of p z)) sig)) c.value
             (subst (λ (k : ℕ). Seen (y ∷ ys) (claim k (state_at p 1 v s (digest_of p (choice c.changes s))) sig)) e.by seen)
 
-        from-offer : (proposal p me (inputs ys) v s ≡ None) × (offered o v s ≡ Some x) → offered_sig p me o v s y ≡ Some sig →
+        from-offer : (proposal p me (inputs ys) v s ≡ None) × (offered o v s ≡ Some x) →
+            offered_sig p me o v s y ≡ Some sig →
             Seen (y ∷ ys) (claim (primary p v) (state_at p 1 v s (digest_of p x)) sig)
         from-offer b k =
             let r = offered-is o v s x b.1 in
@@ -196,7 +208,8 @@ module _ (p : Params) (me : ℕ) where
     the-sig None h = absurd (false≢true h)
     the-sig (Some sig) h = refl
 
-    prepare-seen : (xs : List (Item Message)) (v s : ℕ) (d : List ℕ) (x : Signed) → In x (prepares p (inputs xs) v s d) → Seen xs (claim x.by.0 (state_at p 2 v s d) x.sig)
+    prepare-seen : (xs : List (Item Message)) (v s : ℕ) (d : List ℕ) (x : Signed) →
+        In x (prepares p (inputs xs) v s d) → Seen xs (claim x.by.0 (state_at p 2 v s d) x.sig)
     prepare-seen xs v s d x i =
         let k = in-voters (prepare_of p (inputs xs) v s) d 0 p.setup.n x i in
         let r = prepare-of-is p (inputs xs) v s x.by.0 k.ballot k.kept in
@@ -209,7 +222,8 @@ module _ (p : Params) (me : ℕ) where
         (subst (λ (z : ℕ). Seen xs (claim x.by.0 (state_at p 2 v z k.ballot.digest) k.ballot.sig)) b.at_slot
         (subst (λ (z : ℕ). Seen xs (claim z (state_at p 2 v b.slot.0 k.ballot.digest) k.ballot.sig)) b.by seen)))
 
-    certificate-seen : (xs : List (Item Message)) (c : Certificate) (t : Claim) → AreMade pbft p me xs → In c (kept p me xs) → In t (certificate_claims p c) → Seen xs t
+    certificate-seen : (xs : List (Item Message)) (c : Certificate) (t : Claim) → AreMade pbft p me xs →
+        In c (kept p me xs) → In t (certificate_claims p c) → Seen xs t
     certificate-seen xs c t made k i =
         let r = kept-from p me xs c k in
         let v = (mode p (inputs r.now)).view in
@@ -260,15 +274,18 @@ module _ (p : Params) (me : ℕ) where
   all-length [] = refl
   all-length (d ∷ ds) = let a = length-append (stated d) (stated_all ds) in let b = stated-length d in let c = all-length ds in omega (arith, a, b, c)
 
-  mine : (leaf : ℕ) (st : List ℕ) (rest : List (List ℕ)) (c : Claim) → c ≡ claim me st (signature p me leaf st) → IsSignedBy p me leaf (st ∷ rest) c
+  mine : (leaf : ℕ) (st : List ℕ) (rest : List (List ℕ)) (c : Claim) → c ≡ claim me st (signature p me leaf st) →
+      IsSignedBy p me leaf (st ∷ rest) c
   mine leaf st rest c e = by-first p me leaf st rest c (sym (ap (λ (z : Claim). z.statement) e)) (ap (λ (z : Claim). z.sig) e)
 
-  only-one : (leaf : ℕ) (st : List ℕ) (c : Claim) → In c (claim me st (signature p me leaf st) ∷ []) → IsSignedBy p me leaf (st ∷ []) c
+  only-one : (leaf : ℕ) (st : List ℕ) (c : Claim) → In c (claim me st (signature p me leaf st) ∷ []) →
+      IsSignedBy p me leaf (st ∷ []) c
   only-one leaf st c (inl e) = mine leaf st [] c e
   only-one leaf st c (inr h) = absurd h
 
   -- the PrePrepares of a NewView
-  choices-by : (leaf v : ℕ) (ys : List Change) (ss : List Slot) (c : Claim) → In c (chosen_claims p me v ys ss (choice_sigs p me leaf v ys ss)) → IsSignedBy p me leaf (choices v ys ss) c
+  choices-by : (leaf v : ℕ) (ys : List Change) (ss : List Slot) (c : Claim) →
+      In c (chosen_claims p me v ys ss (choice_sigs p me leaf v ys ss)) → IsSignedBy p me leaf (choices v ys ss) c
   choices-by leaf v ys [] c h = absurd h
   choices-by leaf v ys (s ∷ ss) c (inl e) = mine leaf (state_at p 1 v s.0 (digest_of p (choice ys s.0))) (choices v ys ss) c e
   choices-by leaf v ys (s ∷ ss) c (inr h) =
@@ -279,11 +296,13 @@ module _ (p : Params) (good : IsGoodParams pbft p) (me : ℕ) (xs : List (Item M
   abbrev IsFrom : ℕ → List (List ℕ) → Claim → Type 0
   IsFrom leaf statements c = IsSignedBy p me leaf statements c ⊎ (ComesWith pbft p c i ⊎ Seen p me xs c)
 
-  came-here : (j : Said) (from : NodeId) (msg : Message) (c : Claim) → In j (i ∷ inputs xs) → SameInput j (Receive from msg) → In c (claims p from.0 msg) → ComesWith pbft p c i ⊎ Seen p me xs c
+  came-here : (j : Said) (from : NodeId) (msg : Message) (c : Claim) → In j (i ∷ inputs xs) →
+      SameInput j (Receive from msg) → In c (claims p from.0 msg) → ComesWith pbft p c i ⊎ Seen p me xs c
   came-here j from msg c (inl e) q h = inl (subst (λ (z : Said). ComesWith pbft p c z) (sym (sym e ∙ q)) h)
   came-here j from msg c (inr k) q h = let r = input-item xs j k in inr (came-with p me r.item xs from msg c r.taken (r.is ∙ q) h)
 
-  change-from : (leaf v : ℕ) (cs : List Certificate) (c : Claim) → cs ≡ tops (kept p me xs) p.slots → In c (change_claims p me v cs (signature p me leaf (state_change p v cs))) →
+  change-from : (leaf v : ℕ) (cs : List Certificate) (c : Claim) → cs ≡ tops (kept p me xs) p.slots →
+      In c (change_claims p me v cs (signature p me leaf (state_change p v cs))) →
       IsFrom leaf (state_change p v cs ∷ []) c
   change-from leaf v cs c same h = elim (in_append c (certificates_claims p cs) (claim me (state_change p v cs) (signature p me leaf (state_change p v cs)) ∷ []) h) [
     | inl a ↦
@@ -293,7 +312,8 @@ module _ (p : Params) (good : IsGoodParams pbft p) (me : ℕ) (xs : List (Item M
     | inr a ↦ inl (only-one p me leaf (state_change p v cs) c a)
   ]
 
-  new-from : (leaf v : ℕ) (ys : List Change) (c : Claim) → ys ≡ changes p (i ∷ inputs xs) v → In c (claims p me (sign p me leaf (DraftNewView v ys))) → IsFrom leaf (stated p me (DraftNewView v ys)) c
+  new-from : (leaf v : ℕ) (ys : List Change) (c : Claim) → ys ≡ changes p (i ∷ inputs xs) v →
+      In c (claims p me (sign p me leaf (DraftNewView v ys))) → IsFrom leaf (stated p me (DraftNewView v ys)) c
   new-from leaf v ys c same h =
       let sigs = choice_sigs p me leaf v ys p.slots in
       let last = signature p me (leaf + length p.slots) (state_new p v) in
@@ -314,14 +334,16 @@ module _ (p : Params) (good : IsGoodParams pbft p) (me : ℕ) (xs : List (Item M
         ]
       ]
 
-  draft-from : (leaf : ℕ) (d : Draft) (c : Claim) → Rule p me xs i d → In c (claims p me (sign p me leaf d)) → IsFrom leaf (stated p me d) c
+  draft-from : (leaf : ℕ) (d : Draft) (c : Claim) → Rule p me xs i d → In c (claims p me (sign p me leaf d)) →
+      IsFrom leaf (stated p me d) c
   draft-from leaf (DraftPrePrepare s x) c r h = inl (only-one p me leaf (state_at p 1 0 s.0 (digest_of p x)) c h)
   draft-from leaf (DraftPrepare v s d) c r h = inl (only-one p me leaf (state_at p 2 v s.0 d) c h)
   draft-from leaf (DraftCommit v s d) c r h = inl (only-one p me leaf (state_at p 3 v s.0 d) c h)
   draft-from leaf (DraftViewChange v cs) c r h = change-from leaf v cs c (change-rule p me xs i v cs r).holds h
   draft-from leaf (DraftNewView v ys) c r h = new-from leaf v ys c (starts-with p me xs i v ys r).changes h
 
-  all-from : (leaf : ℕ) (ds : List Draft) (to : To) (msg : Message) (c : Claim) → ((d : Draft) → In d ds → Rule p me xs i d) → In {A = To × Message} (to, msg) (sign_all p me leaf ds) →
+  all-from : (leaf : ℕ) (ds : List Draft) (to : To) (msg : Message) (c : Claim) →
+      ((d : Draft) → In d ds → Rule p me xs i d) → In {A = To × Message} (to, msg) (sign_all p me leaf ds) →
       In c (claims p me msg) → IsFrom leaf (stated_all p me ds) c
   all-from leaf [] to msg c rules h k = absurd h
   all-from leaf (d ∷ ds) to msg c rules (inl e) k =

@@ -88,7 +88,8 @@ module _ (p : Params) (me : ℕ) where
       (r.0, in_right r.0 (changes_claims p xs) _ (in_left r.0 (chosen_claims p from v xs p.slots sigs) _ r.1), r.2 ∙ e.by, r.3)
 
   -- the message that a cast causes
-  pub cast-sends : (xs : List (Item Message)) (s : Slot) (b : Batch) (leaf : ℕ) → me ≡ p.leader.0 → ◌≡◌ {A = Option (Slot × Batch)} (asked p me (inputs xs) (Cast s b)) (Some (s, b)) →
+  pub cast-sends : (xs : List (Item Message)) (s : Slot) (b : Batch) (leaf : ℕ) → me ≡ p.leader.0 →
+      ◌≡◌ {A = Option (Slot × Batch)} (asked p me (inputs xs) (Cast s b)) (Some (s, b)) →
       In {A = To × Message} (To_all, sign p me leaf (DraftPrePrepare s (Value_batch b))) (makes p me xs (Cast s b) leaf).sends
   cast-sends xs s b leaf leads h =
       let d = DraftPrePrepare s (Value_batch b) in
@@ -97,13 +98,17 @@ module _ (p : Params) (me : ℕ) where
 
   -- ---- the origin of a forwarded claim: a received message, or one of its own
   pub data Source (xs : List (Item Message)) (by : ℕ) (t : List ℕ) : Type 0 where
-    came : (x : Item Message) → In x xs → (from : NodeId) (msg : Message) → x.input ≡ Receive from msg → Says pbft p from.0 msg by t → Source xs by t
-    sent : (x : Item Message) → In x xs → (to : To) (msg : Message) → In {A = To × Message} (to, msg) x.made.sends → Says pbft p me msg me t → by ≡ me → Source xs by t
+    came : (x : Item Message) → In x xs → (from : NodeId) (msg : Message) → x.input ≡ Receive from msg →
+        Says pbft p from.0 msg by t → Source xs by t
+    sent : (x : Item Message) → In x xs → (to : To) (msg : Message) → In {A = To × Message} (to, msg) x.made.sends →
+        Says pbft p me msg me t → by ≡ me → Source xs by t
 
-  pub source-in : (xs : List (Item Message)) (i : Said) (by : ℕ) (t : List ℕ) (from : NodeId) (msg : Message) → In (Receive from msg) (inputs xs) → Says pbft p from.0 msg by t → Source xs by t
+  pub source-in : (xs : List (Item Message)) (i : Said) (by : ℕ) (t : List ℕ) (from : NodeId) (msg : Message) →
+      In (Receive from msg) (inputs xs) → Says pbft p from.0 msg by t → Source xs by t
   source-in xs i by t from msg h s = let r = input-item xs (Receive from msg) h in came r.item r.taken from msg r.is s
 
-  source-more : (x : Item Message) (xs : List (Item Message)) (by : ℕ) (t : List ℕ) → Source xs by t → Source (x ∷ xs) by t
+  source-more : (x : Item Message) (xs : List (Item Message)) (by : ℕ) (t : List ℕ) → Source xs by t →
+      Source (x ∷ xs) by t
   source-more x xs by t (came y k from msg q s) = came y (inr k) from msg q s
   source-more x xs by t (sent y k to msg h s e) = sent y (inr k) to msg h s e
 
@@ -111,17 +116,24 @@ module _ (p : Params) (me : ℕ) where
   source-front a xs by t f (came y k from msg q s) = came y (front-in y a xs f k) from msg q s
   source-front a xs by t f (sent y k to msg h s e) = sent y (front-in y a xs f k) to msg h s e
 
-  says-by : (from : ℕ) (msg : Message) (c : Claim) (by : ℕ) (t : List ℕ) → In c (claims p from msg) → c.by.0 ≡ by → c.statement ≡ t → Says pbft p from msg by t
+  says-by : (from : ℕ) (msg : Message) (c : Claim) (by : ℕ) (t : List ℕ) → In c (claims p from msg) → c.by.0 ≡ by →
+      c.statement ≡ t → Says pbft p from msg by t
   says-by from msg c by t i b e = record { claim = c; stands = i; named = b; is = e }
 
-  pub offer-asked : (l : List Said) (i : Said) (a : Slot × Batch) → ◌≡◌ {A = Option (Slot × Batch)} (offer p me (mode p l) i) (Some a) → proposal p me l 0 a.0.0 ≡ None → ◌≡◌ {A = Option (Slot × Batch)} (asked p me l i) (Some a)
+  pub offer-asked : (l : List Said) (i : Said) (a : Slot × Batch) →
+      ◌≡◌ {A = Option (Slot × Batch)} (offer p me (mode p l) i) (Some a) → proposal p me l 0 a.0.0 ≡ None →
+      ◌≡◌ {A = Option (Slot × Batch)} (asked p me l i) (Some a)
   offer-asked l i a h g = ap (asked_of p me l) h ∙ ap (λ (z : Option Value). unless z a) g
 
   module _ (in_range : p.leader.0 < p.setup.n) where
     pub primary-zero : primary p 0 ≡ p.leader.0
     primary-zero = rw add-zero (mod-eq_of_lt in_range)
 
-    offered-source : (x : Item Message) (xs : List (Item Message)) (a : Slot × Batch) → x.made ≡ makes p me xs x.input x.leaf → ◌≡◌ {A = Option (Slot × Batch)} (asked p me (inputs xs) x.input) (Some a) → Offers p me (mode p (inputs xs)) x.input a → Source (x ∷ xs) (primary p 0) (state_at p 1 0 a.0.0 (digest_of p (Value_batch a.1)))
+    offered-source : (x : Item Message) (xs : List (Item Message)) (a : Slot × Batch) →
+        x.made ≡ makes p me xs x.input x.leaf →
+        ◌≡◌ {A = Option (Slot × Batch)} (asked p me (inputs xs) x.input) (Some a) →
+        Offers p me (mode p (inputs xs)) x.input a →
+        Source (x ∷ xs) (primary p 0) (state_at p 1 0 a.0.0 (digest_of p (Value_batch a.1)))
     offered-source x xs a made asks o = elim o.cause [
       | inl mine ↦
           let d = DraftPrePrepare a.0 (Value_batch a.1) in
@@ -136,7 +148,8 @@ module _ (p : Params) (me : ℕ) where
     ]
 
     -- a proposal has the claim of its view's primary
-    pub proposal-source : (xs : List (Item Message)) (v s : ℕ) (x : Value) → AreMade pbft p me xs → proposal p me (inputs xs) v s ≡ Some x → Source xs (primary p v) (state_at p 1 v s (digest_of p x))
+    pub proposal-source : (xs : List (Item Message)) (v s : ℕ) (x : Value) → AreMade pbft p me xs →
+        proposal p me (inputs xs) v s ≡ Some x → Source xs (primary p v) (state_at p 1 v s (digest_of p x))
     proposal-source [] v s x made h = absurd (cc)
     proposal-source (y ∷ ys) v s x made h = elim (first-cases (chosen p (mode p (inputs ys)) y.input v s) (first_of (proposal p me (inputs ys) v s) (offered (offer p me (mode p (inputs ys)) y.input) v s)) x h) [
       | inl a ↦
@@ -157,7 +170,8 @@ module _ (p : Params) (me : ℕ) where
     ]
 
   -- votes have the claims of the voters
-  pub prepare-source : (xs : List (Item Message)) (v s : ℕ) (d : List ℕ) (x : Signed) → In x (prepares p (inputs xs) v s d) → Source xs x.by.0 (state_at p 2 v s d)
+  pub prepare-source : (xs : List (Item Message)) (v s : ℕ) (d : List ℕ) (x : Signed) →
+      In x (prepares p (inputs xs) v s d) → Source xs x.by.0 (state_at p 2 v s d)
   prepare-source xs v s d x i =
       let k = in-voters (prepare_of p (inputs xs) v s) d 0 p.setup.n x i in
       let r = prepare-of-is p (inputs xs) v s x.by.0 k.ballot k.kept in
@@ -166,7 +180,8 @@ module _ (p : Params) (me : ℕ) where
       let same : state_at p 2 v b.slot.0 k.ballot.digest ≡ state_at p 2 v s d = ap (λ (z : ℕ). state_at p 2 v z k.ballot.digest) b.at_slot ∙ ap (λ (z : List ℕ). state_at p 2 v s z) k.digest in
       source-in xs r.0 x.by.0 (state_at p 2 v s d) b.from m (subst (λ (z : Said). In z (inputs xs)) b.input r.1) (says-by b.from.0 m (claim b.from.0 (state_at p 2 v b.slot.0 k.ballot.digest) k.ballot.sig) x.by.0 _ (inl refl) b.by same)
 
-  pub commit-source : (xs : List (Item Message)) (v s : ℕ) (d : List ℕ) (x : Signed) → In x (commits p (inputs xs) v s d) → Source xs x.by.0 (state_at p 3 v s d)
+  pub commit-source : (xs : List (Item Message)) (v s : ℕ) (d : List ℕ) (x : Signed) →
+      In x (commits p (inputs xs) v s d) → Source xs x.by.0 (state_at p 3 v s d)
   commit-source xs v s d x i =
       let k = in-voters (commit_of p (inputs xs) v s) d 0 p.setup.n x i in
       let r = commit-of-is p (inputs xs) v s x.by.0 k.ballot k.kept in
@@ -179,7 +194,8 @@ module _ (p : Params) (me : ℕ) where
 
 module _ (p : Params) (good : IsGoodParams pbft p) (me : ℕ) where
   -- the claims of a stored certificate
-  pub certificate-source : (xs : List (Item Message)) (c : Certificate) (t : Claim) → AreMade pbft p me xs → In c (kept p me xs) → In t (certificate_claims p c) → Source p me xs t.by.0 t.statement
+  pub certificate-source : (xs : List (Item Message)) (c : Certificate) (t : Claim) → AreMade pbft p me xs →
+      In c (kept p me xs) → In t (certificate_claims p c) → Source p me xs t.by.0 t.statement
   certificate-source xs c t made k i =
       let r = kept-from p me xs c k in
       let v = (mode p (inputs r.now)).view in
@@ -198,22 +214,28 @@ module _ (p : Params) (good : IsGoodParams pbft p) (me : ℕ) where
             subst (λ (z : Claim). Source p me r.now z.by.0 z.statement) (sym u.is) there
       ])
 
-  old-source : (xs : List (Item Message)) (i : Said) (by : ℕ) (t : List ℕ) → by ≡ me → Source p me xs by t → IsOld pbft p me xs i me t
+  old-source : (xs : List (Item Message)) (i : Said) (by : ℕ) (t : List ℕ) → by ≡ me → Source p me xs by t →
+      IsOld pbft p me xs i me t
   old-source xs i by t e (came x k from msg q s) = before x k from msg q (subst (λ (z : ℕ). Says pbft p from.0 msg z t) e s)
   old-source xs i by t e (sent x k to msg h s q) = own x k to msg h s
 
-  old-input : (xs : List (Item Message)) (i j : Said) (from : NodeId) (msg : Message) (t : List ℕ) → In j (i ∷ inputs xs) → SameInput j (Receive from msg) → Says pbft p from.0 msg me t → IsOld pbft p me xs i me t
+  old-input : (xs : List (Item Message)) (i j : Said) (from : NodeId) (msg : Message) (t : List ℕ) →
+      In j (i ∷ inputs xs) → SameInput j (Receive from msg) → Says pbft p from.0 msg me t → IsOld pbft p me xs i me t
   old-input xs i j from msg t (inl e) q s = now from msg (sym e ∙ q) s
   old-input xs i j from msg t (inr k) q s = let r = input-item xs j k in before r.item r.taken from msg (r.is ∙ q) s
 
   abbrev Stated : List (Item Message) → Said → Message → List ℕ → Type 0
   Stated xs i msg t = States p me msg t ⊎ IsOld pbft p me xs i me t
 
-  only-one : (xs : List (Item Message)) (i : Said) (t st sig : List ℕ) (c : Claim) → In c (claim me st sig ∷ []) → c.statement ≡ t → t ≡ st
+  only-one : (xs : List (Item Message)) (i : Said) (t st sig : List ℕ) (c : Claim) → In c (claim me st sig ∷ []) →
+      c.statement ≡ t → t ≡ st
   only-one xs i t st sig c (inl e) q = sym q ∙ ap (λ (z : Claim). z.statement) e
   only-one xs i t st sig c (inr h) q = absurd h
 
-  change-passes : (xs : List (Item Message)) (i : Said) (leaf v : ℕ) (cs : List Certificate) (t : List ℕ) → AreMade pbft p me xs → cs ≡ tops (kept p me xs) p.slots → Says pbft p me (sign p me leaf (DraftViewChange v cs)) me t → Stated xs i (sign p me leaf (DraftViewChange v cs)) t
+  change-passes : (xs : List (Item Message)) (i : Said) (leaf v : ℕ) (cs : List Certificate) (t : List ℕ) →
+      AreMade pbft p me xs → cs ≡ tops (kept p me xs) p.slots →
+      Says pbft p me (sign p me leaf (DraftViewChange v cs)) me t →
+      Stated xs i (sign p me leaf (DraftViewChange v cs)) t
   change-passes xs i leaf v cs t made same s =
       let sig = signature p me leaf (state_change p v cs) in
       elim (in_append s.claim (certificates_claims p cs) (claim me (state_change p v cs) sig ∷ []) s.stands) [
@@ -225,7 +247,9 @@ module _ (p : Params) (good : IsGoodParams pbft p) (me : ℕ) where
         | inr a ↦ inl (only-one xs i t (state_change p v cs) sig s.claim a s.is)
       ]
 
-  new-passes : (xs : List (Item Message)) (i : Said) (leaf v : ℕ) (ys : List Change) (t : List ℕ) → ys ≡ changes p (i ∷ inputs xs) v → Says pbft p me (sign p me leaf (DraftNewView v ys)) me t → Stated xs i (sign p me leaf (DraftNewView v ys)) t
+  new-passes : (xs : List (Item Message)) (i : Said) (leaf v : ℕ) (ys : List Change) (t : List ℕ) →
+      ys ≡ changes p (i ∷ inputs xs) v → Says pbft p me (sign p me leaf (DraftNewView v ys)) me t →
+      Stated xs i (sign p me leaf (DraftNewView v ys)) t
   new-passes xs i leaf v ys t same s =
       let sigs = choice_sigs p me leaf v ys p.slots in
       let sig = signature p me (leaf + length p.slots) (state_new p v) in
@@ -243,7 +267,8 @@ module _ (p : Params) (good : IsGoodParams pbft p) (me : ℕ) where
         ]
       ]
 
-  draft-passes : (xs : List (Item Message)) (i : Said) (leaf : ℕ) (d : Draft) (t : List ℕ) → AreMade pbft p me xs → Rule p me xs i d → Says pbft p me (sign p me leaf d) me t → Stated xs i (sign p me leaf d) t
+  draft-passes : (xs : List (Item Message)) (i : Said) (leaf : ℕ) (d : Draft) (t : List ℕ) → AreMade pbft p me xs →
+      Rule p me xs i d → Says pbft p me (sign p me leaf d) me t → Stated xs i (sign p me leaf d) t
   draft-passes xs i leaf (DraftPrePrepare s x) t made r h = inl (only-one xs i t (state_at p 1 0 s.0 (digest_of p x)) _ h.claim h.stands h.is)
   draft-passes xs i leaf (DraftPrepare v s d) t made r h = inl (only-one xs i t (state_at p 2 v s.0 d) _ h.claim h.stands h.is)
   draft-passes xs i leaf (DraftCommit v s d) t made r h = inl (only-one xs i t (state_at p 3 v s.0 d) _ h.claim h.stands h.is)
@@ -258,5 +283,6 @@ passes p good w legal me i leaf correct may to msg t h k =
     subst (λ (z : Message). States p me z t ⊎ IsOld pbft p me (w me) i me t) (sym d.is) (draft-passes p good me (w me) i d.leaf d.draft t (legal.made me) r said)
 
 -- a correct replica sent each statement that it signed in a message that makes it
-pub stated : (p : Params) → IsGoodParams pbft p → (w : World Message) → IsReached pbft p w → (i : ℕ) (t : List ℕ) → is_correct p.setup i ≡ true → IsSigned pbft p w i t → IsStated pbft p (States p) w i t
+pub stated : (p : Params) → IsGoodParams pbft p → (w : World Message) → IsReached pbft p w → (i : ℕ) (t : List ℕ) →
+    is_correct p.setup i ≡ true → IsSigned pbft p w i t → IsStated pbft p (States p) w i t
 stated p good w reached = signed-stated pbft p (States p) refl (passes p good) w reached

@@ -81,22 +81,26 @@ mode-low p (i ∷ l) h = mode-after-low p (mode p l) i h.0 (mode-low p l h.1)
 
 -- ---- the contents of messages
 
-pub fits-certificate-at : (version from : ℕ) (cs : List Certificate) (c : Certificate) → fits_certificates version from cs ≡ true → In c cs → fits_certificate version c ≡ true
+pub fits-certificate-at : (version from : ℕ) (cs : List Certificate) (c : Certificate) →
+    fits_certificates version from cs ≡ true → In c cs → fits_certificate version c ≡ true
 fits-certificate-at version from [] c h i = absurd i
 fits-certificate-at version from (d ∷ ds) c h (inl e) =
     subst (λ (z : Certificate). fits_certificate version z ≡ true) (sym e) (and-true (nat_le from d.slot.0) (fits_certificate version d) (and-true (nat_le from d.slot.0 && fits_certificate version d) (fits_certificates version (suc d.slot.0) ds) h).0).1
 fits-certificate-at version from (d ∷ ds) c h (inr i) = fits-certificate-at version (suc d.slot.0) ds c (and-true (nat_le from d.slot.0 && fits_certificate version d) (fits_certificates version (suc d.slot.0) ds) h).1 i
 
-pub fits-change-at : (version from : ℕ) (xs : List Change) (x : Change) → fits_changes version from xs ≡ true → In x xs → fits_change version x.view x.certificates x.sig ≡ true
+pub fits-change-at : (version from : ℕ) (xs : List Change) (x : Change) → fits_changes version from xs ≡ true →
+    In x xs → fits_change version x.view x.certificates x.sig ≡ true
 fits-change-at version from [] x h i = absurd i
 fits-change-at version from (y ∷ ys) x h (inl e) =
     subst (λ (z : Change). fits_change version z.view z.certificates z.sig ≡ true) (sym e) (and-true (nat_le from y.node.0) (fits_change version y.view y.certificates y.sig) (and-true (nat_le from y.node.0 && fits_change version y.view y.certificates y.sig) (fits_changes version (suc y.node.0) ys) h).0).1
 fits-change-at version from (y ∷ ys) x h (inr i) = fits-change-at version (suc y.node.0) ys x (and-true (nat_le from y.node.0 && fits_change version y.view y.certificates y.sig) (fits_changes version (suc y.node.0) ys) h).1 i
 
-pub change-certificates : (version v : ℕ) (cs : List Certificate) (sig : List ℕ) → fits_change version v cs sig ≡ true → fits_certificates version 0 cs ≡ true
+pub change-certificates : (version v : ℕ) (cs : List Certificate) (sig : List ℕ) → fits_change version v cs sig ≡ true →
+    fits_certificates version 0 cs ≡ true
 change-certificates version v cs sig h = (and-true (fits_count (length cs)) (fits_certificates version 0 cs) (and-true (fits_count (length cs) && fits_certificates version 0 cs) (is_signature sig) (and-true (fits_view v) _ h).1).0).1
 
-pub certificate-value : (version : ℕ) (c : Certificate) → fits_certificate version c ≡ true → fits_value version c.value ≡ true
+pub certificate-value : (version : ℕ) (c : Certificate) → fits_certificate version c ≡ true →
+    fits_value version c.value ≡ true
 certificate-value version c h = (and-true (fits_value version c.value) _ (and-true (fits_view c.view) _ (and-true (fits_slot c.slot.0) _ h).1).1).0
 
 pub record FitsNew (version v : ℕ) (xs : List Change) (sigs : List (List ℕ)) : Type 0 where
@@ -104,7 +108,8 @@ pub record FitsNew (version v : ℕ) (xs : List Change) (sigs : List (List ℕ))
   pub changes : fits_changes version 0 xs ≡ true
   pub signed : list_all is_signature sigs ≡ true
 
-pub new-fits : (version v : ℕ) (xs : List Change) (sigs : List (List ℕ)) (sig : List ℕ) → fits version (NewView v xs sigs sig) ≡ true → FitsNew version v xs sigs
+pub new-fits : (version v : ℕ) (xs : List Change) (sigs : List (List ℕ)) (sig : List ℕ) →
+    fits version (NewView v xs sigs sig) ≡ true → FitsNew version v xs sigs
 new-fits version v xs sigs sig h =
     let a = and-true (fits_view v) _ h in
     let b = and-true (fits_count (length xs) && fits_changes version 0 xs) _ a.1 in
@@ -113,7 +118,8 @@ new-fits version v xs sigs sig h =
     let e = and-true (fits_count (length sigs)) (list_all is_signature sigs) d.0 in
     record { view = a.0; changes = c.1; signed = e.1 }
 
-pub choice-fits : (version s : ℕ) (xs : List Change) → fits_changes version 0 xs ≡ true → fits_value version (choice xs s) ≡ true
+pub choice-fits : (version s : ℕ) (xs : List Change) → fits_changes version 0 xs ≡ true →
+    fits_value version (choice xs s) ≡ true
 choice-fits version s xs h = go (best s (certificates_of xs)) refl
   where
     go : (o : Option Certificate) → best s (certificates_of xs) ≡ o → fits_value version (value_or_nil o) ≡ true
@@ -126,7 +132,8 @@ choice-fits version s xs h = go (best s (certificates_of xs)) refl
 -- ---- proposals
 
 module _ (p : Params) (me : ℕ) where
-  offered-fits : (m : Mode) (i : Said) (a : Slot × Batch) → FitsInput p i → Offers p me m i a → fits_value p.setup.version (Value_batch a.1) ≡ true
+  offered-fits : (m : Mode) (i : Said) (a : Slot × Batch) → FitsInput p i → Offers p me m i a →
+      fits_value p.setup.version (Value_batch a.1) ≡ true
   offered-fits m i a f o = elim o.cause [
     | inl mine ↦ subst (λ (z : Said). FitsInput p z) mine.input f
     | inr told ↦
@@ -134,10 +141,12 @@ module _ (p : Params) (me : ℕ) where
         (and-true (fits_value p.setup.version (Value_batch a.1)) (is_signature told.sig) (and-true (fits_slot a.0.0) _ (and-true (fits_view 0) _ g).1).1).0
   ]
 
-  pub asked-fits : (l : List Said) (i : Said) (a : Slot × Batch) → FitsInput p i → ◌≡◌ {A = Option (Slot × Batch)} (asked p me l i) (Some a) → fits_value p.setup.version (Value_batch a.1) ≡ true
+  pub asked-fits : (l : List Said) (i : Said) (a : Slot × Batch) → FitsInput p i →
+      ◌≡◌ {A = Option (Slot × Batch)} (asked p me l i) (Some a) → fits_value p.setup.version (Value_batch a.1) ≡ true
   asked-fits l i a f h = offered-fits (mode p l) i a f (offer-is p me (mode p l) i a (asked-is p me l i a h).offered)
 
-  pub proposal-fits : (l : List Said) (v s : ℕ) (x : Value) → AreFit p l → proposal p me l v s ≡ Some x → fits_value p.setup.version x ≡ true
+  pub proposal-fits : (l : List Said) (v s : ℕ) (x : Value) → AreFit p l → proposal p me l v s ≡ Some x →
+      fits_value p.setup.version x ≡ true
   proposal-fits [] v s x f h = absurd (cc)
   proposal-fits (i ∷ l) v s x f h = elim (first-cases (chosen p (mode p l) i v s) (first_of (proposal p me l v s) (offered (offer p me (mode p l) i) v s)) x h) [
     | inl a ↦
@@ -159,7 +168,8 @@ pub data Paired (o : Option Value) (q : Option (List ℕ)) : Type 0 where
   neither_one : o ≡ None → q ≡ None → Paired o q
   both_are : (x : Value) (sig : List ℕ) → o ≡ Some x → q ≡ Some sig → is_signature sig ≡ true → Paired o q
 
-paired-first : (o : Option Value) (q : Option (List ℕ)) (u : Option Value) (w : Option (List ℕ)) → Paired o q → Paired u w → Paired (first_of o u) (first_of q w)
+paired-first : (o : Option Value) (q : Option (List ℕ)) (u : Option Value) (w : Option (List ℕ)) → Paired o q →
+    Paired u w → Paired (first_of o u) (first_of q w)
 paired-first o q u w (neither_one e f) r = rw (e, f) r
 paired-first o q u w (both_are x sig e f g) r = both_are x sig (rw e refl) (rw f refl) g
 
@@ -168,7 +178,8 @@ record HasSig (s : ℕ) (ss : List Slot) (sigs : List (List ℕ)) : Type 0 where
   pub is : sig_for s ss sigs ≡ Some sig
   pub shape : is_signature sig ≡ true
 
-sig-for : (s : ℕ) (ss : List Slot) (sigs : List (List ℕ)) → has_slot s ss ≡ true → length sigs ≡ length ss → list_all is_signature sigs ≡ true → HasSig s ss sigs
+sig-for : (s : ℕ) (ss : List Slot) (sigs : List (List ℕ)) → has_slot s ss ≡ true → length sigs ≡ length ss →
+    list_all is_signature sigs ≡ true → HasSig s ss sigs
 sig-for s [] sigs h n a = absurd (false≢true h)
 sig-for s (t ∷ ss) [] h n a = absurd (omega (arith, n))
 sig-for s (t ∷ ss) (sig ∷ sigs) h n a = go (t.0 == s) refl (λ k. sig-for s ss sigs k (omega (arith, n)) b.1)
@@ -189,7 +200,8 @@ module _ (p : Params) (good : IsGoodParams pbft p) (me : ℕ) where
   paired-chosen m (Receive from (ViewChange w cs sig)) v s f = neither_one refl refl
   paired-chosen m (Receive from (NewView w xs sigs sig)) v s f = go ((v == w) && (has_slot s p.slots && enters p m from.0 w xs sigs)) refl
     where
-      go : (b : Bool) → ((v == w) && (has_slot s p.slots && enters p m from.0 w xs sigs)) ≡ b → Paired (when b (choice xs s)) (cond b (sig_for s p.slots sigs) None)
+      go : (b : Bool) → ((v == w) && (has_slot s p.slots && enters p m from.0 w xs sigs)) ≡ b →
+          Paired (when b (choice xs s)) (cond b (sig_for s p.slots sigs) None)
       go false q = neither_one refl refl
       go true q =
           let a = and-true (has_slot s p.slots) (enters p m from.0 w xs sigs) (and-true (v == w) _ q).1 in
@@ -198,7 +210,8 @@ module _ (p : Params) (good : IsGoodParams pbft p) (me : ℕ) where
           both_are (choice xs s) z.sig refl z.is z.shape
   paired-chosen m Timeout v s f = neither_one refl refl
 
-  first-shape : (m : Mode) (i : Said) (leaf : ℕ) (a : Slot × Batch) → FitsInput p i → Offers p me m i a → is_signature (first_sig p me leaf a i) ≡ true
+  first-shape : (m : Mode) (i : Said) (leaf : ℕ) (a : Slot × Batch) → FitsInput p i → Offers p me m i a →
+      is_signature (first_sig p me leaf a i) ≡ true
   first-shape m i leaf a f o = elim o.cause [
     | inl mine ↦
         subst (λ (z : Said). is_signature (first_sig p me leaf a z) ≡ true) (sym mine.input) (signature-shape pbft p good me leaf (state_at p 1 0 a.0.0 (digest_of p (Value_batch a.1))))
@@ -208,18 +221,22 @@ module _ (p : Params) (good : IsGoodParams pbft p) (me : ℕ) where
         subst (λ (z : Said). is_signature (first_sig p me leaf a z) ≡ true) (sym told.input) shape
   ]
 
-  paired-offered : (m : Mode) (x : Item Message) (v s : ℕ) → FitsInput p x.input → Paired (offered (offer p me m x.input) v s) (offered_sig p me (offer p me m x.input) v s x)
+  paired-offered : (m : Mode) (x : Item Message) (v s : ℕ) → FitsInput p x.input →
+      Paired (offered (offer p me m x.input) v s) (offered_sig p me (offer p me m x.input) v s x)
   paired-offered m x v s f = go (offer p me m x.input) refl
     where
-      inner : (a : Slot × Batch) → Offers p me m x.input a → (b : Bool) → Paired (when b (Value_batch a.1)) (when b (first_sig p me x.leaf a x.input))
+      inner : (a : Slot × Batch) → Offers p me m x.input a → (b : Bool) →
+          Paired (when b (Value_batch a.1)) (when b (first_sig p me x.leaf a x.input))
       inner a o false = neither_one refl refl
       inner a o true = both_are (Value_batch a.1) (first_sig p me x.leaf a x.input) refl refl (first-shape m x.input x.leaf a f o)
 
-      go : (o : Option (Slot × Batch)) → ◌≡◌ {A = Option (Slot × Batch)} (offer p me m x.input) o → Paired (offered o v s) (offered_sig p me o v s x)
+      go : (o : Option (Slot × Batch)) → ◌≡◌ {A = Option (Slot × Batch)} (offer p me m x.input) o →
+          Paired (offered o v s) (offered_sig p me o v s x)
       go None q = neither_one refl refl
       go (Some a) q = inner a (offer-is p me m x.input a q) ((v == 0) && (s == a.0.0))
 
-  pub paired : (xs : List (Item Message)) (v s : ℕ) → AreFit p (inputs xs) → Paired (proposal p me (inputs xs) v s) (proposal_sig p me xs v s)
+  pub paired : (xs : List (Item Message)) (v s : ℕ) → AreFit p (inputs xs) →
+      Paired (proposal p me (inputs xs) v s) (proposal_sig p me xs v s)
   paired [] v s f = neither_one refl refl
   paired (x ∷ xs) v s f =
       let m = mode p (inputs xs) in
@@ -228,9 +245,11 @@ module _ (p : Params) (good : IsGoodParams pbft p) (me : ℕ) where
       (paired-first (proposal p me (inputs xs) v s) (proposal_sig p me xs v s) (offered (offer p me m x.input) v s) (offered_sig p me (offer p me m x.input) v s x) (paired xs v s f.1) (paired-offered m x v s f.0))
 
   -- a proposal has the signature of its PrePrepare
-  pub proposal-shape : (xs : List (Item Message)) (v s : ℕ) (x : Value) → AreFit p (inputs xs) → proposal p me (inputs xs) v s ≡ Some x → is_signature (or_empty (proposal_sig p me xs v s)) ≡ true
+  pub proposal-shape : (xs : List (Item Message)) (v s : ℕ) (x : Value) → AreFit p (inputs xs) →
+      proposal p me (inputs xs) v s ≡ Some x → is_signature (or_empty (proposal_sig p me xs v s)) ≡ true
   proposal-shape xs v s x f h = go (paired xs v s f)
     where
-      go : Paired (proposal p me (inputs xs) v s) (proposal_sig p me xs v s) → is_signature (or_empty (proposal_sig p me xs v s)) ≡ true
+      go : Paired (proposal p me (inputs xs) v s) (proposal_sig p me xs v s) →
+          is_signature (or_empty (proposal_sig p me xs v s)) ≡ true
       go (neither_one e q) = let n : ◌≡◌ {A = Option Value} None (Some x) = sym e ∙ h in absurd (cc)
       go (both_are y sig e q g) = subst (λ (z : Option (List ℕ)). is_signature (or_empty z) ≡ true) (sym q) g

@@ -23,7 +23,8 @@ use Rattle.sb_pbft.specs.Pbft.{pbft}
 use Rattle.sb_pbft.proofs.Messages.OwnClaimsWereSent.{States, stated}
 use Rattle.sb_pbft.proofs.History.OnePrepareAView.{Rule, SameDraft, drafted, rule-of, signed-draft}
 
-pub drafted-in : (p : Params) (me : ℕ) (xs before : List (Item Message)) (x : Item Message) (d : Draft) → Front (x ∷ before) xs → In d (drafts p me before x.input) → In d (drafted p me xs)
+pub drafted-in : (p : Params) (me : ℕ) (xs before : List (Item Message)) (x : Item Message) (d : Draft) →
+    Front (x ∷ before) xs → In d (drafts p me before x.input) → In d (drafted p me xs)
 drafted-in p me [] before x d f h = absurd (cc)
 drafted-in p me (y ∷ ys) before x d (inl q) h =
     let hd : x ≡ y = cc in
@@ -40,12 +41,14 @@ module _ (p : Params) (me leaf : ℕ) where
   other-kind : (k l v u : ℕ) (f g : List ℕ) → statement p k v f ≡ statement p l u g → k ≡ l
   other-kind k l v u f g h = (statement-same 1 p tag k l v u f g h).kind
 
-  prepare-is : (u v s : ℕ) (t : Slot) (d e : List ℕ) → state_at p 2 v s d ≡ state_at p 2 u t.0 e → SameDraft (DraftPrepare u t e) (DraftPrepare v (record { 0 = s }) d)
+  prepare-is : (u v s : ℕ) (t : Slot) (d e : List ℕ) → state_at p 2 v s d ≡ state_at p 2 u t.0 e →
+      SameDraft (DraftPrepare u t e) (DraftPrepare v (record { 0 = s }) d)
   prepare-is u v s t d e h =
       let r = at-same p 2 2 v u s t.0 d e h in
       ap (λ (z : ℕ). DraftPrepare z t e) (sym r.view) ∙ ap (λ (z : Slot). DraftPrepare v z e) (slot-is t (record { 0 = s }) (sym r.slot)) ∙ ap (λ (z : List ℕ). DraftPrepare v (record { 0 = s }) z) (sym r.digest)
 
-  pub makes-prepare : (d : Draft) (v s : ℕ) (e : List ℕ) → Makes d (state_at p 2 v s e) → SameDraft d (DraftPrepare v (record { 0 = s }) e)
+  pub makes-prepare : (d : Draft) (v s : ℕ) (e : List ℕ) → Makes d (state_at p 2 v s e) →
+      SameDraft d (DraftPrepare v (record { 0 = s }) e)
   makes-prepare (DraftPrePrepare t x) v s e h = let k = other-kind 2 1 v 0 _ _ h in absurd (omega (arith, k))
   makes-prepare (DraftPrepare u t g) v s e h = prepare-is u v s t e g h
   makes-prepare (DraftCommit u t g) v s e h = let k = other-kind 2 3 v u _ _ h in absurd (omega (arith, k))
@@ -53,12 +56,14 @@ module _ (p : Params) (me leaf : ℕ) where
   makes-prepare (DraftNewView u ys) v s e (inl h) = let k = other-kind 2 1 v u _ _ h.2 in absurd (omega (arith, k))
   makes-prepare (DraftNewView u ys) v s e (inr h) = let k = other-kind 2 5 v u _ _ h in absurd (omega (arith, k))
 
-  commit-is : (u v s : ℕ) (t : Slot) (d e : List ℕ) → state_at p 3 v s d ≡ state_at p 3 u t.0 e → SameDraft (DraftCommit u t e) (DraftCommit v (record { 0 = s }) d)
+  commit-is : (u v s : ℕ) (t : Slot) (d e : List ℕ) → state_at p 3 v s d ≡ state_at p 3 u t.0 e →
+      SameDraft (DraftCommit u t e) (DraftCommit v (record { 0 = s }) d)
   commit-is u v s t d e h =
       let r = at-same p 3 3 v u s t.0 d e h in
       ap (λ (z : ℕ). DraftCommit z t e) (sym r.view) ∙ ap (λ (z : Slot). DraftCommit v z e) (slot-is t (record { 0 = s }) (sym r.slot)) ∙ ap (λ (z : List ℕ). DraftCommit v (record { 0 = s }) z) (sym r.digest)
 
-  pub makes-commit : (d : Draft) (v s : ℕ) (e : List ℕ) → Makes d (state_at p 3 v s e) → SameDraft d (DraftCommit v (record { 0 = s }) e)
+  pub makes-commit : (d : Draft) (v s : ℕ) (e : List ℕ) → Makes d (state_at p 3 v s e) →
+      SameDraft d (DraftCommit v (record { 0 = s }) e)
   makes-commit (DraftPrePrepare t x) v s e h = let k = other-kind 3 1 v 0 _ _ h in absurd (omega (arith, k))
   makes-commit (DraftPrepare u t g) v s e h = let k = other-kind 3 2 v u _ _ h in absurd (omega (arith, k))
   makes-commit (DraftCommit u t g) v s e h = commit-is u v s t e g h
@@ -84,8 +89,10 @@ module _ (p : Params) (me leaf : ℕ) where
 
   -- a PrePrepare of view 0, or one for a choice in a NewView
   pub data MakesProposal (d : Draft) (v s : ℕ) (e : List ℕ) : Type 0 where
-    at_first : (t : Slot) (x : Value) → SameDraft d (DraftPrePrepare t x) → v ≡ 0 → t.0 ≡ s → digest_of p x ≡ e → MakesProposal d v s e
-    at_new : (ys : List Change) (t : Slot) → SameDraft d (DraftNewView v ys) → In t p.slots → t.0 ≡ s → digest_of p (choice ys s) ≡ e → MakesProposal d v s e
+    at_first : (t : Slot) (x : Value) → SameDraft d (DraftPrePrepare t x) → v ≡ 0 → t.0 ≡ s → digest_of p x ≡ e →
+        MakesProposal d v s e
+    at_new : (ys : List Change) (t : Slot) → SameDraft d (DraftNewView v ys) → In t p.slots → t.0 ≡ s →
+        digest_of p (choice ys s) ≡ e → MakesProposal d v s e
 
   pub makes-proposal : (d : Draft) (v s : ℕ) (e : List ℕ) → Makes d (state_at p 1 v s e) → MakesProposal d v s e
   makes-proposal (DraftPrePrepare t x) v s e h = let r = at-same p 1 1 v 0 s t.0 e (digest_of p x) h in at_first t x refl r.view (sym r.slot) (sym r.digest)
@@ -133,5 +140,6 @@ module _ (p : Params) (good : IsGoodParams pbft p) (w : World Message) (reached 
   pub among : (i : ℕ) (t : List ℕ) (d : IsDraftedBy i t) (e : Draft) → SameDraft d.draft e → In e (drafted p i (w i))
   among i t d e same = drafted-in p i (w i) d.before d.item e d.front (subst (λ (z : Draft). In z (drafts p i d.before d.item.input)) same d.stands)
 
-  pub by-rule : (i : ℕ) (t : List ℕ) (d : IsDraftedBy i t) (e : Draft) → SameDraft d.draft e → Rule p i d.before d.item.input e
+  pub by-rule : (i : ℕ) (t : List ℕ) (d : IsDraftedBy i t) (e : Draft) → SameDraft d.draft e →
+      Rule p i d.before d.item.input e
   by-rule i t d e same = rule-of p i d.before d.item.input e (subst (λ (z : Draft). In z (drafts p i d.before d.item.input)) same d.stands)

@@ -29,10 +29,13 @@ use Rattle.sb_pbft.proofs.History.AcceptedAndDecided.{asked-is, cast-when, cast_
 use Rattle.sb_pbft.proofs.Messages.SentDecodes.{sent-again}
 use Rattle.sb_pbft.proofs.Code.SettleRefines.{uses-both}
 
-casts : (p : Params) (me : ℕ) (xs : List (Item Message)) (s : Slot) (b : Batch) (x : Slot × Batch) → ◌≡◌ {A = Option (Slot × Batch)} (asked p me (inputs xs) (Cast s b)) (Some x) → ◌≡◌ {A = Slot × Batch} x (s, b)
+casts : (p : Params) (me : ℕ) (xs : List (Item Message)) (s : Slot) (b : Batch) (x : Slot × Batch) →
+    ◌≡◌ {A = Option (Slot × Batch)} (asked p me (inputs xs) (Cast s b)) (Some x) → ◌≡◌ {A = Slot × Batch} x (s, b)
 casts p me xs s b x h = sym (cast-when p me (mode p (inputs xs)) s b x (asked-is p me (inputs xs) (Cast s b) x h).offered).is
 
-castable : (p : Params) (me : ℕ) (xs : List (Item Message)) (s : Slot) (b c : Batch) → ◌≡◌ {A = Option (Slot × Batch)} (asked p me (inputs xs) (Cast s b)) (Some (s, b)) → ◌≡◌ {A = Option (Slot × Batch)} (asked p me (inputs xs) (Cast s c)) (Some (s, c))
+castable : (p : Params) (me : ℕ) (xs : List (Item Message)) (s : Slot) (b c : Batch) →
+    ◌≡◌ {A = Option (Slot × Batch)} (asked p me (inputs xs) (Cast s b)) (Some (s, b)) →
+    ◌≡◌ {A = Option (Slot × Batch)} (asked p me (inputs xs) (Cast s c)) (Some (s, c))
 castable p me xs s b c h =
     let a = asked-is p me (inputs xs) (Cast s b) (s, b) h in
     let test : cast_test p me (mode p (inputs xs)) s ≡ true = (cast-when p me (mode p (inputs xs)) s b (s, b) a.offered).test in
@@ -44,7 +47,8 @@ castable p me xs s b c h =
 one-all : (k : NodeId) → To_one k ≡ To_all → ⊥
 one-all k h = cc
 
-to-all : (p : Params) (me leaf : ℕ) (ds : List Draft) (k : NodeId) (msg : Message) → In {A = To × Message} (To_one k, msg) (sign_all p me leaf ds) → ⊥
+to-all : (p : Params) (me leaf : ℕ) (ds : List Draft) (k : NodeId) (msg : Message) →
+    In {A = To × Message} (To_one k, msg) (sign_all p me leaf ds) → ⊥
 to-all p me leaf [] k msg h = h
 to-all p me leaf (d ∷ ds) k msg (inl e) = one-all k (ap (λ (z : To × Message). z.0) e)
 to-all p me leaf (d ∷ ds) k msg (inr h) = to-all p me (leaf + uses p d) ds k msg h
@@ -59,7 +63,8 @@ answers p me xs i s = answer p me (mode p (inputs xs)) i s
 abbrev commit_at : Params → ℕ → List (Item Message) → Input Message → Slot → List Draft
 commit_at p me xs i s = commit_draft p (mode p (i ∷ inputs xs)).view s (ready p me (i ∷ inputs xs) (kept p me xs) s.0)
 
-slot-uses : (p : Params) (me : ℕ) (xs : List (Item Message)) (i : Input Message) (s : Slot) (ss : List Slot) → uses_all p (by_slot p me xs i (s ∷ ss)) ≤ uses_all p (answers p me xs i s) + 1 + uses_all p (by_slot p me xs i ss)
+slot-uses : (p : Params) (me : ℕ) (xs : List (Item Message)) (i : Input Message) (s : Slot) (ss : List Slot) →
+    uses_all p (by_slot p me xs i (s ∷ ss)) ≤ uses_all p (answers p me xs i s) + 1 + uses_all p (by_slot p me xs i ss)
 slot-uses p me xs i s ss =
     let a = uses-both p (answers p me xs i s) (commit_at p me xs i s ++ by_slot p me xs i ss) in
     let b = uses-both p (commit_at p me xs i s) (by_slot p me xs i ss) in
@@ -67,7 +72,8 @@ slot-uses p me xs i s ss =
     omega (arith, a, b, c)
 
 -- one signature for each slot, or two
-one-a-slot : (p : Params) (me : ℕ) (xs : List (Item Message)) (i : Input Message) (ss : List Slot) → ((s : Slot) → answers p me xs i s ≡ []) → uses_all p (by_slot p me xs i ss) ≤ length ss
+one-a-slot : (p : Params) (me : ℕ) (xs : List (Item Message)) (i : Input Message) (ss : List Slot) →
+    ((s : Slot) → answers p me xs i s ≡ []) → uses_all p (by_slot p me xs i ss) ≤ length ss
 one-a-slot p me xs i [] none = omega arith
 one-a-slot p me xs i (s ∷ ss) none =
     let a = slot-uses p me xs i s ss in
@@ -75,7 +81,8 @@ one-a-slot p me xs i (s ∷ ss) none =
     let c = one-a-slot p me xs i ss none in
     omega (arith, a, b, c)
 
-two-a-slot : (p : Params) (me : ℕ) (xs : List (Item Message)) (i : Input Message) (ss : List Slot) → ((s : Slot) → uses_all p (answers p me xs i s) ≤ 1) → uses_all p (by_slot p me xs i ss) ≤ 2 * length ss
+two-a-slot : (p : Params) (me : ℕ) (xs : List (Item Message)) (i : Input Message) (ss : List Slot) →
+    ((s : Slot) → uses_all p (answers p me xs i s) ≤ 1) → uses_all p (by_slot p me xs i ss) ≤ 2 * length ss
 two-a-slot p me xs i [] one = omega arith
 two-a-slot p me xs i (s ∷ ss) one =
     let a = slot-uses p me xs i s ss in
@@ -95,13 +102,16 @@ when-uses : (p : Params) (t : Bool) (d : Draft) → uses_all p (cond t (d ∷ []
 when-uses p true d = omega arith
 when-uses p false d = omega arith
 
-both-uses : (p : Params) (me : ℕ) (xs : List (Item Message)) (i : Input Message) (a b : ℕ) → uses_all p (lead p me xs i) ≤ a → uses_all p (by_slot p me xs i p.slots) ≤ b → uses_all p (drafts p me xs i) ≤ a + b
+both-uses : (p : Params) (me : ℕ) (xs : List (Item Message)) (i : Input Message) (a b : ℕ) →
+    uses_all p (lead p me xs i) ≤ a → uses_all p (by_slot p me xs i p.slots) ≤ b → uses_all p (drafts p me xs i) ≤ a + b
 both-uses p me xs i a b h k = let r = uses-both p (lead p me xs i) (by_slot p me xs i p.slots) in omega (arith, r, h, k)
 
-up-to : (p : Params) (ds : List Draft) (a b : ℕ) → uses_all p ds ≤ a + b → a + b ≤ 2 * length p.slots + 1 → uses_all p ds ≤ 2 * length p.slots + 1
+up-to : (p : Params) (ds : List Draft) (a b : ℕ) → uses_all p ds ≤ a + b → a + b ≤ 2 * length p.slots + 1 →
+    uses_all p ds ≤ 2 * length p.slots + 1
 up-to p ds a b h k = omega (arith, h, k)
 
-drafts-uses : (p : Params) (me : ℕ) (xs : List (Item Message)) (i : Input Message) → uses_all p (drafts p me xs i) ≤ 2 * length p.slots + 1
+drafts-uses : (p : Params) (me : ℕ) (xs : List (Item Message)) (i : Input Message) →
+    uses_all p (drafts p me xs i) ≤ 2 * length p.slots + 1
 drafts-uses p me xs (Cast s b) =
     let l = first-uses p me (asked p me (inputs xs) (Cast s b)) in
     let r = one-a-slot p me xs (Cast s b) p.slots (λ s. refl) in

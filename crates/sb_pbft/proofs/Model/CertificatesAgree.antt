@@ -21,7 +21,8 @@ abbrev bare-vote : (d : List ℕ) (k : ℕ) (o : Option Ballot) (n : ℕ) → �
 bare-vote d k None n = n
 bare-vote d k (Some b) n = cond (same_bytes d b.digest) (suc n) n
 
-count-vote : (d : List ℕ) (k : ℕ) (o : Option Ballot) (m : ℕ) (g : ℕ → Option Ballot) → length (cons_vote d k o (voters g d (suc k) m)) ≡ bare-vote d k o (length (voters g d (suc k) m))
+count-vote : (d : List ℕ) (k : ℕ) (o : Option Ballot) (m : ℕ) (g : ℕ → Option Ballot) →
+    length (cons_vote d k o (voters g d (suc k) m)) ≡ bare-vote d k o (length (voters g d (suc k) m))
 count-vote d k None m g = refl
 count-vote d k (Some b) m g = go (same_bytes d b.digest)
   where
@@ -33,7 +34,8 @@ bare-same : (d : List ℕ) (k : ℕ) (o : Option Ballot) (n : ℕ) → bare-vote
 bare-same d k None n = refl
 bare-same d k (Some b) n = refl
 
-pub bare-voters : (g : ℕ → Option Ballot) (d : List ℕ) (k m : ℕ) → length (voters (λ j. bare (g j)) d k m) ≡ length (voters g d k m)
+pub bare-voters : (g : ℕ → Option Ballot) (d : List ℕ) (k m : ℕ) →
+    length (voters (λ j. bare (g j)) d k m) ≡ length (voters g d k m)
 bare-voters g d k zero = refl
 bare-voters g d k (suc m) =
     count-vote d k (bare (g k)) m (λ j. bare (g j)) ∙ (bare-same d k (g k) _ ∙ (ap (bare-vote d k (g k)) (bare-voters g d (suc k) m) ∙ sym (count-vote d k (g k) m g)))
@@ -46,15 +48,18 @@ module _ (p : Params) (me : ℕ) (xs : List (Item Message)) where
   passing q x true b h = ap (λ (t : Bool). placed p (when t x) q) h
   passing q x false b h = ap (λ (t : Bool). placed p (when t x) q) h
 
-  pub prepared-model : (v s : ℕ) → prepared_at p (model p me xs) v s ≡ placed p (prepared p me (inputs xs) v s) (proposal_sig p me xs v s)
+  pub prepared-model : (v s : ℕ) →
+      prepared_at p (model p me xs) v s ≡ placed p (prepared p me (inputs xs) v s) (proposal_sig p me xs v s)
   prepared-model v s = go (proposal p me (inputs xs) v s) refl
     where
-      go : (o : Option Value) → proposal p me (inputs xs) v s ≡ o → only_if (voted p (prepare_of p (inputs xs) v s) (2 * p.setup.f)) (placed p o (proposal_sig p me xs v s)) ≡
+      go : (o : Option Value) → proposal p me (inputs xs) v s ≡ o →
+          only_if (voted p (prepare_of p (inputs xs) v s) (2 * p.setup.f)) (placed p o (proposal_sig p me xs v s)) ≡
           placed p (prepared_with p (inputs xs) v s o) (proposal_sig p me xs v s)
       go None h = refl
       go (Some x) h = passing (proposal_sig p me xs v s) x _ _ refl
 
-  pub committed-model : (v s : ℕ) → committed_at p (model p me xs) v s ≡ placed p (committed p me (inputs xs) v s) (proposal_sig p me xs v s)
+  pub committed-model : (v s : ℕ) →
+      committed_at p (model p me xs) v s ≡ placed p (committed p me (inputs xs) v s) (proposal_sig p me xs v s)
   committed-model v s = ap (only_if (voted p (λ k. bare (commit_of p (inputs xs) v s k)) (2 * p.setup.f + 1))) (prepared-model v s) ∙ go (prepared p me (inputs xs) v s)
     where
       go : (o : Option Value) → only_if (voted p (λ k. bare (commit_of p (inputs xs) v s k)) (2 * p.setup.f + 1)) (placed p o (proposal_sig p me xs v s)) ≡

@@ -58,7 +58,8 @@ module _ (p : Params) (me : ℕ) where
   pub none-above : (l : List Said) (v s : ℕ) → (mode p l).view < v → committed p me l v s ≡ None
   none-above l v s lt = none-from (committed p me l v s) (λ x h. let q = (seen p me l v s x (committed-is p me l v s x h).prepared.proposed).view in absurd (omega (arith, lt, q)))
 
-  pub none-committed : (xs : List (Item Message)) (v s : ℕ) → delivered pbft p me xs s ≡ None → committed p me (inputs xs) v s ≡ None
+  pub none-committed : (xs : List (Item Message)) (v s : ℕ) → delivered pbft p me xs s ≡ None →
+      committed p me (inputs xs) v s ≡ None
   none-committed [] v s h = refl
   none-committed (x ∷ xs) v s h =
       let k = both-none (delivered pbft p me xs s) (decided p me (x ∷ xs) s) h in
@@ -71,17 +72,21 @@ module _ (p : Params) (me : ℕ) where
       low-or-high a b = grind (arith)
 
   -- a step that changes what is committed at the slot in one view only
-  pub newly-delivered : (x : Item Message) (xs : List (Item Message)) (v s : ℕ) → ((w : ℕ) → w ≢ v → committed p me (inputs (x ∷ xs)) w s ≡ committed p me (inputs xs) w s) →
+  pub newly-delivered : (x : Item Message) (xs : List (Item Message)) (v s : ℕ) →
+      ((w : ℕ) → w ≢ v → committed p me (inputs (x ∷ xs)) w s ≡ committed p me (inputs xs) w s) →
       delivered pbft p me (x ∷ xs) s ≡ first_of (delivered pbft p me xs s) (committed p me (inputs (x ∷ xs)) v s)
   newly-delivered x xs v s same = go (delivered pbft p me xs s) refl
     where
-      go : (o : Option Value) → delivered pbft p me xs s ≡ o → first_of o (decided p me (x ∷ xs) s) ≡ first_of o (committed p me (inputs (x ∷ xs)) v s)
+      go : (o : Option Value) → delivered pbft p me xs s ≡ o →
+          first_of o (decided p me (x ∷ xs) s) ≡ first_of o (committed p me (inputs (x ∷ xs)) v s)
       go (Some y) h = refl
       go None h =
           lowest-one (λ w. committed p me (inputs (x ∷ xs)) w s) (mode p (inputs (x ∷ xs))).view v (λ w off. same w off ∙ none-committed xs w s h) (none-above (inputs (x ∷ xs)) v s)
 
   -- a step that does not change what is committed at the slot
-  pub nothing-delivered : (x : Item Message) (xs : List (Item Message)) (s : ℕ) → ((w : ℕ) → committed p me (inputs (x ∷ xs)) w s ≡ committed p me (inputs xs) w s) → delivered pbft p me (x ∷ xs) s ≡ delivered pbft p me xs s
+  pub nothing-delivered : (x : Item Message) (xs : List (Item Message)) (s : ℕ) →
+      ((w : ℕ) → committed p me (inputs (x ∷ xs)) w s ≡ committed p me (inputs xs) w s) →
+      delivered pbft p me (x ∷ xs) s ≡ delivered pbft p me xs s
   nothing-delivered x xs s same = newly-delivered x xs 0 s (λ w off. same w) ∙ go (delivered pbft p me xs s) refl
     where
       go : (o : Option Value) → delivered pbft p me xs s ≡ o → first_of o (committed p me (inputs (x ∷ xs)) 0 s) ≡ o

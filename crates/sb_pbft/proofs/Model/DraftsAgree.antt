@@ -15,7 +15,8 @@ use Rattle.sb_pbft.proofs.Model.SettledAgrees.{mid, ready-mid}
 use Rattle.sb_pbft.proofs.ViewChange.HighestCertificates.{above, nothing-left}
 
 -- at the start and after each step no Commit is due
-pub calm : (p : Params) (me : ℕ) (xs : List (Item Message)) (t : Slot) → In t p.slots → ready p me (inputs xs) (kept p me xs) t.0 ≡ None
+pub calm : (p : Params) (me : ℕ) (xs : List (Item Message)) (t : Slot) → In t p.slots →
+    ready p me (inputs xs) (kept p me xs) t.0 ≡ None
 calm p me [] t i = refl
 calm p me (x ∷ xs) t i = nothing-left p me x xs t i
 
@@ -26,7 +27,8 @@ module _ (p : Params) (me : ℕ) (x : Item Message) (xs : List (Item Message)) w
   abbrev committing : Slot → List Draft
   committing t = commit_draft p (mode p (inputs (x ∷ xs))).view t (is-ready t)
 
-  commit-same : (t : Slot) → commits_to (mode p (inputs (x ∷ xs))).view t (ready_at p (mid p me x xs) t.0) ≡ committing t
+  commit-same : (t : Slot) →
+      commits_to (mode p (inputs (x ∷ xs))).view t (ready_at p (mid p me x xs) t.0) ≡ committing t
   commit-same t = ap (commits_to (mode p (inputs (x ∷ xs))).view t) (ready-mid p me x xs t.0) ∙ go (is-ready t)
     where
       go : (o : Option Value) → commits_to (mode p (inputs (x ∷ xs))).view t (placed p o (proposal_sig p me (x ∷ xs) (mode p (inputs (x ∷ xs))).view t.0)) ≡ commit_draft p (mode p (inputs (x ∷ xs))).view t o
@@ -52,14 +54,16 @@ module _ (p : Params) (me : ℕ) (x : Item Message) (xs : List (Item Message)) w
 
   -- ---- at one of them, if the replica does not answer
 
-  pub none-said : (ss : List Slot) → ((t : Slot) → In t ss → answer p me (mode p (inputs xs)) x.input t ≡ []) → ((t : Slot) → In t ss → is-ready t ≡ None) → by_slot p me xs x.input ss ≡ []
+  pub none-said : (ss : List Slot) → ((t : Slot) → In t ss → answer p me (mode p (inputs xs)) x.input t ≡ []) →
+      ((t : Slot) → In t ss → is-ready t ≡ None) → by_slot p me xs x.input ss ≡ []
   none-said [] silent quiet = refl
   none-said (t ∷ ts) silent quiet =
       ap (λ (z : List Draft). z ++ (committing t ++ by_slot p me xs x.input ts)) (silent t (inl refl)) ∙
       (ap (λ (o : Option Value). commit_draft p (mode p (inputs (x ∷ xs))).view t o ++ by_slot p me xs x.input ts) (quiet t (inl refl)) ∙
       none-said ts (λ u i. silent u (inr i)) (λ u i. quiet u (inr i)))
 
-  one-said : (from : ℕ) (ss : List Slot) (t : Slot) → AreAscending from ss → In t ss → ((u : Slot) → In u ss → answer p me (mode p (inputs xs)) x.input u ≡ []) →
+  one-said : (from : ℕ) (ss : List Slot) (t : Slot) → AreAscending from ss → In t ss →
+      ((u : Slot) → In u ss → answer p me (mode p (inputs xs)) x.input u ≡ []) →
       ((u : Slot) → In u ss → u.0 ≢ t.0 → is-ready u ≡ None) → by_slot p me xs x.input ss ≡ committing t
   one-said from [] t rising i silent quiet = absurd i
   one-said from (u ∷ us) t rising (inl e) silent quiet =
@@ -77,6 +81,7 @@ module _ (p : Params) (me : ℕ) (x : Item Message) (xs : List (Item Message)) w
       off : u.0 ≢ t.0
       off q = let l = above (suc u.0) us t rising.1 i in absurd (omega (arith, l, q))
 
-  pub slot-said : (v : ℕ) (t : Slot) → AreAscending 0 p.slots → In t p.slots → ((u : Slot) → In u p.slots → answer p me (mode p (inputs xs)) x.input u ≡ []) →
+  pub slot-said : (v : ℕ) (t : Slot) → AreAscending 0 p.slots → In t p.slots →
+      ((u : Slot) → In u p.slots → answer p me (mode p (inputs xs)) x.input u ≡ []) →
       ((u : Slot) → In u p.slots → u.0 ≢ t.0 → is-ready u ≡ None) → drafts_all p (mid p me x xs) false v (t ∷ []) ≡ by_slot p me xs x.input p.slots
   slot-said v t rising i silent quiet = append-nil (commits_to (mode p (inputs (x ∷ xs))).view t (ready_at p (mid p me x xs) t.0)) ∙ (commit-same t ∙ sym (one-said 0 p.slots t rising i silent quiet))

@@ -83,7 +83,8 @@ module _ (p : Params) (me leaf : ℕ) (xs : List (Item Message)) where
   -- ---- votes that do not count
 
   module _ (from : NodeId) (v : ℕ) (slot : Slot) (d sig : List ℕ) where
-    pub prepare-nothing : (has_slot slot.0 p.slots && not (from.0 == primary p v)) ≡ false → ChangesNothing (Receive from (Prepare v slot d sig))
+    pub prepare-nothing : (has_slot slot.0 p.slots && not (from.0 == primary p v)) ≡ false →
+        ChangesNothing (Receive from (Prepare v slot d sig))
     prepare-nothing out = record {
       stays = refl;
       values = same-values;
@@ -133,7 +134,8 @@ module _ (p : Params) (me leaf : ℕ) (xs : List (Item Message)) where
 
   -- ---- a NewView that starts no view
 
-  pub new-view-nothing : (from : NodeId) (v : ℕ) (changes : List Change) (sigs : List (List ℕ)) (sig : List ℕ) → enters p (mode p (inputs xs)) from.0 v changes sigs ≡ false →
+  pub new-view-nothing : (from : NodeId) (v : ℕ) (changes : List Change) (sigs : List (List ℕ)) (sig : List ℕ) →
+      enters p (mode p (inputs xs)) from.0 v changes sigs ≡ false →
       ChangesNothing (Receive from (NewView v changes sigs sig))
   new-view-nothing from v vs sigs sig out = record {
     stays = ap (λ (b : Bool). cond b (record { view = v; active = true }) (mode p (inputs xs))) out;

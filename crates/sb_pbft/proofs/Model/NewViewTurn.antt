@@ -56,7 +56,8 @@ module _ (p : Params) (me leaf : ℕ) (xs : List (Item Message)) (rising : AreAs
   here : (w s : ℕ) → ((w == v) && (has_slot s p.slots && enters p (mode p (inputs xs)) from.0 v vs sigs)) ≡ is-here w s
   here w s = ap (λ (b : Bool). (w == v) && (has_slot s p.slots && b)) yes ∙ ap (λ (b : Bool). (w == v) && b) (with-true (has_slot s p.slots))
 
-  proposal-on : (w s : ℕ) → proposal p me (said ∷ inputs xs) w s ≡ first_of (when (is-here w s) (choice vs s)) (proposal p me (inputs xs) w s)
+  proposal-on : (w s : ℕ) →
+      proposal p me (said ∷ inputs xs) w s ≡ first_of (when (is-here w s) (choice vs s)) (proposal p me (inputs xs) w s)
   proposal-on w s = λ j. first_of (when (here w s j) (choice vs s)) (first_of-none (proposal p me (inputs xs) w s) j)
 
   sig-on : (w s : ℕ) → proposal_sig p me (new ∷ xs) w s ≡ first_of (cond (is-here w s) (sig_for s p.slots sigs) None) (proposal_sig p me xs w s)
@@ -87,7 +88,8 @@ module _ (p : Params) (me leaf : ℕ) (xs : List (Item Message)) (rising : AreAs
 
   -- ---- what it touches
 
-  committed-apart : (w s : ℕ) → is-here w s ≡ false → committed p me (said ∷ inputs xs) w s ≡ committed p me (inputs xs) w s
+  committed-apart : (w s : ℕ) → is-here w s ≡ false →
+      committed p me (said ∷ inputs xs) w s ≡ committed p me (inputs xs) w s
   committed-apart w s off = committed-same p me said (inputs xs) w s
       (prepared-same p me said (inputs xs) w s (proposal-on w s ∙ ap (λ (b : Bool). first_of (when b (choice vs s)) (proposal p me (inputs xs) w s)) off) (λ k. first_of-none (prepare_of p (inputs xs) w s k)))
       (λ k. first_of-none (commit_of p (inputs xs) w s k))
@@ -109,7 +111,8 @@ module _ (p : Params) (me leaf : ℕ) (xs : List (Item Message)) (rising : AreAs
   abbrev answers : Bool
   answers = not (me == primary p v)
 
-  answered : (t : Slot) → In t p.slots → cond answers (prepares_to v t ((mid p me new xs).proposal v t.0)) [] ≡ answer p me (mode p (inputs xs)) said t
+  answered : (t : Slot) → In t p.slots →
+      cond answers (prepares_to v t ((mid p me new xs).proposal v t.0)) [] ≡ answer p me (mode p (inputs xs)) said t
   answered t j =
       ap (λ (o : Option Value). cond answers (prepares_to v t (placed p o (proposal_sig p me (new ∷ xs) v t.0))) [])
       (proposed-choice p me (inputs xs) from v t.0 vs sigs sig yes (In-has t p.slots j)) ∙

@@ -63,7 +63,8 @@ module _ (p : Params) (me leaf : ℕ) (xs : List (Item Message)) where
     hashes = refl;
   }
 
-  pub told-offers : (from : NodeId) (w : ℕ) (slot : Slot) (x : Value) (sig : List ℕ) → OffersAlone (Receive from (PrePrepare w slot x sig))
+  pub told-offers : (from : NodeId) (w : ℕ) (slot : Slot) (x : Value) (sig : List ℕ) →
+      OffersAlone (Receive from (PrePrepare w slot x sig))
   told-offers from w slot x sig = record {
     stays = λ m. refl;
     chooses = λ m v s. refl;
@@ -113,7 +114,8 @@ module _ (p : Params) (me leaf : ℕ) (xs : List (Item Message)) where
     taken a None h = absurd (cc)
     taken a (Some y) h = refl
 
-    unread : (v s : ℕ) (o : Option (Slot × Batch)) → ◌≡◌ {A = Option (Slot × Batch)} (asked_of p me (inputs xs) o) None → Unread v s o
+    unread : (v s : ℕ) (o : Option (Slot × Batch)) →
+        ◌≡◌ {A = Option (Slot × Batch)} (asked_of p me (inputs xs) o) None → Unread v s o
     unread v s None h = record {
       value = first_of-none (proposal p me (inputs xs) v s);
       whole = λ j. placed p (first_of-none (proposal p me (inputs xs) v s) j) (first_of-none (proposal_sig p me xs v s) j);
@@ -135,7 +137,8 @@ module _ (p : Params) (me leaf : ℕ) (xs : List (Item Message)) where
       }
     ]
       where
-        here : (v s : ℕ) (a : Slot × Batch) → ((v == 0) && (s == a.0.0)) ≡ true → is_some (proposal p me (inputs xs) 0 a.0.0) ≡ true → is_some (proposal p me (inputs xs) v s) ≡ true
+        here : (v s : ℕ) (a : Slot × Batch) → ((v == 0) && (s == a.0.0)) ≡ true →
+            is_some (proposal p me (inputs xs) 0 a.0.0) ≡ true → is_some (proposal p me (inputs xs) v s) ≡ true
         here v s a k h =
             let t = and-true (v == 0) (s == a.0.0) k in
             let e : v ≡ 0 = eqb-true v 0 t.0 in
@@ -177,12 +180,14 @@ module _ (p : Params) (me leaf : ℕ) (xs : List (Item Message)) where
       elsewhere v s (inl off) = and_left (v == 0) (s == a.0.0) (ne_eqb v 0 off)
       elsewhere v s (inr off) = and_right (v == 0) (s == a.0.0) (ne_eqb s a.0.0 off)
 
-      prepared-apart : (v s : ℕ) → (v ≢ 0) ⊎ (s ≢ a.0.0) → prepared p me (i ∷ inputs xs) v s ≡ prepared p me (inputs xs) v s
+      prepared-apart : (v s : ℕ) → (v ≢ 0) ⊎ (s ≢ a.0.0) →
+          prepared p me (i ∷ inputs xs) v s ≡ prepared p me (inputs xs) v s
       prepared-apart v s off = prepared-same p me i (inputs xs) v s
           (proposal-with v s ∙ (ap (λ (b : Bool). first_of (proposal p me (inputs xs) v s) (when b (Value_batch a.1))) (elsewhere v s off) ∙ first_of-none (proposal p me (inputs xs) v s)))
           (λ k. prepare-on v s k)
 
-      committed-apart : (v s : ℕ) → (v ≢ 0) ⊎ (s ≢ a.0.0) → committed p me (i ∷ inputs xs) v s ≡ committed p me (inputs xs) v s
+      committed-apart : (v s : ℕ) → (v ≢ 0) ⊎ (s ≢ a.0.0) →
+          committed p me (i ∷ inputs xs) v s ≡ committed p me (inputs xs) v s
       committed-apart v s off = committed-same p me i (inputs xs) v s (prepared-apart v s off) (λ k. commit-on v s k)
 
       within : has_slot a.0.0 p.slots ≡ true
@@ -203,7 +208,8 @@ module _ (p : Params) (me leaf : ℕ) (xs : List (Item Message)) where
       abbrev first : Proposal
       first = first_proposal p a (first_sig p me leaf a i)
 
-      put : (v s : ℕ) → (b : Bool) → at-first v s ≡ b → cond b (Some first) (placed p (proposal p me (inputs xs) v s) (proposal_sig p me xs v s)) ≡
+      put : (v s : ℕ) → (b : Bool) → at-first v s ≡ b →
+          cond b (Some first) (placed p (proposal p me (inputs xs) v s) (proposal_sig p me xs v s)) ≡
           placed p (first_of (proposal p me (inputs xs) v s) (when b (Value_batch a.1))) (first_of (proposal_sig p me xs v s) (when b (first_sig p me leaf a i)))
       put v s false k = λ j. placed p (sym (first_of-none (proposal p me (inputs xs) v s)) j) (sym (first_of-none (proposal_sig p me xs v s)) j)
       put v s true k =
@@ -243,6 +249,7 @@ module _ (p : Params) (me leaf : ℕ) (xs : List (Item Message)) where
         subst (λ (o : Option (Slot × Batch)). TurnsTo p me xs i leaf (accepts_of p me leaf (model p me xs) i o)) (sym (asked-same (offer p me (mode p (inputs xs)) i)))
         (go (asked p me (inputs xs) i) refl)
       where
-        go : (o : Option (Slot × Batch)) → ◌≡◌ {A = Option (Slot × Batch)} (asked p me (inputs xs) i) o → TurnsTo p me xs i leaf (accepts_of p me leaf (model p me xs) i o)
+        go : (o : Option (Slot × Batch)) → ◌≡◌ {A = Option (Slot × Batch)} (asked p me (inputs xs) i) o →
+            TurnsTo p me xs i leaf (accepts_of p me leaf (model p me xs) i o)
         go None h = still-turns p me leaf xs rising i (nothing-offered h)
         go (Some a) h = accepted-turns a h

@@ -49,7 +49,8 @@ module _ (p : Params) (me : ℕ) (x : Item Message) (xs : List (Item Message)) w
     pub rising : AreAscending 0 ss
     pub quiet : (t : Slot) → In t p.slots → NotAt t.0 ss → ready p me (inputs (x ∷ xs)) (kept p me xs) t.0 ≡ None
     pub still : (s : ℕ) → NotAt s ss → (w : ℕ) → committed p me (inputs (x ∷ xs)) w s ≡ committed p me (inputs xs) w s
-    pub one : (t : Slot) → In t ss → (w : ℕ) → w ≢ v → committed p me (inputs (x ∷ xs)) w t.0 ≡ committed p me (inputs xs) w t.0
+    pub one : (t : Slot) → In t ss → (w : ℕ) → w ≢ v →
+        committed p me (inputs (x ∷ xs)) w t.0 ≡ committed p me (inputs xs) w t.0
 
   low : AreLow (mode p (inputs (x ∷ xs))).view (kept p me xs)
   low c i = let a = kept-low p me xs c i in let b = (grows p (mode p (inputs xs)) x.input).view in omega (arith, a, b)
@@ -57,7 +58,8 @@ module _ (p : Params) (me : ℕ) (x : Item Message) (xs : List (Item Message)) w
   pub ready-mid : (s : ℕ) → ready_at p mid s ≡ placed p (ready p me (inputs (x ∷ xs)) (kept p me xs) s) (proposal_sig p me (x ∷ xs) (mode p (inputs (x ∷ xs))).view s)
   ready-mid s = ready-model p me (x ∷ xs) (kept p me xs) s low
 
-  pub committed-mid : (v s : ℕ) → committed_at p mid v s ≡ placed p (committed p me (inputs (x ∷ xs)) v s) (proposal_sig p me (x ∷ xs) v s)
+  pub committed-mid : (v s : ℕ) →
+      committed_at p mid v s ≡ placed p (committed p me (inputs (x ∷ xs)) v s) (proposal_sig p me (x ∷ xs) v s)
   committed-mid v s = committed-model p me (x ∷ xs) v s
 
   certificate-mid : (t : Slot) → certificate_of p mid t (ready_at p mid t.0) ≡ made p me (x ∷ xs) t (ready p me (inputs (x ∷ xs)) (kept p me xs) t.0)
@@ -67,7 +69,8 @@ module _ (p : Params) (me : ℕ) (x : Item Message) (xs : List (Item Message)) w
       go None = refl
       go (Some y) = refl
 
-  or-first : (d c : Option Value) (q : Option (List ℕ)) → (is_some d || is_some (cond (is_some d) None (placed p c q))) ≡ is_some (first_of d c)
+  or-first : (d c : Option Value) (q : Option (List ℕ)) →
+      (is_some d || is_some (cond (is_some d) None (placed p c q))) ≡ is_some (first_of d c)
   or-first (Some y) c q = refl
   or-first None None q = refl
   or-first None (Some y) q = refl
@@ -84,7 +87,8 @@ module _ (p : Params) (me : ℕ) (x : Item Message) (xs : List (Item Message)) w
       | inr off ↦ top-outside p mid v ss s off ∙ past s off (where-is s p.slots)
     ]
       where
-        past : (s : ℕ) → NotAt s ss → ((t : Slot) × In t p.slots × (t.0 ≡ s)) ⊎ NotAt s p.slots → best s (kept p me xs) ≡ best s (kept p me (x ∷ xs))
+        past : (s : ℕ) → NotAt s ss → ((t : Slot) × In t p.slots × (t.0 ≡ s)) ⊎ NotAt s p.slots →
+            best s (kept p me xs) ≡ best s (kept p me (x ∷ xs))
         past s off (inl r) = subst (λ (z : ℕ). best z (kept p me xs) ≡ best z (kept p me (x ∷ xs))) r.2
             (sym (top-kept r.0 r.1 ∙ ap (λ (o : Option Value). first_of (made p me (x ∷ xs) r.0 o) (best r.0.0 (kept p me xs)))
             (touches.quiet r.0 r.1 (subst (λ (z : ℕ). NotAt z ss) (sym r.2) off))))

@@ -18,7 +18,8 @@ use Rattle.sb_pbft.proofs.Model.SettledAgrees.{Touches, held-is, mid}
 use Rattle.sb_pbft.proofs.Model.VotesTouchOneSlot.{BringsNone, touches-none}
 
 -- the certificates in a ViewChange
-pub tops-same : (p : Params) (me : ℕ) (xs : List (Item Message)) (ss : List Slot) → tops_of (model p me xs).top ss ≡ tops (kept p me xs) ss
+pub tops-same : (p : Params) (me : ℕ) (xs : List (Item Message)) (ss : List Slot) →
+    tops_of (model p me xs).top ss ≡ tops (kept p me xs) ss
 tops-same p me xs [] = refl
 tops-same p me xs (s ∷ ss) = ap (λ (z : List Certificate). cons_some ((model p me xs).top s.0) z) (tops-same p me xs ss)
 

@@ -22,7 +22,8 @@ use Rattle.sb_pbft.proofs.Model.IgnoredInputs.{commit-nothing, new-view-nothing,
 use Rattle.sb_pbft.proofs.Model.TimeoutTurn.{timeout-turns}
 use Rattle.sb_pbft.proofs.Model.VoteTurn.{commit-turns, prepare-turns}
 
-pub turn-is : (p : Params) (me : ℕ) (xs : List (Item Message)) (i : Input Message) (leaf : ℕ) → IsGoodParams pbft p → TurnsTo p me xs i leaf (turn p me leaf (model p me xs) i)
+pub turn-is : (p : Params) (me : ℕ) (xs : List (Item Message)) (i : Input Message) (leaf : ℕ) → IsGoodParams pbft p →
+    TurnsTo p me xs i leaf (turn p me leaf (model p me xs) i)
 turn-is p me xs (Cast slot batch) leaf good = offer-turns p me leaf xs good.rising (Cast slot batch) (cast-offers p me leaf xs slot batch)
 turn-is p me xs (Receive from (PrePrepare v slot x sig)) leaf good =
     offer-turns p me leaf xs good.rising (Receive from (PrePrepare v slot x sig)) (told-offers p me leaf xs from v slot x sig)

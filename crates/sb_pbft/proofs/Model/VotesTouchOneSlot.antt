@@ -30,21 +30,25 @@ module _ (p : Params) where
   passes_with most g None = None
   passes_with most g (Some x) = when (nat_le most (length (voters g (digest_of p x) 0 p.setup.n))) x
 
-  prepared-by : (l : List Said) (v s : ℕ) (o : Option Value) → prepared_with p l v s o ≡ passes_with (2 * p.setup.f) (λ k. prepare_of p l v s k) o
+  prepared-by : (l : List Said) (v s : ℕ) (o : Option Value) →
+      prepared_with p l v s o ≡ passes_with (2 * p.setup.f) (λ k. prepare_of p l v s k) o
   prepared-by l v s None = refl
   prepared-by l v s (Some x) = refl
 
-  committed-by : (l : List Said) (v s : ℕ) (o : Option Value) → committed_with p l v s o ≡ passes_with (2 * p.setup.f + 1) (λ k. commit_of p l v s k) o
+  committed-by : (l : List Said) (v s : ℕ) (o : Option Value) →
+      committed_with p l v s o ≡ passes_with (2 * p.setup.f + 1) (λ k. commit_of p l v s k) o
   committed-by l v s None = refl
   committed-by l v s (Some x) = refl
 
-  pub prepared-same : (me : ℕ) (i : Said) (l : List Said) (v s : ℕ) → proposal p me (i ∷ l) v s ≡ proposal p me l v s → ((k : ℕ) → prepare_of p (i ∷ l) v s k ≡ prepare_of p l v s k) →
+  pub prepared-same : (me : ℕ) (i : Said) (l : List Said) (v s : ℕ) → proposal p me (i ∷ l) v s ≡ proposal p me l v s →
+      ((k : ℕ) → prepare_of p (i ∷ l) v s k ≡ prepare_of p l v s k) →
       prepared p me (i ∷ l) v s ≡ prepared p me l v s
   prepared-same me i l v s h g =
       prepared-by (i ∷ l) v s (proposal p me (i ∷ l) v s) ∙
       ((λ j. passes_with (2 * p.setup.f) (λ k. g k j) (h j)) ∙ sym (prepared-by l v s (proposal p me l v s)))
 
-  pub committed-same : (me : ℕ) (i : Said) (l : List Said) (v s : ℕ) → prepared p me (i ∷ l) v s ≡ prepared p me l v s → ((k : ℕ) → commit_of p (i ∷ l) v s k ≡ commit_of p l v s k) →
+  pub committed-same : (me : ℕ) (i : Said) (l : List Said) (v s : ℕ) → prepared p me (i ∷ l) v s ≡ prepared p me l v s →
+      ((k : ℕ) → commit_of p (i ∷ l) v s k ≡ commit_of p l v s k) →
       committed p me (i ∷ l) v s ≡ committed p me l v s
   committed-same me i l v s h g =
       committed-by (i ∷ l) v s (prepared p me (i ∷ l) v s) ∙
@@ -56,11 +60,13 @@ module _ (p : Params) where
   not-at from w t v s k (inl off) = and_right (from == k) _ (and_left (v == w) (s == t) (ne_eqb v w off))
   not-at from w t v s k (inr off) = and_right (from == k) _ (and_right (v == w) (s == t) (ne_eqb s t off))
 
-  prepare-apart : (from : NodeId) (w : ℕ) (t : Slot) (d sig : List ℕ) (l : List Said) (v s k : ℕ) → (v ≢ w) ⊎ (s ≢ t.0) → prepare_of p (Receive from (Prepare w t d sig) ∷ l) v s k ≡ prepare_of p l v s k
+  prepare-apart : (from : NodeId) (w : ℕ) (t : Slot) (d sig : List ℕ) (l : List Said) (v s k : ℕ) →
+      (v ≢ w) ⊎ (s ≢ t.0) → prepare_of p (Receive from (Prepare w t d sig) ∷ l) v s k ≡ prepare_of p l v s k
   prepare-apart from w t d sig l v s k off =
       ap (λ (b : Bool). first_of (prepare_of p l v s k) (when (b && (has_slot t.0 p.slots && not (from.0 == primary p w))) (record { digest = d; sig = sig }))) (not-at from.0 w t.0 v s k off) ∙ first_of-none (prepare_of p l v s k)
 
-  commit-apart : (from : NodeId) (w : ℕ) (t : Slot) (d sig : List ℕ) (l : List Said) (v s k : ℕ) → (v ≢ w) ⊎ (s ≢ t.0) → commit_of p (Receive from (Commit w t d sig) ∷ l) v s k ≡ commit_of p l v s k
+  commit-apart : (from : NodeId) (w : ℕ) (t : Slot) (d sig : List ℕ) (l : List Said) (v s k : ℕ) → (v ≢ w) ⊎ (s ≢ t.0) →
+      commit_of p (Receive from (Commit w t d sig) ∷ l) v s k ≡ commit_of p l v s k
   commit-apart from w t d sig l v s k off =
       ap (λ (b : Bool). first_of (commit_of p l v s k) (when (b && has_slot t.0 p.slots) (record { digest = d; sig = sig }))) (not-at from.0 w t.0 v s k off) ∙ first_of-none (commit_of p l v s k)
 
@@ -76,7 +82,9 @@ module _ (p : Params) where
   -- ---- what votes do not change
 
   module _ (me : ℕ) (i : Said) (l : List Said) where
-    pub ready-same : (ks : List Certificate) (s : ℕ) → mode p (i ∷ l) ≡ mode p l → prepared p me (i ∷ l) (mode p l).view s ≡ prepared p me l (mode p l).view s → ready p me (i ∷ l) ks s ≡ ready p me l ks s
+    pub ready-same : (ks : List Certificate) (s : ℕ) → mode p (i ∷ l) ≡ mode p l →
+        prepared p me (i ∷ l) (mode p l).view s ≡ prepared p me l (mode p l).view s →
+        ready p me (i ∷ l) ks s ≡ ready p me l ks s
     ready-same ks s m h =
         ap (λ z. cond (z.active && not (has z.view s ks)) (prepared p me (i ∷ l) z.view s) None) m ∙
         ap (λ (o : Option Value). cond ((mode p l).active && not (has (mode p l).view s ks)) o None) h
@@ -94,10 +102,12 @@ module _ (p : Params) where
       prepared-still v s = prepared-same me x.input (inputs xs) v s (none.values v s) (λ k. none.prepares v s k)
 
       -- no Commit becomes due in the current view
-      pub quiet-still : mode p (inputs (x ∷ xs)) ≡ mode p (inputs xs) → (t : Slot) → In t p.slots → ready p me (inputs (x ∷ xs)) (kept p me xs) t.0 ≡ None
+      pub quiet-still : mode p (inputs (x ∷ xs)) ≡ mode p (inputs xs) → (t : Slot) → In t p.slots →
+          ready p me (inputs (x ∷ xs)) (kept p me xs) t.0 ≡ None
       quiet-still m t i = ready-same me x.input (inputs xs) (kept p me xs) t.0 m (prepared-still (mode p (inputs xs)).view t.0) ∙ calm p me xs t i
 
-      pub touches-none : ((t : Slot) → In t p.slots → ready p me (inputs (x ∷ xs)) (kept p me xs) t.0 ≡ None) → Touches p me x xs 0 []
+      pub touches-none : ((t : Slot) → In t p.slots → ready p me (inputs (x ∷ xs)) (kept p me xs) t.0 ≡ None) →
+          Touches p me x xs 0 []
       touches-none quiet = record {
         within = λ t i. absurd i;
         rising = tt;
@@ -109,10 +119,12 @@ module _ (p : Params) where
   -- ---- votes
 
   module _ (me : ℕ) (from : NodeId) (v : ℕ) (slot : Slot) (d sig : List ℕ) (leaf : ℕ) (made : Made Message) (xs : List (Item Message)) where
-    commit-proposal : (w s : ℕ) → proposal p me (Receive from (Commit v slot d sig) ∷ inputs xs) w s ≡ proposal p me (inputs xs) w s
+    commit-proposal : (w s : ℕ) →
+        proposal p me (Receive from (Commit v slot d sig) ∷ inputs xs) w s ≡ proposal p me (inputs xs) w s
     commit-proposal w s = first_of-none (proposal p me (inputs xs) w s)
 
-    commit-prepared : (w s : ℕ) → prepared p me (Receive from (Commit v slot d sig) ∷ inputs xs) w s ≡ prepared p me (inputs xs) w s
+    commit-prepared : (w s : ℕ) →
+        prepared p me (Receive from (Commit v slot d sig) ∷ inputs xs) w s ≡ prepared p me (inputs xs) w s
     commit-prepared w s = prepared-same me (Receive from (Commit v slot d sig)) (inputs xs) w s (commit-proposal w s) (λ k. first_of-none (prepare_of p (inputs xs) w s k))
 
     pub commit-touches : has_slot slot.0 p.slots ≡ true → Touches p me (record { input = Receive from (Commit v slot d sig); leaf = leaf; made = made }) xs v (slot ∷ [])
@@ -124,10 +136,12 @@ module _ (p : Params) where
       one = λ t i w off. committed-same me (Receive from (Commit v slot d sig)) (inputs xs) w t.0 (commit-prepared w t.0) (λ k. commit-apart from v slot d sig (inputs xs) w t.0 k (inl off));
     }
 
-    prepare-prepared : (w s : ℕ) → (w ≢ v) ⊎ (s ≢ slot.0) → prepared p me (Receive from (Prepare v slot d sig) ∷ inputs xs) w s ≡ prepared p me (inputs xs) w s
+    prepare-prepared : (w s : ℕ) → (w ≢ v) ⊎ (s ≢ slot.0) →
+        prepared p me (Receive from (Prepare v slot d sig) ∷ inputs xs) w s ≡ prepared p me (inputs xs) w s
     prepare-prepared w s off = prepared-same me (Receive from (Prepare v slot d sig)) (inputs xs) w s (first_of-none (proposal p me (inputs xs) w s)) (λ k. prepare-apart from v slot d sig (inputs xs) w s k off)
 
-    prepare-committed : (w s : ℕ) → (w ≢ v) ⊎ (s ≢ slot.0) → committed p me (Receive from (Prepare v slot d sig) ∷ inputs xs) w s ≡ committed p me (inputs xs) w s
+    prepare-committed : (w s : ℕ) → (w ≢ v) ⊎ (s ≢ slot.0) →
+        committed p me (Receive from (Prepare v slot d sig) ∷ inputs xs) w s ≡ committed p me (inputs xs) w s
     prepare-committed w s off = committed-same me (Receive from (Prepare v slot d sig)) (inputs xs) w s (prepare-prepared w s off) (λ k. first_of-none (commit_of p (inputs xs) w s k))
 
     pub prepare-touches : has_slot slot.0 p.slots ≡ true → Touches p me (record { input = Receive from (Prepare v slot d sig); leaf = leaf; made = made }) xs v (slot ∷ [])

@@ -81,12 +81,18 @@ module _ (p : Params) (w : World Message) where
 
   -- the facts about each correct replica
   pub record NodeFacts : Type 0 where
-    pub one_pre : (j v s : ℕ) (d e : List ℕ) → is_correct p.setup j ≡ true → Signed j (state_at p 1 v s d) → Signed j (state_at p 1 v s e) → d ≡ e
-    pub one_prepare : (j v s : ℕ) (d e : List ℕ) → is_correct p.setup j ≡ true → Signed j (state_at p 2 v s d) → Signed j (state_at p 2 v s e) → d ≡ e
-    pub why_pre : (j v s : ℕ) (d : List ℕ) → is_correct p.setup j ≡ true → Signed j (state_at p 1 v s d) → Reason j v s d
-    pub why_prepare : (j v s : ℕ) (d : List ℕ) → is_correct p.setup j ≡ true → Signed j (state_at p 2 v s d) → Reason j v s d
-    pub why_commit : (j v s : ℕ) (d : List ℕ) → is_correct p.setup j ≡ true → Signed j (state_at p 3 v s d) → Certifies v s d
-    pub covers : (j v s : ℕ) (d : List ℕ) (u : ℕ) (cs : List Certificate) → is_correct p.setup j ≡ true → Signed j (state_at p 3 v s d) → Signed j (state_change p u cs) → v < u → Shows cs s v
+    pub one_pre : (j v s : ℕ) (d e : List ℕ) → is_correct p.setup j ≡ true → Signed j (state_at p 1 v s d) →
+        Signed j (state_at p 1 v s e) → d ≡ e
+    pub one_prepare : (j v s : ℕ) (d e : List ℕ) → is_correct p.setup j ≡ true → Signed j (state_at p 2 v s d) →
+        Signed j (state_at p 2 v s e) → d ≡ e
+    pub why_pre : (j v s : ℕ) (d : List ℕ) → is_correct p.setup j ≡ true → Signed j (state_at p 1 v s d) →
+        Reason j v s d
+    pub why_prepare : (j v s : ℕ) (d : List ℕ) → is_correct p.setup j ≡ true → Signed j (state_at p 2 v s d) →
+        Reason j v s d
+    pub why_commit : (j v s : ℕ) (d : List ℕ) → is_correct p.setup j ≡ true → Signed j (state_at p 3 v s d) →
+        Certifies v s d
+    pub covers : (j v s : ℕ) (d : List ℕ) (u : ℕ) (cs : List Certificate) → is_correct p.setup j ≡ true →
+        Signed j (state_at p 3 v s d) → Signed j (state_change p u cs) → v < u → Shows cs s v
 
   abbrev Voted : ℕ → ℕ → ℕ → List ℕ → Type 0
   Voted j v s d = (((j == primary p v) ≡ true) × Signed j (state_at p 1 v s d)) ⊎ (((j == primary p v) ≡ false) × Signed j (state_at p 2 v s d))
@@ -96,7 +102,9 @@ module _ (p : Params) (w : World Message) where
     nodes-is = good.nodes
 
     -- quorum intersection: two lists of 2f+1 distinct replicas share a correct one
-    pub meet-lists : (xs ys : List ℕ) → distinct xs ≡ true → distinct ys ≡ true → all_below p.setup.n xs ≡ true → all_below p.setup.n ys ≡ true → 2 * p.setup.f + 1 ≤ length xs → 2 * p.setup.f + 1 ≤ length ys → Meets p (λ k. mem k xs) (λ k. mem k ys)
+    pub meet-lists : (xs ys : List ℕ) → distinct xs ≡ true → distinct ys ≡ true → all_below p.setup.n xs ≡ true →
+        all_below p.setup.n ys ≡ true → 2 * p.setup.f + 1 ≤ length xs → 2 * p.setup.f + 1 ≤ length ys →
+        Meets p (λ k. mem k xs) (λ k. mem k ys)
     meet-lists xs ys dx dy bx by lx ly =
         let n = nodes-is in
         let q : p.setup.quorum ≡ 2 * p.setup.f + 1 = good.majority in
@@ -114,7 +122,8 @@ module _ (p : Params) (w : World Message) where
     voters-below v ms h = both (nat_lt (primary p v) p.setup.n) (all_below p.setup.n ms) (lt-ltb (primary p v) p.setup.n (primary-below v)) h
 
     module _ (facts : NodeFacts) where
-      voted : (v s j : ℕ) (x : Value) (c : Certified v s x) → mem j (primary p v ∷ c.makers) ≡ true → is_correct p.setup j ≡ true → Voted j v s (digest_of p x)
+      voted : (v s j : ℕ) (x : Value) (c : Certified v s x) → mem j (primary p v ∷ c.makers) ≡ true →
+          is_correct p.setup j ≡ true → Voted j v s (digest_of p x)
       voted v s j x c m h = elim (cases_Bool (j == primary p v)) [
         | inl e ↦ let k = eqb-true j (primary p v) e in inl (e, subst (λ (z : ℕ). Signed z (state_at p 1 v s (digest_of p x))) (sym k) (c.first (subst (λ (z : ℕ). is_correct p.setup z ≡ true) k h)))
         | inr e ↦ inr (e, c.rest j (mem-rest (j == primary p v) (mem j c.makers) e m) h)
@@ -134,7 +143,8 @@ module _ (p : Params) (w : World Message) where
       one-vote v s j d e h (inr a) (inl b) = absurd (false≢true (sym a.0 ∙ b.0))
       one-vote v s j d e h (inr a) (inr b) = facts.one_prepare j v s d e h a.1 b.1
 
-      meet-voters : (v s : ℕ) (x y : Value) (c : Certified v s x) (d : Certified v s y) → Meets p (λ k. mem k (primary p v ∷ c.makers)) (λ k. mem k (primary p v ∷ d.makers))
+      meet-voters : (v s : ℕ) (x y : Value) (c : Certified v s x) (d : Certified v s y) →
+          Meets p (λ k. mem k (primary p v ∷ c.makers)) (λ k. mem k (primary p v ∷ d.makers))
       meet-voters v s x y c d =
           let nc = c.count in
           let nd = d.count in
@@ -154,7 +164,8 @@ module _ (p : Params) (w : World Message) where
 
       -- a correct replica is in both the ViewChanges for v and the Commits of a lower view, so the best certificate
       -- is not below these Commits
-      covered : (u v s : ℕ) (d : List ℕ) (xs : List Change) → u < v → IsDecidedView p w u s d → Backed v xs → (e : Certificate) × Is (best s (certificates_of xs)) e × (u ≤ e.view)
+      covered : (u v s : ℕ) (d : List ℕ) (xs : List Change) → u < v → IsDecidedView p w u s d → Backed v xs →
+          (e : Certificate) × Is (best s (certificates_of xs)) e × (u ≤ e.view)
       covered u v s d xs l k b =
           let has = enough-changes p v xs b.enough in
           let many = has.count in
@@ -169,14 +180,16 @@ module _ (p : Params) (w : World Message) where
           (r.0, r.1, omega (arith, hi, e))
 
       -- the best certificate of good ViewChanges is valid and of a lower view
-      lower : (v s : ℕ) (xs : List Change) (e : Certificate) → Backed v xs → Is (best s (certificates_of xs)) e → (e.view < v) × Certified e.view s e.value
+      lower : (v s : ℕ) (xs : List Change) (e : Certificate) → Backed v xs → Is (best s (certificates_of xs)) e →
+          (e.view < v) × Certified e.view s e.value
       lower v s xs e b h =
           let i = best-in s (certificates_of xs) e h in
           let c = b.certs e i.0 in
           (c.0, subst (λ (z : ℕ). Certified e.view z e.value) i.1 c.1)
 
       -- once a view decided a slot, valid certificates of the slot in that view or a higher one have its digest
-      later : (n u v s : ℕ) (d : List ℕ) (x : Value) → v < n → u ≤ v → IsDecidedView p w u s d → Certified v s x → digest_of p x ≡ d
+      later : (n u v s : ℕ) (d : List ℕ) (x : Value) → v < n → u ≤ v → IsDecidedView p w u s d → Certified v s x →
+          digest_of p x ≡ d
       later zero u v s d x l m k c = absurd (omega (arith, l))
       later (suc n) u v s d x l m k c = elim (cases_eq u v) [
         | inl e ↦
@@ -193,7 +206,8 @@ module _ (p : Params) (w : World Message) where
             sym b.digest ∙ (ap (λ (z : Option Certificate). digest_of p (value_or_nil z)) r.1 ∙ a)
       ]
 
-      pub later-same : (u v s : ℕ) (d : List ℕ) (x : Value) → u ≤ v → IsDecidedView p w u s d → Certified v s x → digest_of p x ≡ d
+      pub later-same : (u v s : ℕ) (d : List ℕ) (x : Value) → u ≤ v → IsDecidedView p w u s d → Certified v s x →
+          digest_of p x ≡ d
       later-same u v s d x m k c = later (suc v) u v s d x (omega arith) m k c
 
       -- ---- if a certificate holds a batch, a quorum accepted it in view 0
@@ -205,7 +219,8 @@ module _ (p : Params) (w : World Message) where
         holds-same : (b c : Batch) → Value_batch b ≡ Value_batch c → b ≡ c
         holds-same b c h = cc
 
-        accepts-it : (j s : ℕ) (b : Batch) → IsKnown p w (Value_batch b) → Accepts j s (digest_of p (Value_batch b)) → Accepted j s b
+        accepts-it : (j s : ℕ) (b : Batch) → IsKnown p w (Value_batch b) → Accepts j s (digest_of p (Value_batch b)) →
+            Accepted j s b
         accepts-it j s b i a =
             let same = one-known (Value_batch a.batch) (Value_batch b) a.known i a.digest in
             subst (λ (z : Batch). Accepted j s z) (holds-same a.batch b same) a.accepted
@@ -228,7 +243,8 @@ module _ (p : Params) (w : World Message) where
               led = or_left (p.leader.0 == primary p 0) (mem p.leader.0 c.makers) (eq-eqb p.leader.0 (primary p 0) (sym zero-is));
             }
 
-        best-value : (o : Option Certificate) (b : Batch) → value_or_nil o ≡ Value_batch b → (e : Certificate) × Is o e × (e.value ≡ Value_batch b)
+        best-value : (o : Option Certificate) (b : Batch) → value_or_nil o ≡ Value_batch b →
+            (e : Certificate) × Is o e × (e.value ≡ Value_batch b)
         best-value None b h = absurd (cc)
         best-value (Some e) b h = (e, refl, h)
 
@@ -250,7 +266,8 @@ module _ (p : Params) (w : World Message) where
 
         -- what deliveries imply
 
-        pub agree : (u v s : ℕ) (x y : Value) → IsDecidedView p w u s (digest_of p x) → Certified u s x → IsDecidedView p w v s (digest_of p y) → Certified v s y → x ≡ y
+        pub agree : (u v s : ℕ) (x y : Value) → IsDecidedView p w u s (digest_of p x) → Certified u s x →
+            IsDecidedView p w v s (digest_of p y) → Certified v s y → x ≡ y
         agree u v s x y k c m d = elim (cases_lt v u) [
           | inl l ↦ one-known x y c.known d.known (later-same v u s (digest_of p y) x (omega (arith, l)) m c)
           | inr l ↦ one-known x y c.known d.known (sym (later-same u v s (digest_of p x) y l k d))

@@ -31,7 +31,8 @@ use Rattle.sb_pbft.proofs.History.ViewsGrow.{grows}
 -- ---- messages that were sent
 
 module _ (p : Params) (me leaf : ℕ) where
-  sent-change : (d : Draft) (v : ℕ) (cs : List Certificate) (sig : List ℕ) → ViewChange v cs sig ≡ sign p me leaf d → SameDraft d (DraftViewChange v cs)
+  sent-change : (d : Draft) (v : ℕ) (cs : List Certificate) (sig : List ℕ) → ViewChange v cs sig ≡ sign p me leaf d →
+      SameDraft d (DraftViewChange v cs)
   sent-change (DraftPrePrepare s x) v cs sig h = absurd (cc)
   sent-change (DraftPrepare u s d) v cs sig h = absurd (cc)
   sent-change (DraftCommit u s d) v cs sig h = absurd (cc)
@@ -41,7 +42,8 @@ module _ (p : Params) (me leaf : ℕ) where
       ap (λ (z : ℕ). DraftViewChange z ds) (sym a) ∙ ap (λ (z : List Certificate). DraftViewChange v z) (sym b)
   sent-change (DraftNewView u ys) v cs sig h = absurd (cc)
 
-  sent-commit : (e : Draft) (v : ℕ) (s : Slot) (d sig : List ℕ) → Commit v s d sig ≡ sign p me leaf e → SameDraft e (DraftCommit v s d)
+  sent-commit : (e : Draft) (v : ℕ) (s : Slot) (d sig : List ℕ) → Commit v s d sig ≡ sign p me leaf e →
+      SameDraft e (DraftCommit v s d)
   sent-commit (DraftPrePrepare t x) v s d sig h = absurd (cc)
   sent-commit (DraftPrepare u t g) v s d sig h = absurd (cc)
   sent-commit (DraftCommit u t g) v s d sig h =
@@ -52,7 +54,8 @@ module _ (p : Params) (me leaf : ℕ) where
   sent-commit (DraftViewChange u ds) v s d sig h = absurd (cc)
   sent-commit (DraftNewView u ys) v s d sig h = absurd (cc)
 
-front-made : (p : Params) (me : ℕ) (xs before : List (Item Message)) (y : Item Message) → AreMade pbft p me xs → Front (y ∷ before) xs → AreMade pbft p me (y ∷ before)
+front-made : (p : Params) (me : ℕ) (xs before : List (Item Message)) (y : Item Message) → AreMade pbft p me xs →
+    Front (y ∷ before) xs → AreMade pbft p me (y ∷ before)
 front-made p me xs before y made f = made-front pbft p me (y ∷ before) xs f made
 
 module _ (p : Params) (good : IsGoodParams pbft p) (w : World Message) (reached : IsReached pbft p w) where
@@ -125,7 +128,8 @@ module _ (p : Params) (good : IsGoodParams pbft p) (w : World Message) (reached 
     delivered-root : (i s : ℕ) (b : Batch) → delivered pbft p i (w i) s ≡ Some (Value_batch b) → IsRooted p w s b
     delivered-root i s b h = let r = seen i s (Value_batch b) h in rooted p w good facts sep r.view s b r.shown
 
-    agreement : (i j s : ℕ) (x y : Value) → delivered pbft p i (w i) s ≡ Some x → delivered pbft p j (w j) s ≡ Some y → x ≡ y
+    agreement : (i j s : ℕ) (x y : Value) → delivered pbft p i (w i) s ≡ Some x → delivered pbft p j (w j) s ≡ Some y →
+        x ≡ y
     agreement i j s x y h k =
         let a = seen i s x h in
         let b = seen j s y k in

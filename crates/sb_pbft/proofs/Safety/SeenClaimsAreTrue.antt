@@ -44,7 +44,8 @@ use Rattle.sb_pbft.proofs.History.VotersAreDistinct.{in-voters, node-vote, prepa
 
 -- ---- lists of votes
 
-pub vote-in : (p : Params) (v s : ℕ) (d : List ℕ) (x : Signed) (xs : List Signed) → In x xs → In (claim x.by.0 (state_at p 2 v s d) x.sig) (vote_claims p v s d xs)
+pub vote-in : (p : Params) (v s : ℕ) (d : List ℕ) (x : Signed) (xs : List Signed) → In x xs →
+    In (claim x.by.0 (state_at p 2 v s d) x.sig) (vote_claims p v s d xs)
 vote-in p v s d x [] h = absurd h
 vote-in p v s d x (y ∷ ys) (inl e) = inl (ap (λ (z : Signed). claim z.by.0 (state_at p 2 v s d) z.sig) e)
 vote-in p v s d x (y ∷ ys) (inr h) = inr (vote-in p v s d x ys h)
@@ -71,12 +72,14 @@ take-count (suc n) (x ∷ xs) h = ap suc (take-count n xs (omega (arith, h)))
 
 -- ---- strings
 
-pub in-values : (p : Params) (c : Certificate) (cs : List Certificate) → In c cs → In (string_of p c.value) (value_strings p cs)
+pub in-values : (p : Params) (c : Certificate) (cs : List Certificate) → In c cs →
+    In (string_of p c.value) (value_strings p cs)
 in-values p c [] h = absurd h
 in-values p c (d ∷ ds) (inl e) = inl (ap (λ (z : Certificate). string_of p z.value) e)
 in-values p c (d ∷ ds) (inr h) = inr (in-values p c ds h)
 
-pub in-choices : (p : Params) (xs : List Change) (s : ℕ) (ss : List Slot) → has_slot s ss ≡ true → In (string_of p (choice xs s)) (choice_strings p xs ss)
+pub in-choices : (p : Params) (xs : List Change) (s : ℕ) (ss : List Slot) → has_slot s ss ≡ true →
+    In (string_of p (choice xs s)) (choice_strings p xs ss)
 in-choices p xs s [] h = absurd (false≢true h)
 in-choices p xs s (t ∷ ts) h = elim (or_cases (t.0 == s) (has_slot s ts) h) [
   | inl e ↦ inl (ap (λ (z : ℕ). string_of p (choice xs z)) (sym (eqb-true t.0 s e)))
@@ -90,7 +93,8 @@ in-if false x xs e h = absurd (false≢true e)
 module _ (p : Params) (good : IsGoodParams pbft p) (w : World Message) (legal : IsLegal pbft p w) where
   -- ---- received claims
 
-  pub came-credible : (i : ℕ) (x : Item Message) (from : NodeId) (msg : Message) → In x (w i) → x.input ≡ Receive from msg → IsCredible pbft p (Verifies p) (IsSigned pbft p w) from.0 msg
+  pub came-credible : (i : ℕ) (x : Item Message) (from : NodeId) (msg : Message) → In x (w i) →
+      x.input ≡ Receive from msg → IsCredible pbft p (Verifies p) (IsSigned pbft p w) from.0 msg
   came-credible i x from msg h q = subst (λ (y : Said). MayCome pbft p w i y) q (legal.came i x h)
 
   pub source-granted : (i by : ℕ) (t : List ℕ) → Source p i (w i) by t → Granted p w by t
@@ -120,13 +124,16 @@ module _ (p : Params) (good : IsGoodParams pbft p) (w : World Message) (legal : 
     all-fit [] sub = tt
     all-fit (x ∷ xs) sub = (come-fits i x.input (legal.came i x (sub x (inl refl))), all-fit xs (part-tail x xs sub))
 
-    source-part : (xs : List (Item Message)) (by : ℕ) (t : List ℕ) → Part xs → Source p i xs by t → Source p i (w i) by t
+    source-part : (xs : List (Item Message)) (by : ℕ) (t : List ℕ) → Part xs → Source p i xs by t →
+        Source p i (w i) by t
     source-part xs by t sub (came x k from msg q s) = came x (sub x k) from msg q s
     source-part xs by t sub (sent x k to msg h s e) = sent x (sub x k) to msg h s e
 
     -- ---- hashed values
 
-    pub hashed-here : (x : Item Message) (before : List (Item Message)) (v : Value) → In x (w i) → x.made ≡ makes p i before x.input x.leaf → In (string_of p v) (strings p i (inputs before) x.input) → fits_value p.setup.version v ≡ true → IsKnown p w v
+    pub hashed-here : (x : Item Message) (before : List (Item Message)) (v : Value) → In x (w i) →
+        x.made ≡ makes p i before x.input x.leaf → In (string_of p v) (strings p i (inputs before) x.input) →
+        fits_value p.setup.version v ≡ true → IsKnown p w v
     hashed-here x before v k made h f = record {
       hashed = inr (record { node = i; item = x; taken = k; hashed = subst (λ (z : Made Message). In (string_of p v) z.strings) (sym made) h });
       spelled = f;
@@ -154,7 +161,9 @@ module _ (p : Params) (good : IsGoodParams pbft p) (w : World Message) (legal : 
         entered-known x before from v ys sigs sig (choice ys s) e (in_right (string_of p (choice ys s)) (value_strings p (certificates_of ys)) (choice_strings p ys p.slots) (in-choices p ys s p.slots h)) (choice-fits p.setup.version s ys (entry-fits x before from v ys sigs sig e).changes)
 
     -- the accepted batch
-    asked-in : (l : List Said) (input : Said) (a : Slot × Batch) → Offers p i (mode p l) input a → ◌≡◌ {A = Option (Slot × Batch)} (asked p i l input) (Some a) → In (string_of p (Value_batch a.1)) (strings p i l input)
+    asked-in : (l : List Said) (input : Said) (a : Slot × Batch) → Offers p i (mode p l) input a →
+        ◌≡◌ {A = Option (Slot × Batch)} (asked p i l input) (Some a) →
+        In (string_of p (Value_batch a.1)) (strings p i l input)
     asked-in l input a o h = elim o.cause [
       | inl mine ↦
           let ask : ◌≡◌ {A = Option (Slot × Batch)} (asked p i l (Cast a.0 a.1)) (Some a) = subst (λ (z : Said). ◌≡◌ {A = Option (Slot × Batch)} (asked p i l z) (Some a)) mine.input h in
@@ -165,12 +174,15 @@ module _ (p : Params) (good : IsGoodParams pbft p) (w : World Message) (legal : 
           subst (λ (z : Said). In (string_of p (Value_batch a.1)) (strings p i l z)) (sym told.input) (subst (λ (z : Option (Slot × Batch)). In (string_of p (Value_batch a.1)) (asked_strings p z)) (sym ask) (inl refl))
     ]
 
-    pub asked-known : (x : Item Message) (before : List (Item Message)) (a : Slot × Batch) → In x (w i) → x.made ≡ makes p i before x.input x.leaf → ◌≡◌ {A = Option (Slot × Batch)} (asked p i (inputs before) x.input) (Some a) → IsKnown p w (Value_batch a.1)
+    pub asked-known : (x : Item Message) (before : List (Item Message)) (a : Slot × Batch) → In x (w i) →
+        x.made ≡ makes p i before x.input x.leaf →
+        ◌≡◌ {A = Option (Slot × Batch)} (asked p i (inputs before) x.input) (Some a) → IsKnown p w (Value_batch a.1)
     asked-known x before a k made h =
         let o = offer-is p i (mode p (inputs before)) x.input a (asked-is p i (inputs before) x.input a h).offered in
         hashed-here x before (Value_batch a.1) k made (asked-in (inputs before) x.input a o h) (asked-fits p i (inputs before) x.input a (come-fits i x.input (legal.came i x k)) h)
 
-    pub proposal-known : (xs : List (Item Message)) (v s : ℕ) (x : Value) → Part xs → AreMade pbft p i xs → proposal p i (inputs xs) v s ≡ Some x → IsKnown p w x
+    pub proposal-known : (xs : List (Item Message)) (v s : ℕ) (x : Value) → Part xs → AreMade pbft p i xs →
+        proposal p i (inputs xs) v s ≡ Some x → IsKnown p w x
     proposal-known [] v s x sub made h = absurd (cc)
     proposal-known (y ∷ ys) v s x sub made h = elim (first-cases (chosen p (mode p (inputs ys)) y.input v s) (first_of (proposal p i (inputs ys) v s) (offered (offer p i (mode p (inputs ys)) y.input) v s)) x h) [
       | inl a ↦
@@ -188,7 +200,9 @@ module _ (p : Params) (good : IsGoodParams pbft p) (w : World Message) (legal : 
 
     -- ---- prepared and committed values
 
-    pub certified-from : (xs : List (Item Message)) (v s : ℕ) (x : Value) → Part xs → AreMade pbft p i xs → proposal p i (inputs xs) v s ≡ Some x → nat_le (2 * p.setup.f) (length (prepares p (inputs xs) v s (digest_of p x))) ≡ true → Certified p w v s x
+    pub certified-from : (xs : List (Item Message)) (v s : ℕ) (x : Value) → Part xs → AreMade pbft p i xs →
+        proposal p i (inputs xs) v s ≡ Some x →
+        nat_le (2 * p.setup.f) (length (prepares p (inputs xs) v s (digest_of p x))) ≡ true → Certified p w v s x
     certified-from xs v s x sub made h enough =
         let d = digest_of p x in
         let votes = prepares p (inputs xs) v s d in
@@ -211,7 +225,8 @@ module _ (p : Params) (good : IsGoodParams pbft p) (w : World Message) (legal : 
           known = proposal-known xs v s x sub made h;
         }
 
-    pub decided-view : (xs : List (Item Message)) (v s : ℕ) (d : List ℕ) → Part xs → nat_le (2 * p.setup.f + 1) (length (commits p (inputs xs) v s d)) ≡ true → IsDecidedView p w v s d
+    pub decided-view : (xs : List (Item Message)) (v s : ℕ) (d : List ℕ) → Part xs →
+        nat_le (2 * p.setup.f + 1) (length (commits p (inputs xs) v s d)) ≡ true → IsDecidedView p w v s d
     decided-view xs v s d sub enough =
         let votes = commits p (inputs xs) v s d in
         let g = commit_of p (inputs xs) v s in
@@ -231,7 +246,8 @@ module _ (p : Params) (good : IsGoodParams pbft p) (w : World Message) (legal : 
       pub shown : Certified p w view s x
       pub decided : IsDecidedView p w view s (digest_of p x)
 
-    pub delivered-shown : (xs : List (Item Message)) (s : ℕ) (x : Value) → Part xs → AreMade pbft p i xs → delivered pbft p i xs s ≡ Some x → IsDelivered s x
+    pub delivered-shown : (xs : List (Item Message)) (s : ℕ) (x : Value) → Part xs → AreMade pbft p i xs →
+        delivered pbft p i xs s ≡ Some x → IsDelivered s x
     delivered-shown [] s x sub made h = absurd (cc)
     delivered-shown (y ∷ ys) s x sub made h = elim (first-cases (delivered pbft p i ys s) (pbft.decided p i (y ∷ ys) s) x h) [
       | inl a ↦ delivered-shown ys s x (part-tail y ys sub) made.1 a

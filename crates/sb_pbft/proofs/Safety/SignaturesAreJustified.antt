@@ -46,27 +46,33 @@ module _ (p : Params) (good : IsGoodParams pbft p) (w : World Message) (reached 
     draft-of : (t : List ℕ) → IsSigned pbft p w i t → By i t
     draft-of t h = signed-drafted p good w reached i t correct h
 
-    prepare-draft : (v s : ℕ) (d : List ℕ) (b : By i (state_at p 2 v s d)) → SameDraft b.draft (DraftPrepare v (record { 0 = s }) d)
+    prepare-draft : (v s : ℕ) (d : List ℕ) (b : By i (state_at p 2 v s d)) →
+        SameDraft b.draft (DraftPrepare v (record { 0 = s }) d)
     prepare-draft v s d b = makes-prepare p i b.leaf b.draft v s d b.states
 
-    commit-draft : (v s : ℕ) (d : List ℕ) (b : By i (state_at p 3 v s d)) → SameDraft b.draft (DraftCommit v (record { 0 = s }) d)
+    commit-draft : (v s : ℕ) (d : List ℕ) (b : By i (state_at p 3 v s d)) →
+        SameDraft b.draft (DraftCommit v (record { 0 = s }) d)
     commit-draft v s d b = makes-commit p i b.leaf b.draft v s d b.states
 
     -- ---- one vote
 
-    pub one-prepare-signed : (v s : ℕ) (d e : List ℕ) → IsSigned pbft p w i (state_at p 2 v s d) → IsSigned pbft p w i (state_at p 2 v s e) → d ≡ e
+    pub one-prepare-signed : (v s : ℕ) (d e : List ℕ) → IsSigned pbft p w i (state_at p 2 v s d) →
+        IsSigned pbft p w i (state_at p 2 v s e) → d ≡ e
     one-prepare-signed v s d e a b =
         let x = draft-of (state_at p 2 v s d) a in
         let y = draft-of (state_at p 2 v s e) b in
         one-prepare p i (w i) v (record { 0 = s }) d e (among p good w reached i _ x _ (prepare-draft v s d x)) (among p good w reached i _ y _ (prepare-draft v s e y))
 
-    commit-refines : (v s : ℕ) (d : List ℕ) → IsSigned pbft p w i (state_at p 3 v s d) → Proposed p i (inputs (w i)) v s d
+    commit-refines : (v s : ℕ) (d : List ℕ) → IsSigned pbft p w i (state_at p 3 v s d) →
+        Proposed p i (inputs (w i)) v s d
     commit-refines v s d a = let x = draft-of (state_at p 3 v s d) a in commit-proposed p i (w i) v (record { 0 = s }) d (among p good w reached i _ x _ (commit-draft v s d x))
 
-    same-proposed : (v s : ℕ) (d e : List ℕ) → Proposed p i (inputs (w i)) v s d → Proposed p i (inputs (w i)) v s e → d ≡ e
+    same-proposed : (v s : ℕ) (d e : List ℕ) → Proposed p i (inputs (w i)) v s d → Proposed p i (inputs (w i)) v s e →
+        d ≡ e
     same-proposed v s d e x y = sym x.digest ∙ ap (digest_of p) (same-some (proposal p i (inputs (w i)) v s) x.value y.value x.stands y.stands) ∙ y.digest
 
-    pub one-commit-signed : (v s : ℕ) (d e : List ℕ) → IsSigned pbft p w i (state_at p 3 v s d) → IsSigned pbft p w i (state_at p 3 v s e) → d ≡ e
+    pub one-commit-signed : (v s : ℕ) (d e : List ℕ) → IsSigned pbft p w i (state_at p 3 v s d) →
+        IsSigned pbft p w i (state_at p 3 v s e) → d ≡ e
     one-commit-signed v s d e a b = same-proposed v s d e (commit-refines v s d a) (commit-refines v s e b)
 
     -- ---- the ViewChanges of a NewView
@@ -75,7 +81,8 @@ module _ (p : Params) (good : IsGoodParams pbft p) (w : World Message) (reached 
       pub backed_by : Backed p w v ys
       pub known : (s : ℕ) → has_slot s p.slots ≡ true → IsKnown p w (choice ys s)
 
-    started : (t : List ℕ) (b : By i t) (v : ℕ) (ys : List Change) → SameDraft b.draft (DraftNewView v ys) → IsStarted t b v ys
+    started : (t : List ℕ) (b : By i t) (v : ℕ) (ys : List Change) → SameDraft b.draft (DraftNewView v ys) →
+        IsStarted t b v ys
     started t b v ys same = go (starts-with p i b.before b.item.input v ys (by-rule p good w reached i t b _ same)) (from-change p i b.before b.item.input v ys (by-rule p good w reached i t b _ same))
       where
         go : StartsWith p i b.before b.item.input v ys → IsFromChange b.item.input v → IsStarted t b v ys
@@ -90,7 +97,8 @@ module _ (p : Params) (good : IsGoodParams pbft p) (w : World Message) (reached 
             }
 
   -- at least one of 2f+1 ViewChanges is signed by a correct replica
-  some-change : (v : ℕ) (xs : List Change) → Backed p w v xs → (j : ℕ) × (cs : List Certificate) × (is_correct p.setup j ≡ true) × IsSigned pbft p w j (state_change p v cs)
+  some-change : (v : ℕ) (xs : List Change) → Backed p w v xs →
+      (j : ℕ) × (cs : List Certificate) × (is_correct p.setup j ≡ true) × IsSigned pbft p w j (state_change p v cs)
   some-change v xs b =
       let has = enough-changes p v xs b.enough in
       let many = has.count in
@@ -112,18 +120,22 @@ module _ (p : Params) (good : IsGoodParams pbft p) (w : World Message) (reached 
     proposal-draft : (v s : ℕ) (d : List ℕ) (b : By i (state_at p 1 v s d)) → MakesProposal p i b.leaf b.draft v s d
     proposal-draft v s d b = makes-proposal p i b.leaf b.draft v s d b.states
 
-    first-refines : (t : List ℕ) (b : By i t) (s : ℕ) (d : List ℕ) (slot : Slot) (x : Value) → SameDraft b.draft (DraftPrePrepare slot x) → slot.0 ≡ s → digest_of p x ≡ d → Proposed p i (inputs (w i)) 0 s d
+    first-refines : (t : List ℕ) (b : By i t) (s : ℕ) (d : List ℕ) (slot : Slot) (x : Value) →
+        SameDraft b.draft (DraftPrePrepare slot x) → slot.0 ≡ s → digest_of p x ≡ d → Proposed p i (inputs (w i)) 0 s d
     first-refines t b s d slot x same at_slot e =
         let r = first-proposed p i (w i) slot x (among p good w reached i t b _ same) in
         subst (λ (z : ℕ). Proposed p i (inputs (w i)) 0 z d) at_slot (subst (λ (z : List ℕ). Proposed p i (inputs (w i)) 0 slot.0 z) e r)
 
-    pub one-pre-signed : (v s : ℕ) (d e : List ℕ) → IsSigned pbft p w i (state_at p 1 v s d) → IsSigned pbft p w i (state_at p 1 v s e) → d ≡ e
+    pub one-pre-signed : (v s : ℕ) (d e : List ℕ) → IsSigned pbft p w i (state_at p 1 v s d) →
+        IsSigned pbft p w i (state_at p 1 v s e) → d ≡ e
     one-pre-signed v s d e a b = go (draft-of i correct (state_at p 1 v s d) a) (draft-of i correct (state_at p 1 v s e) b)
       where
-        mixed : (t u : List ℕ) (x : By i t) (y : By i u) (ys : List Change) → v ≡ 0 → SameDraft y.draft (DraftNewView v ys) → ⊥
+        mixed : (t u : List ℕ) (x : By i t) (y : By i u) (ys : List Change) → v ≡ 0 →
+            SameDraft y.draft (DraftNewView v ys) → ⊥
         mixed t u x y ys z same = let l = new-above v ys (started i correct u y v ys same).backed_by in absurd (omega (arith, l, z))
 
-        by : (x : By i (state_at p 1 v s d)) (y : By i (state_at p 1 v s e)) → MakesProposal p i x.leaf x.draft v s d → MakesProposal p i y.leaf y.draft v s e → d ≡ e
+        by : (x : By i (state_at p 1 v s d)) (y : By i (state_at p 1 v s e)) → MakesProposal p i x.leaf x.draft v s d →
+            MakesProposal p i y.leaf y.draft v s e → d ≡ e
         by x y (at_first t c q z n k) (at_first u g r o m l) = same-proposed i correct 0 s d e (first-refines _ x s d t c q n k) (first-refines _ y s e u g r m l)
         by x y (at_first t c q z n k) (at_new ys u r o m l) = absurd (mixed _ _ x y ys z r)
         by x y (at_new zs t q o n k) (at_first u g r z m l) = absurd (mixed _ _ y x zs z q)
@@ -136,7 +148,9 @@ module _ (p : Params) (good : IsGoodParams pbft p) (w : World Message) (reached 
 
     -- ---- reasons of signatures
 
-    accepts-of : (t : List ℕ) (b : By i t) (slot : Slot) (batch : Batch) (d : List ℕ) → Asked p i (inputs b.before) b.item.input (slot, batch) → digest_of p (Value_batch batch) ≡ d → Accepts p w i slot.0 d
+    accepts-of : (t : List ℕ) (b : By i t) (slot : Slot) (batch : Batch) (d : List ℕ) →
+        Asked p i (inputs b.before) b.item.input (slot, batch) → digest_of p (Value_batch batch) ≡ d →
+        Accepts p w i slot.0 d
     accepts-of t b slot batch d asks e = record {
       batch = batch;
       digest = e;
@@ -197,7 +211,8 @@ module _ (p : Params) (good : IsGoodParams pbft p) (w : World Message) (reached 
             let c = certified-from p good w legal i xs (mode p (inputs xs)).view s r.value (front-part i xs b.front) (made-front pbft p i xs (w i) b.front (legal.made i)) a.proposed a.voted in
             record { value = r.value; digest = sym r.digest; good = subst (λ (z : ℕ). Certified p w z s r.value) (sym r.view) c }
 
-    pub change-covers : (v s : ℕ) (d : List ℕ) (u : ℕ) (cs : List Certificate) → IsSigned pbft p w i (state_at p 3 v s d) → IsSigned pbft p w i (state_change p u cs) → v < u → Shows cs s v
+    pub change-covers : (v s : ℕ) (d : List ℕ) (u : ℕ) (cs : List Certificate) →
+        IsSigned pbft p w i (state_at p 3 v s d) → IsSigned pbft p w i (state_change p u cs) → v < u → Shows cs s v
     change-covers v s d u cs a b l =
         let x = draft-of i correct (state_at p 3 v s d) a in
         let y = draft-of i correct (state_change p u cs) b in

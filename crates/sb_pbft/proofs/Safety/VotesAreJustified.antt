@@ -28,7 +28,8 @@ use Rattle.sb_pbft.proofs.History.ViewsGrow.{Said, SameInput, proposed-offer}
 -- ---- in one replica's history
 
 -- each Commit is for the proposal
-pub commit-proposed : (p : Params) (me : ℕ) (xs : List (Item Message)) (v : ℕ) (s : Slot) (d : List ℕ) → In (DraftCommit v s d) (drafted p me xs) → Proposed p me (inputs xs) v s.0 d
+pub commit-proposed : (p : Params) (me : ℕ) (xs : List (Item Message)) (v : ℕ) (s : Slot) (d : List ℕ) →
+    In (DraftCommit v s d) (drafted p me xs) → Proposed p me (inputs xs) v s.0 d
 commit-proposed p me [] v s d h = absurd h
 commit-proposed p me (x ∷ xs) v s d h = elim (in_append (DraftCommit v s d) (drafts p me xs x.input) (drafted p me xs) h) [
   | inl k ↦
@@ -39,16 +40,20 @@ commit-proposed p me (x ∷ xs) v s d h = elim (in_append (DraftCommit v s d) (d
   | inr k ↦ proposed-on p me (inputs xs) x.input v s.0 d (commit-proposed p me xs v s d k)
 ]
 
-no-first-prepare : (s t : Slot) (x : Value) (v : ℕ) (d : List ℕ) → SameDraft (DraftPrePrepare s x) (DraftPrepare v t d) → ⊥
+no-first-prepare : (s t : Slot) (x : Value) (v : ℕ) (d : List ℕ) →
+    SameDraft (DraftPrePrepare s x) (DraftPrepare v t d) → ⊥
 no-first-prepare s t x v d h = cc
 
-no-first-commit : (s t : Slot) (x : Value) (v : ℕ) (d : List ℕ) → SameDraft (DraftPrePrepare s x) (DraftCommit v t d) → ⊥
+no-first-commit : (s t : Slot) (x : Value) (v : ℕ) (d : List ℕ) → SameDraft (DraftPrePrepare s x) (DraftCommit v t d) →
+    ⊥
 no-first-commit s t x v d h = cc
 
-no-first-change : (s : Slot) (x : Value) (v : ℕ) (cs : List Certificate) → SameDraft (DraftPrePrepare s x) (DraftViewChange v cs) → ⊥
+no-first-change : (s : Slot) (x : Value) (v : ℕ) (cs : List Certificate) →
+    SameDraft (DraftPrePrepare s x) (DraftViewChange v cs) → ⊥
 no-first-change s x v cs h = cc
 
-no-first-new : (s : Slot) (x : Value) (v : ℕ) (ys : List Change) → SameDraft (DraftPrePrepare s x) (DraftNewView v ys) → ⊥
+no-first-new : (s : Slot) (x : Value) (v : ℕ) (ys : List Change) → SameDraft (DraftPrePrepare s x) (DraftNewView v ys) →
+    ⊥
 no-first-new s x v ys h = cc
 
 record SameFirst (s t : Slot) (x y : Value) : Type 0 where
@@ -64,7 +69,8 @@ pub record IsFirst (p : Params) (me : ℕ) (xs : List (Item Message)) (i : Said)
   pub asked : Asked p me (inputs xs) i (s, batch)
   pub value : x ≡ Value_batch batch
 
-pub first-of-rule : (p : Params) (me : ℕ) (xs : List (Item Message)) (i : Said) (s : Slot) (x : Value) → Rule p me xs i (DraftPrePrepare s x) → IsFirst p me xs i s x
+pub first-of-rule : (p : Params) (me : ℕ) (xs : List (Item Message)) (i : Said) (s : Slot) (x : Value) →
+    Rule p me xs i (DraftPrePrepare s x) → IsFirst p me xs i s x
 first-of-rule p me xs i s x (by_cast a q b e) =
     let r = same-first s a.0 x (Value_batch a.1) e in
     record { batch = a.1; asked = subst (λ (z : Slot). Asked p me (inputs xs) i (z, a.1)) (sym r.slot) q; value = r.value }
@@ -74,7 +80,8 @@ first-of-rule p me xs i s x (by_timeout a b e) = absurd (no-first-change s x _ _
 first-of-rule p me xs i s x (by_changes from v cs sig a b e) = absurd (no-first-new s x v _ e)
 first-of-rule p me xs i s x (by_view from v ys sigs sig t a b c k e) = absurd (no-first-prepare s t x v (digest_of p (choice ys t.0)) e)
 
-pub first-proposed : (p : Params) (me : ℕ) (xs : List (Item Message)) (s : Slot) (x : Value) → In (DraftPrePrepare s x) (drafted p me xs) → Proposed p me (inputs xs) 0 s.0 (digest_of p x)
+pub first-proposed : (p : Params) (me : ℕ) (xs : List (Item Message)) (s : Slot) (x : Value) →
+    In (DraftPrePrepare s x) (drafted p me xs) → Proposed p me (inputs xs) 0 s.0 (digest_of p x)
 first-proposed p me [] s x h = absurd h
 first-proposed p me (y ∷ ys) s x h = elim (in_append (DraftPrePrepare s x) (drafts p me ys y.input) (drafted p me ys) h) [
   | inl k ↦
@@ -83,11 +90,13 @@ first-proposed p me (y ∷ ys) s x h = elim (in_append (DraftPrePrepare s x) (dr
   | inr k ↦ proposed-on p me (inputs ys) y.input 0 s.0 (digest_of p x) (first-proposed p me ys s x k)
 ]
 
-same-view-change : (v u : ℕ) (cs ds : List Certificate) → SameDraft (DraftViewChange v cs) (DraftViewChange u ds) → v ≡ u
+same-view-change : (v u : ℕ) (cs ds : List Certificate) → SameDraft (DraftViewChange v cs) (DraftViewChange u ds) →
+    v ≡ u
 same-view-change v u cs ds h = cc
 
 -- nobody sends a ViewChange for view 0
-pub change-above : (p : Params) (me : ℕ) (xs : List (Item Message)) (i : Said) (v : ℕ) (cs : List Certificate) → Rule p me xs i (DraftViewChange v cs) → 0 < v
+pub change-above : (p : Params) (me : ℕ) (xs : List (Item Message)) (i : Said) (v : ℕ) (cs : List Certificate) →
+    Rule p me xs i (DraftViewChange v cs) → 0 < v
 change-above p me xs i v cs (by_cast a q b e) = absurd (no-change-pre v cs a.0 (Value_batch a.1) e)
 change-above p me xs i v cs (by_proposal a q b e) = absurd (no-change-prepare v 0 cs a.0 (digest_of p (Value_batch a.1)) e)
 change-above p me xs i v cs (by_votes t y w q e) = absurd (no-change-commit v _ cs t (digest_of p y) e)
@@ -97,10 +106,14 @@ change-above p me xs i v cs (by_view from u ys sigs sig t a b c k e) = absurd (n
 
 -- the reason of a Prepare
 pub data IsAnswer (p : Params) (me : ℕ) (xs : List (Item Message)) (i : Said) (v : ℕ) (s : Slot) (d : List ℕ) : Type 0 where
-  to_batch : (b : Batch) → Asked p me (inputs xs) i (s, b) → v ≡ 0 → digest_of p (Value_batch b) ≡ d → IsAnswer p me xs i v s d
-  to_view : (from : NodeId) (ys : List Change) (sigs : List (List ℕ)) (sig : List ℕ) → SameInput i (Receive from (NewView v ys sigs sig)) → enters p (mode p (inputs xs)) from.0 v ys sigs ≡ true → In s p.slots → digest_of p (choice ys s.0) ≡ d → IsAnswer p me xs i v s d
+  to_batch : (b : Batch) → Asked p me (inputs xs) i (s, b) → v ≡ 0 → digest_of p (Value_batch b) ≡ d →
+      IsAnswer p me xs i v s d
+  to_view : (from : NodeId) (ys : List Change) (sigs : List (List ℕ)) (sig : List ℕ) →
+      SameInput i (Receive from (NewView v ys sigs sig)) → enters p (mode p (inputs xs)) from.0 v ys sigs ≡ true →
+      In s p.slots → digest_of p (choice ys s.0) ≡ d → IsAnswer p me xs i v s d
 
-pub answer-of-rule : (p : Params) (me : ℕ) (xs : List (Item Message)) (i : Said) (v : ℕ) (s : Slot) (d : List ℕ) → Rule p me xs i (DraftPrepare v s d) → IsAnswer p me xs i v s d
+pub answer-of-rule : (p : Params) (me : ℕ) (xs : List (Item Message)) (i : Said) (v : ℕ) (s : Slot) (d : List ℕ) →
+    Rule p me xs i (DraftPrepare v s d) → IsAnswer p me xs i v s d
 answer-of-rule p me xs i v s d (by_cast a q b e) = absurd (no-pre s a.0 v d (Value_batch a.1) e)
 answer-of-rule p me xs i v s d (by_proposal a q b e) =
     let r = same-prepare v 0 s a.0 d (digest_of p (Value_batch a.1)) e in
@@ -117,7 +130,8 @@ answer-of-rule p me xs i v s d (by_view from u ys sigs sig t a b c k e) =
     (subst (λ (z : Slot). digest_of p (choice ys z.0) ≡ d) (sym r.slot) (sym r.digest))
 
 -- a batch that a step accepted is among the accepted ones
-pub accepted-in : (xs : List (Item Message)) (x : Item Message) (a : Slot × Batch) → In x xs → x.made.accepted ≡ Some a → In a (accepts xs)
+pub accepted-in : (xs : List (Item Message)) (x : Item Message) (a : Slot × Batch) → In x xs →
+    x.made.accepted ≡ Some a → In a (accepts xs)
 accepted-in [] x a h e = absurd h
 accepted-in (y ∷ ys) x a (inl q) e = accepts-new y ys a (ap (λ (z : Item Message). z.made.accepted) (sym q) ∙ e)
 accepted-in (y ∷ ys) x a (inr h) e = accepts-old y ys a (accepted-in ys x a h e)

@@ -52,7 +52,8 @@ no-pre v s t d x h = cc
 no-prepare : (v w : ℕ) (s t : Slot) (d e : List ℕ) → SameDraft (DraftCommit v s d) (DraftPrepare w t e) → ⊥
 no-prepare v w s t d e h = cc
 
-no-change : (v w : ℕ) (s : Slot) (d : List ℕ) (cs : List Certificate) → SameDraft (DraftCommit v s d) (DraftViewChange w cs) → ⊥
+no-change : (v w : ℕ) (s : Slot) (d : List ℕ) (cs : List Certificate) →
+    SameDraft (DraftCommit v s d) (DraftViewChange w cs) → ⊥
 no-change v w s d cs h = cc
 
 no-new : (v w : ℕ) (s : Slot) (d : List ℕ) (ys : List Change) → SameDraft (DraftCommit v s d) (DraftNewView w ys) → ⊥
@@ -63,7 +64,8 @@ record SameCommit (v w : ℕ) (s t : Slot) (d e : List ℕ) : Type 0 where
   pub slot : s ≡ t
   pub digest : d ≡ e
 
-same-commit : (v w : ℕ) (s t : Slot) (d e : List ℕ) → SameDraft (DraftCommit v s d) (DraftCommit w t e) → SameCommit v w s t d e
+same-commit : (v w : ℕ) (s t : Slot) (d e : List ℕ) → SameDraft (DraftCommit v s d) (DraftCommit w t e) →
+    SameCommit v w s t d e
 same-commit v w s t d e h = record { view = cc; slot = cc; digest = cc }
 
 -- a Commit is of the current view
@@ -74,7 +76,8 @@ pub record Commits (p : Params) (me : ℕ) (xs : List (Item Message)) (i : Said)
   pub view : v ≡ (mode p (i ∷ inputs xs)).view
   pub digest : d ≡ digest_of p value
 
-pub commit-rule : (p : Params) (me : ℕ) (xs : List (Item Message)) (i : Said) (v : ℕ) (s : Slot) (d : List ℕ) → Rule p me xs i (DraftCommit v s d) → Commits p me xs i v s d
+pub commit-rule : (p : Params) (me : ℕ) (xs : List (Item Message)) (i : Said) (v : ℕ) (s : Slot) (d : List ℕ) →
+    Rule p me xs i (DraftCommit v s d) → Commits p me xs i v s d
 commit-rule p me xs i v s d (by_cast a q b e) = absurd (no-pre v s a.0 d (Value_batch a.1) e)
 commit-rule p me xs i v s d (by_proposal a q b e) = absurd (no-prepare v 0 s a.0 d (digest_of p (Value_batch a.1)) e)
 commit-rule p me xs i v s d (by_votes t x w q e) =
@@ -90,7 +93,8 @@ commit-rule p me xs i v s d (by_timeout a b e) = absurd (no-change v _ s d _ e)
 commit-rule p me xs i v s d (by_changes from w cs sig a b e) = absurd (no-new v w s d _ e)
 commit-rule p me xs i v s d (by_view from w zs sigs sig t a b c k e) = absurd (no-prepare v w s t d (digest_of p (choice zs t.0)) e)
 
-pub commit-kept : (p : Params) (me : ℕ) (xs : List (Item Message)) (v : ℕ) (s : Slot) (d : List ℕ) → In (DraftCommit v s d) (drafted p me xs) → IsKept p me xs v s d
+pub commit-kept : (p : Params) (me : ℕ) (xs : List (Item Message)) (v : ℕ) (s : Slot) (d : List ℕ) →
+    In (DraftCommit v s d) (drafted p me xs) → IsKept p me xs v s d
 commit-kept p me [] v s d h = absurd h
 commit-kept p me (x ∷ xs) v s d h = elim (in_append (DraftCommit v s d) (drafts p me xs x.input) (drafted p me xs) h) [
   | inl k ↦
@@ -125,7 +129,8 @@ cons-more : {A : Type 0} (o : Option A) (x : A) (xs : List A) → In x xs → In
 cons-more None x xs h = h
 cons-more (Some y) x xs h = inr h
 
-tops-cover : (cs : List Certificate) (ss : List Slot) (s : Slot) (c : Certificate) → In c cs → c.slot ≡ s → In s ss → Covered s c.view (tops cs ss)
+tops-cover : (cs : List Certificate) (ss : List Slot) (s : Slot) (c : Certificate) → In c cs → c.slot ≡ s → In s ss →
+    Covered s c.view (tops cs ss)
 tops-cover cs [] s c i e h = absurd h
 tops-cover cs (t ∷ ts) s c i e (inl q) =
     let at : c.slot.0 ≡ t.0 = ap (λ (z : Slot). z.0) (e ∙ q) in
@@ -138,29 +143,36 @@ tops-cover cs (t ∷ ts) s c i e (inr h) =
 
 -- ---- a ViewChange
 
-pub no-change-pre : (w : ℕ) (cs : List Certificate) (t : Slot) (x : Value) → SameDraft (DraftViewChange w cs) (DraftPrePrepare t x) → ⊥
+pub no-change-pre : (w : ℕ) (cs : List Certificate) (t : Slot) (x : Value) →
+    SameDraft (DraftViewChange w cs) (DraftPrePrepare t x) → ⊥
 no-change-pre w cs t x h = cc
 
-pub no-change-prepare : (w v : ℕ) (cs : List Certificate) (t : Slot) (e : List ℕ) → SameDraft (DraftViewChange w cs) (DraftPrepare v t e) → ⊥
+pub no-change-prepare : (w v : ℕ) (cs : List Certificate) (t : Slot) (e : List ℕ) →
+    SameDraft (DraftViewChange w cs) (DraftPrepare v t e) → ⊥
 no-change-prepare w v cs t e h = cc
 
-pub no-change-commit : (w v : ℕ) (cs : List Certificate) (t : Slot) (e : List ℕ) → SameDraft (DraftViewChange w cs) (DraftCommit v t e) → ⊥
+pub no-change-commit : (w v : ℕ) (cs : List Certificate) (t : Slot) (e : List ℕ) →
+    SameDraft (DraftViewChange w cs) (DraftCommit v t e) → ⊥
 no-change-commit w v cs t e h = cc
 
-pub no-change-new : (w v : ℕ) (cs : List Certificate) (ys : List Change) → SameDraft (DraftViewChange w cs) (DraftNewView v ys) → ⊥
+pub no-change-new : (w v : ℕ) (cs : List Certificate) (ys : List Change) →
+    SameDraft (DraftViewChange w cs) (DraftNewView v ys) → ⊥
 no-change-new w v cs ys h = cc
 
-same-change : (w v : ℕ) (cs ds : List Certificate) → SameDraft (DraftViewChange w cs) (DraftViewChange v ds) → (w ≡ v) × (cs ≡ ds)
+same-change : (w v : ℕ) (cs ds : List Certificate) → SameDraft (DraftViewChange w cs) (DraftViewChange v ds) →
+    (w ≡ v) × (cs ≡ ds)
 same-change w v cs ds h = (cc, cc)
 
 pub record IsPassed (p : Params) (me : ℕ) (xs : List (Item Message)) (i : Said) (w : ℕ) (cs : List Certificate) : Type 0 where
   pub now : w ≡ (mode p (i ∷ inputs xs)).view
   pub holds : cs ≡ tops (kept p me xs) p.slots
 
-passed-mode : (p : Params) (m : Mode) (i : Said) → SameInput i Timeout → passes m ≡ true → (mode_after p m i).view ≡ m.view + 1
+passed-mode : (p : Params) (m : Mode) (i : Said) → SameInput i Timeout → passes m ≡ true →
+    (mode_after p m i).view ≡ m.view + 1
 passed-mode p m i e h = subst (λ (z : Said). (mode_after p m z).view ≡ m.view + 1) (sym e) (ap (λ (b : Bool). (cond b (let u : Mode = record { view = m.view + 1; active = false } in u) m).view) h)
 
-pub change-rule : (p : Params) (me : ℕ) (xs : List (Item Message)) (i : Said) (w : ℕ) (cs : List Certificate) → Rule p me xs i (DraftViewChange w cs) → IsPassed p me xs i w cs
+pub change-rule : (p : Params) (me : ℕ) (xs : List (Item Message)) (i : Said) (w : ℕ) (cs : List Certificate) →
+    Rule p me xs i (DraftViewChange w cs) → IsPassed p me xs i w cs
 change-rule p me xs i w cs (by_cast a q b e) = absurd (no-change-pre w cs a.0 (Value_batch a.1) e)
 change-rule p me xs i w cs (by_proposal a q b e) = absurd (no-change-prepare w 0 cs a.0 (digest_of p (Value_batch a.1)) e)
 change-rule p me xs i w cs (by_votes t x k q e) = absurd (no-change-commit w (mode p (i ∷ inputs xs)).view cs t (digest_of p x) e)
@@ -170,7 +182,8 @@ change-rule p me xs i w cs (by_timeout a b e) =
 change-rule p me xs i w cs (by_changes from v ds sig a b e) = absurd (no-change-new w v cs _ e)
 change-rule p me xs i w cs (by_view from v zs sigs sig t a b c k e) = absurd (no-change-prepare w v cs t (digest_of p (choice zs t.0)) e)
 
-pub change-view : (p : Params) (me : ℕ) (xs : List (Item Message)) (w : ℕ) (cs : List Certificate) → In (DraftViewChange w cs) (drafted p me xs) → w ≤ (mode p (inputs xs)).view
+pub change-view : (p : Params) (me : ℕ) (xs : List (Item Message)) (w : ℕ) (cs : List Certificate) →
+    In (DraftViewChange w cs) (drafted p me xs) → w ≤ (mode p (inputs xs)).view
 change-view p me [] w cs h = absurd h
 change-view p me (x ∷ xs) w cs h = elim (in_append (DraftViewChange w cs) (drafts p me xs x.input) (drafted p me xs) h) [
   | inl k ↦ let r = (change-rule p me xs x.input w cs (rule-of p me xs x.input (DraftViewChange w cs) k)).now in omega (arith, r)

@@ -24,12 +24,14 @@ use Rattle.sb_pbft.proofs.History.ViewsGrow.{Said, grows}
 -- ---- the views of stored certificates
 
 module _ (p : Params) (me : ℕ) where
-  certify-view : (xs : List (Item Message)) (s : Slot) (o : Option Value) (cs : List Certificate) (c : Certificate) → In c (certify p me xs s o cs) → (c.view ≡ (mode p (inputs xs)).view) ⊎ In c cs
+  certify-view : (xs : List (Item Message)) (s : Slot) (o : Option Value) (cs : List Certificate) (c : Certificate) →
+      In c (certify p me xs s o cs) → (c.view ≡ (mode p (inputs xs)).view) ⊎ In c cs
   certify-view xs s None cs c h = inr h
   certify-view xs s (Some x) cs c (inl e) = inl (ap (λ (z : Certificate). z.view) e)
   certify-view xs s (Some x) cs c (inr h) = inr h
 
-  certified-view : (xs : List (Item Message)) (old : List Certificate) (ss : List Slot) (c : Certificate) → In c (certified p me xs old ss) → c.view ≡ (mode p (inputs xs)).view
+  certified-view : (xs : List (Item Message)) (old : List Certificate) (ss : List Slot) (c : Certificate) →
+      In c (certified p me xs old ss) → c.view ≡ (mode p (inputs xs)).view
   certified-view xs old [] c h = absurd h
   certified-view xs old (s ∷ ss) c h = elim (certify-view xs s (ready p me (inputs xs) old s.0) (certified p me xs old ss) c h) [
     | inl e ↦ e
@@ -49,7 +51,8 @@ abbrev pub AreLow : ℕ → List Certificate → Type 0
 AreLow v cs = (c : Certificate) → In c cs → c.view ≤ v
 
 -- c is compared with the best of the rest
-front-of : (v : ℕ) (c : Certificate) (o : Option Certificate) → c.view ≤ v → ((e : Certificate) → o ≡ Some e → e.view ≤ v) → ((v == c.view) || is_of v o) ≡ is_of v (higher c o)
+front-of : (v : ℕ) (c : Certificate) (o : Option Certificate) → c.view ≤ v →
+    ((e : Certificate) → o ≡ Some e → e.view ≤ v) → ((v == c.view) || is_of v o) ≡ is_of v (higher c o)
 front-of v c None l h = or-alone (v == c.view)
 front-of v c (Some e) l h = elim (cases_Bool (nat_lt c.view e.view)) [
   | inl t ↦
@@ -111,14 +114,16 @@ module _ (p : Params) (me : ℕ) where
   ready-of l s b = cond ((mode p l).active && not b) (prepared p me l (mode p l).view s) None
 
   -- a Commit was sent for it
-  pub ready-not : (l : List Said) (ks : List Certificate) (s : ℕ) → has (mode p l).view s ks ≡ true → ready p me l ks s ≡ None
+  pub ready-not : (l : List Said) (ks : List Certificate) (s : ℕ) → has (mode p l).view s ks ≡ true →
+      ready p me l ks s ≡ None
   ready-not l ks s h = ap (ready-of l s) h ∙ go (mode p l).active (prepared p me l (mode p l).view s)
     where
       go : (a : Bool) (o : Option Value) → cond (a && false) o None ≡ None
       go true o = refl
       go false o = refl
 
-  nothing-more : (l : List Said) (old new : List Certificate) (s : ℕ) → ready p me l old s ≡ None → (has (mode p l).view s old ≡ true → has (mode p l).view s new ≡ true) → ready p me l new s ≡ None
+  nothing-more : (l : List Said) (old new : List Certificate) (s : ℕ) → ready p me l old s ≡ None →
+      (has (mode p l).view s old ≡ true → has (mode p l).view s new ≡ true) → ready p me l new s ≡ None
   nothing-more l old new s h more = elim (cases_Bool (has (mode p l).view s old)) [
     | inl t ↦ ready-not l new s (more t)
     | inr t ↦ elim (cases_Bool (has (mode p l).view s new)) [
@@ -127,7 +132,8 @@ module _ (p : Params) (me : ℕ) where
     ]
   ]
 
-  pub nothing-left : (x : Item Message) (xs : List (Item Message)) (slot : Slot) → In slot p.slots → ready p me (inputs (x ∷ xs)) (kept p me (x ∷ xs)) slot.0 ≡ None
+  pub nothing-left : (x : Item Message) (xs : List (Item Message)) (slot : Slot) → In slot p.slots →
+      ready p me (inputs (x ∷ xs)) (kept p me (x ∷ xs)) slot.0 ≡ None
   nothing-left x xs slot h = go (ready p me l (kept p me xs) slot.0) refl
     where
       l : List Said
@@ -136,7 +142,8 @@ module _ (p : Params) (me : ℕ) where
       new : List Certificate
       new = certified p me (x ∷ xs) (kept p me xs) p.slots
 
-      go : (o : Option Value) → ready p me l (kept p me xs) slot.0 ≡ o → ready p me l (new ++ kept p me xs) slot.0 ≡ None
+      go : (o : Option Value) → ready p me l (kept p me xs) slot.0 ≡ o →
+          ready p me l (new ++ kept p me xs) slot.0 ≡ None
       go None e = nothing-more l (kept p me xs) (new ++ kept p me xs) slot.0 e (has-behind (mode p l).view slot.0 new (kept p me xs))
       go (Some y) e =
           let c : Certificate = certificate p me (x ∷ xs) (mode p l).view slot y in
@@ -153,7 +160,8 @@ module _ (p : Params) (me : ℕ) where
   best-past : (s : ℕ) (c : Certificate) (cs : List Certificate) → (c.slot.0 ≡ s → ⊥) → best s (c ∷ cs) ≡ best s cs
   best-past s c cs off = ap (λ (b : Bool). cond b (higher c (best s cs)) (best s cs)) (ne_eqb c.slot.0 s off)
 
-  certify-other : (xs : List (Item Message)) (t : Slot) (o : Option Value) (s : ℕ) (cs ks : List Certificate) → (t.0 ≡ s → ⊥) → best s (certify p me xs t o cs ++ ks) ≡ best s (cs ++ ks)
+  certify-other : (xs : List (Item Message)) (t : Slot) (o : Option Value) (s : ℕ) (cs ks : List Certificate) →
+      (t.0 ≡ s → ⊥) → best s (certify p me xs t o cs ++ ks) ≡ best s (cs ++ ks)
   certify-other xs t None s cs ks off = refl
   certify-other xs t (Some x) s cs ks off = best-past s (certificate p me xs (mode p (inputs xs)).view t x) (cs ++ ks) off
 
@@ -162,7 +170,8 @@ module _ (p : Params) (me : ℕ) where
   certified-other xs old (t ∷ ts) s ks off =
       certify-other xs t (ready p me (inputs xs) old t.0) s (certified p me xs old ts) ks (off t (inl refl)) ∙ certified-other xs old ts s ks (λ u h e. off u (inr h) e)
 
-  certify-here : (xs : List (Item Message)) (t : Slot) (o : Option Value) (cs ks : List Certificate) → AreLow (mode p (inputs xs)).view ks → best t.0 (cs ++ ks) ≡ best t.0 ks →
+  certify-here : (xs : List (Item Message)) (t : Slot) (o : Option Value) (cs ks : List Certificate) →
+      AreLow (mode p (inputs xs)).view ks → best t.0 (cs ++ ks) ≡ best t.0 ks →
       best t.0 (certify p me xs t o cs ++ ks) ≡ first_of (made xs t o) (best t.0 ks)
   certify-here xs t None cs ks low h = h
   certify-here xs t (Some x) cs ks low h =

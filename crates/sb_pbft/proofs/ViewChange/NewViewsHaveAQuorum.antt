@@ -39,18 +39,22 @@ use Rattle.sb_pbft.proofs.History.VotersAreDistinct.{node-vote}
 
 -- ---- the stored ViewChanges are good and of distinct replicas
 
-are-kept : (p : Params) (v from : ℕ) (g : ℕ → Option Change) (k m : ℕ) → from ≤ k → k + m ≤ p.setup.n → ((j : ℕ) (x : Change) → g j ≡ Some x → (x.node.0 ≡ j) × (x.view ≡ v) × (all_good p v x.certificates ≡ true)) → are_changes p v from (changes_from g k m) ≡ true
+are-kept : (p : Params) (v from : ℕ) (g : ℕ → Option Change) (k m : ℕ) → from ≤ k → k + m ≤ p.setup.n →
+    ((j : ℕ) (x : Change) → g j ≡ Some x → (x.node.0 ≡ j) × (x.view ≡ v) × (all_good p v x.certificates ≡ true)) →
+    are_changes p v from (changes_from g k m) ≡ true
 are-kept p v from g k zero l u h = refl
 are-kept p v from g k (suc m) l u h = go (λ n o. are-kept p v n g (suc k) m o (omega (arith, u)) h) (g k) refl
   where
-    go : ((n : ℕ) → n ≤ suc k → are_changes p v n (changes_from g (suc k) m) ≡ true) → (o : Option Change) → g k ≡ o → are_changes p v from (cons_some o (changes_from g (suc k) m)) ≡ true
+    go : ((n : ℕ) → n ≤ suc k → are_changes p v n (changes_from g (suc k) m) ≡ true) → (o : Option Change) → g k ≡ o →
+        are_changes p v from (cons_some o (changes_from g (suc k) m)) ≡ true
     go r None e = r from (omega (arith, l))
     go r (Some x) e =
         let i = h k x e in
         let n = i.0 in
         both _ _ (both _ _ (both _ _ (le-leb from x.node.0 (omega (arith, l, n))) (lt-ltb x.node.0 p.setup.n (omega (arith, u, n)))) (both _ _ (eq-eqb x.view v i.1) i.2)) (r (suc x.node.0) (omega (arith, n)))
 
-pub kept-enough : (p : Params) (l : List Said) (v : ℕ) → length (changes p l v) ≡ 2 * p.setup.f + 1 → are_enough p v (changes p l v) ≡ true
+pub kept-enough : (p : Params) (l : List Said) (v : ℕ) → length (changes p l v) ≡ 2 * p.setup.f + 1 →
+    are_enough p v (changes p l v) ≡ true
 kept-enough p l v h = both _ _ (eq-eqb (length (changes p l v)) (2 * p.setup.f + 1) h) (are-kept p v 0 (change_of p l v) 0 p.setup.n (omega arith) (omega arith) (λ j x e. let r = change-of-is p l v j x e in (r.2.by, r.2.view, r.2.good)))
 
 module _ (p : Params) (good : IsGoodParams pbft p) (w : World Message) (legal : IsLegal pbft p w) where
@@ -72,7 +76,8 @@ module _ (p : Params) (good : IsGoodParams pbft p) (w : World Message) (legal : 
 
   -- ---- 2f+1 ViewChanges
 
-  pub backed : (v : ℕ) (xs : List Change) → are_enough p v xs ≡ true → AreTrue p w (changes_claims p xs) → ((c : Certificate) → In c (certificates_of xs) → IsKnown p w c.value) → Backed p w v xs
+  pub backed : (v : ℕ) (xs : List Change) → are_enough p v xs ≡ true → AreTrue p w (changes_claims p xs) →
+      ((c : Certificate) → In c (certificates_of xs) → IsKnown p w c.value) → Backed p w v xs
   backed v xs enough signed known =
       let all = (and-true (length xs == 2 * p.setup.f + 1) (are_changes p v 0 xs) enough).1 in
       record {
@@ -113,7 +118,9 @@ module _ (p : Params) (good : IsGoodParams pbft p) (w : World Message) (legal : 
 
     -- ---- stored ViewChanges
 
-    change-here : (x : Item Message) (before : List (Item Message)) (k : ℕ) (v : ℕ) (y : Change) → In x (w i) → x.made ≡ makes p i before x.input x.leaf → IsKeptChange p v k y x.input → change_of p (inputs before) v k ≡ None → (c : Certificate) → In c y.certificates → IsKnown p w c.value
+    change-here : (x : Item Message) (before : List (Item Message)) (k : ℕ) (v : ℕ) (y : Change) → In x (w i) →
+        x.made ≡ makes p i before x.input x.leaf → IsKeptChange p v k y x.input →
+        change_of p (inputs before) v k ≡ None → (c : Certificate) → In c y.certificates → IsKnown p w c.value
     change-here x before k v y taken made is fresh c j =
         let cs = y.certificates in
         let m : Message = ViewChange v cs y.sig in
@@ -126,14 +133,16 @@ module _ (p : Params) (good : IsGoodParams pbft p) (w : World Message) (legal : 
         hashed-here p good w legal i x before c.value taken made (subst (λ (z : Said). In (string_of p c.value) (strings p i (inputs before) z)) (sym is.input) there)
         (certificate-value p.setup.version c (fits-certificate-at p.setup.version 0 cs c (change-certificates p.setup.version v cs y.sig f) j))
 
-    change-known : (xs : List (Item Message)) (k v : ℕ) (y : Change) → Part p good w legal i xs → AreMade pbft p i xs → change_of p (inputs xs) v k ≡ Some y → (c : Certificate) → In c y.certificates → IsKnown p w c.value
+    change-known : (xs : List (Item Message)) (k v : ℕ) (y : Change) → Part p good w legal i xs → AreMade pbft p i xs →
+        change_of p (inputs xs) v k ≡ Some y → (c : Certificate) → In c y.certificates → IsKnown p w c.value
     change-known [] k v y sub made h c j = absurd (cc)
     change-known (x ∷ xs) k v y sub made h c j = elim (first-cases (change_of p (inputs xs) v k) (change_in p x.input v k) y h) [
       | inl a ↦ change-known xs k v y (part-tail p good w legal i x xs sub) made.1 a c j
       | inr a ↦ change-here x xs k v y (sub x (inl refl)) made.0 (change-in-is p x.input v k y a.1) a.0 c j
     ]
 
-    change-true : (xs : List (Item Message)) (v k : ℕ) (y : Change) → Part p good w legal i xs → change_of p (inputs xs) v k ≡ Some y → AreTrue p w (change_claims p y.node.0 y.view y.certificates y.sig)
+    change-true : (xs : List (Item Message)) (v k : ℕ) (y : Change) → Part p good w legal i xs →
+        change_of p (inputs xs) v k ≡ Some y → AreTrue p w (change_claims p y.node.0 y.view y.certificates y.sig)
     change-true xs v k y sub h t j =
         let r = change-of-is p (inputs xs) v k y h in
         let n = input-item xs r.0 r.1 in
@@ -141,7 +150,8 @@ module _ (p : Params) (good : IsGoodParams pbft p) (w : World Message) (legal : 
         credible.signed t (subst (λ (z : ℕ). In t (change_claims p y.node.0 z y.certificates y.sig)) r.2.view j)
 
     -- 2f+1 stored ViewChanges
-    pub made-backed : (xs : List (Item Message)) (v : ℕ) → Part p good w legal i xs → AreMade pbft p i xs → length (changes p (inputs xs) v) ≡ 2 * p.setup.f + 1 → Backed p w v (changes p (inputs xs) v)
+    pub made-backed : (xs : List (Item Message)) (v : ℕ) → Part p good w legal i xs → AreMade pbft p i xs →
+        length (changes p (inputs xs) v) ≡ 2 * p.setup.f + 1 → Backed p w v (changes p (inputs xs) v)
     made-backed xs v sub made h =
         let ys = changes p (inputs xs) v in
         backed v ys (kept-enough p (inputs xs) v h)

@@ -52,7 +52,8 @@ change-in-is p (Receive from (ViewChange w cs sig)) v k x h =
 change-in-is p (Receive from (NewView w xs sigs sig)) v k x h = absurd (cc)
 change-in-is p Timeout v k x h = absurd (cc)
 
-pub change-of-is : (p : Params) (l : List Said) (v k : ℕ) (x : Change) → change_of p l v k ≡ Some x → (i : Said) × In i l × IsKeptChange p v k x i
+pub change-of-is : (p : Params) (l : List Said) (v k : ℕ) (x : Change) → change_of p l v k ≡ Some x →
+    (i : Said) × In i l × IsKeptChange p v k x i
 change-of-is p [] v k x h = absurd (cc)
 change-of-is p (i ∷ l) v k x h = elim (first-cases (change_of p l v k) (change_in p i v k) x h) [
   | inl a ↦ let r = change-of-is p l v k x a in (r.0, inr r.1, r.2)
@@ -73,20 +74,24 @@ pub in-changes : (g : ℕ → Option Change) (k m : ℕ) (x : Change) → In x (
 in-changes g k zero x h = absurd h
 in-changes g k (suc m) x h = go (in-changes g (suc k) m x) (g k) refl h
   where
-    go : (In x (changes_from g (suc k) m) → IsGiven g (suc k) m x) → (o : Option Change) → g k ≡ o → In x (cons_some o (changes_from g (suc k) m)) → IsGiven g k (suc m) x
+    go : (In x (changes_from g (suc k) m) → IsGiven g (suc k) m x) → (o : Option Change) → g k ≡ o →
+        In x (cons_some o (changes_from g (suc k) m)) → IsGiven g k (suc m) x
     go r None e i = given-more g k m x (r i)
     go r (Some y) e (inl i) = record { node = k; kept = e ∙ ap (λ (z : Change). Some z) (sym i); low = omega arith; high = omega arith }
     go r (Some y) e (inr i) = given-more g k m x (r i)
 
-pub changes-more : (g h : ℕ → Option Change) (k m : ℕ) → ((j : ℕ) (c : Change) → g j ≡ Some c → h j ≡ Some c) → length (changes_from g k m) ≤ length (changes_from h k m)
+pub changes-more : (g h : ℕ → Option Change) (k m : ℕ) → ((j : ℕ) (c : Change) → g j ≡ Some c → h j ≡ Some c) →
+    length (changes_from g k m) ≤ length (changes_from h k m)
 changes-more g h k zero e = omega arith
 changes-more g h k (suc m) e = go (changes-more g h (suc k) m e) (g k) refl
   where
-    any : length (changes_from g (suc k) m) ≤ length (changes_from h (suc k) m) → (o : Option Change) → length (changes_from g (suc k) m) ≤ length (cons_some o (changes_from h (suc k) m))
+    any : length (changes_from g (suc k) m) ≤ length (changes_from h (suc k) m) → (o : Option Change) →
+        length (changes_from g (suc k) m) ≤ length (cons_some o (changes_from h (suc k) m))
     any r None = r
     any r (Some c) = omega arith
 
-    go : length (changes_from g (suc k) m) ≤ length (changes_from h (suc k) m) → (o : Option Change) → g k ≡ o → length (cons_some o (changes_from g (suc k) m)) ≤ length (cons_some (h k) (changes_from h (suc k) m))
+    go : length (changes_from g (suc k) m) ≤ length (changes_from h (suc k) m) → (o : Option Change) → g k ≡ o →
+        length (cons_some o (changes_from g (suc k) m)) ≤ length (cons_some (h k) (changes_from h (suc k) m))
     go r None q = any r (h k)
     go r (Some c) q = rw (e k c q) (omega arith)
 
@@ -104,7 +109,8 @@ pub record IsComplete (p : Params) (me : ℕ) (l : List Said) (i : Said) (v : �
   pub before : length (changes p l v) < 2 * p.setup.f + 1
   pub now : length (changes p (i ∷ l) v) ≡ 2 * p.setup.f + 1
 
-pub completes-is : (p : Params) (me : ℕ) (l : List Said) (i : Said) (v : ℕ) → completes p me l i v ≡ true → IsComplete p me l i v
+pub completes-is : (p : Params) (me : ℕ) (l : List Said) (i : Said) (v : ℕ) → completes p me l i v ≡ true →
+    IsComplete p me l i v
 completes-is p me l i v h =
     let a = and-true ((me == primary p v) && nat_le (mode p l).view v) (nat_lt (length (changes p l v)) (2 * p.setup.f + 1) && (length (changes p (i ∷ l) v) == 2 * p.setup.f + 1)) h in
     let b = and-true (me == primary p v) (nat_le (mode p l).view v) a.0 in
@@ -114,14 +120,16 @@ completes-is p me l i v h =
 changes-grow : (p : Params) (l : List Said) (i : Said) (v : ℕ) → length (changes p l v) ≤ length (changes p (i ∷ l) v)
 changes-grow p l i v = changes-more (change_of p l v) (change_of p (i ∷ l) v) 0 p.setup.n (λ j c e. first-keeps (change_of p l v j) (change_in p i v j) c e)
 
-new-count : (p : Params) (me : ℕ) (l : List Said) (v : ℕ) (xs : List Change) → made_new p me l v ≡ Some xs → 2 * p.setup.f + 1 ≤ length (changes p l v)
+new-count : (p : Params) (me : ℕ) (l : List Said) (v : ℕ) (xs : List Change) → made_new p me l v ≡ Some xs →
+    2 * p.setup.f + 1 ≤ length (changes p l v)
 new-count p me [] v xs h = absurd (cc)
 new-count p me (i ∷ l) v xs h = elim (first-cases (made_new p me l v) (new_at p me l i v) xs h) [
   | inl a ↦ let r = new-count p me l v xs a in let g = changes-grow p l i v in omega arith
   | inr a ↦ let w = when-is (completes p me l i v) (changes p (i ∷ l) v) xs a.1 in let c = completes-is p me l i v w.test in let d = c.now in omega arith
 ]
 
-new-made : (p : Params) (me : ℕ) (l : List Said) (i : Said) (v : ℕ) → completes p me l i v ≡ true → made_new p me (i ∷ l) v ≡ Some (changes p (i ∷ l) v)
+new-made : (p : Params) (me : ℕ) (l : List Said) (i : Said) (v : ℕ) → completes p me l i v ≡ true →
+    made_new p me (i ∷ l) v ≡ Some (changes p (i ∷ l) v)
 new-made p me l i v h =
     first-none (made_new p me l v) (new_at p me l i v) (none-from (made_new p me l v) (λ xs e. let r = new-count p me l v xs e in let c = completes-is p me l i v h in let d = c.before in absurd (omega arith)))
     ∙ ap (λ (z : Bool). when z (changes p (i ∷ l) v)) h
@@ -129,19 +137,22 @@ new-made p me l i v h =
 no-pre : (v : ℕ) (ys : List Change) (s : Slot) (x : Value) → SameDraft (DraftNewView v ys) (DraftPrePrepare s x) → ⊥
 no-pre v ys s x h = cc
 
-no-prepare : (v w : ℕ) (ys : List Change) (s : Slot) (d : List ℕ) → SameDraft (DraftNewView v ys) (DraftPrepare w s d) → ⊥
+no-prepare : (v w : ℕ) (ys : List Change) (s : Slot) (d : List ℕ) → SameDraft (DraftNewView v ys) (DraftPrepare w s d) →
+    ⊥
 no-prepare v w ys s d h = cc
 
 no-commit : (v w : ℕ) (ys : List Change) (s : Slot) (d : List ℕ) → SameDraft (DraftNewView v ys) (DraftCommit w s d) → ⊥
 no-commit v w ys s d h = cc
 
-no-change : (v w : ℕ) (ys : List Change) (cs : List Certificate) → SameDraft (DraftNewView v ys) (DraftViewChange w cs) → ⊥
+no-change : (v w : ℕ) (ys : List Change) (cs : List Certificate) →
+    SameDraft (DraftNewView v ys) (DraftViewChange w cs) → ⊥
 no-change v w ys cs h = cc
 
 same-new : (v w : ℕ) (ys zs : List Change) → SameDraft (DraftNewView v ys) (DraftNewView w zs) → (v ≡ w) × (ys ≡ zs)
 same-new v w ys zs h = (cc, cc)
 
-new-rule : (p : Params) (me : ℕ) (xs : List (Item Message)) (i : Said) (v : ℕ) (ys : List Change) → Rule p me xs i (DraftNewView v ys) → made_new p me (i ∷ inputs xs) v ≡ Some ys
+new-rule : (p : Params) (me : ℕ) (xs : List (Item Message)) (i : Said) (v : ℕ) (ys : List Change) →
+    Rule p me xs i (DraftNewView v ys) → made_new p me (i ∷ inputs xs) v ≡ Some ys
 new-rule p me xs i v ys (by_cast a q b e) = absurd (no-pre v ys a.0 (Value_batch a.1) e)
 new-rule p me xs i v ys (by_proposal a q b e) = absurd (no-prepare v 0 ys a.0 (digest_of p (Value_batch a.1)) e)
 new-rule p me xs i v ys (by_votes s x w q e) = absurd (no-commit v (mode p (i ∷ inputs xs)).view ys s (digest_of p x) e)
@@ -157,7 +168,8 @@ pub record StartsWith (p : Params) (me : ℕ) (xs : List (Item Message)) (i : Sa
   pub completes : completes p me (inputs xs) i v ≡ true
   pub changes : ys ≡ changes p (i ∷ inputs xs) v
 
-pub starts-with : (p : Params) (me : ℕ) (xs : List (Item Message)) (i : Said) (v : ℕ) (ys : List Change) → Rule p me xs i (DraftNewView v ys) → StartsWith p me xs i v ys
+pub starts-with : (p : Params) (me : ℕ) (xs : List (Item Message)) (i : Said) (v : ℕ) (ys : List Change) →
+    Rule p me xs i (DraftNewView v ys) → StartsWith p me xs i v ys
 starts-with p me xs i v ys (by_cast a q b e) = absurd (no-pre v ys a.0 (Value_batch a.1) e)
 starts-with p me xs i v ys (by_proposal a q b e) = absurd (no-prepare v 0 ys a.0 (digest_of p (Value_batch a.1)) e)
 starts-with p me xs i v ys (by_votes s x w q e) = absurd (no-commit v (mode p (i ∷ inputs xs)).view ys s (digest_of p x) e)
@@ -174,7 +186,8 @@ pub record IsFromChange (i : Said) (v : ℕ) : Type 0 where
   pub sig : List ℕ
   pub input : SameInput i (Receive from (ViewChange v certificates sig))
 
-pub from-change : (p : Params) (me : ℕ) (xs : List (Item Message)) (i : Said) (v : ℕ) (ys : List Change) → Rule p me xs i (DraftNewView v ys) → IsFromChange i v
+pub from-change : (p : Params) (me : ℕ) (xs : List (Item Message)) (i : Said) (v : ℕ) (ys : List Change) →
+    Rule p me xs i (DraftNewView v ys) → IsFromChange i v
 from-change p me xs i v ys (by_cast a q b e) = absurd (no-pre v ys a.0 (Value_batch a.1) e)
 from-change p me xs i v ys (by_proposal a q b e) = absurd (no-prepare v 0 ys a.0 (digest_of p (Value_batch a.1)) e)
 from-change p me xs i v ys (by_votes s x w q e) = absurd (no-commit v (mode p (i ∷ inputs xs)).view ys s (digest_of p x) e)
@@ -184,12 +197,14 @@ from-change p me xs i v ys (by_changes from w cs sig a b e) =
     record { from = from; certificates = cs; sig = sig; input = subst (λ (z : ℕ). SameInput i (Receive from (ViewChange z cs sig))) (sym r.0) a }
 from-change p me xs i v ys (by_view from w zs sigs sig t a b c k e) = absurd (no-prepare v w ys t (digest_of p (choice zs t.0)) e)
 
-pub new-drafted : (p : Params) (me : ℕ) (xs : List (Item Message)) (v : ℕ) (ys : List Change) → In (DraftNewView v ys) (drafted p me xs) → made_new p me (inputs xs) v ≡ Some ys
+pub new-drafted : (p : Params) (me : ℕ) (xs : List (Item Message)) (v : ℕ) (ys : List Change) →
+    In (DraftNewView v ys) (drafted p me xs) → made_new p me (inputs xs) v ≡ Some ys
 new-drafted p me [] v ys h = absurd h
 new-drafted p me (x ∷ xs) v ys h = elim (in_append (DraftNewView v ys) (drafts p me xs x.input) (drafted p me xs) h) [
   | inl k ↦ new-rule p me xs x.input v ys (rule-of p me xs x.input (DraftNewView v ys) k)
   | inr k ↦ first-keeps (made_new p me (inputs xs) v) (new_at p me (inputs xs) x.input v) ys (new-drafted p me xs v ys k)
 ]
 
-pub one-new : (p : Params) (me : ℕ) (xs : List (Item Message)) (v : ℕ) (ys zs : List Change) → In (DraftNewView v ys) (drafted p me xs) → In (DraftNewView v zs) (drafted p me xs) → ys ≡ zs
+pub one-new : (p : Params) (me : ℕ) (xs : List (Item Message)) (v : ℕ) (ys zs : List Change) →
+    In (DraftNewView v ys) (drafted p me xs) → In (DraftNewView v zs) (drafted p me xs) → ys ≡ zs
 one-new p me xs v ys zs a b = same-some (made_new p me (inputs xs) v) ys zs (new-drafted p me xs v ys a) (new-drafted p me xs v zs b)
