@@ -38,7 +38,7 @@ pub record HaveOneVote (p : Params) (w : World Message) : Type 0 where
   pub prepare : (i v s : ℕ) (d e : List ℕ) → HasVoted p w i 2 v s d → HasVoted p w i 2 v s e → d ≡ e
   pub commit : (i v s : ℕ) (d e : List ℕ) → HasVoted p w i 3 v s d → HasVoted p w i 3 v s e → d ≡ e
 
--- after its ViewChange for view v a correct replica sends no Commit of a view below v
+-- after its ViewChange for view v a replica sends no Commit of a view below v
 abbrev pub AreQuiet : Params → World Message → Type 0
 AreQuiet p w =
     (i v c : ℕ) (x y : Item Message) (before : List (Item Message)) (cs : List Certificate) (slot : Slot)
@@ -104,8 +104,7 @@ pub record IsQuorum (p : Params) (Each : ℕ → Type 0) : Type 0 where
   pub below : all_below p.setup.n nodes ≡ true
   pub each : (j : ℕ) → mem j nodes ≡ true → is_correct p.setup j ≡ true → Each j
 
--- the view decided the digest at the slot: 2f+1 replicas committed it there (of them the correct ones signed a
--- Commit)
+-- the view decided the digest at the slot: of 2f+1 distinct replicas each correct one signed a Commit for it
 abbrev pub IsDecidedView : Params → World Message → ℕ → ℕ → List ℕ → Type 0
 IsDecidedView p w v s d = IsQuorum p (λ j. IsSigned pbft p w j (state_at p 3 v s d))
 
@@ -123,12 +122,12 @@ AreDecided p w =
 
 -- ---- where batches come from
 
--- 2f+1 replicas, the segment's leader among them, accepted the batch at the slot (known of the correct ones)
+-- of 2f+1 distinct replicas, the segment's leader among them, each correct one accepted the batch at the slot
 pub record IsRooted (p : Params) (w : World Message) (s : ℕ) (b : Batch) : Type 0 where
   pub quorum : IsQuorum p (λ j. In {A = Slot × Batch} (record { 0 = s }, b) (accepts (w j)))
   pub led : mem p.leader.0 quorum.nodes ≡ true
 
--- a correct replica accepts one batch for a slot
+-- a replica accepts one batch for a slot
 abbrev pub AreOnce : Params → World Message → Type 0
 AreOnce p w =
     (i : ℕ) (s : Slot) (b c : Batch) → In {A = Slot × Batch} (s, b) (accepts (w i)) →

@@ -13,7 +13,7 @@ pub fn nodes_vote_once()
     ensures { (p : Params) (w : World Message) → IsGoodParams pbft p → IsReached pbft p w → HaveOneVote p w }
 {}
 
-/// After its ViewChange for view v a correct replica sends no Commit of a view below v.
+/// After its ViewChange for view v a replica sends no Commit of a view below v.
 pub fn nodes_commit_nothing_below()
     ensures { (p : Params) (w : World Message) → IsGoodParams pbft p → IsReached pbft p w → AreQuiet p w }
 {}
@@ -52,7 +52,7 @@ pub fn batches_come_from_a_quorum()
         AreRooted p w }
 {}
 
-/// A correct replica accepts one batch for a slot, however often it receives it.
+/// A replica accepts one batch for a slot, however often it receives it.
 pub fn batches_are_accepted_once()
     ensures { (p : Params) (w : World Message) → IsGoodParams pbft p → IsReached pbft p w → AreOnce p w }
 {}
