@@ -1,4 +1,4 @@
--- The choice is the certificate of the highest view, of the least node in a tie.
+-- The choice is the value of the certificate of the highest view, of the lowest replica in a tie.
 use Rattle.std.proofs.Common.{◌≡◌, ℕ, suc, ◌<◌, ◌≤◌, Bool, true, false, cond, List, [], ◌∷◌, ◌++◌, arith, refl, inl, inr, sym, ◌∙◌, subst, ap, Option, Some, None}
 use Rattle.std.specs.Prelude.{◌==◌, nat_lt}
 use Rattle.std.proofs.lemmas.Bool.{cases_Bool, eqb-true, eqb-false, eq-eqb, ltb-true, ltb-false}
@@ -17,12 +17,14 @@ Is o e = o ≡ Some e
 
 -- ---- certificates of ViewChanges
 
-pub in-certificates : (c : Certificate) (x : Change) (xs : List Change) → In x xs → In c x.certificates → In c (certificates_of xs)
+pub in-certificates : (c : Certificate) (x : Change) (xs : List Change) → In x xs → In c x.certificates →
+    In c (certificates_of xs)
 in-certificates c x [] i h = absurd i
 in-certificates c x (y ∷ ys) (inl e) h = in_left c y.certificates (certificates_of ys) (subst (λ (z : Change). In c z.certificates) e h)
 in-certificates c x (y ∷ ys) (inr i) h = in_right c y.certificates (certificates_of ys) (in-certificates c x ys i h)
 
-pub certificate-from : (c : Certificate) (xs : List Change) → In c (certificates_of xs) → (x : Change) × In x xs × In c x.certificates
+pub certificate-from : (c : Certificate) (xs : List Change) → In c (certificates_of xs) →
+    (x : Change) × In x xs × In c x.certificates
 certificate-from c [] h = absurd h
 certificate-from c (x ∷ xs) h = elim (in_append c x.certificates (certificates_of xs) h) [
   | inl a ↦ (x, inl refl, a)
@@ -31,7 +33,7 @@ certificate-from c (x ∷ xs) h = elim (in_append c x.certificates (certificates
 
 -- ---- the best of a list
 
--- c against what is best behind it
+-- c compared with the best of the rest
 pub data Against (c : Certificate) (o : Option Certificate) : Type 0 where
   alone : o ≡ None → Is (higher c o) c → Against c o
   wins : (e : Certificate) → Is o e → e.view ≤ c.view → Is (higher c o) c → Against c o
@@ -63,12 +65,14 @@ best-in s (c ∷ cs) e h = elim (cases_Bool (c.slot.0 == s)) [
   | inr t ↦ let r = best-in s cs e (sym (best-other s c cs t) ∙ h) in (inr r.0, r.1)
 ]
   where
-    here : c.slot.0 ≡ s → (Is (best s cs) e → In e cs × (e.slot.0 ≡ s)) → Against c (best s cs) → In e (c ∷ cs) × (e.slot.0 ≡ s)
+    here : c.slot.0 ≡ s → (Is (best s cs) e → In e cs × (e.slot.0 ≡ s)) → Against c (best s cs) →
+        In e (c ∷ cs) × (e.slot.0 ≡ s)
     here at r (alone q i) = let k = same-one (best s (c ∷ cs)) e c h (best-here s c cs at ∙ i) in (inl k, ap (λ (z : Certificate). z.slot.0) k ∙ at)
     here at r (wins d q l i) = let k = same-one (best s (c ∷ cs)) e c h (best-here s c cs at ∙ i) in (inl k, ap (λ (z : Certificate). z.slot.0) k ∙ at)
     here at r (loses d q l i) = let k = same-one (best s (c ∷ cs)) e d h (best-here s c cs at ∙ i) in let g = r (q ∙ ap (λ (z : Certificate). Some z) (sym k)) in (inr g.0, g.1)
 
-pub best-max : (s : ℕ) (cs : List Certificate) (c : Certificate) → In c cs → c.slot.0 ≡ s → (e : Certificate) × Is (best s cs) e × (c.view ≤ e.view)
+pub best-max : (s : ℕ) (cs : List Certificate) (c : Certificate) → In c cs → c.slot.0 ≡ s →
+    (e : Certificate) × Is (best s cs) e × (c.view ≤ e.view)
 best-max s [] c i h = absurd i
 best-max s (d ∷ ds) c (inl i) h = here (ap (λ (z : Certificate). z.slot.0) (sym i) ∙ h) (against d (best s ds))
   where
@@ -81,12 +85,13 @@ best-max s (d ∷ ds) c (inr i) h = elim (cases_Bool (d.slot.0 == s)) [
   | inr t ↦ let r = best-max s ds c i h in (r.0, best-other s d ds t ∙ r.1, r.2)
 ]
   where
-    here : d.slot.0 ≡ s → (e : Certificate) × Is (best s ds) e × (c.view ≤ e.view) → Against d (best s ds) → (e : Certificate) × Is (best s (d ∷ ds)) e × (c.view ≤ e.view)
+    here : d.slot.0 ≡ s → (e : Certificate) × Is (best s ds) e × (c.view ≤ e.view) → Against d (best s ds) →
+        (e : Certificate) × Is (best s (d ∷ ds)) e × (c.view ≤ e.view)
     here at r (alone q k) = absurd (no-one (best s ds) r.0 r.1 q)
     here at r (wins e q l k) = let v = ap (λ (z : Certificate). z.view) (same-one (best s ds) r.0 e r.1 q) in let m = r.2 in (d, best-here s d ds at ∙ k, omega (arith, v, l, m))
     here at r (loses e q l k) = let v = ap (λ (z : Certificate). z.view) (same-one (best s ds) r.0 e r.1 q) in let m = r.2 in (e, best-here s d ds at ∙ k, omega (arith, v, m))
 
--- ---- the best of two lists, one behind the other
+-- ---- the best of two concatenated lists
 
 -- no certificate of the slot in the list is of a higher view
 abbrev NoHigher : ℕ → List Certificate → ℕ → Type 0
@@ -96,7 +101,8 @@ abbrev AllLower : ℕ → List Certificate → Option Certificate → Type 0
 AllLower s cs o = (d : Certificate) → In d cs → d.slot.0 ≡ s → (e : Certificate) × Is o e × (d.view < e.view)
 
 data Split (s : ℕ) (cs ds : List Certificate) : Type 0 where
-  front : (e : Certificate) → Is (best s (cs ++ ds)) e → In e cs → NoHigher s cs e.view → NoHigher s ds e.view → Split s cs ds
+  front : (e : Certificate) → Is (best s (cs ++ ds)) e → In e cs → NoHigher s cs e.view → NoHigher s ds e.view →
+      Split s cs ds
   behind : best s (cs ++ ds) ≡ best s ds → AllLower s cs (best s ds) → Split s cs ds
 
 none-there : (s : ℕ) (ds : List Certificate) (v : ℕ) → best s ds ≡ None → NoHigher s ds v
@@ -105,11 +111,13 @@ none-there s ds v q d i h = let r = best-max s ds d i h in absurd (no-one (best 
 up-to : (s : ℕ) (ds : List Certificate) (e : Certificate) (v : ℕ) → Is (best s ds) e → e.view ≤ v → NoHigher s ds v
 up-to s ds e v q l d i h = let r = best-max s ds d i h in let k = ap (λ (z : Certificate). z.view) (same-one (best s ds) r.0 e r.1 q) in let m = r.2 in omega (arith, k, m, l)
 
-with-first : (s : ℕ) (c : Certificate) (cs : List Certificate) (v : ℕ) → (c.slot.0 ≡ s → c.view ≤ v) → NoHigher s cs v → NoHigher s (c ∷ cs) v
+with-first : (s : ℕ) (c : Certificate) (cs : List Certificate) (v : ℕ) → (c.slot.0 ≡ s → c.view ≤ v) → NoHigher s cs v →
+    NoHigher s (c ∷ cs) v
 with-first s c cs v h g d (inl e) at = let k = ap (λ (z : Certificate). z.view) e in let l = h (ap (λ (z : Certificate). z.slot.0) (sym e) ∙ at) in omega (arith, k, l)
 with-first s c cs v h g d (inr i) at = g d i at
 
-lower-first : (s : ℕ) (c : Certificate) (cs : List Certificate) (o : Option Certificate) → (c.slot.0 ≡ s → (e : Certificate) × Is o e × (c.view < e.view)) → AllLower s cs o → AllLower s (c ∷ cs) o
+lower-first : (s : ℕ) (c : Certificate) (cs : List Certificate) (o : Option Certificate) →
+    (c.slot.0 ≡ s → (e : Certificate) × Is o e × (c.view < e.view)) → AllLower s cs o → AllLower s (c ∷ cs) o
 lower-first s c cs o h g d (inl e) at =
     let r = h (ap (λ (z : Certificate). z.slot.0) (sym e) ∙ at) in
     let k = ap (λ (z : Certificate). z.view) e in
@@ -128,7 +136,7 @@ split s (c ∷ cs) ds = elim (cases_Bool (c.slot.0 == s)) [
     other t (front e q i h g) = front e (best-other s c (cs ++ ds) t ∙ q) (inr i) (with-first s c cs e.view (λ at. absurd (eqb-false c.slot.0 s t at)) h) g
     other t (behind q h) = behind (best-other s c (cs ++ ds) t ∙ q) (lower-first s c cs (best s ds) (λ at. absurd (eqb-false c.slot.0 s t at)) h)
 
-    -- c is not below what is best behind it
+    -- c is not below the best of the rest
     first : Is (best s (c ∷ (cs ++ ds))) c → NoHigher s cs c.view → NoHigher s ds c.view → Split s (c ∷ cs) ds
     first q h g = front c q (inl refl) (with-first s c cs c.view (λ at. omega arith) h) g
 
@@ -148,9 +156,10 @@ split s (c ∷ cs) ds = elim (cases_Bool (c.slot.0 == s)) [
 
 -- ---- the choice
 
--- what is best of ViewChanges
+-- the best certificate of ViewChanges
 data Chosen (xs : List Change) (s : ℕ) : Type 0 where
-  none : best s (certificates_of xs) ≡ None → ((y : Change) (d : Certificate) → In y xs → In d y.certificates → d.slot.0 ≡ s → ⊥) → Chosen xs s
+  none : best s (certificates_of xs) ≡ None →
+      ((y : Change) (d : Certificate) → In y xs → In d y.certificates → d.slot.0 ≡ s → ⊥) → Chosen xs s
   some : (e : Certificate) → Is (best s (certificates_of xs)) e → IsHighest xs s e → Chosen xs s
 
 module _ (p : Params) (v s : ℕ) where
@@ -172,7 +181,8 @@ module _ (p : Params) (v s : ℕ) where
           high y d (inl k) t at = up d (subst (λ (z : Change). In d z.certificates) k t) at
           high y d (inr k) t at = over d (in-certificates d y xs k t) at
 
-          least : (y : Change) (d : Certificate) → In y (x ∷ xs) → In d y.certificates → d.slot.0 ≡ s → d.view ≡ e.view → x.node.0 ≤ y.node.0
+          least : (y : Change) (d : Certificate) → In y (x ∷ xs) → In d y.certificates → d.slot.0 ≡ s →
+              d.view ≡ e.view → x.node.0 ≤ y.node.0
           least y d (inl k) t at w = let n = ap (λ (z : Change). z.node.0) k in omega (arith, n)
           least y d (inr k) t at w = let l = (change-at p v (suc x.node.0) xs y (changes-parts p v from x xs h).rest k).low in omega (arith, l)
       go (behind q lower) (none b lacks) = none (q ∙ b) (λ y d i k at. elim i [
@@ -195,7 +205,8 @@ module _ (p : Params) (v s : ℕ) where
           high y d (inl k) t at = let l = below d (subst (λ (z : Change). In d z.certificates) k t) at in omega (arith, l)
           high y d (inr k) t at = is.high y d k t at
 
-          least : (y : Change) (d : Certificate) → In y (x ∷ xs) → In d y.certificates → d.slot.0 ≡ s → d.view ≡ e.view → is.change.node.0 ≤ y.node.0
+          least : (y : Change) (d : Certificate) → In y (x ∷ xs) → In d y.certificates → d.slot.0 ≡ s →
+              d.view ≡ e.view → is.change.node.0 ≤ y.node.0
           least y d (inl k) t at w = let l = below d (subst (λ (z : Change). In d z.certificates) k t) at in absurd (omega (arith, l, w))
           least y d (inr k) t at w = is.least y d k t at w
 

@@ -1,4 +1,4 @@
--- Each claim of a message names its instance, and where the claims inside it stand.
+-- Each claim of a message names its instance, and comes from a known part of the message.
 use Rattle.std.proofs.Common.{◌≡◌, ℕ, List, [], ◌∷◌, ◌++◌, refl, ap, subst, inl, inr}
 use Rattle.iss_base.specs.Lists.{In}
 use Rattle.iss_base.proofs.Lists.{in_append, in_left, in_right}
@@ -27,7 +27,8 @@ AreNamed p cs = (c : Claim) → In c cs → Named p c
 named-none : (p : Params) → AreNamed p []
 named-none p c h = absurd h
 
-named-more : (p : Params) (by kind v : ℕ) (fields sig : List ℕ) (cs : List Claim) → AreNamed p cs → AreNamed p (claim by (statement p kind v fields) sig ∷ cs)
+named-more : (p : Params) (by kind v : ℕ) (fields sig : List ℕ) (cs : List Claim) → AreNamed p cs →
+    AreNamed p (claim by (statement p kind v fields) sig ∷ cs)
 named-more p by kind v fields sig cs more c (inl e) = (kind ∷ (two_bytes v ++ fields), ap (λ (z : Claim). z.statement) e)
 named-more p by kind v fields sig cs more c (inr h) = more c h
 
@@ -52,7 +53,8 @@ changes-named : (p : Params) (xs : List Change) → AreNamed p (changes_claims p
 changes-named p [] = named-none p
 changes-named p (x ∷ xs) = named-both p (change_claims p x.node.0 x.view x.certificates x.sig) (changes_claims p xs) (change-named p x.node.0 x.view x.certificates x.sig) (changes-named p xs)
 
-chosen-named : (p : Params) (by v : ℕ) (xs : List Change) (ss : List Slot) (sigs : List (List ℕ)) → AreNamed p (chosen_claims p by v xs ss sigs)
+chosen-named : (p : Params) (by v : ℕ) (xs : List Change) (ss : List Slot) (sigs : List (List ℕ)) →
+    AreNamed p (chosen_claims p by v xs ss sigs)
 chosen-named p by v xs [] sigs = named-none p
 chosen-named p by v xs (s ∷ ss) [] = named-none p
 chosen-named p by v xs (s ∷ ss) (sig ∷ sigs) = named-more p by 1 v _ sig _ (chosen-named p by v xs ss sigs)
@@ -66,54 +68,60 @@ named p by (NewView v xs sigs sig) =
     named-both p (changes_claims p xs) _ (changes-named p xs)
     (named-both p (chosen_claims p by v xs p.slots sigs) _ (chosen-named p by v xs p.slots sigs) (named-more p by 5 v [] sig [] (named-none p)))
 
--- ---- where claims stand
+-- ---- the origin of claims
 
 -- a claim of certificates is one of a certificate among them
-pub claim-certificate : (p : Params) (t : Claim) (cs : List Certificate) → In t (certificates_claims p cs) → (c : Certificate) × In c cs × In t (certificate_claims p c)
+pub claim-certificate : (p : Params) (t : Claim) (cs : List Certificate) → In t (certificates_claims p cs) →
+    (c : Certificate) × In c cs × In t (certificate_claims p c)
 claim-certificate p t [] h = absurd h
 claim-certificate p t (c ∷ cs) h = elim (in_append t (certificate_claims p c) (certificates_claims p cs) h) [
   | inl a ↦ (c, inl refl, a)
   | inr a ↦ let r = claim-certificate p t cs a in (r.0, inr r.1, r.2)
 ]
 
-pub certificate-claim : (p : Params) (t : Claim) (c : Certificate) (cs : List Certificate) → In c cs → In t (certificate_claims p c) → In t (certificates_claims p cs)
+pub certificate-claim : (p : Params) (t : Claim) (c : Certificate) (cs : List Certificate) → In c cs →
+    In t (certificate_claims p c) → In t (certificates_claims p cs)
 certificate-claim p t c [] i h = absurd i
 certificate-claim p t c (d ∷ ds) (inl e) h = in_left t (certificate_claims p d) (certificates_claims p ds) (subst (λ (z : Certificate). In t (certificate_claims p z)) e h)
 certificate-claim p t c (d ∷ ds) (inr i) h = in_right t (certificate_claims p d) (certificates_claims p ds) (certificate-claim p t c ds i h)
 
--- and one of ViewChanges is one of a ViewChange among them
-pub claim-change : (p : Params) (t : Claim) (xs : List Change) → In t (changes_claims p xs) → (x : Change) × In x xs × In t (change_claims p x.node.0 x.view x.certificates x.sig)
+-- a claim of ViewChanges is one of a ViewChange among them
+pub claim-change : (p : Params) (t : Claim) (xs : List Change) → In t (changes_claims p xs) →
+    (x : Change) × In x xs × In t (change_claims p x.node.0 x.view x.certificates x.sig)
 claim-change p t [] h = absurd h
 claim-change p t (x ∷ xs) h = elim (in_append t (change_claims p x.node.0 x.view x.certificates x.sig) (changes_claims p xs) h) [
   | inl a ↦ (x, inl refl, a)
   | inr a ↦ let r = claim-change p t xs a in (r.0, inr r.1, r.2)
 ]
 
-pub change-claim : (p : Params) (t : Claim) (x : Change) (xs : List Change) → In x xs → In t (change_claims p x.node.0 x.view x.certificates x.sig) → In t (changes_claims p xs)
+pub change-claim : (p : Params) (t : Claim) (x : Change) (xs : List Change) → In x xs →
+    In t (change_claims p x.node.0 x.view x.certificates x.sig) → In t (changes_claims p xs)
 change-claim p t x [] i h = absurd i
 change-claim p t x (y ∷ ys) (inl e) h = in_left t (change_claims p y.node.0 y.view y.certificates y.sig) (changes_claims p ys) (subst (λ (z : Change). In t (change_claims p z.node.0 z.view z.certificates z.sig)) e h)
 change-claim p t x (y ∷ ys) (inr i) h = in_right t (change_claims p y.node.0 y.view y.certificates y.sig) (changes_claims p ys) (change-claim p t x ys i h)
 
--- a claim on the choice is of its sender, and over the choice at a slot
+-- a claim on a choice is made by the sender, on the choice at a slot
 pub record IsChosenClaim (p : Params) (by v : ℕ) (xs : List Change) (ss : List Slot) (t : Claim) : Type 0 where
   pub slot : Slot
   pub within : In slot ss
   pub by_sender : t.by.0 ≡ by
   pub is : t.statement ≡ state_at p 1 v slot.0 (digest_of p (choice xs slot.0))
 
-pub chosen-claim : (p : Params) (by v : ℕ) (xs : List Change) (ss : List Slot) (sigs : List (List ℕ)) (t : Claim) → In t (chosen_claims p by v xs ss sigs) → IsChosenClaim p by v xs ss t
+pub chosen-claim : (p : Params) (by v : ℕ) (xs : List Change) (ss : List Slot) (sigs : List (List ℕ)) (t : Claim) →
+    In t (chosen_claims p by v xs ss sigs) → IsChosenClaim p by v xs ss t
 chosen-claim p by v xs [] sigs t h = absurd h
 chosen-claim p by v xs (s ∷ ss) [] t h = absurd h
 chosen-claim p by v xs (s ∷ ss) (sig ∷ sigs) t (inl e) = record { slot = s; within = inl refl; by_sender = ap (λ (z : Claim). z.by.0) e; is = ap (λ (z : Claim). z.statement) e }
 chosen-claim p by v xs (s ∷ ss) (sig ∷ sigs) t (inr h) = let r = chosen-claim p by v xs ss sigs t h in record { slot = r.slot; within = inr r.within; by_sender = r.by_sender; is = r.is }
 
--- a Prepare's claim in a certificate
+-- the claim of a Prepare in a certificate
 pub record IsVoteClaim (p : Params) (v s : ℕ) (d : List ℕ) (xs : List Signed) (t : Claim) : Type 0 where
   pub vote : Signed
   pub stands : In vote xs
   pub is : t ≡ claim vote.by.0 (state_at p 2 v s d) vote.sig
 
-pub vote-claim : (p : Params) (v s : ℕ) (d : List ℕ) (xs : List Signed) (t : Claim) → In t (vote_claims p v s d xs) → IsVoteClaim p v s d xs t
+pub vote-claim : (p : Params) (v s : ℕ) (d : List ℕ) (xs : List Signed) (t : Claim) → In t (vote_claims p v s d xs) →
+    IsVoteClaim p v s d xs t
 vote-claim p v s d [] t h = absurd h
 vote-claim p v s d (x ∷ xs) t (inl e) = record { vote = x; stands = inl refl; is = e }
 vote-claim p v s d (x ∷ xs) t (inr h) = let r = vote-claim p v s d xs t h in record { vote = r.vote; stands = inr r.stands; is = r.is }

@@ -1,4 +1,4 @@
--- What good certificates and ViewChanges have.
+-- The properties of good certificates and ViewChanges.
 use Rattle.std.proofs.Common.{◌≡◌, ℕ, suc, ◌+◌, ◌*◌, ◌<◌, ◌≤◌, Bool, true, false, ◌&&◌, ◌||◌, not, List, [], ◌∷◌, length, arith, refl, inl, inr, sym, ◌∙◌, subst, ap}
 use Rattle.std.specs.Prelude.{◌==◌, nat_lt, nat_le}
 use Rattle.std.proofs.lemmas.Bool.{eqb-true, eq-eqb, leb-true, ltb-true, false≢true, true≢false}
@@ -31,14 +31,16 @@ record Voters (p : Params) (but from : ℕ) (x : Signed) (xs : List Signed) : Ty
   pub first : IsVoter p but from x.by.0
   pub rest : are_voters p but (suc x.by.0) xs ≡ true
 
-voters-parts : (p : Params) (but from : ℕ) (x : Signed) (xs : List Signed) → are_voters p but from (x ∷ xs) ≡ true → Voters p but from x xs
+voters-parts : (p : Params) (but from : ℕ) (x : Signed) (xs : List Signed) → are_voters p but from (x ∷ xs) ≡ true →
+    Voters p but from x xs
 voters-parts p but from x xs h =
     let a = and-true (nat_le from x.by.0 && (nat_lt x.by.0 p.setup.n && not (x.by.0 == but))) (are_voters p but (suc x.by.0) xs) h in
     let b = and-true (nat_le from x.by.0) (nat_lt x.by.0 p.setup.n && not (x.by.0 == but)) a.0 in
     let c = and-true (nat_lt x.by.0 p.setup.n) (not (x.by.0 == but)) b.1 in
     record { first = record { low = leb-true from x.by.0 b.0; high = ltb-true x.by.0 p.setup.n c.0; other = not-true (x.by.0 == but) c.1 }; rest = a.1 }
 
-pub voter-at : (p : Params) (but from : ℕ) (xs : List Signed) (j : ℕ) → are_voters p but from xs ≡ true → mem j (nodes_of xs) ≡ true → IsVoter p but from j
+pub voter-at : (p : Params) (but from : ℕ) (xs : List Signed) (j : ℕ) → are_voters p but from xs ≡ true →
+    mem j (nodes_of xs) ≡ true → IsVoter p but from j
 voter-at p but from [] j h m = absurd (false≢true m)
 voter-at p but from (x ∷ xs) j h m =
     let v = voters-parts p but from x xs h in
@@ -51,7 +53,8 @@ voter-at p but from (x ∷ xs) j h m =
           record { low = omega (arith, l, o); high = r.high; other = r.other }
     ]
 
-voters-apart : (p : Params) (but from : ℕ) (xs : List Signed) → are_voters p but from xs ≡ true → distinct (nodes_of xs) ≡ true
+voters-apart : (p : Params) (but from : ℕ) (xs : List Signed) → are_voters p but from xs ≡ true →
+    distinct (nodes_of xs) ≡ true
 voters-apart p but from [] h = refl
 voters-apart p but from (x ∷ xs) h =
     let v = voters-parts p but from x xs h in
@@ -76,7 +79,8 @@ good-votes p c h =
       batch = batch-below c.view (is_batch c.value) d.1;
     }
 
-pub all_good-at : (p : Params) (v : ℕ) (cs : List Certificate) (c : Certificate) → all_good p v cs ≡ true → In c cs → (c.view < v) × (is_good p c ≡ true)
+pub all_good-at : (p : Params) (v : ℕ) (cs : List Certificate) (c : Certificate) → all_good p v cs ≡ true → In c cs →
+    (c.view < v) × (is_good p c ≡ true)
 all_good-at p v [] c h i = absurd i
 all_good-at p v (x ∷ xs) c h (inl e) =
     let b = and-true (is_good p x) (nat_lt x.view v) (and-true (is_good p x && nat_lt x.view v) (all_good p v xs) h).0 in
@@ -99,7 +103,8 @@ pub record Changes (p : Params) (v from : ℕ) (x : Change) (xs : List Change) :
   pub first : IsChange p v from x
   pub rest : are_changes p v (suc x.node.0) xs ≡ true
 
-pub changes-parts : (p : Params) (v from : ℕ) (x : Change) (xs : List Change) → are_changes p v from (x ∷ xs) ≡ true → Changes p v from x xs
+pub changes-parts : (p : Params) (v from : ℕ) (x : Change) (xs : List Change) → are_changes p v from (x ∷ xs) ≡ true →
+    Changes p v from x xs
 changes-parts p v from x xs h =
     let a = and-true ((nat_le from x.node.0 && nat_lt x.node.0 p.setup.n) && ((x.view == v) && all_good p v x.certificates)) (are_changes p v (suc x.node.0) xs) h in
     let b = and-true (nat_le from x.node.0 && nat_lt x.node.0 p.setup.n) ((x.view == v) && all_good p v x.certificates) a.0 in
@@ -107,7 +112,8 @@ changes-parts p v from x xs h =
     let d = and-true (x.view == v) (all_good p v x.certificates) b.1 in
     record { first = record { low = leb-true from x.node.0 c.0; high = ltb-true x.node.0 p.setup.n c.1; view = eqb-true x.view v d.0; good = d.1 }; rest = a.1 }
 
-pub change-at : (p : Params) (v from : ℕ) (xs : List Change) (x : Change) → are_changes p v from xs ≡ true → In x xs → IsChange p v from x
+pub change-at : (p : Params) (v from : ℕ) (xs : List Change) (x : Change) → are_changes p v from xs ≡ true → In x xs →
+    IsChange p v from x
 change-at p v from [] x h i = absurd i
 change-at p v from (y ∷ ys) x h (inl e) = subst (λ (z : Change). IsChange p v from z) (sym e) (changes-parts p v from y ys h).first
 change-at p v from (y ∷ ys) x h (inr i) =
@@ -117,7 +123,7 @@ change-at p v from (y ∷ ys) x h (inr i) =
     let o = r.low in
     record { low = omega (arith, l, o); high = r.high; view = r.view; good = r.good }
 
--- whoever is named made one of them
+-- each replica that is listed sent one of them
 pub maker-at : (j : ℕ) (xs : List Change) → mem j (makers_of xs) ≡ true → (x : Change) × In x xs × (x.node.0 ≡ j)
 maker-at j [] h = absurd (false≢true h)
 maker-at j (x ∷ xs) h = elim (mem-cases j x.node.0 (makers_of xs) h) [
@@ -125,7 +131,8 @@ maker-at j (x ∷ xs) h = elim (mem-cases j x.node.0 (makers_of xs) h) [
   | inr m ↦ let r = maker-at j xs m in (r.0, inr r.1, r.2)
 ]
 
-changes-apart : (p : Params) (v from : ℕ) (xs : List Change) → are_changes p v from xs ≡ true → distinct (makers_of xs) ≡ true
+changes-apart : (p : Params) (v from : ℕ) (xs : List Change) → are_changes p v from xs ≡ true →
+    distinct (makers_of xs) ≡ true
 changes-apart p v from [] h = refl
 changes-apart p v from (x ∷ xs) h =
     let q = changes-parts p v from x xs h in

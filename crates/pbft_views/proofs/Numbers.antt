@@ -1,4 +1,4 @@
--- Lists of node numbers: of different ones, and below a bound.
+-- Lists of replicas: distinct ones, and those below a bound.
 use Rattle.std.proofs.Common.{◌≡◌, ℕ, ◌<◌, true, not, List, [], ◌∷◌, refl, inl, inr, ◌⊎◌}
 use Rattle.std.specs.Prelude.{◌==◌, nat_lt}
 use Rattle.std.proofs.lemmas.Bool.{eqb-true, eq-eqb, false_from_ne_true, lt-ltb, not_from_false, or_cases, or_left}

@@ -1,4 +1,4 @@
--- What digests, strings and statements tell.
+-- Digests, strings and statements determine what they are of.
 use Rattle.std.proofs.Common.{◌≡◌, ℕ, true, List, [], ◌∷◌, ◌++◌, length, refl, sym, ap, ◌∙◌, inl, inr, suc}
 use Rattle.sha2.proofs.Facts256.{length-sha256}
 use Rattle.iss_base.specs.Lists.{In}
@@ -19,8 +19,9 @@ use Rattle.pbft_wire.proofs.Fields.{value-again}
 good-same : (x y : Value) → Good x [] ≡ Good y [] → x ≡ y
 good-same x y h = cc
 
--- values that have a spelling are told apart by their strings
-pub one-value : (p : Params) (x y : Value) → fits_value p.setup.version x ≡ true → fits_value p.setup.version y ≡ true → string_of p x ≡ string_of p y → x ≡ y
+-- distinct values with encodings have distinct strings
+pub one-value : (p : Params) (x y : Value) → fits_value p.setup.version x ≡ true → fits_value p.setup.version y ≡ true →
+    string_of p x ≡ string_of p y → x ≡ y
 one-value p x y h k e =
     let v = p.setup.version in
     let same : spell_value v x ≡ spell_value v y = cc in
@@ -37,15 +38,16 @@ pub record SameAt (k l v w s t : ℕ) (d e : List ℕ) : Type 0 where
   pub slot : s ≡ t
   pub digest : d ≡ e
 
-pub at-same : (p : Params) (k l v w s t : ℕ) (d e : List ℕ) → state_at p k v s d ≡ state_at p l w t e → SameAt k l v w s t d e
+pub at-same : (p : Params) (k l v w s t : ℕ) (d e : List ℕ) → state_at p k v s d ≡ state_at p l w t e →
+    SameAt k l v w s t d e
 at-same p k l v w s t d e h =
     let a = statement-same 1 p tag k l v w (eight_bytes s ++ d) (eight_bytes t ++ e) h in
     let b = wide-same 7 s t d e a.behind in
     record { kind = a.kind; view = a.number; slot = b.0; digest = b.1 }
 
--- ---- a ViewChange's statement says which certificates it holds
+-- ---- the statement of a ViewChange determines its certificates up to slot, view and digest
 
--- a certificate of that slot, view and digest
+-- there is a certificate of that slot, view and digest
 pub record HasMark (p : Params) (c : Certificate) (cs : List Certificate) : Type 0 where
   pub other : Certificate
   pub stands : In other cs
@@ -59,7 +61,8 @@ no-length n h = cc
 same-length : (n m : ℕ) → suc n ≡ suc m → n ≡ m
 same-length n m h = cc
 
-marks-same : (p : Params) (cs ds : List Certificate) (c : Certificate) → length cs ≡ length ds → marks p cs ≡ marks p ds → In c cs → HasMark p c ds
+marks-same : (p : Params) (cs ds : List Certificate) (c : Certificate) → length cs ≡ length ds →
+    marks p cs ≡ marks p ds → In c cs → HasMark p c ds
 marks-same p [] ds c n e h = absurd h
 marks-same p (x ∷ cs) [] c n e h = absurd (no-length (length cs) n)
 marks-same p (x ∷ cs) (y ∷ ds) c n e h =
@@ -81,7 +84,8 @@ pub record SameChange (p : Params) (v w : ℕ) (cs ds : List Certificate) : Type
   pub view : v ≡ w
   pub each : (c : Certificate) → In c cs → HasMark p c ds
 
-pub change-same : (p : Params) (v w : ℕ) (cs ds : List Certificate) → state_change p v cs ≡ state_change p w ds → SameChange p v w cs ds
+pub change-same : (p : Params) (v w : ℕ) (cs ds : List Certificate) → state_change p v cs ≡ state_change p w ds →
+    SameChange p v w cs ds
 change-same p v w cs ds h =
     let a = statement-same 1 p tag 4 4 v w (length cs ∷ marks p cs) (length ds ∷ marks p ds) h in
     let f : length cs ∷ marks p cs ≡ length ds ∷ marks p ds = a.behind in

@@ -17,10 +17,11 @@ abbrev pub vote_claims : Params → ℕ → ℕ → List ℕ → List Signed →
 vote_claims p v s d [] = []
 vote_claims p v s d (x ∷ xs) = claim x.by.0 (state_at p 2 v s d) x.sig ∷ vote_claims p v s d xs
 
--- of the primary's PrePrepare, and of the Prepares
+-- the claims of a certificate: the primary's PrePrepare, and the Prepares
 abbrev pub certificate_claims : Params → Certificate → List Claim
 certificate_claims p c =
-    claim (primary p c.view) (state_at p 1 c.view c.slot.0 (digest_of p c.value)) c.sig ∷ vote_claims p c.view c.slot.0 (digest_of p c.value) c.prepares
+    claim (primary p c.view) (state_at p 1 c.view c.slot.0 (digest_of p c.value)) c.sig ∷
+    vote_claims p c.view c.slot.0 (digest_of p c.value) c.prepares
 
 abbrev pub certificates_claims : Params → List Certificate → List Claim
 certificates_claims p [] = []
@@ -33,11 +34,13 @@ abbrev pub changes_claims : Params → List Change → List Claim
 changes_claims p [] = []
 changes_claims p (x ∷ xs) = change_claims p x.node.0 x.view x.certificates x.sig ++ changes_claims p xs
 
--- the k-th signature of a PrePrepare is over the segment's k-th slot and its choice; those past the slots are no claims
+-- the k-th signature is on the PrePrepare for the choice at the segment's k-th slot; signatures beyond the slots are
+-- no claims
 abbrev pub chosen_claims : Params → ℕ → ℕ → List Change → List Slot → List (List ℕ) → List Claim
 chosen_claims p by v xs [] sigs = []
 chosen_claims p by v xs (s ∷ ss) [] = []
-chosen_claims p by v xs (s ∷ ss) (sig ∷ sigs) = claim by (state_at p 1 v s.0 (digest_of p (choice xs s.0))) sig ∷ chosen_claims p by v xs ss sigs
+chosen_claims p by v xs (s ∷ ss) (sig ∷ sigs) =
+    claim by (state_at p 1 v s.0 (digest_of p (choice xs s.0))) sig ∷ chosen_claims p by v xs ss sigs
 
 -- rule: PBFT: A message claims each signature in it, in the order of its bytes
 abbrev pub claims : Params → ℕ → Message → List Claim
@@ -45,4 +48,5 @@ claims p by (PrePrepare v slot x sig) = claim by (state_at p 1 v slot.0 (digest_
 claims p by (Prepare v slot d sig) = claim by (state_at p 2 v slot.0 d) sig ∷ []
 claims p by (Commit v slot d sig) = claim by (state_at p 3 v slot.0 d) sig ∷ []
 claims p by (ViewChange v cs sig) = change_claims p by v cs sig
-claims p by (NewView v xs sigs sig) = changes_claims p xs ++ (chosen_claims p by v xs p.slots sigs ++ claim by (state_new p v) sig ∷ [])
+claims p by (NewView v xs sigs sig) =
+    changes_claims p xs ++ (chosen_claims p by v xs p.slots sigs ++ claim by (state_new p v) sig ∷ [])

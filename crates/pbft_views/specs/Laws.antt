@@ -19,7 +19,7 @@ abbrev pub makers_of : List Change → List ℕ
 makers_of [] = []
 makers_of (x ∷ xs) = x.node.0 ∷ makers_of xs
 
--- 2f Prepares of different nodes other than the primary, at a slot of the segment; in view 0 a batch
+-- Prepares of 2f distinct replicas other than the primary, at a slot of the segment; in view 0 the value is a batch
 pub record HasVotes (p : Params) (c : Certificate) : Type 0 where
   pub within : In c.slot p.slots
   pub count : length (nodes_of c.prepares) ≡ 2 * p.setup.f
@@ -27,7 +27,7 @@ pub record HasVotes (p : Params) (c : Certificate) : Type 0 where
   pub below : all_below p.setup.n (nodes_of c.prepares) ≡ true
   pub batch : c.view ≡ 0 → is_batch c.value ≡ true
 
--- 2f+1 ViewChanges of different nodes for view v, each with good certificates of lower views
+-- ViewChanges of 2f+1 distinct replicas for view v, each with good certificates of lower views
 pub record HasChanges (p : Params) (v : ℕ) (xs : List Change) : Type 0 where
   pub count : length (makers_of xs) ≡ 2 * p.setup.f + 1
   pub apart : distinct (makers_of xs) ≡ true
@@ -35,14 +35,15 @@ pub record HasChanges (p : Params) (v : ℕ) (xs : List Change) : Type 0 where
   pub view : (x : Change) → In x xs → x.view ≡ v
   pub good : (x : Change) → In x xs → (c : Certificate) → In c x.certificates → (c.view < v) × HasVotes p c
 
--- of the slot none is of a higher view, and none of that view is of a lower node
+-- no certificate of the slot is of a higher view, and none of the same view is shown by a lower replica
 pub record IsHighest (xs : List Change) (s : ℕ) (c : Certificate) : Type 0 where
   pub change : Change
   pub stands : In change xs
   pub holds : In c change.certificates
   pub slot : c.slot.0 ≡ s
   pub high : (y : Change) (d : Certificate) → In y xs → In d y.certificates → d.slot.0 ≡ s → d.view ≤ c.view
-  pub least : (y : Change) (d : Certificate) → In y xs → In d y.certificates → d.slot.0 ≡ s → d.view ≡ c.view → change.node.0 ≤ y.node.0
+  pub least : (y : Change) (d : Certificate) → In y xs → In d y.certificates → d.slot.0 ≡ s → d.view ≡ c.view →
+      change.node.0 ≤ y.node.0
 
 pub data IsChoice (xs : List Change) (s : ℕ) : Value → Type 0 where
   nothing : ((y : Change) (d : Certificate) → In y xs → In d y.certificates → d.slot.0 ≡ s → ⊥) → IsChoice xs s Nil

@@ -1,4 +1,4 @@
-//! What a new view proposes at a slot. Nothing is copied but the choice itself.
+//! The value that a new view proposes at a slot. Only the chosen value is copied.
 ghost use Rattle.std.specs.Prelude.{◌≡◌, Some, option_copied, IfOk};
 ghost use Rattle.pbft_views.specs.Choice.{best, certificates_of, choice, further, higher};
 ghost use Rattle.pbft_wire.specs.Statements.{digest_of, string_of};
@@ -8,7 +8,7 @@ use iss_sb::Params;
 use pbft_wire::{Certificate, Change, digest_of, string_of};
 use std::alloc::Global;
 
-// The one of the higher view, the first of two of one view.
+// The certificate of the higher view, the first one in a tie.
 fn further<'a>(
     first: Option<&'a Certificate>,
     second: Option<&'a Certificate>,
@@ -36,7 +36,7 @@ fn higher<'a>(first: &'a Certificate, second: Option<&'a Certificate>) -> &'a Ce
     }
 }
 
-/// The certificate of the highest view at the slot, the first of these.
+/// The certificate of the highest view at the slot, the first one in a tie.
 pub fn best<'a>(slot: Slot, certificates: &'a [Certificate]) -> Option<&'a Certificate>
     ensures { option_copied result ≡ best slot.0 certificates.now }
 {
@@ -49,7 +49,8 @@ pub fn best<'a>(slot: Slot, certificates: &'a [Certificate]) -> Option<&'a Certi
     found
 }
 
-/// The certificate of the highest view at the slot among those of ViewChanges, the first of these.
+/// The certificate of the highest view at the slot in these ViewChanges. In a tie it is that of the lowest replica,
+/// since they ascend.
 // rule: PBFT: A new view proposes the value of the certificate of the highest view, else nil
 pub fn best_shown<'a>(slot: Slot, changes: &'a [Change]) -> Option<&'a Certificate>
     ensures { option_copied result ≡ best slot.0 (certificates_of changes.now) }
@@ -61,7 +62,7 @@ pub fn best_shown<'a>(slot: Slot, changes: &'a [Change]) -> Option<&'a Certifica
     found
 }
 
-/// What a new view that begins with these ViewChanges proposes at the slot.
+/// The value that a new view with these ViewChanges proposes at the slot.
 pub fn choice(slot: Slot, changes: &[Change]) -> Result<Value, NoMemory>
     ensures { IfOk result (λ x. x ≡ choice changes.now slot.0) }
 {
@@ -71,7 +72,7 @@ pub fn choice(slot: Slot, changes: &[Change]) -> Result<Value, NoMemory>
     }
 }
 
-/// Its digest.
+/// The digest of the choice.
 pub fn choice_digest(alloc: Global, p: &Params, slot: Slot, changes: &[Change]) -> [u8; 32]
     ensures { result ≡ digest_of p.now (choice changes.now slot.0) }
 {
@@ -81,7 +82,7 @@ pub fn choice_digest(alloc: Global, p: &Params, slot: Slot, changes: &[Change]) 
     }
 }
 
-/// The string that is hashed of it.
+/// The string of the choice, of which the digest is taken.
 pub fn choice_string(
     alloc: Global,
     p: &Params,

@@ -1,4 +1,4 @@
-//! What a message says that nodes have signed.
+//! The claims of a message: the statements that it says replicas have signed.
 ghost use Rattle.std.specs.Prelude.{◌≡◌, ◌++◌, ◌∷◌, [], map, IfOk, OnOk};
 ghost use Rattle.iss_request.specs.Setup.{IsGoodSetup};
 ghost use Rattle.pbft_wire.specs.Marks.{mark_of};
@@ -18,7 +18,7 @@ use pbft_wire::{
 };
 use std::alloc::Global;
 
-// ---- what claims are put behind others
+// ---- claims that are appended to `all`
 
 fn put_claim(
     by: NodeId,
@@ -32,7 +32,7 @@ fn put_claim(
     all.push(Claim { by, statement, sig })
 }
 
-// The claims of Prepares for what is marked. All have one statement.
+// The claims of Prepares for the marked value. All have one statement.
 fn put_vote_claims(
     p: &Params,
     mark: &Mark,
@@ -41,7 +41,8 @@ fn put_vote_claims(
     all: &mut Seq<Claim>,
 ) -> Result<(), NoMemory>
     requires { statement.now ≡ state_at p.now 2 mark.now.view mark.now.slot.0 mark.now.digest }
-    ensures { OnOk result (all.new ≡ all.old ++ vote_claims p.now mark.now.view mark.now.slot.0 mark.now.digest votes.now) }
+    ensures { OnOk result
+        (all.new ≡ all.old ++ vote_claims p.now mark.now.view mark.now.slot.0 mark.now.digest votes.now) }
 {
     match votes {
         [] => Ok(()),
@@ -70,7 +71,7 @@ fn put_certificate_claims(
     put_vote_claims(p, mark, &prepared, c.prepares.as_slice(), all)
 }
 
-// Puts the marks of the certificates behind others, too.
+// Appends the claims of the certificates to `all`, and their marks to `marks`.
 fn put_certificates_claims(
     alloc: Global,
     p: &Params,
@@ -93,7 +94,7 @@ fn put_certificates_claims(
     }
 }
 
-// A ViewChange of more certificates than a byte counts has no statement in bytes.
+// A ViewChange with more than 255 certificates has no statement: the answer is `NoMemory`.
 fn put_change_claims(
     alloc: Global,
     p: &Params,
@@ -134,7 +135,7 @@ fn put_changes_claims(
     }
 }
 
-// The claim that a new primary's PrePrepare is of the choice.
+// The claim of a new primary's PrePrepare, which is for the choice at the slot.
 fn put_chosen_claim(
     alloc: Global,
     p: &Params,
@@ -145,7 +146,8 @@ fn put_chosen_claim(
     sig: &Bytes,
     all: &mut Seq<Claim>,
 ) -> Result<(), NoMemory>
-    ensures { OnOk result (all.new ≡ all.old ++ claim by.0 (state_at p.now 1 view slot.0 (digest_of p.now (choice changes.now slot.0))) sig.now ∷ []) }
+    ensures { OnOk result (all.new ≡ all.old ++
+        claim by.0 (state_at p.now 1 view slot.0 (digest_of p.now (choice changes.now slot.0))) sig.now ∷ []) }
 {
     let digest = choice_digest(alloc, p, slot, changes);
     let statement = state_at(alloc, p, PRE_PREPARE, view, slot, &digest)?;
@@ -246,8 +248,8 @@ fn claims_of_new_view(
     Ok(all)
 }
 
-/// What a message says that nodes have signed, in the order of its bytes. A ViewChange of more certificates than a byte
-/// counts has no statement in bytes, which is answered as want of memory.
+/// The claims of a message, in the order of its bytes: the signatures inside it, and then its own. A ViewChange with
+/// more than 255 certificates has no statement: the answer is `NoMemory`.
 // rule: PBFT: A message claims each signature in it, in the order of its bytes
 pub fn claims(
     alloc: Global,

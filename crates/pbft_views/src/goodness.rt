@@ -1,4 +1,4 @@
-//! Which certificates and ViewChanges are good by their shape.
+//! Which certificates and ViewChanges are good by their form. Their signatures are verified apart, as claims.
 ghost use Rattle.std.specs.Prelude.{◌≡◌, ◌≤◌};
 ghost use Rattle.iss_request.specs.Formats.{is_batch};
 ghost use Rattle.iss_request.specs.Setup.{IsGoodSetup};
@@ -9,7 +9,7 @@ use iss_request::{NodeId, Slot, Value};
 use iss_sb::{Params, Signed};
 use pbft_wire::{Certificate, Change};
 
-/// The primary of a view.
+/// The primary of a view: the leader of the segment in view 0, and then the replicas in turn.
 pub fn primary(p: &Params, view: u16) -> NodeId
     requires { IsGoodSetup p.now.setup }
     ensures { result.0 ≡ primary p.now view }
@@ -25,7 +25,7 @@ pub fn has_slot(p: &Params, slot: Slot) -> bool
     p.slots.as_slice().contains(&slot)
 }
 
-// Whether votes are of nodes other than this one, ascending from the first number that is allowed.
+// Whether the voters are replicas other than `but`, strictly ascending and not below `from`.
 fn are_voters(p: &Params, but: NodeId, from: u32, votes: &[Signed]) -> bool
     requires { from ≤ 256 }
     ensures { result ≡ are_voters p.now but.0 from votes.now }
@@ -51,8 +51,8 @@ fn is_batch(value: &Value) -> bool
     }
 }
 
-/// Whether a certificate is good: of a slot of the segment, with exactly 2f Prepares of different nodes other than the
-/// primary, and in view 0 with a batch.
+/// Whether a certificate is good: its slot is in the segment, it has Prepares of exactly 2f distinct replicas other
+/// than the primary, and in view 0 its value is a batch.
 // rule: PBFT: A prepared certificate has Prepares of 2f distinct replicas other than the primary
 pub fn is_good(p: &Params, c: &Certificate) -> bool
     requires { IsGoodSetup p.now.setup }
@@ -64,7 +64,7 @@ pub fn is_good(p: &Params, c: &Certificate) -> bool
         && (0 < c.view || is_batch(&c.value))
 }
 
-/// Whether all certificates are good and of views below this one.
+/// Whether all certificates are good and of lower views than `view`.
 pub fn all_good(p: &Params, view: u16, certificates: &[Certificate]) -> bool
     requires { IsGoodSetup p.now.setup }
     ensures { result ≡ all_good p.now view certificates.now }
@@ -77,8 +77,8 @@ pub fn all_good(p: &Params, view: u16, certificates: &[Certificate]) -> bool
     }
 }
 
-// Whether they are ViewChanges of this view of different nodes, ascending from the first number that is allowed, each
-// with good certificates.
+// Whether these are ViewChanges for `view` with good certificates of lower views, their senders strictly ascending
+// and not below `from`.
 fn are_changes(p: &Params, view: u16, from: u32, changes: &[Change]) -> bool
     requires good { IsGoodSetup p.now.setup }
     requires low { from ≤ 256 }
@@ -97,7 +97,7 @@ fn are_changes(p: &Params, view: u16, from: u32, changes: &[Change]) -> bool
     }
 }
 
-/// Whether a view begins with these ViewChanges: 2f+1 of them.
+/// Whether a NewView may hold these ViewChanges: 2f+1, of distinct replicas, for this view, with good certificates.
 // rule: PBFT: A new view needs ViewChanges of 2f+1 distinct replicas with certificates of lower views
 pub fn are_enough(p: &Params, view: u16, changes: &[Change]) -> bool
     requires { IsGoodSetup p.now.setup }

@@ -1,5 +1,5 @@
-//! PBFT's change of views: what messages claim, which certificates are good, and what a new view proposes (Castro and
-//! Liskov, "Practical Byzantine Fault Tolerance").
+//! View changes of PBFT: the claims of messages, good certificates, and what a new view proposes (Castro and Liskov,
+//! "Practical Byzantine Fault Tolerance").
 #![tactic(auto)]
 
 pub mod choosing;

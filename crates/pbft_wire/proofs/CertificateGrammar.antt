@@ -1,4 +1,4 @@
--- Certificates and ViewChanges have one spelling.
+-- Certificates and ViewChanges have one encoding.
 use Rattle.std.proofs.Common.{◌≡◌, ℕ, ◌&&◌, Bool, true, List, ◌∷◌, ◌++◌, length, append_assoc, refl, sym, ap, ◌∙◌, subst}
 use Rattle.std.specs.Prelude.{nat_le}
 use Rattle.std.specs.Int.{to_be_bytes, w16, w64}
@@ -28,16 +28,19 @@ four a b c d r = simp append_assoc
 counted : (a : List ℕ) (n : ℕ) (b c r : List ℕ) → (a ++ (n ∷ (b ++ c))) ++ r ≡ a ++ (n ∷ (b ++ (c ++ r)))
 counted a n b c r = simp append_assoc
 
-counted-four : (a b c d : List ℕ) (n : ℕ) (v r : List ℕ) → (a ++ (b ++ (c ++ (d ++ (n ∷ v))))) ++ r ≡ a ++ (b ++ (c ++ (d ++ (n ∷ (v ++ r)))))
+counted-four : (a b c d : List ℕ) (n : ℕ) (v r : List ℕ) →
+    (a ++ (b ++ (c ++ (d ++ (n ∷ v))))) ++ r ≡ a ++ (b ++ (c ++ (d ++ (n ∷ (v ++ r)))))
 counted-four a b c d n v r = simp append_assoc
 
-pub counted-twice : (a : List ℕ) (n : ℕ) (b : List ℕ) (k : ℕ) (c d r : List ℕ) → (a ++ (n ∷ (b ++ (k ∷ (c ++ d))))) ++ r ≡ a ++ (n ∷ (b ++ (k ∷ (c ++ (d ++ r)))))
+pub counted-twice : (a : List ℕ) (n : ℕ) (b : List ℕ) (k : ℕ) (c d r : List ℕ) →
+    (a ++ (n ∷ (b ++ (k ∷ (c ++ d))))) ++ r ≡ a ++ (n ∷ (b ++ (k ∷ (c ++ (d ++ r)))))
 counted-twice a n b k c d r = simp append_assoc
 
 module _ (version : ℕ) where
   -- ---- certificates
 
-  certificate-again : (c : Certificate) (from : ℕ) (rest : List ℕ) → fits_from version from c ≡ true → parse_certificate version from (certificate_bytes version c ++ rest) ≡ Good c rest
+  certificate-again : (c : Certificate) (from : ℕ) (rest : List ℕ) → fits_from version from c ≡ true →
+      parse_certificate version from (certificate_bytes version c ++ rest) ≡ Good c rest
   unfolding parse_certificate
   certificate-again c from rest e =
       let a = and-true (nat_le from c.slot.0) (fits_certificate version c) e in
@@ -62,7 +65,8 @@ module _ (version : ℕ) where
   abbrev IsCertificate : ℕ → List ℕ → List ℕ → Certificate → Type 0
   IsCertificate from bytes rest c = IsText (fits_from version from c) (certificate_bytes version c) bytes rest
 
-  certificate-parts : (from : ℕ) (bytes rest : List ℕ) (x : Certificate) → parse_certificate version from bytes ≡ Good x rest → IsCertificate from bytes rest x
+  certificate-parts : (from : ℕ) (bytes rest : List ℕ) (x : Certificate) →
+      parse_certificate version from bytes ≡ Good x rest → IsCertificate from bytes rest x
   unfolding parse_certificate
   certificate-parts from bytes rest x e =
       let a = then_parts _ _ bytes rest x e in
@@ -101,7 +105,8 @@ module _ (version : ℕ) where
   abbrev pub text_one : Change → List ℕ
   text_one x = change_bytes version x.view x.certificates x.sig
 
-  pub change-again : (x : Change) (rest : List ℕ) → fits_one x ≡ true → parse_change version x.node.0 (text_one x ++ rest) ≡ Good x rest
+  pub change-again : (x : Change) (rest : List ℕ) → fits_one x ≡ true →
+      parse_change version x.node.0 (text_one x ++ rest) ≡ Good x rest
   unfolding parse_change
   change-again x rest e =
       let cs : List Certificate = x.certificates in
@@ -121,7 +126,8 @@ module _ (version : ℕ) where
     pub fits : fits_one x ≡ true
     pub by : x.node.0 ≡ node
 
-  pub change-parts : (node : ℕ) (bytes rest : List ℕ) (x : Change) → parse_change version node bytes ≡ Good x rest → IsChange node bytes rest x
+  pub change-parts : (node : ℕ) (bytes rest : List ℕ) (x : Change) → parse_change version node bytes ≡ Good x rest →
+      IsChange node bytes rest x
   unfolding parse_change
   change-parts node bytes rest x e =
       let a = then_parts _ _ bytes rest x e in

@@ -1,4 +1,4 @@
--- The definitions of the messages, on rows of bytes. A signature stands as zeros of its length.
+-- The encodings of messages on examples. Zeros of the right length are the signatures.
 use Rattle.std.proofs.Common.{◌≡◌, ℕ, ◌+◌, ◌*◌, List, [], ◌∷◌, ◌++◌, refl}
 use Rattle.std.specs.Prelude.{replicate}
 use Rattle.iss_request.specs.Fields.{Bad}
@@ -34,7 +34,7 @@ pre_prepare_spelled : spell 1 (PrePrepare 0 (slot 259) (Value_batch []) blank) �
 unfolding spell_value spell_batch spell_count
 pre_prepare_spelled = refl
 
--- by the second version the batch inside is spelled otherwise; nil is well spelled too
+-- in the second version the batch inside is encoded otherwise; nil has an encoding too
 second_spelled : spell 2 (PrePrepare 0 (slot 259) (Value_batch []) blank) ≡ 1 ∷ 0 ∷ 0 ∷ 0 ∷ 0 ∷ 0 ∷ 0 ∷ 0 ∷ 0 ∷ 1 ∷ 3 ∷ 2 ∷ 0 ∷ 0 ∷ blank
 unfolding spell_value spell_batch spell_count
 second_spelled = refl
@@ -49,7 +49,7 @@ prepare_spelled = refl
 commit_spelled : spell 1 (Commit 1 (slot 4) (replicate 32 9) blank) ≡ 3 ∷ 0 ∷ 1 ∷ 0 ∷ 0 ∷ 0 ∷ 0 ∷ 0 ∷ 0 ∷ 0 ∷ 4 ∷ replicate 32 9 ++ blank
 commit_spelled = refl
 
--- a certificate with the Prepares of nodes 1 and 3
+-- a certificate with the Prepares of replicas 1 and 3
 abbrev row : List ℕ
 row = 0 ∷ 0 ∷ 0 ∷ 0 ∷ 0 ∷ 0 ∷ 1 ∷ 3 ∷ 0 ∷ 1 ∷ 1 ∷ 0 ∷ (blank ++ (2 ∷ 1 ∷ (blank ++ (3 ∷ blank))))
 
@@ -57,7 +57,7 @@ change_spelled : spell 1 (ViewChange 2 (certificate (vote 1 ∷ vote 3 ∷ []) �
 unfolding spell_value spell_batch spell_count
 change_spelled = refl
 
--- a NewView with that ViewChange of node 1 and an empty one of node 2, and one signature of a PrePrepare
+-- a NewView with that ViewChange of replica 1, an empty one of replica 2, and one signature of a PrePrepare
 abbrev changes : List Change
 changes = record { node = node 1; view = 2; certificates = certificate (vote 1 ∷ vote 3 ∷ []) ∷ []; sig = blank } ∷ record { node = node 2; view = 2; certificates = []; sig = blank } ∷ []
 
@@ -65,7 +65,7 @@ new_spelled : spell 1 (NewView 2 changes (blank ∷ []) blank) ≡ 5 ∷ 0 ∷ 2
 unfolding spell_value spell_batch spell_count
 new_spelled = refl
 
--- what has no spelling is no message's bytes: a view above 65,535, a digest cut short, votes of one node twice
+-- no encoding: a view above 65,535, a short digest, two votes of one replica
 no_view : spell 1 (Commit 65536 (slot 4) (replicate 32 9) blank) ≡ 0 ∷ []
 no_view = refl
 
@@ -75,12 +75,12 @@ no_digest = refl
 no_twice : spell 1 (ViewChange 2 (certificate (vote 3 ∷ vote 3 ∷ []) ∷ []) blank) ≡ 0 ∷ []
 no_twice = refl
 
--- no message has the numbers 0 and 6
+-- the numbers 0 and 6 are of no message
 no_number : (parse 1 (0 ∷ 0 ∷ 2 ∷ []) ≡ Bad 0) × (parse 1 (6 ∷ 0 ∷ 2 ∷ []) ≡ Bad 0)
 unfolding parse such_that byte ◌>>=◌
 no_number = (refl, refl)
 
--- a cut view, slot and count are faults at their fronts
+-- a view, slot or count that is cut short is the bad field
 cut_view : (parse 1 (4 ∷ 0 ∷ []) ≡ Bad 1) × (parse 1 (3 ∷ 0 ∷ 1 ∷ 0 ∷ []) ≡ Bad 3) × (parse 1 (5 ∷ 0 ∷ 1 ∷ []) ≡ Bad 3)
 unfolding parse parse_at parse_view_change parse_new_view parse_change count such_that byte number done ◌>>=◌
 cut_view = (refl, refl, refl)

@@ -1,4 +1,4 @@
--- Counts and values in rows of fields have one spelling.
+-- Counts and values have one encoding.
 use Rattle.std.proofs.Common.{◌≡◌, ℕ, ◌^◌, Bool, true, List, [], ◌∷◌, ◌++◌, length, append-nil, refl, sym, ap, ◌∙◌, inl, inr}
 use Rattle.std.specs.Prelude.{nat_le}
 use Rattle.std.specs.Int.{to_be_bytes, w16, w64}
@@ -22,13 +22,15 @@ use Rattle.pbft_wire.specs.Certificates.{count, fits_count, fits_slot, fits_valu
 pub view-again : (v : ℕ) (rest : List ℕ) → fits_view v ≡ true → number w16 (to_be_bytes w16 v ++ rest) ≡ Good v rest
 view-again v rest h = number_again w16 (2 ^ 16) wide16 v rest (ltb-true v (2 ^ 16) h)
 
-pub view-parts : (bytes rest : List ℕ) (v : ℕ) → number w16 bytes ≡ Good v rest → IsText (fits_view v) (to_be_bytes w16 v) bytes rest
+pub view-parts : (bytes rest : List ℕ) (v : ℕ) → number w16 bytes ≡ Good v rest →
+    IsText (fits_view v) (to_be_bytes w16 v) bytes rest
 view-parts bytes rest v h = let n = number_parts w16 (2 ^ 16) wide16 bytes rest v h in record { parts = n.parts; fits = lt-ltb v (2 ^ 16) n.below }
 
 pub slot-again : (s : ℕ) (rest : List ℕ) → fits_slot s ≡ true → number w64 (to_be_bytes w64 s ++ rest) ≡ Good s rest
 slot-again s rest h = number_again w64 (2 ^ 64) wide64 s rest (ltb-true s (2 ^ 64) h)
 
-pub slot-parts : (bytes rest : List ℕ) (s : ℕ) → number w64 bytes ≡ Good s rest → IsText (fits_slot s) (to_be_bytes w64 s) bytes rest
+pub slot-parts : (bytes rest : List ℕ) (s : ℕ) → number w64 bytes ≡ Good s rest →
+    IsText (fits_slot s) (to_be_bytes w64 s) bytes rest
 slot-parts bytes rest s h = let n = number_parts w64 (2 ^ 64) wide64 bytes rest s h in record { parts = n.parts; fits = lt-ltb s (2 ^ 64) n.below }
 
 -- ---- counts
@@ -68,8 +70,9 @@ module _ (version : ℕ) where
   value-fits Nil bytes h = refl
   value-fits (Value_batch b) bytes h = both (nat_le (length b) (requests_most version)) (list_all has_spelling b) (le-leb (length b) (requests_most version) h.0) (spelled-all b h.1)
 
-  -- a value that fits is read from its spelling, and from nothing else
-  pub value-again : (v : Value) (rest : List ℕ) → fits_value version v ≡ true → parse_value version (spell_value version v ++ rest) ≡ Good v rest
+  -- a well-formed value is read from its encoding, and from nothing else
+  pub value-again : (v : Value) (rest : List ℕ) → fits_value version v ≡ true →
+      parse_value version (spell_value version v ++ rest) ≡ Good v rest
   value-again v rest h =
       let grammar = value_grammar version in
       let read = (value_related version v (text_of v)).1 (text-spelled v h) in
@@ -79,7 +82,8 @@ module _ (version : ℕ) where
         | inr bad ↦ let k = bad [] in absurd (good-bad v [] k.0 (sym alone ∙ k.1))
       ]
 
-  pub value-parts : (bytes rest : List ℕ) (v : Value) → parse_value version bytes ≡ Good v rest → IsText (fits_value version v) (spell_value version v) bytes rest
+  pub value-parts : (bytes rest : List ℕ) (v : Value) → parse_value version bytes ≡ Good v rest →
+      IsText (fits_value version v) (spell_value version v) bytes rest
   value-parts bytes rest v h =
       let grammar = value_grammar version in
       let parts = grammar.only bytes rest v h in

@@ -1,4 +1,4 @@
--- A message has one spelling.
+-- A message has one encoding.
 use Rattle.std.proofs.Common.{zero, suc, ◌≡◌, ℕ, ◌==◌, ◌&&◌, Bool, true, false, List, [], ◌∷◌, ◌++◌, length, append_assoc, refl, sym, ap, ◌∙◌, subst, ◌⊎◌, inl, inr}
 use Rattle.std.specs.Prelude.{nat_le}
 use Rattle.std.specs.Int.{to_be_bytes, w16, w64}
@@ -24,7 +24,8 @@ use Rattle.pbft_wire.proofs.CertificateGrammar.{change-again, change-parts, coun
 
 -- ---- signatures of PrePrepares
 
-pub sigs-again : (sigs : List (List ℕ)) (rest : List ℕ) → list_all is_signature sigs ≡ true → times (length sigs) parse_signature (flat_map as_is sigs ++ rest) ≡ Good sigs rest
+pub sigs-again : (sigs : List (List ℕ)) (rest : List ℕ) → list_all is_signature sigs ≡ true →
+    times (length sigs) parse_signature (flat_map as_is sigs ++ rest) ≡ Good sigs rest
 unfolding times
 sigs-again [] rest e = done_good [] rest
 sigs-again (s ∷ sigs) rest e =
@@ -37,7 +38,8 @@ sigs-again (s ∷ sigs) rest e =
 abbrev AreSigs : ℕ → List ℕ → List ℕ → List (List ℕ) → Type 0
 AreSigs wanted bytes rest sigs = AreText (list_all is_signature sigs) (length sigs) wanted (flat_map as_is sigs) bytes rest
 
-sigs-parts : (many : ℕ) (bytes rest : List ℕ) (sigs : List (List ℕ)) → times many parse_signature bytes ≡ Good sigs rest → AreSigs many bytes rest sigs
+sigs-parts : (many : ℕ) (bytes rest : List ℕ) (sigs : List (List ℕ)) →
+    times many parse_signature bytes ≡ Good sigs rest → AreSigs many bytes rest sigs
 unfolding times
 sigs-parts zero bytes rest sigs e =
     let d = done_parts [] sigs bytes rest e in
@@ -54,7 +56,7 @@ sigs-parts (suc many) bytes rest sigs e =
       counted = ap suc others.counted;
     })
 
--- a Prepare or a Commit, by what it is made of
+-- a Prepare or a Commit, by its constructor
 record IsAt (make : ℕ → Slot → List ℕ → List ℕ → Message) (bytes rest : List ℕ) (msg : Message) : Type 0 where
   pub view : ℕ
   pub slot : Slot
@@ -64,7 +66,8 @@ record IsAt (make : ℕ → Slot → List ℕ → List ℕ → Message) (bytes r
   pub fits : fits_at view slot.0 digest sig ≡ true
   pub parts : bytes ≡ at_bytes view slot.0 (digest ++ sig) ++ rest
 
-at-parts : (make : ℕ → Slot → List ℕ → List ℕ → Message) (bytes rest : List ℕ) (msg : Message) → parse_at make bytes ≡ Good msg rest → IsAt make bytes rest msg
+at-parts : (make : ℕ → Slot → List ℕ → List ℕ → Message) (bytes rest : List ℕ) (msg : Message) →
+    parse_at make bytes ≡ Good msg rest → IsAt make bytes rest msg
 unfolding parse_at
 at-parts make bytes rest msg e =
     let a = then_parts _ _ bytes rest msg e in
@@ -86,7 +89,8 @@ at-parts make bytes rest msg e =
       parts = view.parts ∙ in-front (to_be_bytes w16 a.thing) (slot.parts ∙ in-front (to_be_bytes w64 b.thing) (piece.parts ∙ in-front c.thing (sig.parts ∙ in-front d.thing ends.1))) ∙ sym (four (to_be_bytes w16 a.thing) (to_be_bytes w64 b.thing) c.thing d.thing rest);
     }
 
-at-again : (make : ℕ → Slot → List ℕ → List ℕ → Message) (v : ℕ) (slot : Slot) (x sig rest : List ℕ) → fits_at v slot.0 x sig ≡ true → parse_at make (at_bytes v slot.0 (x ++ sig) ++ rest) ≡ Good (make v slot x sig) rest
+at-again : (make : ℕ → Slot → List ℕ → List ℕ → Message) (v : ℕ) (slot : Slot) (x sig rest : List ℕ) →
+    fits_at v slot.0 x sig ≡ true → parse_at make (at_bytes v slot.0 (x ++ sig) ++ rest) ≡ Good (make v slot x sig) rest
 unfolding parse_at
 at-again make v slot x sig rest e =
     let msg : Message = make v slot x sig in
@@ -103,15 +107,18 @@ at-again make v slot x sig rest e =
     (then_good _ _ _ rest rest sig msg (signature_again sig rest c.1) (done_good msg rest))))
 
 module _ (version : ℕ) where
-  -- ---- ViewChanges in a row
+  -- ---- lists of ViewChanges
 
-  node_change-again : (x : Change) (from : ℕ) (rest : List ℕ) → fits_node_change version from x ≡ true → parse_node_change version from (node_change_bytes version x ++ rest) ≡ Good x rest
+  node_change-again : (x : Change) (from : ℕ) (rest : List ℕ) → fits_node_change version from x ≡ true →
+      parse_node_change version from (node_change_bytes version x ++ rest) ≡ Good x rest
   unfolding parse_node_change
   node_change-again x from rest e =
       let u = and-true (nat_le from x.node.0) (fits_one version x) e in
       then_good _ _ _ (text_one version x ++ rest) rest x.node.0 x (test_passed (λ k. nat_le from k) byte _ _ x.node.0 (byte_again x.node.0 (text_one version x ++ rest)) u.0) (change-again version x rest u.1)
 
-  node_change-parts : (from : ℕ) (bytes rest : List ℕ) (x : Change) → parse_node_change version from bytes ≡ Good x rest → IsText (fits_node_change version from x) (node_change_bytes version x) bytes rest
+  node_change-parts : (from : ℕ) (bytes rest : List ℕ) (x : Change) →
+      parse_node_change version from bytes ≡ Good x rest →
+      IsText (fits_node_change version from x) (node_change_bytes version x) bytes rest
   unfolding parse_node_change
   node_change-parts from bytes rest x e =
       let a = then_parts _ _ bytes rest x e in
@@ -126,12 +133,13 @@ module _ (version : ℕ) where
   node_change-exact : IsExact (parse_node_change version) (fits_node_change version) (node_change_bytes version)
   node_change-exact = record { again = node_change-again; parts = node_change-parts }
 
-  -- ---- the five messages. Each behind its number
+  -- ---- the five messages, each after its number
 
   abbrev IsMessage : ℕ → List ℕ → List ℕ → Message → Type 0
   IsMessage kind bytes rest msg = IsText (fits version msg) (message_bytes version msg) (kind ∷ bytes) rest
 
-  pre_prepare-parts : (bytes rest : List ℕ) (msg : Message) → parse_pre_prepare version bytes ≡ Good msg rest → IsMessage 1 bytes rest msg
+  pre_prepare-parts : (bytes rest : List ℕ) (msg : Message) → parse_pre_prepare version bytes ≡ Good msg rest →
+      IsMessage 1 bytes rest msg
   unfolding parse_pre_prepare
   pre_prepare-parts bytes rest msg e =
       let a = then_parts _ _ bytes rest msg e in
@@ -164,17 +172,20 @@ module _ (version : ℕ) where
       (then_good _ _ _ after_value rest x msg (value-again version x after_value c.0)
       (then_good _ _ _ rest rest sig msg (signature_again sig rest c.1) (done_good msg rest))))
 
-  prepare-parts : (bytes rest : List ℕ) (msg : Message) → parse_at prepare bytes ≡ Good msg rest → IsMessage 2 bytes rest msg
+  prepare-parts : (bytes rest : List ℕ) (msg : Message) → parse_at prepare bytes ≡ Good msg rest →
+      IsMessage 2 bytes rest msg
   prepare-parts bytes rest msg e =
       let r = at-parts prepare bytes rest msg e in
       subst (λ (z : Message). IsMessage 2 bytes rest z) r.is (record { parts = ap (λ (z : List ℕ). 2 ∷ z) r.parts; fits = r.fits })
 
-  commit-parts : (bytes rest : List ℕ) (msg : Message) → parse_at commit bytes ≡ Good msg rest → IsMessage 3 bytes rest msg
+  commit-parts : (bytes rest : List ℕ) (msg : Message) → parse_at commit bytes ≡ Good msg rest →
+      IsMessage 3 bytes rest msg
   commit-parts bytes rest msg e =
       let r = at-parts commit bytes rest msg e in
       subst (λ (z : Message). IsMessage 3 bytes rest z) r.is (record { parts = ap (λ (z : List ℕ). 3 ∷ z) r.parts; fits = r.fits })
 
-  change_message-parts : (bytes rest : List ℕ) (msg : Message) → parse_view_change version bytes ≡ Good msg rest → IsMessage 4 bytes rest msg
+  change_message-parts : (bytes rest : List ℕ) (msg : Message) → parse_view_change version bytes ≡ Good msg rest →
+      IsMessage 4 bytes rest msg
   unfolding parse_view_change
   change_message-parts bytes rest msg e =
       let a = then_parts _ _ bytes rest msg e in
@@ -185,13 +196,15 @@ module _ (version : ℕ) where
         fits = change.fits;
       })
 
-  change_message-again : (v : ℕ) (cs : List Certificate) (sig rest : List ℕ) → fits_change version v cs sig ≡ true → parse_view_change version (change_bytes version v cs sig ++ rest) ≡ Good (ViewChange v cs sig) rest
+  change_message-again : (v : ℕ) (cs : List Certificate) (sig rest : List ℕ) → fits_change version v cs sig ≡ true →
+      parse_view_change version (change_bytes version v cs sig ++ rest) ≡ Good (ViewChange v cs sig) rest
   unfolding parse_view_change
   change_message-again v cs sig rest e =
       let x : Change = record { node = record { 0 = 0 }; view = v; certificates = cs; sig = sig } in
       then_good _ _ _ rest rest x (ViewChange v cs sig) (change-again version x rest e) (done_good (ViewChange v cs sig) rest)
 
-  new_view-parts : (bytes rest : List ℕ) (msg : Message) → parse_new_view version bytes ≡ Good msg rest → IsMessage 5 bytes rest msg
+  new_view-parts : (bytes rest : List ℕ) (msg : Message) → parse_new_view version bytes ≡ Good msg rest →
+      IsMessage 5 bytes rest msg
   unfolding parse_new_view
   new_view-parts bytes rest msg e =
       let a = then_parts _ _ bytes rest msg e in
@@ -247,13 +260,16 @@ module _ (version : ℕ) where
   unfolding parse
   parse-is = refl
 
-  to-kind : (n k : ℕ) (bytes rest : List ℕ) (msg : Message) → (n == k) ≡ true → IsMessage k bytes rest msg → IsMessage n bytes rest msg
+  to-kind : (n k : ℕ) (bytes rest : List ℕ) (msg : Message) → (n == k) ≡ true → IsMessage k bytes rest msg →
+      IsMessage n bytes rest msg
   to-kind n k bytes rest msg h t = subst (λ (z : ℕ). IsMessage z bytes rest msg) (sym (is-eq n k h)) t
 
-  kind-parts : (n : ℕ) (bytes rest : List ℕ) (msg : Message) → is_known n ≡ true → fields_of version n bytes ≡ Good msg rest → IsMessage n bytes rest msg
+  kind-parts : (n : ℕ) (bytes rest : List ℕ) (msg : Message) → is_known n ≡ true →
+      fields_of version n bytes ≡ Good msg rest → IsMessage n bytes rest msg
   kind-parts n bytes rest msg k e = first (n == 1) refl
     where
-      fifth : (t : Bool) → (n == 4) ≡ t → (n == 1) ≡ false → (n == 2) ≡ false → (n == 3) ≡ false → IsMessage n bytes rest msg
+      fifth : (t : Bool) → (n == 4) ≡ t → (n == 1) ≡ false → (n == 2) ≡ false → (n == 3) ≡ false →
+          IsMessage n bytes rest msg
       fifth true q a b c = let r : parse_view_change version bytes ≡ Good msg rest = rw (a, b, c, q) at e in to-kind n 4 bytes rest msg q (change_message-parts bytes rest msg r)
       fifth false q a b c =
           let last : (n == 5) ≡ true = rw (a, b, c, q) at k in
@@ -272,24 +288,27 @@ module _ (version : ℕ) where
       first true q = let r : parse_pre_prepare version bytes ≡ Good msg rest = rw q at e in to-kind n 1 bytes rest msg q (pre_prepare-parts bytes rest msg r)
       first false q = second (n == 2) refl q
 
-  pub message-parts : (bytes rest : List ℕ) (msg : Message) → parse version bytes ≡ Good msg rest → IsText (fits version msg) (message_bytes version msg) bytes rest
+  pub message-parts : (bytes rest : List ℕ) (msg : Message) → parse version bytes ≡ Good msg rest →
+      IsText (fits version msg) (message_bytes version msg) bytes rest
   message-parts bytes rest msg e =
       let a = then_parts (such_that is_known byte) (fields_of version) bytes rest msg (rw parse-is at e) in
       let first = test_parts is_known byte bytes a.mid a.thing a.first in
       let behind = kind-parts a.thing a.mid rest msg first.1 a.second in
       record { parts = byte_parts bytes a.mid a.thing first.0 ∙ behind.parts; fits = behind.fits }
 
-  kind-again : (n : ℕ) (bytes rest : List ℕ) (msg : Message) → is_known n ≡ true → fields_of version n (bytes ++ rest) ≡ Good msg rest → parse version ((n ∷ bytes) ++ rest) ≡ Good msg rest
+  kind-again : (n : ℕ) (bytes rest : List ℕ) (msg : Message) → is_known n ≡ true →
+      fields_of version n (bytes ++ rest) ≡ Good msg rest → parse version ((n ∷ bytes) ++ rest) ≡ Good msg rest
   kind-again n bytes rest msg k h = rw parse-is (then_good (such_that is_known byte) (fields_of version) (n ∷ (bytes ++ rest)) (bytes ++ rest) rest n msg (test_passed is_known byte _ _ n (byte_again n (bytes ++ rest)) k) h)
 
-  pub message-again : (msg : Message) (rest : List ℕ) → fits version msg ≡ true → parse version (message_bytes version msg ++ rest) ≡ Good msg rest
+  pub message-again : (msg : Message) (rest : List ℕ) → fits version msg ≡ true →
+      parse version (message_bytes version msg ++ rest) ≡ Good msg rest
   message-again (PrePrepare v slot x sig) rest e = kind-again 1 (at_bytes v slot.0 (spell_value version x ++ sig)) rest _ refl (pre_prepare-again v slot x sig rest e)
   message-again (Prepare v slot d sig) rest e = kind-again 2 (at_bytes v slot.0 (d ++ sig)) rest _ refl (at-again prepare v slot d sig rest e)
   message-again (Commit v slot d sig) rest e = kind-again 3 (at_bytes v slot.0 (d ++ sig)) rest _ refl (at-again commit v slot d sig rest e)
   message-again (ViewChange v cs sig) rest e = kind-again 4 (change_bytes version v cs sig) rest _ refl (change_message-again v cs sig rest e)
   message-again (NewView v xs sigs sig) rest e = kind-again 5 (to_be_bytes w16 v ++ (length xs ∷ (flat_map (node_change_bytes version) xs ++ (length sigs ∷ (flat_map as_is sigs ++ sig))))) rest _ refl (new_view-again v xs sigs sig rest e)
 
-  -- a spelling that is the number of no message
+  -- an encoding that is the number of no message
   none : (rest : List ℕ) → IsBad (parse version (0 ∷ rest))
   none rest = (0, rw parse-is (first_bad (such_that is_known byte) (fields_of version) (0 ∷ rest) 0 (test_failed is_known byte (0 ∷ rest) rest 0 (byte_again 0 rest) refl)))
 
@@ -303,8 +322,9 @@ module _ (version : ℕ) where
     whole = λ msg. whole msg (fits version msg) refl;
   }
 
-  -- what is read from its spelling has one
-  pub fits-read : (msg : Message) → ((rest : List ℕ) → parse version (spell version msg ++ rest) ≡ Good msg rest) → fits version msg ≡ true
+  -- a message that is read from its encoding has one
+  pub fits-read : (msg : Message) → ((rest : List ℕ) → parse version (spell version msg ++ rest) ≡ Good msg rest) →
+      fits version msg ≡ true
   fits-read msg h = (message-parts (spell version msg ++ []) [] msg (h [])).fits
 
   pub fits-again : (msg : Message) → fits version msg ≡ true → IsReadAgain (spell version) (parse version) msg

@@ -1,4 +1,4 @@
--- What has a spelling is a row of the table, and a row of the table is the spelling.
+-- A message has an encoding exactly if the table relates it to these bytes.
 use Rattle.std.proofs.Common.{◌≡◌, ◌↔◌, ℕ, suc, ◌^◌, ◌==◌, ◌&&◌, Bool, true, List, [], ◌∷◌, ◌++◌, length, append-nil, refl, sym, ap, ◌∙◌, subst}
 use Rattle.std.specs.Prelude.{nat_le}
 use Rattle.std.specs.Int.{to_be_bytes, w16, w64}
@@ -19,7 +19,7 @@ use Rattle.pbft_wire.specs.Messages.{AreSpelledChanges, AreSpelledSignatures, Is
 use Rattle.pbft_wire.proofs.Fields.{value-bytes, value-fits, value-spelled}
 use Rattle.pbft_wire.proofs.MessageGrammar.{message-again, message-parts}
 
--- it has a spelling, which these bytes are
+-- it has an encoding, and these bytes are it
 pub record Spells (ok : Bool) (text bytes : List ℕ) : Type 0 where
   pub fits : ok ≡ true
   pub is : bytes ≡ text
@@ -27,7 +27,8 @@ pub record Spells (ok : Bool) (text bytes : List ℕ) : Type 0 where
 module _ (version : ℕ) where
   -- ---- certificates
 
-  certificate-table : (c : Certificate) → fits_certificate version c ≡ true → IsSpelledCertificate version c (certificate_bytes version c)
+  certificate-table : (c : Certificate) → fits_certificate version c ≡ true →
+      IsSpelledCertificate version c (certificate_bytes version c)
   certificate-table c h =
       let b = and-true (fits_slot c.slot.0) _ h in
       let d = and-true (fits_view c.view) _ b.1 in
@@ -45,7 +46,8 @@ module _ (version : ℕ) where
         row = refl;
       }
 
-  certificate-bytes : (c : Certificate) (bytes : List ℕ) → IsSpelledCertificate version c bytes → Spells (fits_certificate version c) (certificate_bytes version c) bytes
+  certificate-bytes : (c : Certificate) (bytes : List ℕ) → IsSpelledCertificate version c bytes →
+      Spells (fits_certificate version c) (certificate_bytes version c) bytes
   certificate-bytes c bytes h =
       let value : h.value ≡ spell_value version c.value = value-bytes version c.value h.value h.value_is in
       record {
@@ -53,14 +55,17 @@ module _ (version : ℕ) where
         is = h.row ∙ ap (λ (z : List ℕ). to_be_bytes w64 c.slot.0 ++ (to_be_bytes w16 c.view ++ (z ++ (c.sig ++ (length c.prepares ∷ flat_map spell_signed c.prepares))))) value;
       }
 
-  certificates-table : (from : ℕ) (cs : List Certificate) → fits_certificates version from cs ≡ true → AreSpelledCertificates version from cs (flat_map (certificate_bytes version) cs)
+  certificates-table : (from : ℕ) (cs : List Certificate) → fits_certificates version from cs ≡ true →
+      AreSpelledCertificates version from cs (flat_map (certificate_bytes version) cs)
   certificates-table from [] h = refl
   certificates-table from (c ∷ cs) h =
       let t = and-true (nat_le from c.slot.0 && fits_certificate version c) (fits_certificates version (suc c.slot.0) cs) h in
       let u = and-true (nat_le from c.slot.0) (fits_certificate version c) t.0 in
       (certificate_bytes version c, flat_map (certificate_bytes version) cs, leb-true from c.slot.0 u.0, certificate-table c u.1, certificates-table (suc c.slot.0) cs t.1, refl)
 
-  certificates-bytes : (from : ℕ) (cs : List Certificate) (bytes : List ℕ) → AreSpelledCertificates version from cs bytes → Spells (fits_certificates version from cs) (flat_map (certificate_bytes version) cs) bytes
+  certificates-bytes : (from : ℕ) (cs : List Certificate) (bytes : List ℕ) →
+      AreSpelledCertificates version from cs bytes →
+      Spells (fits_certificates version from cs) (flat_map (certificate_bytes version) cs) bytes
   certificates-bytes from [] bytes h = record { fits = refl; is = h }
   certificates-bytes from (c ∷ cs) bytes h =
       let first = certificate-bytes c h.0 h.3 in
@@ -72,7 +77,8 @@ module _ (version : ℕ) where
 
   -- ---- ViewChanges
 
-  change-table : (v : ℕ) (cs : List Certificate) (sig : List ℕ) → fits_change version v cs sig ≡ true → IsSpelledChange version v cs sig (change_bytes version v cs sig)
+  change-table : (v : ℕ) (cs : List Certificate) (sig : List ℕ) → fits_change version v cs sig ≡ true →
+      IsSpelledChange version v cs sig (change_bytes version v cs sig)
   change-table v cs sig h =
       let a = and-true (fits_view v) _ h in
       let b = and-true (fits_count (length cs) && fits_certificates version 0 cs) (is_signature sig) a.1 in
@@ -86,7 +92,8 @@ module _ (version : ℕ) where
         row = refl;
       }
 
-  change-bytes : (v : ℕ) (cs : List Certificate) (sig bytes : List ℕ) → IsSpelledChange version v cs sig bytes → Spells (fits_change version v cs sig) (change_bytes version v cs sig) bytes
+  change-bytes : (v : ℕ) (cs : List Certificate) (sig bytes : List ℕ) → IsSpelledChange version v cs sig bytes →
+      Spells (fits_change version v cs sig) (change_bytes version v cs sig) bytes
   change-bytes v cs sig bytes h =
       let all = certificates-bytes 0 cs h.certificates h.certificates_are in
       record {
@@ -94,14 +101,16 @@ module _ (version : ℕ) where
         is = h.row ∙ ap (λ (z : List ℕ). to_be_bytes w16 v ++ (length cs ∷ (z ++ sig))) all.is;
       }
 
-  changes-table : (from : ℕ) (xs : List Change) → fits_changes version from xs ≡ true → AreSpelledChanges version from xs (flat_map (node_change_bytes version) xs)
+  changes-table : (from : ℕ) (xs : List Change) → fits_changes version from xs ≡ true →
+      AreSpelledChanges version from xs (flat_map (node_change_bytes version) xs)
   changes-table from [] h = refl
   changes-table from (x ∷ xs) h =
       let t = and-true (nat_le from x.node.0 && fits_change version x.view x.certificates x.sig) (fits_changes version (suc x.node.0) xs) h in
       let u = and-true (nat_le from x.node.0) (fits_change version x.view x.certificates x.sig) t.0 in
       (change_bytes version x.view x.certificates x.sig, flat_map (node_change_bytes version) xs, leb-true from x.node.0 u.0, change-table x.view x.certificates x.sig u.1, changes-table (suc x.node.0) xs t.1, refl)
 
-  changes-bytes : (from : ℕ) (xs : List Change) (bytes : List ℕ) → AreSpelledChanges version from xs bytes → Spells (fits_changes version from xs) (flat_map (node_change_bytes version) xs) bytes
+  changes-bytes : (from : ℕ) (xs : List Change) (bytes : List ℕ) → AreSpelledChanges version from xs bytes →
+      Spells (fits_changes version from xs) (flat_map (node_change_bytes version) xs) bytes
   changes-bytes from [] bytes h = record { fits = refl; is = h }
   changes-bytes from (x ∷ xs) bytes h =
       let first = change-bytes x.view x.certificates x.sig h.0 h.3 in
@@ -113,24 +122,28 @@ module _ (version : ℕ) where
 
   -- ---- messages
 
-  signatures-table : (sigs : List (List ℕ)) → list_all is_signature sigs ≡ true → AreSpelledSignatures sigs (flat_map as_is sigs)
+  signatures-table : (sigs : List (List ℕ)) → list_all is_signature sigs ≡ true →
+      AreSpelledSignatures sigs (flat_map as_is sigs)
   signatures-table [] h = refl
   signatures-table (sig ∷ sigs) h = let t = and-true (is_signature sig) (list_all is_signature sigs) h in (flat_map as_is sigs, t.0, signatures-table sigs t.1, refl)
 
-  signatures-bytes : (sigs : List (List ℕ)) (bytes : List ℕ) → AreSpelledSignatures sigs bytes → Spells (list_all is_signature sigs) (flat_map as_is sigs) bytes
+  signatures-bytes : (sigs : List (List ℕ)) (bytes : List ℕ) → AreSpelledSignatures sigs bytes →
+      Spells (list_all is_signature sigs) (flat_map as_is sigs) bytes
   signatures-bytes [] bytes h = record { fits = refl; is = h }
   signatures-bytes (sig ∷ sigs) bytes h =
       let others = signatures-bytes sigs h.0 h.2 in
       record { fits = both _ _ h.1 others.fits; is = h.3 ∙ in-front sig others.is }
 
-  at-table : (kind v s : ℕ) (d sig : List ℕ) → fits_at v s d sig ≡ true → IsSpelledAt kind v s d sig (kind ∷ at_bytes v s (d ++ sig))
+  at-table : (kind v s : ℕ) (d sig : List ℕ) → fits_at v s d sig ≡ true →
+      IsSpelledAt kind v s d sig (kind ∷ at_bytes v s (d ++ sig))
   at-table kind v s d sig h =
       let a = and-true (fits_view v) (fits_slot s && ((length d == 32) && is_signature sig)) h in
       let b = and-true (fits_slot s) ((length d == 32) && is_signature sig) a.1 in
       let c = and-true (length d == 32) (is_signature sig) b.1 in
       record { view_fits = ltb-true v (2 ^ 16) a.0; slot_fits = ltb-true s (2 ^ 64) b.0; long = eqb-true (length d) 32 c.0; signed = c.1; row = refl }
 
-  at-bytes : (kind v s : ℕ) (d sig bytes : List ℕ) → IsSpelledAt kind v s d sig bytes → Spells (fits_at v s d sig) (kind ∷ at_bytes v s (d ++ sig)) bytes
+  at-bytes : (kind v s : ℕ) (d sig bytes : List ℕ) → IsSpelledAt kind v s d sig bytes →
+      Spells (fits_at v s d sig) (kind ∷ at_bytes v s (d ++ sig)) bytes
   at-bytes kind v s d sig bytes h = record {
     fits = both _ _ (lt-ltb v (2 ^ 16) h.view_fits) (both _ _ (lt-ltb s (2 ^ 64) h.slot_fits) (both _ _ (eq-eqb (length d) 32 h.long) h.signed));
     is = h.row;
@@ -163,10 +176,12 @@ module _ (version : ℕ) where
         row = refl;
       }
 
-  pre_prepare-row : (v s : ℕ) (sig value spelled : List ℕ) → value ≡ spelled → (1 ∷ (to_be_bytes w16 v ++ (to_be_bytes w64 s ++ (value ++ sig)))) ≡ 1 ∷ at_bytes v s (spelled ++ sig)
+  pre_prepare-row : (v s : ℕ) (sig value spelled : List ℕ) → value ≡ spelled →
+      (1 ∷ (to_be_bytes w16 v ++ (to_be_bytes w64 s ++ (value ++ sig)))) ≡ 1 ∷ at_bytes v s (spelled ++ sig)
   pre_prepare-row v s sig value spelled h = ap (λ (z : List ℕ). 1 ∷ at_bytes v s (z ++ sig)) h
 
-  message-row : (msg : Message) (bytes : List ℕ) → IsSpelledMessage version msg bytes → Spells (fits version msg) (message_bytes version msg) bytes
+  message-row : (msg : Message) (bytes : List ℕ) → IsSpelledMessage version msg bytes →
+      Spells (fits version msg) (message_bytes version msg) bytes
   message-row (PrePrepare v slot x sig) bytes h = record {
     fits = both _ _ (lt-ltb v (2 ^ 16) h.0) (both _ _ (lt-ltb slot.0 (2 ^ 64) h.1) (both _ _ (value-fits version x h.3.0 h.3.1) h.2));
     is = h.3.2 ∙ pre_prepare-row v slot.0 sig h.3.0 (spell_value version x) (value-bytes version x h.3.0 h.3.1);
@@ -185,8 +200,9 @@ module _ (version : ℕ) where
             ∙ ap (λ (z : List ℕ). 5 ∷ (to_be_bytes w16 v ++ (length xs ∷ (flat_map (node_change_bytes version) xs ++ (length sigs ∷ (z ++ sig)))))) signed.is;
       }
 
-  -- what is read of bytes, and all of them, is what the table relates to them
-  pub message-related : (msg : Message) (bytes : List ℕ) → (parse version bytes ≡ Good msg []) ↔ IsSpelledMessage version msg bytes
+  -- bytes decode as a message exactly if the table relates the two
+  pub message-related : (msg : Message) (bytes : List ℕ) →
+      (parse version bytes ≡ Good msg []) ↔ IsSpelledMessage version msg bytes
   message-related msg bytes = (
     (λ h.
         let t = message-parts version bytes [] msg h in

@@ -17,7 +17,7 @@ use Rattle.iss_sb.specs.Signers.{AreSigners, are_signers, parse_signers, spell_s
 use Rattle.pbft_wire.specs.declared.messages.Certificate.{Certificate}
 use Rattle.pbft_wire.specs.declared.messages.Change.{Change}
 
--- ---- what has a spelling: numbers in range, counts of one byte, nodes and slots ascending
+-- ---- which have an encoding: numbers in range, counts of one byte, replicas and slots strictly ascending
 
 abbrev pub fits_view : ℕ → Bool
 fits_view v = nat_lt v (2 ^ 16)
@@ -35,7 +35,8 @@ fits_value version (Value_batch b) = nat_le (length b) (requests_most version) &
 abbrev pub fits_certificate : ℕ → Certificate → Bool
 fits_certificate version c =
     fits_slot c.slot.0 &&
-    (fits_view c.view && (fits_value version c.value && (is_signature c.sig && (fits_count (length c.prepares) && are_signers 0 c.prepares))))
+    (fits_view c.view && (fits_value version c.value &&
+    (is_signature c.sig && (fits_count (length c.prepares) && are_signers 0 c.prepares))))
 
 abbrev pub slot_of : Certificate → ℕ
 slot_of c = c.slot.0
@@ -43,23 +44,25 @@ slot_of c = c.slot.0
 abbrev pub fits_from : ℕ → ℕ → Certificate → Bool
 fits_from version from c = nat_le from c.slot.0 && fits_certificate version c
 
--- of slots from this one on
+-- the slots ascend strictly, from this one on
 abbrev pub fits_certificates : ℕ → ℕ → List Certificate → Bool
 fits_certificates version from cs = all_ascend (fits_from version) slot_of from cs
 
 abbrev pub fits_change : ℕ → ℕ → List Certificate → List ℕ → Bool
-fits_change version v cs sig = fits_view v && ((fits_count (length cs) && fits_certificates version 0 cs) && is_signature sig)
+fits_change version v cs sig =
+    fits_view v && ((fits_count (length cs) && fits_certificates version 0 cs) && is_signature sig)
 
--- ---- spelling
+-- ---- encoding
 
 abbrev pub certificate_bytes : ℕ → Certificate → List ℕ
 certificate_bytes version c =
-    to_be_bytes w64 c.slot.0 ++ (to_be_bytes w16 c.view ++ (spell_value version c.value ++ (c.sig ++ (length c.prepares ∷ flat_map spell_signed c.prepares))))
+    to_be_bytes w64 c.slot.0 ++ (to_be_bytes w16 c.view ++
+    (spell_value version c.value ++ (c.sig ++ (length c.prepares ∷ flat_map spell_signed c.prepares))))
 
 abbrev pub change_bytes : ℕ → ℕ → List Certificate → List ℕ → List ℕ
 change_bytes version v cs sig = to_be_bytes w16 v ++ (length cs ∷ (flat_map (certificate_bytes version) cs ++ sig))
 
--- ---- the table as a relation between things and bytes
+-- ---- the table as a relation between certificates, ViewChanges and bytes
 
 pub record IsSpelledCertificate (version : ℕ) (c : Certificate) (bytes : List ℕ) : Type 0 where
   pub slot_fits : c.slot.0 < 2 ^ 64
@@ -69,9 +72,10 @@ pub record IsSpelledCertificate (version : ℕ) (c : Certificate) (bytes : List 
   pub signed : is_signature c.sig ≡ true
   pub few : length c.prepares ≤ 255
   pub votes : AreSigners 0 c.prepares
-  pub row : bytes ≡ to_be_bytes w64 c.slot.0 ++ (to_be_bytes w16 c.view ++ (value ++ (c.sig ++ (length c.prepares ∷ flat_map spell_signed c.prepares))))
+  pub row : bytes ≡ to_be_bytes w64 c.slot.0 ++
+      (to_be_bytes w16 c.view ++ (value ++ (c.sig ++ (length c.prepares ∷ flat_map spell_signed c.prepares))))
 
--- slots ascend from this one on
+-- the slots ascend strictly, from this one on
 abbrev pub AreSpelledCertificates : ℕ → ℕ → List Certificate → List ℕ → Type 0
 AreSpelledCertificates version from [] bytes = bytes ≡ []
 AreSpelledCertificates version from (c ∷ cs) bytes =
@@ -86,12 +90,12 @@ pub record IsSpelledChange (version v : ℕ) (cs : List Certificate) (sig bytes 
   pub signed : is_signature sig ≡ true
   pub row : bytes ≡ to_be_bytes w16 v ++ (length cs ∷ (certificates ++ sig))
 
--- ---- reading. A node or slot that does not ascend is itself the field that does not fit
+-- ---- decoding. A replica or slot that does not ascend is itself the bad field
 
 unfoldable pub count : Parser ℕ
 count = such_that fits_count byte
 
--- of a slot from this one on
+-- a certificate of this slot or a higher one
 unfoldable pub parse_certificate : ℕ → ℕ → Parser Certificate
 parse_certificate version from = do
   slot ← such_that (λ s. nat_le from s) (number w64)
@@ -105,7 +109,7 @@ parse_certificate version from = do
 abbrev pub parse_certificates : ℕ → ℕ → ℕ → Parser (List Certificate)
 parse_certificates version many from = ascending (parse_certificate version) slot_of many from
 
--- of this node
+-- the ViewChange of this replica
 unfoldable pub parse_change : ℕ → ℕ → Parser Change
 parse_change version node = do
   view ← number w16
@@ -114,7 +118,7 @@ parse_change version node = do
   sig ← parse_signature
   done (record { node = record { 0 = node }; view = view; certificates = certificates; sig = sig })
 
--- ---- the first number that may follow a node or a slot, or begin a row
+-- ---- the lowest replica or slot that may follow the last one, or come first
 
 abbrev pub after_node : Option NodeId → ℕ
 after_node None = 0

@@ -20,7 +20,7 @@ use Rattle.pbft_wire.specs.declared.messages.Message.{Message}
 use Rattle.pbft_wire.specs.declared.messages.Message.TheVariants.{PrePrepare, Prepare, Commit, ViewChange, NewView}
 use Rattle.pbft_wire.specs.Certificates.{IsSpelledChange, change_bytes, count, fits_change, fits_count, fits_slot, fits_value, fits_view, parse_change}
 
--- ---- what has a spelling
+-- ---- which messages have an encoding
 
 abbrev pub node_of_change : Change → ℕ
 node_of_change x = x.node.0
@@ -28,7 +28,7 @@ node_of_change x = x.node.0
 abbrev pub fits_node_change : ℕ → ℕ → Change → Bool
 fits_node_change version from x = nat_le from x.node.0 && fits_change version x.view x.certificates x.sig
 
--- ViewChanges of nodes from this one on
+-- the senders ascend strictly, from this one on
 abbrev pub fits_changes : ℕ → ℕ → List Change → Bool
 fits_changes version from xs = all_ascend (fits_node_change version) node_of_change from xs
 
@@ -41,9 +41,10 @@ fits version (Prepare v slot d sig) = fits_at v slot.0 d sig
 fits version (Commit v slot d sig) = fits_at v slot.0 d sig
 fits version (ViewChange v cs sig) = fits_change version v cs sig
 fits version (NewView v xs sigs sig) =
-    fits_view v && ((fits_count (length xs) && fits_changes version 0 xs) && ((fits_count (length sigs) && list_all is_signature sigs) && is_signature sig))
+    fits_view v && ((fits_count (length xs) && fits_changes version 0 xs) &&
+    ((fits_count (length sigs) && list_all is_signature sigs) && is_signature sig))
 
--- ---- spelling. What has none is written as the number of no message
+-- ---- encoding. A message without one is written as the number of no message
 
 abbrev pub node_change_bytes : ℕ → Change → List ℕ
 node_change_bytes version x = x.node.0 ∷ change_bytes version x.view x.certificates x.sig
@@ -56,7 +57,8 @@ as_is sig = sig
 
 abbrev pub new_bytes : ℕ → ℕ → List Change → List (List ℕ) → List ℕ → List ℕ
 new_bytes version v xs sigs sig =
-    to_be_bytes w16 v ++ (length xs ∷ (flat_map (node_change_bytes version) xs ++ (length sigs ∷ (flat_map as_is sigs ++ sig))))
+    to_be_bytes w16 v ++
+    (length xs ∷ (flat_map (node_change_bytes version) xs ++ (length sigs ∷ (flat_map as_is sigs ++ sig))))
 
 abbrev pub message_bytes : ℕ → Message → List ℕ
 message_bytes version (PrePrepare v slot x sig) = 1 ∷ at_bytes v slot.0 (spell_value version x ++ sig)
@@ -73,18 +75,20 @@ spell version msg = if fits version msg then message_bytes version msg else no_m
 
 -- ---- the table as a relation between messages and bytes
 
--- nodes ascend from this one on
+-- the senders ascend strictly, from this one on
 abbrev pub AreSpelledChanges : ℕ → ℕ → List Change → List ℕ → Type 0
 AreSpelledChanges version from [] bytes = bytes ≡ []
 AreSpelledChanges version from (x ∷ xs) bytes =
-    (first : List ℕ) × (others : List ℕ) × (from ≤ x.node.0) × IsSpelledChange version x.view x.certificates x.sig first ×
+    (first : List ℕ) × (others : List ℕ) × (from ≤ x.node.0) ×
+    IsSpelledChange version x.view x.certificates x.sig first ×
     AreSpelledChanges version (suc x.node.0) xs others × (bytes ≡ x.node.0 ∷ (first ++ others))
 
 abbrev pub AreSpelledSignatures : List (List ℕ) → List ℕ → Type 0
 AreSpelledSignatures [] bytes = bytes ≡ []
-AreSpelledSignatures (sig ∷ sigs) bytes = (others : List ℕ) × (is_signature sig ≡ true) × AreSpelledSignatures sigs others × (bytes ≡ sig ++ others)
+AreSpelledSignatures (sig ∷ sigs) bytes =
+    (others : List ℕ) × (is_signature sig ≡ true) × AreSpelledSignatures sigs others × (bytes ≡ sig ++ others)
 
--- of a Prepare or a Commit
+-- a Prepare or a Commit
 pub record IsSpelledAt (kind v s : ℕ) (d sig bytes : List ℕ) : Type 0 where
   pub view_fits : v < 2 ^ 16
   pub slot_fits : s < 2 ^ 64
@@ -110,12 +114,13 @@ IsSpelledMessage version (PrePrepare v slot x sig) bytes =
     ((value : List ℕ) × IsSpelledValue version x value × (bytes ≡ 1 ∷ at_bytes v slot.0 (value ++ sig)))
 IsSpelledMessage version (Prepare v slot d sig) bytes = IsSpelledAt 2 v slot.0 d sig bytes
 IsSpelledMessage version (Commit v slot d sig) bytes = IsSpelledAt 3 v slot.0 d sig bytes
-IsSpelledMessage version (ViewChange v cs sig) bytes = (fields : List ℕ) × IsSpelledChange version v cs sig fields × (bytes ≡ 4 ∷ fields)
+IsSpelledMessage version (ViewChange v cs sig) bytes =
+    (fields : List ℕ) × IsSpelledChange version v cs sig fields × (bytes ≡ 4 ∷ fields)
 IsSpelledMessage version (NewView v xs sigs sig) bytes = IsSpelledNew version v xs sigs sig bytes
 
--- ---- reading
+-- ---- decoding
 
--- of a node from this one on
+-- the ViewChange of this replica or a higher one
 unfoldable pub parse_node_change : ℕ → ℕ → Parser Change
 parse_node_change version from = do
   node ← such_that (λ k. nat_le from k) byte
@@ -147,7 +152,7 @@ prepare v slot d sig = Prepare v slot d sig
 abbrev pub commit : ℕ → Slot → List ℕ → List ℕ → Message
 commit v slot d sig = Commit v slot d sig
 
--- its sender's number stands outside of the message
+-- the sender is not part of the encoding, so any number will do here
 unfoldable pub parse_view_change : ℕ → Parser Message
 parse_view_change version = do
   change ← parse_change version 0
@@ -169,7 +174,8 @@ is_known n = (n == 1) || ((n == 2) || ((n == 3) || ((n == 4) || (n == 5))))
 abbrev pub fields_of : ℕ → ℕ → Parser Message
 fields_of version n =
     if n == 1 then parse_pre_prepare version else
-    (if n == 2 then parse_at prepare else (if n == 3 then parse_at commit else (if n == 4 then parse_view_change version else parse_new_view version)))
+    (if n == 2 then parse_at prepare else
+    (if n == 3 then parse_at commit else (if n == 4 then parse_view_change version else parse_new_view version)))
 
 -- the message's number says which fields follow
 unfoldable pub parse : ℕ → Parser Message

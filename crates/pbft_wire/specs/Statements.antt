@@ -26,12 +26,12 @@ digest_of p x = digest (string_of p x)
 abbrev pub statement : Params → ℕ → ℕ → List ℕ → List ℕ
 statement p kind v fields = statement_head p tag ++ (kind ∷ (two_bytes v ++ fields))
 
--- of a PrePrepare, a Prepare, a Commit
+-- the statement of a PrePrepare, a Prepare or a Commit
 -- rule: PBFT: A signature covers the instance, kind, view, slot and digest
 abbrev pub state_at : Params → ℕ → ℕ → ℕ → List ℕ → List ℕ
 state_at p kind v s d = statement p kind v (eight_bytes s ++ d)
 
--- slot, view and digest of each certificate
+-- what is signed of these certificates: slot, view and digest of each
 abbrev pub marks : Params → List Certificate → List ℕ
 marks p [] = []
 marks p (c ∷ cs) = eight_bytes c.slot.0 ++ (two_bytes c.view ++ (digest_of p c.value ++ marks p cs))

@@ -1,4 +1,4 @@
-//! Certificates and ViewChanges once more.
+//! Copies of certificates and ViewChanges.
 ghost use Rattle.std.specs.Prelude.{◌≡◌, IfOk};
 
 use crate::messages::{Certificate, Change};
@@ -7,7 +7,7 @@ use iss_sb::copy_signers;
 use std::alloc::Global;
 
 impl Certificate {
-    /// The same certificate once more.
+    /// A copy of the certificate.
     pub fn copy(&self, alloc: Global) -> Result<Certificate, NoMemory>
         ensures { IfOk result (λ c. c ≡ self.now) }
     {
@@ -22,7 +22,7 @@ impl Certificate {
 }
 
 impl Change {
-    /// The same ViewChange once more.
+    /// A copy of the ViewChange.
     pub fn copy(&self, alloc: Global) -> Result<Change, NoMemory>
         ensures { IfOk result (λ x. x ≡ self.now) }
     {
@@ -35,7 +35,7 @@ impl Change {
     }
 }
 
-/// The same certificates once more.
+/// Copies of these certificates.
 pub fn copy_certificates(
     alloc: Global,
     certificates: &[Certificate],
@@ -49,7 +49,7 @@ pub fn copy_certificates(
     Ok(all)
 }
 
-/// The same ViewChanges once more.
+/// Copies of these ViewChanges.
 pub fn copy_changes(alloc: Global, changes: &[Change]) -> Result<Seq<Change>, NoMemory>
     ensures { IfOk result (λ xs. xs ≡ changes.now) }
 {

@@ -1,4 +1,5 @@
-//! The messages of PBFT, in bytes, and what is signed of them.
+//! The messages of PBFT (Castro and Liskov, "Practical Byzantine Fault Tolerance"), their encoding, and what is
+//! signed of them.
 #![tactic(auto)]
 
 pub mod copies;

@@ -2,7 +2,8 @@
 use iss_request::{Bytes, NodeId, Seq, Slot, Value};
 use iss_sb::Signed;
 
-/// That a value was prepared at a slot in a view: the signature of the primary's PrePrepare, and those of Prepares.
+/// A prepared certificate: the value was prepared at the slot in the view. It holds the signature of the primary's
+/// PrePrepare, and those of the Prepares.
 #[derive(Drop)]
 pub struct Certificate {
     pub slot: Slot,
@@ -12,7 +13,7 @@ pub struct Certificate {
     pub prepares: Seq<Signed>,
 }
 
-/// A node's ViewChange inside a NewView.
+/// A replica's ViewChange inside a NewView.
 #[derive(Drop)]
 pub struct Change {
     pub node: NodeId,
@@ -21,9 +22,9 @@ pub struct Change {
     pub sig: Bytes,
 }
 
-/// The primary's proposal, a node's vote that it took one, its vote that it is prepared, what it takes to a new view,
-/// and the new primary's start of that view. The signatures of a NewView are its sender's on its PrePrepares, in the
-/// order of the slots.
+/// A message of PBFT. A PrePrepare is the primary's proposal; a Prepare says that its sender accepted it, a Commit
+/// that it is prepared. A ViewChange asks for a view and shows the sender's prepared certificates. A NewView starts a
+/// view: `signatures` are the primary's on its PrePrepares, in the order of the slots.
 #[derive(Drop)]
 pub enum Message {
     PrePrepare {

@@ -1,4 +1,4 @@
-//! The messages from their bytes, field by field in the order of the parsers.
+//! Decodes messages, field by field in the order of the parsers.
 ghost use Rattle.std.specs.Int.{w64};
 ghost use Rattle.std.specs.Prelude.{◌≡◌, ℕ, List, nat_le, IfOk, Err};
 ghost use Rattle.iss_request.specs.Fields.{IsRead, IsUnreadable};
@@ -44,10 +44,11 @@ pub(crate) fn slot_follows(last: Option<Slot>, slot: u64) -> bool
     }
 }
 
-// The next node's number, where it rises.
+// Reads the next replica. It has to be above `last`; otherwise it is the bad field.
 fn read_node(last: Option<NodeId>, f: &mut Fields) -> Result<u8, DecodeError>
     ensures ok { IfOk result (λ k. IsRead (such_that (λ n. nat_le (after_node last) n) byte) f.old f.new k) }
-    ensures bad { (at : ℕ) → result ≡ Err (DecodeError.BadField at) → IsUnreadable (such_that (λ n. nat_le (after_node last) n) byte) f.old at }
+    ensures bad { (at : ℕ) → result ≡ Err (DecodeError.BadField at) →
+        IsUnreadable (such_that (λ n. nat_le (after_node last) n) byte) f.old at }
 {
     let no_node = f.bad_field();
     let node = f.read_u8()?;
@@ -57,10 +58,11 @@ fn read_node(last: Option<NodeId>, f: &mut Fields) -> Result<u8, DecodeError>
     Ok(node)
 }
 
-// The next slot, where it rises.
+// Reads the next slot. It has to be above `last`; otherwise it is the bad field.
 fn read_slot(last: Option<Slot>, f: &mut Fields) -> Result<u64, DecodeError>
     ensures ok { IfOk result (λ s. IsRead (such_that (λ n. nat_le (after_slot last) n) (number w64)) f.old f.new s) }
-    ensures bad { (at : ℕ) → result ≡ Err (DecodeError.BadField at) → IsUnreadable (such_that (λ n. nat_le (after_slot last) n) (number w64)) f.old at }
+    ensures bad { (at : ℕ) → result ≡ Err (DecodeError.BadField at) →
+        IsUnreadable (such_that (λ n. nat_le (after_slot last) n) (number w64)) f.old at }
 {
     let no_slot = f.bad_field();
     let slot = f.read_u64()?;
@@ -78,7 +80,8 @@ fn read_certificate(
     f: &mut Fields,
 ) -> Result<Certificate, DecodeError>
     ensures ok { IfOk result (λ c. IsRead (parse_certificate f.old.version (after_slot last)) f.old f.new c) }
-    ensures bad { (at : ℕ) → result ≡ Err (DecodeError.BadField at) → IsUnreadable (parse_certificate f.old.version (after_slot last)) f.old at }
+    ensures bad { (at : ℕ) → result ≡ Err (DecodeError.BadField at) →
+        IsUnreadable (parse_certificate f.old.version (after_slot last)) f.old at }
 {
     let slot = read_slot(last, f)?;
     let view = f.read_u16()?;
@@ -101,7 +104,8 @@ fn read_certificates(
     f: &mut Fields,
 ) -> Result<Seq<Certificate>, DecodeError>
     ensures ok { IfOk result (λ all. IsRead (parse_certificates f.old.version many 0) f.old f.new all) }
-    ensures bad { (at : ℕ) → result ≡ Err (DecodeError.BadField at) → IsUnreadable (parse_certificates f.old.version many 0) f.old at }
+    ensures bad { (at : ℕ) → result ≡ Err (DecodeError.BadField at) →
+        IsUnreadable (parse_certificates f.old.version many 0) f.old at }
 {
     let mut certificates = Seq::new(alloc);
     let mut last = None;
@@ -113,10 +117,11 @@ fn read_certificates(
     Ok(certificates)
 }
 
-// The ViewChange of a node, behind the node's number.
+// Reads the rest of a replica's ViewChange, after the replica's number.
 fn read_change(alloc: Global, node: NodeId, f: &mut Fields) -> Result<Change, DecodeError>
     ensures ok { IfOk result (λ x. IsRead (parse_change f.old.version node.0) f.old f.new x) }
-    ensures bad { (at : ℕ) → result ≡ Err (DecodeError.BadField at) → IsUnreadable (parse_change f.old.version node.0) f.old at }
+    ensures bad { (at : ℕ) → result ≡ Err (DecodeError.BadField at) →
+        IsUnreadable (parse_change f.old.version node.0) f.old at }
 {
     let view = f.read_u16()?;
     let many = read_count(f)?;
@@ -136,7 +141,8 @@ fn read_node_change(
     f: &mut Fields,
 ) -> Result<Change, DecodeError>
     ensures ok { IfOk result (λ x. IsRead (parse_node_change f.old.version (after_node last)) f.old f.new x) }
-    ensures bad { (at : ℕ) → result ≡ Err (DecodeError.BadField at) → IsUnreadable (parse_node_change f.old.version (after_node last)) f.old at }
+    ensures bad { (at : ℕ) → result ≡ Err (DecodeError.BadField at) →
+        IsUnreadable (parse_node_change f.old.version (after_node last)) f.old at }
 {
     let node = read_node(last, f)?;
     let change = read_change(alloc, NodeId(node), f)?;
@@ -145,7 +151,8 @@ fn read_node_change(
 
 fn read_changes(alloc: Global, many: u8, f: &mut Fields) -> Result<Seq<Change>, DecodeError>
     ensures ok { IfOk result (λ all. IsRead (parse_changes f.old.version many 0) f.old f.new all) }
-    ensures bad { (at : ℕ) → result ≡ Err (DecodeError.BadField at) → IsUnreadable (parse_changes f.old.version many 0) f.old at }
+    ensures bad { (at : ℕ) → result ≡ Err (DecodeError.BadField at) →
+        IsUnreadable (parse_changes f.old.version many 0) f.old at }
 {
     let mut changes = Seq::new(alloc);
     let mut last = None;
@@ -159,7 +166,8 @@ fn read_changes(alloc: Global, many: u8, f: &mut Fields) -> Result<Seq<Change>, 
 
 fn read_signatures(alloc: Global, many: u8, f: &mut Fields) -> Result<Seq<Bytes>, DecodeError>
     ensures ok { IfOk result (λ all. IsRead (times many parse_signature) f.old f.new all) }
-    ensures bad { (at : ℕ) → result ≡ Err (DecodeError.BadField at) → IsUnreadable (times many parse_signature) f.old at }
+    ensures bad { (at : ℕ) → result ≡ Err (DecodeError.BadField at) →
+        IsUnreadable (times many parse_signature) f.old at }
 {
     let mut signatures = Seq::new(alloc);
     for _ in 0..many {
@@ -171,7 +179,7 @@ fn read_signatures(alloc: Global, many: u8, f: &mut Fields) -> Result<Seq<Bytes>
 
 // ---- messages
 
-/// Reads the message at the front. `BadField` names the first field that does not fit.
+/// Reads the message at the front. `BadField` has the position of the first field that does not decode.
 pub fn read(alloc: Global, f: &mut Fields) -> Result<Message, DecodeError>
     ensures ok { IfOk result (λ m. IsRead (parse f.old.version) f.old f.new m) }
     ensures bad { (at : ℕ) → result ≡ Err (DecodeError.BadField at) → IsUnreadable (parse f.old.version) f.old at }
@@ -190,7 +198,8 @@ pub fn read(alloc: Global, f: &mut Fields) -> Result<Message, DecodeError>
 
 fn read_pre_prepare(alloc: Global, f: &mut Fields) -> Result<Message, DecodeError>
     ensures ok { IfOk result (λ m. IsRead (parse_pre_prepare f.old.version) f.old f.new m) }
-    ensures bad { (at : ℕ) → result ≡ Err (DecodeError.BadField at) → IsUnreadable (parse_pre_prepare f.old.version) f.old at }
+    ensures bad { (at : ℕ) → result ≡ Err (DecodeError.BadField at) →
+        IsUnreadable (parse_pre_prepare f.old.version) f.old at }
 {
     let view = f.read_u16()?;
     let slot = f.read_u64()?;
@@ -204,7 +213,7 @@ fn read_pre_prepare(alloc: Global, f: &mut Fields) -> Result<Message, DecodeErro
     })
 }
 
-// What a Prepare and a Commit say.
+// The fields of a Prepare or a Commit.
 #[derive(Drop)]
 struct At {
     view: u16,
@@ -214,8 +223,10 @@ struct At {
 }
 
 fn read_at(alloc: Global, f: &mut Fields) -> Result<At, DecodeError>
-    ensures ok { IfOk result (λ a. (make : ℕ → Slot → List ℕ → List ℕ → Message) → IsRead (parse_at make) f.old f.new (make a.view a.slot a.digest a.sig)) }
-    ensures bad { (at : ℕ) → result ≡ Err (DecodeError.BadField at) → (make : ℕ → Slot → List ℕ → List ℕ → Message) → IsUnreadable (parse_at make) f.old at }
+    ensures ok { IfOk result (λ a. (make : ℕ → Slot → List ℕ → List ℕ → Message) →
+        IsRead (parse_at make) f.old f.new (make a.view a.slot a.digest a.sig)) }
+    ensures bad { (at : ℕ) → result ≡ Err (DecodeError.BadField at) → (make : ℕ → Slot → List ℕ → List ℕ → Message) →
+        IsUnreadable (parse_at make) f.old at }
 {
     let view = f.read_u16()?;
     let slot = f.read_u64()?;
@@ -269,9 +280,10 @@ fn read_commit(alloc: Global, f: &mut Fields) -> Result<Message, DecodeError>
 
 fn read_view_change(alloc: Global, f: &mut Fields) -> Result<Message, DecodeError>
     ensures ok { IfOk result (λ m. IsRead (parse_view_change f.old.version) f.old f.new m) }
-    ensures bad { (at : ℕ) → result ≡ Err (DecodeError.BadField at) → IsUnreadable (parse_view_change f.old.version) f.old at }
+    ensures bad { (at : ℕ) → result ≡ Err (DecodeError.BadField at) →
+        IsUnreadable (parse_view_change f.old.version) f.old at }
 {
-    // Its sender's number stands outside of the message.
+    // The sender is not part of the encoding, so any number will do here.
     let change = read_change(alloc, NodeId(0), f)?;
     let Change {
         view,
@@ -288,7 +300,8 @@ fn read_view_change(alloc: Global, f: &mut Fields) -> Result<Message, DecodeErro
 
 fn read_new_view(alloc: Global, f: &mut Fields) -> Result<Message, DecodeError>
     ensures ok { IfOk result (λ m. IsRead (parse_new_view f.old.version) f.old f.new m) }
-    ensures bad { (at : ℕ) → result ≡ Err (DecodeError.BadField at) → IsUnreadable (parse_new_view f.old.version) f.old at }
+    ensures bad { (at : ℕ) → result ≡ Err (DecodeError.BadField at) →
+        IsUnreadable (parse_new_view f.old.version) f.old at }
 {
     let view = f.read_u16()?;
     let first = read_count(f)?;

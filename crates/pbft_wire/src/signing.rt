@@ -1,4 +1,4 @@
-//! What is hashed of a value, and what is signed.
+//! What is hashed of a value, and the statements that are signed.
 ghost use Rattle.std.specs.Prelude.{◌≡◌, ◌≤◌, List, length, map, IfOk, OnOk};
 ghost use Rattle.std.specs.List.{flat_map};
 ghost use Rattle.iss_request.specs.Fields.{and_bytes};
@@ -11,10 +11,10 @@ use iss_request::{Bytes, NoMemory, Seq, Slot, Value, Writer, value_string};
 use iss_sb::{Params, put_head};
 use std::alloc::Global;
 
-/// The number of the module.
+/// The tag of the module, which is part of each statement.
 pub const TAG: u8 = 3;
 
-/// The number of a PrePrepare, in bytes and in statements.
+/// The number of a PrePrepare, in encodings and in statements.
 pub const PRE_PREPARE: u8 = 1;
 
 /// The number of a Prepare.
@@ -29,7 +29,7 @@ pub const VIEW_CHANGE: u8 = 4;
 /// The number of a NewView.
 pub const NEW_VIEW: u8 = 5;
 
-/// A certificate's slot, its view, and its value's digest.
+/// What a ViewChange signs of a certificate: its slot, its view, and the digest of its value.
 #[derive(Drop)]
 pub struct Mark {
     pub slot: Slot,
@@ -37,7 +37,7 @@ pub struct Mark {
     pub digest: [u8; 32],
 }
 
-/// The string that is hashed of a value.
+/// The string of which the digest is taken.
 pub fn string_of(alloc: Global, p: &Params, value: &Value) -> Result<Bytes, NoMemory>
     ensures { IfOk result (λ s. s ≡ string_of p.now value.now) }
 {
@@ -51,8 +51,8 @@ fn has_requests(value: &Value) -> bool {
     }
 }
 
-/// The digest of a value. Each node asks for it more than once, so the directory remembers that of a long string; without
-/// memory for the string it is made anew.
+/// The digest of a value. A replica needs it more than once, so the directory caches the digests of long strings. If
+/// there is no memory for the string, the digest is computed without it.
 pub fn digest_of(alloc: Global, p: &Params, value: &Value) -> [u8; 32]
     ensures { result ≡ digest_of p.now value.now }
 {
@@ -87,7 +87,7 @@ fn marks_of(alloc: Global, p: &Params, certificates: &[Certificate]) -> Result<S
 
 // ---- statements
 
-/// The statement of a PrePrepare, a Prepare or a Commit for the value of this digest.
+/// The statement of a PrePrepare, a Prepare or a Commit (`kind`) for the value with this digest.
 // rule: PBFT: A signature covers the instance, kind, view, slot and digest
 pub fn state_at(
     alloc: Global,
@@ -108,7 +108,7 @@ pub fn state_at(
     Ok(out.into_bytes())
 }
 
-/// The statement of a ViewChange.
+/// The statement of a ViewChange with these certificates.
 pub fn state_change(
     alloc: Global,
     p: &Params,
@@ -122,11 +122,12 @@ pub fn state_change(
     state_marked(alloc, p, view, marks.as_slice())
 }
 
-/// The statement of a ViewChange with certificates of these marks.
+/// The statement of a ViewChange, from the marks of its certificates.
 // rule: PBFT: A ViewChange signs the slot, view and digest of each prepared certificate
 pub fn state_marked(alloc: Global, p: &Params, view: u16, marks: &[Mark]) -> Result<Bytes, NoMemory>
     requires { length marks.now ≤ 255 }
-    ensures { IfOk result (λ s. (cs : List Certificate) → marks.now ≡ map (mark_of p.now) cs → s ≡ state_change p.now view cs) }
+    ensures { IfOk result (λ s.
+        (cs : List Certificate) → marks.now ≡ map (mark_of p.now) cs → s ≡ state_change p.now view cs) }
 {
     let mut out = Writer::new(alloc, p.setup.version);
     put_head(p, TAG, &mut out)?;

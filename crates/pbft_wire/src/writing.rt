@@ -1,4 +1,4 @@
-//! The messages as bytes. What has no spelling is found first, and written as the number of no message.
+//! Encodes messages. A message without an encoding is detected first, and written as the number of no message.
 ghost use Rattle.std.specs.Prelude.{◌≡◌, ◌≤◌, ◌∷◌, ◌++◌, ℕ, List, true, length, OnOk};
 ghost use Rattle.std.specs.List.{flat_map, list_all};
 ghost use Rattle.iss_request.specs.Fields.{and_bytes};
@@ -17,7 +17,7 @@ use iss_request::{
 };
 use iss_sb::{are_signers, put_signers};
 
-// ---- what has a spelling
+// ---- which messages have an encoding
 
 fn requests_fit(requests: &[Request]) -> bool
     ensures { result ≡ list_all has_spelling requests.now }
@@ -39,7 +39,7 @@ fn value_fits(version: u8, value: &Value) -> bool
 fn certificate_fits(version: u8, c: &Certificate) -> bool
     ensures { result ≡ fits_certificate version c.now }
 {
-    // Their ranges are part of the answer.
+    // The ranges of these fields are part of the contract.
     let _slot = c.slot.0;
     let _view = c.view;
     value_fits(version, &c.value)
@@ -177,7 +177,8 @@ fn put_certificate(c: &Certificate, out: &mut Writer) -> Result<(), NoMemory>
 
 fn put_certificates(certificates: &[Certificate], out: &mut Writer) -> Result<(), NoMemory>
     requires { fits_certificates out.old.version 0 certificates.now ≡ true }
-    ensures { OnOk result (out.new ≡ and_bytes out.old (flat_map (certificate_bytes out.old.version) certificates.now)) }
+    ensures { OnOk result
+        (out.new ≡ and_bytes out.old (flat_map (certificate_bytes out.old.version) certificates.now)) }
 {
     for certificate in certificates {
         put_certificate(certificate, out)?;
@@ -251,7 +252,8 @@ fn put_pre_prepare(
     sig: &[u8],
     out: &mut Writer,
 ) -> Result<(), NoMemory>
-    ensures { OnOk result (out.new ≡ and_bytes out.old (1 ∷ at_bytes view slot.0 (spell_value out.old.version value.now ++ sig.now))) }
+    ensures { OnOk result
+        (out.new ≡ and_bytes out.old (1 ∷ at_bytes view slot.0 (spell_value out.old.version value.now ++ sig.now))) }
 {
     out.put_u8(PRE_PREPARE)?;
     out.put_u16(view)?;
@@ -270,7 +272,8 @@ fn put_new_view(
     requires few { length changes.now ≤ 255 }
     requires few_signatures { length signatures.now ≤ 255 }
     requires good { fits_changes out.old.version 0 changes.now ≡ true }
-    ensures { OnOk result (out.new ≡ and_bytes out.old (5 ∷ new_bytes out.old.version view changes.now signatures.now sig.now)) }
+    ensures { OnOk result
+        (out.new ≡ and_bytes out.old (5 ∷ new_bytes out.old.version view changes.now signatures.now sig.now)) }
 {
     out.put_u8(NEW_VIEW)?;
     out.put_u16(view)?;
@@ -288,7 +291,8 @@ fn put_view_change(
     out: &mut Writer,
 ) -> Result<(), NoMemory>
     requires { fits_change out.old.version view certificates.now sig.now ≡ true }
-    ensures { OnOk result (out.new ≡ and_bytes out.old (4 ∷ change_bytes out.old.version view certificates.now sig.now)) }
+    ensures { OnOk result
+        (out.new ≡ and_bytes out.old (4 ∷ change_bytes out.old.version view certificates.now sig.now)) }
 {
     out.put_u8(VIEW_CHANGE)?;
     put_change(view, certificates, sig, out)
@@ -337,8 +341,8 @@ fn put_message(msg: &Message, out: &mut Writer) -> Result<(), NoMemory>
     }
 }
 
-/// Writes a message: its number, its fields, its signature. One that has no spelling is written as bytes that no reader
-/// takes.
+/// Writes a message: its number, its fields, its signature. A message without an encoding (such as one with slots
+/// that do not ascend) is written as bytes that do not decode.
 // rule: PBFT: A message has one encoding, with replicas and slots strictly ascending
 pub fn write(msg: &Message, out: &mut Writer) -> Result<(), NoMemory>
     ensures { OnOk result (out.new ≡ and_bytes out.old (spell out.old.version msg.now)) }

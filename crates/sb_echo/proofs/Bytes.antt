@@ -1,4 +1,4 @@
--- What digests, strings and statements tell.
+-- Digests, strings and statements determine what they are of.
 use Rattle.std.proofs.Common.{◌≡◌, ℕ, true, ◌==◌, List, [], ◌++◌, sym, ap, ◌∙◌, inl, inr}
 use Rattle.std.proofs.lemmas.Bool.Decides.{Decides-eqb}
 use Rattle.iss_request.specs.Fields.{Good}
@@ -22,7 +22,7 @@ same-is a b h = (Decides-eqb a b).1 h
 good-holds : (b c : Batch) (x y : List ℕ) → Good (Value_batch b) x ≡ Good (Value_batch c) y → b ≡ c
 good-holds b c x y h = cc
 
--- one batch that is read as it is spelled is enough
+-- it is enough that one of the batches decodes from its encoding
 pub one-batch : (p : Params) (b c : Batch) → IsReadBatch p b → string_of p b ≡ string_of p c → b ≡ c
 one-batch p b c h e =
     let v : ℕ = p.setup.version in

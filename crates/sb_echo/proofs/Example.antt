@@ -49,14 +49,14 @@ setup = record {
 abbrev pub p : Params
 p = record { setup = setup; epoch = record { 0 = 2 }; leader = node 0; slots = slot 0 ∷ slot 4 ∷ []; directory = directory_of 4 1 4 }
 
--- the batch of no requests
+-- the empty batch
 abbrev pub b : Batch
 b = []
 
 abbrev pub d : List ℕ
 d = digest_of p b
 
--- a node's signature, by a leaf, of its word of this kind on slot 0
+-- a node's signature, with a leaf, of its message of this kind for slot 0
 abbrev pub sig : ℕ → ℕ → ℕ → List ℕ
 sig k kind leaf = signature p k leaf (statement p kind 0 d)
 
@@ -73,11 +73,11 @@ casts_once = refl
 casts_another : asks p 0 cast (Cast (slot 4) b) ≡ Some (slot 4, b)
 casts_another = refl
 
--- its own word is none to it, since the cast was
+-- its own message has no effect, since the cast accepted the batch
 no_word_to_itself : asks p 0 cast (Receive (node 0) (Say (slot 0) b (sig 0 1 5))) ≡ None
 no_word_to_itself = refl
 
--- node 1 takes the word, and echoes it
+-- node 1 accepts the batch, and echoes it
 abbrev pub word : List (Item Word)
 word = and_then echo p 1 [] (Receive (node 0) (Say (slot 0) b (sig 0 1 5))) 9
 
@@ -97,7 +97,7 @@ states = refl
 abbrev pub echo_from : ℕ → List (Item Word) → List (Item Word)
 echo_from k xs = and_then echo p 1 xs (Receive (node k) (Echo (slot 0) d (sig k 2 0))) 0
 
--- two echoes, one of them twice, decide nothing; the third decides, and the fourth changes nothing
+-- two echoes, one of them received twice, decide nothing; the third one decides, and the fourth changes nothing
 two : delivered echo p 1 (echo_from 1 (echo_from 0 (echo_from 0 word))) 0 ≡ None
 unfolding sha256 digest_bytes hash_after compress rounds schedule first_words spell_batch spell_count spell_value
 two = refl
@@ -110,14 +110,14 @@ four : delivered echo p 1 (echo_from 3 (echo_from 2 (echo_from 1 (echo_from 0 wo
 unfolding sha256 digest_bytes hash_after compress rounds schedule first_words spell_batch spell_count spell_value
 four = refl
 
--- echoes alone deliver nothing, nor a word alone
+-- echoes alone deliver nothing, nor does a batch alone
 no_word : delivered echo p 1 (echo_from 2 (echo_from 1 (echo_from 0 []))) 0 ≡ None
 no_word = refl
 
 no_echo : delivered echo p 1 word 0 ≡ None
 no_echo = refl
 
--- why a word has to have a spelling: different batches that have none can have one string, and so one digest
+-- why a message must have an encoding: different batches without one may have the same string, and so the same digest
 abbrev many : ℕ → Batch
 many n = replicate n (record { id = record { client = 0; number = 0 }; payload = []; sig = [] })
 
@@ -125,7 +125,7 @@ one-string : string_of p (many 33) ≡ string_of p (many 34)
 unfolding spell_batch spell_count spell_value
 one-string = refl
 
--- rows of bytes: a signature stands as zeros of its length
+-- encodings: zeros of the right length are the signatures
 abbrev blank : List ℕ
 blank = 2 ∷ replicate (4 + 32 * 69) 0
 
@@ -140,7 +140,7 @@ say-bytes-second = refl
 echo-bytes : spell 1 (Echo (slot 4) (replicate 32 9) blank) ≡ 2 ∷ 0 ∷ 0 ∷ 0 ∷ 0 ∷ 0 ∷ 0 ∷ 0 ∷ 4 ∷ replicate 32 9 ++ blank
 echo-bytes = refl
 
--- a digest cut short has no spelling
+-- a message with a short digest has no encoding
 no-bytes : spell 1 (Echo (slot 4) (replicate 31 9) blank) ≡ 0 ∷ []
 no-bytes = refl
 

@@ -1,4 +1,4 @@
--- One echo more, as the set of those that were heard tells it.
+-- One echo more in the set of received echoes.
 use Rattle.std.proofs.Common.{◌≡◌, Bool, true, false, ◌==◌, ◌&&◌, refl, ap, ◌∙◌}
 use Rattle.std.specs.Cmp.Lexicographic.{slice_cmp}
 use Rattle.std.specs.Ordering.{is_eq, nat_cmp, ordering_then}
@@ -13,7 +13,8 @@ swapped true false c = refl
 swapped false true c = refl
 swapped false false c = refl
 
-pub same_heard : (a b : Heard) → is_eq (order a b) ≡ ((a.from == b.from) && ((a.slot == b.slot) && same_bytes a.digest b.digest))
+pub same_heard : (a b : Heard) →
+    is_eq (order a b) ≡ ((a.from == b.from) && ((a.slot == b.slot) && same_bytes a.digest b.digest))
 same_heard a b =
     let slots = same_number a.slot b.slot in
     let nodes = same_number a.from b.from in

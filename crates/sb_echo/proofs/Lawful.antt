@@ -1,4 +1,4 @@
--- The laws of echo's single steps.
+-- The laws of single steps hold of echo.
 use Rattle.std.proofs.Common.{◌≡◌, ◌≤◌, ◌<◌, ◌+◌, ◌^◌, ℕ, Bool, true, false, List, ◌∷◌, ◌++◌, length, Option, Some, None, refl, sym, ap, subst, inl, inr, arith}
 use Rattle.sha2.proofs.Facts256.{length-sha256}
 use Rattle.iss_base.specs.Lists.{In}
@@ -25,7 +25,8 @@ use Rattle.sb_echo.proofs.Bytes.{same-is}
 use Rattle.sb_echo.proofs.Facts.{IsOwn, Same, accepted-is, asked, decided-is}
 use Rattle.sb_echo.proofs.Spelling.{echo-again, say-again, say-read}
 
-named : (p : Params) (from : ℕ) (msg : Word) (c : Claim) → In c (claims p from msg) → (rest : List ℕ) × (c.statement ≡ statement_head p tag ++ rest)
+named : (p : Params) (from : ℕ) (msg : Word) (c : Claim) → In c (claims p from msg) →
+    (rest : List ℕ) × (c.statement ≡ statement_head p tag ++ rest)
 named p from (Say slot batch sig) c (inl e) = (1 ∷ (eight_bytes slot.0 ++ digest_of p batch), ap (λ (z : Claim). z.statement) e)
 named p from (Say slot batch sig) c (inr h) = absurd h
 named p from (Echo slot d sig) c (inl e) = (2 ∷ (eight_bytes slot.0 ++ d), ap (λ (z : Claim). z.statement) e)
@@ -34,14 +35,16 @@ named p from (Echo slot d sig) c (inr h) = absurd h
 no-word : (s : Slot) (b : Batch) (from : NodeId) (msg : Word) → Same (Cast s b) (Receive from msg) → ⊥
 no-word s b from msg h = cc
 
--- a cast that is asked for is the leader's
-own : (p : Params) (me : ℕ) (xs : List (Item Word)) (s : Slot) (b : Batch) (x : Slot × Batch) → asks p me xs (Cast s b) ≡ Some x → IsOwn p me (Cast s b) x
+-- only the leader accepts a cast
+own : (p : Params) (me : ℕ) (xs : List (Item Word)) (s : Slot) (b : Batch) (x : Slot × Batch) →
+    asks p me xs (Cast s b) ≡ Some x → IsOwn p me (Cast s b) x
 own p me xs s b x h = elim (asked p me xs (Cast s b) x h).cause [
   | inl o ↦ o
   | inr told ↦ absurd (no-word s b p.leader (Say x.0 x.1 told.sig) told.input)
 ]
 
-castable : (p : Params) (me : ℕ) (xs : List (Item Word)) (s : Slot) (b c : Batch) → asks p me xs (Cast s b) ≡ Some (s, b) → asks p me xs (Cast s c) ≡ Some (s, c)
+castable : (p : Params) (me : ℕ) (xs : List (Item Word)) (s : Slot) (b c : Batch) →
+    asks p me xs (Cast s b) ≡ Some (s, b) → asks p me xs (Cast s c) ≡ Some (s, c)
 castable p me xs s b c h =
     let a = asked p me xs (Cast s b) (s, b) h in
     let leads : me ≡ p.leader.0 = (own p me xs s b (s, b) h).leads in
@@ -56,8 +59,9 @@ used-is p me leaf false (Some a) = omega arith
 one-all : (k : NodeId) → To_one k ≡ To_all → ⊥
 one-all k h = cc
 
--- echo sends to all alone
-to-all : (p : Params) (me leaf : ℕ) (cast : Bool) (o : Option (Slot × Batch)) (k : NodeId) (msg : Word) → In {A = To × Word} (To_one k, msg) (made_of p me leaf cast o).sends → ⊥
+-- echo sends only to all
+to-all : (p : Params) (me leaf : ℕ) (cast : Bool) (o : Option (Slot × Batch)) (k : NodeId) (msg : Word) →
+    In {A = To × Word} (To_one k, msg) (made_of p me leaf cast o).sends → ⊥
 to-all p me leaf cast None k msg h = h
 to-all p me leaf true (Some a) k msg (inl e) = one-all k (ap (λ (z : To × Word). z.0) e)
 to-all p me leaf true (Some a) k msg (inr (inl e)) = one-all k (ap (λ (z : To × Word). z.0) e)
@@ -65,10 +69,11 @@ to-all p me leaf true (Some a) k msg (inr (inr h)) = h
 to-all p me leaf false (Some a) k msg (inl e) = one-all k (ap (λ (z : To × Word). z.0) e)
 to-all p me leaf false (Some a) k msg (inr h) = h
 
--- ---- what is sent is read again
+-- ---- what is sent decodes
 
--- a batch that is asked for with an input that is read again is read again
-asked-read : (p : Params) (me : ℕ) (xs : List (Item Word)) (i : Input Word) (a : Slot × Batch) → IsHeard echo p i → asks p me xs i ≡ Some a → IsReadBatch p a.1
+-- the batch of an input that decodes decodes
+asked-read : (p : Params) (me : ℕ) (xs : List (Item Word)) (i : Input Word) (a : Slot × Batch) → IsHeard echo p i →
+    asks p me xs i ≡ Some a → IsReadBatch p a.1
 asked-read p me xs i a heard h = elim (asked p me xs i a h).cause [
   | inl own ↦ subst (λ (z : Input Word). IsHeard echo p z) own.input heard
   | inr told ↦ let k : IsHeard echo p (Receive p.leader (Say a.0 a.1 told.sig)) = subst (λ (z : Input Word). IsHeard echo p z) told.input heard in say-read p.setup.version a.0 a.1 told.sig k.1
@@ -84,17 +89,21 @@ module _ (p : Params) (me : ℕ) (good : IsGoodParams echo p) (a : Slot × Batch
   echoed-again : (leaf : ℕ) → IsReadMessage echo p (echo_of p me leaf a)
   echoed-again leaf = echo-again p.setup.version a.0 (digest_of p a.1) (signature p me leaf (statement p 2 a.0.0 (digest_of p a.1))) low (digest-length p a.1) (signature-shape echo p good me leaf (statement p 2 a.0.0 (digest_of p a.1)))
 
-  words-again : (leaf : ℕ) (cast : Bool) (to : To) (msg : Word) → In {A = To × Word} (to, msg) (words p me leaf cast a) → IsReadMessage echo p msg
+  words-again : (leaf : ℕ) (cast : Bool) (to : To) (msg : Word) →
+      In {A = To × Word} (to, msg) (words p me leaf cast a) → IsReadMessage echo p msg
   words-again leaf true to msg (inl e) = subst (λ (z : To × Word). IsReadMessage echo p z.1) (sym e) (said-again leaf)
   words-again leaf true to msg (inr (inl e)) = subst (λ (z : To × Word). IsReadMessage echo p z.1) (sym e) (echoed-again (leaf + 1))
   words-again leaf true to msg (inr (inr h)) = absurd h
   words-again leaf false to msg (inl e) = subst (λ (z : To × Word). IsReadMessage echo p z.1) (sym e) (echoed-again leaf)
   words-again leaf false to msg (inr h) = absurd h
 
-sent-again : (p : Params) (me : ℕ) (xs : List (Item Word)) (i : Input Word) (leaf : ℕ) (to : To) (msg : Word) → IsGoodParams echo p → IsHeard echo p i → In {A = To × Word} (to, msg) (makes p me xs i leaf).sends → IsReadMessage echo p msg
+sent-again : (p : Params) (me : ℕ) (xs : List (Item Word)) (i : Input Word) (leaf : ℕ) (to : To) (msg : Word) →
+    IsGoodParams echo p → IsHeard echo p i → In {A = To × Word} (to, msg) (makes p me xs i leaf).sends →
+    IsReadMessage echo p msg
 sent-again p me xs i leaf to msg good heard h = go (asks p me xs i) refl h
   where
-    go : (o : Option (Slot × Batch)) → asks p me xs i ≡ o → In {A = To × Word} (to, msg) (made_of p me leaf (is_cast i) o).sends → IsReadMessage echo p msg
+    go : (o : Option (Slot × Batch)) → asks p me xs i ≡ o →
+        In {A = To × Word} (to, msg) (made_of p me leaf (is_cast i) o).sends → IsReadMessage echo p msg
     go None q k = absurd k
     go (Some a) q k =
         let low = below-In (2 ^ 64) a.0 p.slots good.slots_low (has_slot-In a.0 p.slots (asked p me xs i a q).free.within) in

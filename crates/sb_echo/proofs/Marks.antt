@@ -1,4 +1,4 @@
--- What echo's places and tests say of the lists that it stands for.
+-- The state and tests of echo agree with the history that they represent.
 use Rattle.std.proofs.Common.{◌≡◌, ◌≢◌, ℕ, zero, suc, Bool, true, false, ◌&&◌, ◌==◌, if◌then◌else◌, List, ◌∷◌, Option, Some, None, is_some, refl, sym, ap, ◌∙◌, subst, inl, inr, arith, true≢false}
 use Rattle.iss_base.specs.Lists.{In, same_bytes}
 use Rattle.iss_base.specs.Quorum.{count_below}
@@ -32,7 +32,7 @@ some-place p None v = refl
 some-place p (Some b) None = refl
 some-place p (Some b) (Some v) = refl
 
--- a test that is not passed by an equal number is passed by none
+-- equal numbers pass the same tests
 pub apart : (a s : ℕ) → (a == s) ≡ false → s ≢ a
 apart a s h e = true≢false (sym (same-is a s (sym e)) ∙ h)
 
@@ -43,16 +43,18 @@ other a s ne = go (a == s) refl
     go true q = absurd (ne (sym (is-same a s q)))
     go false q = refl
 
--- ---- what is decided with an input more
+-- ---- what is decided with one input more
 
 -- the input is no echo at a slot of the segment
 abbrev pub IsQuiet : Params → ℕ → Input Word → Type 0
 IsQuiet p s i = has_slot s p.slots ≡ true → (d : List ℕ) (k : ℕ) → is_echo s d k i ≡ false
 
-quiet-echo : (s : ℕ) (d : List ℕ) (k : ℕ) (x : Item Word) (xs : List (Item Word)) → is_echo s d k x.input ≡ false → has_echo s d k (x ∷ xs) ≡ has_echo s d k xs
+quiet-echo : (s : ℕ) (d : List ℕ) (k : ℕ) (x : Item Word) (xs : List (Item Word)) → is_echo s d k x.input ≡ false →
+    has_echo s d k (x ∷ xs) ≡ has_echo s d k xs
 quiet-echo s d k x xs h = rw h refl
 
-pub decide-quiet : (p : Params) (s : ℕ) (x : Item Word) (xs : List (Item Word)) → IsQuiet p s x.input → (o : Option Batch) → decide p s (x ∷ xs) o ≡ decide p s xs o
+pub decide-quiet : (p : Params) (s : ℕ) (x : Item Word) (xs : List (Item Word)) → IsQuiet p s x.input →
+    (o : Option Batch) → decide p s (x ∷ xs) o ≡ decide p s xs o
 decide-quiet p s x xs quiet None = refl
 decide-quiet p s x xs quiet (Some b) = go (has_slot s p.slots) refl
   where
@@ -62,8 +64,9 @@ decide-quiet p s x xs quiet (Some b) = go (has_slot s p.slots) refl
         let same = count-alike (λ k. has_echo s (digest_of p b) k (x ∷ xs)) (λ k. has_echo s (digest_of p b) k xs) p.setup.n (λ k. quiet-echo s (digest_of p b) k x xs (quiet q (digest_of p b) k)) in
         rw same refl
 
--- an echo is none at another slot
-pub echo-apart : (from : NodeId) (slot : Slot) (d sig : List ℕ) (s : ℕ) (e : List ℕ) (k : ℕ) → (slot.0 == s) ≡ false → is_echo s e k (Receive from (Echo_word slot d sig)) ≡ false
+-- an echo does not count at another slot
+pub echo-apart : (from : NodeId) (slot : Slot) (d sig : List ℕ) (s : ℕ) (e : List ℕ) (k : ℕ) → (slot.0 == s) ≡ false →
+    is_echo s e k (Receive from (Echo_word slot d sig)) ≡ false
 echo-apart from slot d sig s e k h = rw h (never (from.0 == k))
   where
     never : (b : Bool) → (b && (false && same_bytes d e)) ≡ false
@@ -87,7 +90,8 @@ one-rises : (slot : Slot) (v : Option Value) → AreAscending 0 (slots_of (one_a
 one-rises slot None = tt
 one-rises slot (Some x) = (omega arith, tt)
 
-pub one-within : (slot : Slot) (v : Option Value) (slots : List Slot) → In slot slots → AllIn (slots_of (one_at slot v)) slots
+pub one-within : (slot : Slot) (v : Option Value) (slots : List Slot) → In slot slots →
+    AllIn (slots_of (one_at slot v)) slots
 one-within slot None slots h = tt
 one-within slot (Some x) slots h = (h, tt)
 
@@ -98,17 +102,21 @@ module _ (p : Params) (me : ℕ) (xs : List (Item Word)) (i : Input Word) (leaf 
   abbrev later : List (Item Word)
   later = and_then echo p me xs i leaf
 
-  one-in : v ≡ newly (decided p me xs slot.0) (decided p me later slot.0) → (s : Slot) (x : Value) → In {A = Slot × Value} (s, x) (one_at slot v) → (decided p me later s.0 ≡ Some x) × (delivered echo p me xs s.0 ≡ None)
+  one-in : v ≡ newly (decided p me xs slot.0) (decided p me later slot.0) → (s : Slot) (x : Value) →
+      In {A = Slot × Value} (s, x) (one_at slot v) →
+      (decided p me later s.0 ≡ Some x) × (delivered echo p me xs s.0 ≡ None)
   one-in is s x = go v refl
     where
-      go : (o : Option Value) → v ≡ o → In {A = Slot × Value} (s, x) (one_at slot o) → (decided p me later s.0 ≡ Some x) × (delivered echo p me xs s.0 ≡ None)
+      go : (o : Option Value) → v ≡ o → In {A = Slot × Value} (s, x) (one_at slot o) →
+          (decided p me later s.0 ≡ Some x) × (delivered echo p me xs s.0 ≡ None)
       go None q h = absurd h
       go (Some y) q (inr h) = absurd h
       go (Some y) q (inl e) =
           let k = newly-is (decided p me xs slot.0) (decided p me later slot.0) y (sym is ∙ q) in
           subst (λ (z : Slot × Value). (decided p me later z.0.0 ≡ Some z.1) × (delivered echo p me xs z.0.0 ≡ None)) (sym e) (k.1, delivered-is p me xs slot.0 ∙ k.0)
 
-  one-only : v ≡ newly (decided p me xs slot.0) (decided p me later slot.0) → ((s : ℕ) → s ≢ slot.0 → decided p me later s ≡ decided p me xs s) →
+  one-only : v ≡ newly (decided p me xs slot.0) (decided p me later slot.0) →
+      ((s : ℕ) → s ≢ slot.0 → decided p me later s ≡ decided p me xs s) →
       (s : Slot) (x : Value) → (decided p me later s.0 ≡ Some x) × (delivered echo p me xs s.0 ≡ None) → In {A = Slot × Value} (s, x) (one_at slot v)
   one-only is others s x h =
       let open' : decided p me xs s.0 ≡ None = sym (delivered-is p me xs s.0) ∙ h.1 in
@@ -121,6 +129,8 @@ module _ (p : Params) (me : ℕ) (xs : List (Item Word)) (i : Input Word) (leaf 
         | inr ne ↦ let k : Some x ≡ None = sym h.0 ∙ others s.0 ne ∙ open' in absurd cc
       ]
 
-  pub delivers-at : v ≡ newly (decided p me xs slot.0) (decided p me later slot.0) → ((s : ℕ) → s ≢ slot.0 → decided p me later s ≡ decided p me xs s) → (ds : List (Slot × Value)) → ds ≡ one_at slot v → Delivers echo p me xs later ds
+  pub delivers-at : v ≡ newly (decided p me xs slot.0) (decided p me later slot.0) →
+      ((s : ℕ) → s ≢ slot.0 → decided p me later s ≡ decided p me xs s) → (ds : List (Slot × Value)) →
+      ds ≡ one_at slot v → Delivers echo p me xs later ds
   delivers-at is others ds e = subst (λ (l : List (Slot × Value)). Delivers echo p me xs later l) (sym e)
       (Delivers-from echo p me xs i leaf (one_at slot v) (one-rises slot v) (λ s x. (one-in is s x, one-only is others s x)))

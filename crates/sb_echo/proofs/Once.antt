@@ -1,4 +1,4 @@
--- Each leaf that signs in a step of echo is of one statement, and no claim is passed on.
+-- Each leaf signs one statement in a step of echo, and no claim is forwarded.
 use Rattle.std.proofs.Common.{◌≡◌, ◌∙◌, ◌+◌, ℕ, Bool, true, false, List, [], ◌∷◌, length, Option, Some, None, refl, sym, ap, subst, inl, inr, add-zero}
 use Rattle.std.specs.Prelude.{slice_get}
 use Rattle.iss_base.specs.Lists.{In}
@@ -42,10 +42,12 @@ module _ (p : Params) (me leaf : ℕ) where
   first-leaf statements st c there h =
       by-leaf 0 statements st c there (subst (λ (q : ℕ). In c (claim me st (signature p me q st) ∷ [])) (sym (add-zero leaf)) h)
 
-  same-message : (to there : To) (msg other : Word) (c : Claim) → ◌≡◌ {A = To × Word} (to, msg) (there, other) → In c (claims p me msg) → In c (claims p me other)
+  same-message : (to there : To) (msg other : Word) (c : Claim) → ◌≡◌ {A = To × Word} (to, msg) (there, other) →
+      In c (claims p me msg) → In c (claims p me other)
   same-message to there msg other c e h = subst (λ (z : To × Word). In c (claims p me z.1)) e h
 
-  own : (cast : Bool) (o : Option (Slot × Batch)) (to : To) (msg : Word) (c : Claim) → In {A = To × Word} (to, msg) (made_of p me leaf cast o).sends →
+  own : (cast : Bool) (o : Option (Slot × Batch)) (to : To) (msg : Word) (c : Claim) →
+      In {A = To × Word} (to, msg) (made_of p me leaf cast o).sends →
       In c (claims p me msg) → IsSignedBy p me leaf (signed cast o) c
   own cast None to msg c h k = absurd h
   own true (Some a) to msg c (inl e) k = first-leaf (signed true (Some a)) (said a) c refl (same-message to _ msg (say p me leaf a) c e k)

@@ -1,5 +1,5 @@
--- The premises can be met: a world that moves lead to, with a Byzantine node, in which claims were signed and a slot
--- was delivered.
+-- The premises can be met: a reachable world with a Byzantine node, in which claims were signed and a slot was
+-- delivered.
 use Rattle.std.proofs.Common.{◌≡◌, ◌<◌, ◌^◌, ℕ, Bool, true, false, cond, eqb, List, [], ◌∷◌, Some, refl, sym, ap, ◌∙◌, subst, inl, inr, arith, true≢false}
 use Rattle.sha2.specs.Sha256.{sha256, digest_bytes, hash_after, compress, rounds, schedule, first_words}
 use Rattle.iss_base.specs.Lists.{In, same_bytes}
@@ -47,22 +47,24 @@ good = record {
   directory = refl;
 }
 
--- ---- worlds in which the nodes 0 and 1 took something
+-- ---- worlds in which the nodes 0 and 1 have a history
 
 abbrev world : List (Item Word) → List (Item Word) → World Word
 world xs ys i = cond (eqb i 0) xs (cond (eqb i 1) ys [])
 
-first-move : (input : Input Word) (leaf : ℕ) → MayCome echo p empty_world 0 input → Move echo p empty_world (world (and_then echo p 0 [] input leaf) [])
+first-move : (input : Input Word) (leaf : ℕ) → MayCome echo p empty_world 0 input →
+    Move echo p empty_world (world (and_then echo p 0 [] input leaf) [])
 first-move input leaf may = record { node = 0; correct = refl; input = input; may = may; leaf = leaf; takes = refl; others = λ i ne. rw (eqb-other i 0 ne) (none (eqb i 1)) }
   where
     none : (t : Bool) → ◌≡◌ {A = List (Item Word)} (cond t [] []) []
     none true = refl
     none false = refl
 
-move-one : (xs ys : List (Item Word)) (input : Input Word) (leaf : ℕ) → MayCome echo p (world xs ys) 1 input → Move echo p (world xs ys) (world xs (and_then echo p 1 ys input leaf))
+move-one : (xs ys : List (Item Word)) (input : Input Word) (leaf : ℕ) → MayCome echo p (world xs ys) 1 input →
+    Move echo p (world xs ys) (world xs (and_then echo p 1 ys input leaf))
 move-one xs ys input leaf may = record { node = 1; correct = refl; input = input; may = may; leaf = leaf; takes = refl; others = λ i ne. rw (eqb-other i 1 ne) refl }
 
--- ---- what may come
+-- ---- deliveries
 
 abbrev IsRead : Word → Type 0
 IsRead msg = IsReadMessage echo p msg
@@ -76,25 +78,29 @@ said-read = say-again 1 (slot 0) b (sig 0 1 5) (omega arith) (signature-shape ec
 echo-read : (k : ℕ) → IsRead (Echo (slot 0) d (sig k 2 0))
 echo-read k = echo-again 1 (slot 0) d (sig k 2 0) (omega arith) (digest-length p b) (signature-shape echo p good k 0 (statement p 2 0 d))
 
--- what a key signs verifies
+-- a signature by the key verifies
 verified-by : (k kind leaf : ℕ) → k < 4 → leaf < 2 ^ 4 → Verifies p (claim k (statement p kind 0 d) (sig k kind leaf))
 verified-by k kind leaf below few = signature-verifies echo p good k leaf (statement p kind 0 d) below few
 
-signed-by : (w : World Word) (k : ℕ) (x : Item Word) (msg : Word) (st sig : List ℕ) → In x (w k) → In {A = To × Word} (To_all, msg) x.made.sends → claims p k msg ≡ claim k st sig ∷ [] → IsSigned echo p w k st
+signed-by : (w : World Word) (k : ℕ) (x : Item Word) (msg : Word) (st sig : List ℕ) → In x (w k) →
+    In {A = To × Word} (To_all, msg) x.made.sends → claims p k msg ≡ claim k st sig ∷ [] → IsSigned echo p w k st
 signed-by w k x msg st sig h s e = record { item = x; taken = h; to = To_all; msg = msg; sent = s; claim = claim k st sig; made = rw e (inl refl); by = refl; is = refl }
 
-claimed : (w : World Word) (k : ℕ) (msg : Word) (st sig : List ℕ) → k < 4 → claims p k msg ≡ claim k st sig ∷ [] → IsRead msg → Verifies p (claim k st sig) → (is_correct setup k ≡ true → IsSigned echo p w k st) → IsCredible echo p (Verifies p) (IsSigned echo p w) k msg
+claimed : (w : World Word) (k : ℕ) (msg : Word) (st sig : List ℕ) → k < 4 → claims p k msg ≡ claim k st sig ∷ [] →
+    IsRead msg → Verifies p (claim k st sig) → (is_correct setup k ≡ true → IsSigned echo p w k st) →
+    IsCredible echo p (Verifies p) (IsSigned echo p w) k msg
 claimed w k msg st sig l e r v s = record { named = l; read = r; verified = λ c h. check c (rw e at h); signed = λ c h q. shown c (rw e at h) q }
   where
     check : (c : Claim) → In c (claim k st sig ∷ []) → Verifies p c
     check c (inl q) = subst (λ (z : Claim). Verifies p z) (sym q) v
     check c (inr h) = absurd h
 
-    shown : (c : Claim) → In c (claim k st sig ∷ []) → is_correct setup c.by.0 ≡ true → IsSigned echo p w c.by.0 c.statement
+    shown : (c : Claim) → In c (claim k st sig ∷ []) → is_correct setup c.by.0 ≡ true →
+        IsSigned echo p w c.by.0 c.statement
     shown c (inl q) r = subst (λ (z : Claim). is_correct setup z.by.0 ≡ true → IsSigned echo p w z.by.0 z.statement) (sym q) s r
     shown c (inr h) r = absurd h
 
--- ---- the run: node 0 casts, node 1 takes its word and the echoes of nodes 0, 1 and 3
+-- ---- the run: node 0 casts, node 1 receives its batch and the echoes of nodes 0, 1 and 3
 
 abbrev w1 : World Word
 w1 = world cast []
@@ -123,7 +129,7 @@ echo-signed ys = signed-by (world cast ys) 0 _ (Echo (slot 0) d (sig 0 2 6)) (st
 own-signed : IsSigned echo p w3 1 (statement p 2 0 d)
 own-signed = signed-by w3 1 _ (Echo (slot 0) d (sig 1 2 9)) (statement p 2 0 d) (sig 1 2 9) (inr (inl refl)) (inl refl) refl
 
--- what a Byzantine node claims nobody has to have signed
+-- a Byzantine node's claim need not be signed in the history
 none-signed : is_correct setup 3 ≡ true → IsSigned echo p w4 3 (statement p 2 0 d)
 none-signed h = absurd (true≢false (sym h))
 
@@ -142,7 +148,7 @@ delivers : delivered echo p 1 (w5 1) 0 ≡ Some (Value_batch b)
 unfolding sha256 digest_bytes hash_after compress rounds schedule first_words spell_batch spell_count spell_value
 delivers = refl
 
--- ---- its strings are separate: it hashed one
+-- ---- no two of its strings have one digest: it hashed one
 
 abbrev OnlyIn : List (List ℕ) → Type 0
 OnlyIn [] = Unit {0}
@@ -157,7 +163,8 @@ only-in [] s o h = absurd h
 only-in (t ∷ ss) s o (inl e) = e ∙ o.0
 only-in (t ∷ ss) s o (inr h) = only-in ss s o.1 h
 
-only : (xs : List (Item Word)) (x : Item Word) (s : List ℕ) → Only xs → In x xs → In s x.made.strings → s ≡ string_of p b
+only : (xs : List (Item Word)) (x : Item Word) (s : List ℕ) → Only xs → In x xs → In s x.made.strings →
+    s ≡ string_of p b
 only [] x s o h k = absurd h
 only (y ∷ xs) x s o (inl e) k = only-in y.made.strings s o.0 (subst (λ (z : Item Word). In s z.made.strings) e k)
 only (y ∷ xs) x s o (inr h) k = only xs x s o.1 h k
@@ -165,7 +172,8 @@ only (y ∷ xs) x s o (inr h) k = only xs x s o.1 h k
 one-string : (s : List ℕ) → IsHashed w5 s → s ≡ string_of p b
 one-string s h = go (eqb h.node 0) (eqb h.node 1) h.taken
   where
-    go : (t u : Bool) → In h.item (cond t cast (cond u (echo_from 3 (echo_from 1 (echo_from 0 word))) [])) → s ≡ string_of p b
+    go : (t u : Bool) → In h.item (cond t cast (cond u (echo_from 3 (echo_from 1 (echo_from 0 word))) [])) →
+        s ≡ string_of p b
     go true u k = only cast h.item s ((refl, tt), tt) k h.hashed
     go false true k = only (echo_from 3 (echo_from 1 (echo_from 0 word))) h.item s (tt, (tt, (tt, ((refl, tt), tt)))) k h.hashed
     go false false k = absurd k
@@ -197,6 +205,6 @@ record ArePremisesMet : Type 0 where
 premises-met : ArePremisesMet
 premises-met = record { params = p; world_of = w5; are_good = good; is_reached = reached; are_separate = separate; was_signed = echo-signed (echo_from 3 (echo_from 1 (echo_from 0 word))); was_delivered = delivers }
 
--- and what the laws give of it
+-- what the laws say of it
 its-broadcast : IsBroadcast echo p w5
 its-broadcast = echo-safe p w5 good reached separate

@@ -1,4 +1,4 @@
--- A message has one spelling.
+-- A message has one encoding.
 use Rattle.std.proofs.Common.{◌≡◌, ℕ, ◌+◌, ◌-◌, ◌^◌, ◌<◌, ◌==◌, ◌&&◌, ◌||◌, Bool, true, false, if◌then◌else◌, List, [], ◌∷◌, ◌++◌, length, append_assoc, refl, sym, ap, ◌∙◌, subst, ◌⊎◌, ◌↔◌, inl, inr, true≢false}
 use Rattle.std.specs.Prelude.{nat_lt}
 use Rattle.std.specs.Int.{to_be_bytes, w64}
@@ -20,7 +20,7 @@ use Rattle.sb_echo.specs.declared.word.Word.{Word}
 use Rattle.sb_echo.specs.declared.word.Word.TheVariants.{Say, Echo}
 use Rattle.sb_echo.specs.Echo.{IsSpelledWord, parse, parse_echo, parse_say, spell}
 
--- by a version of the formats
+-- in one version of the formats
 module _ (version : ℕ) where
   -- ---- the parts of the parser
 
@@ -60,7 +60,7 @@ module _ (version : ℕ) where
   unfolding parse_echo
   parse_echo-is = refl
 
-  -- ---- what has a spelling
+  -- ---- which messages have an encoding
 
   abbrev fits-say : Slot → List ℕ → Bool
   fits-say slot sig = nat_lt slot.0 (2 ^ 64) && is_signature sig
@@ -68,10 +68,12 @@ module _ (version : ℕ) where
   abbrev fits-echo : Slot → List ℕ → List ℕ → Bool
   fits-echo slot d sig = nat_lt slot.0 (2 ^ 64) && ((length d == 32) && is_signature sig)
 
-  spelled-say : (slot : Slot) (batch : Batch) (sig : List ℕ) → fits-say slot sig ≡ true → spell version (Say slot batch sig) ≡ 1 ∷ to_be_bytes w64 slot.0 ++ spell_value version (Value_batch batch) ++ sig
+  spelled-say : (slot : Slot) (batch : Batch) (sig : List ℕ) → fits-say slot sig ≡ true →
+      spell version (Say slot batch sig) ≡ 1 ∷ to_be_bytes w64 slot.0 ++ spell_value version (Value_batch batch) ++ sig
   spelled-say slot batch sig h = rw h refl
 
-  spelled-echo : (slot : Slot) (d sig : List ℕ) → fits-echo slot d sig ≡ true → spell version (Echo slot d sig) ≡ 2 ∷ to_be_bytes w64 slot.0 ++ d ++ sig
+  spelled-echo : (slot : Slot) (d sig : List ℕ) → fits-echo slot d sig ≡ true →
+      spell version (Echo slot d sig) ≡ 2 ∷ to_be_bytes w64 slot.0 ++ d ++ sig
   spelled-echo slot d sig h = rw h refl
 
   regroup : (n : ℕ) (a b c rest : List ℕ) → (n ∷ a ++ b ++ c) ++ rest ≡ n ∷ (a ++ (b ++ (c ++ rest)))
@@ -84,9 +86,10 @@ module _ (version : ℕ) where
   both : (a b : Bool) → a ≡ true → b ≡ true → (a && b) ≡ true
   both a b p q = rw (p, q) refl
 
-  -- ---- what is read is spelled so
+  -- ---- what decodes has this encoding
 
-  say-only : (bytes rest : List ℕ) (msg : Word) → parse_say version bytes ≡ Good msg rest → 1 ∷ bytes ≡ spell version msg ++ rest
+  say-only : (bytes rest : List ℕ) (msg : Word) → parse_say version bytes ≡ Good msg rest →
+      1 ∷ bytes ≡ spell version msg ++ rest
   say-only bytes rest msg h =
       let a = then_parts (number w64) after_slot bytes rest msg (rw parse_say-is at h) in
       let b = then_parts (such_that is_batch (parse_value version)) (after_value a.thing) a.mid rest msg a.second in
@@ -103,7 +106,8 @@ module _ (version : ℕ) where
       (ap (λ (x : List ℕ). 1 ∷ x) whole ∙ sym (regroup 1 (to_be_bytes w64 a.thing) (spell_value version (Value_batch (batch_of b.thing))) c.thing rest)
       ∙ ap (λ (x : List ℕ). x ++ rest) (sym (spelled-say (record { 0 = a.thing }) (batch_of b.thing) c.thing fits)))
 
-  echo-only : (bytes rest : List ℕ) (msg : Word) → parse_echo bytes ≡ Good msg rest → 2 ∷ bytes ≡ spell version msg ++ rest
+  echo-only : (bytes rest : List ℕ) (msg : Word) → parse_echo bytes ≡ Good msg rest →
+      2 ∷ bytes ≡ spell version msg ++ rest
   echo-only bytes rest msg h =
       let a = then_parts (number w64) after_echo_slot bytes rest msg (rw parse_echo-is at h) in
       let b = then_parts (block 32) (after_digest a.thing) a.mid rest msg a.second in
@@ -125,7 +129,8 @@ module _ (version : ℕ) where
       let first = test_parts known byte bytes a.mid a.thing a.first in
       byte_parts bytes a.mid a.thing first.0 ∙ go (a.thing == 1) a.thing a.mid refl first.1 a.second
     where
-      go : (t : Bool) (n : ℕ) (mid : List ℕ) → (n == 1) ≡ t → known n ≡ true → after_message n mid ≡ Good msg rest → n ∷ mid ≡ spell version msg ++ rest
+      go : (t : Bool) (n : ℕ) (mid : List ℕ) → (n == 1) ≡ t → known n ≡ true → after_message n mid ≡ Good msg rest →
+          n ∷ mid ≡ spell version msg ++ rest
       go true n mid q k r =
           let one : n ≡ 1 = (Decides-eqb n 1).0 q in
           let read : parse_say version mid ≡ Good msg rest = rw q at r in
@@ -136,16 +141,17 @@ module _ (version : ℕ) where
           let read : parse_echo mid ≡ Good msg rest = rw q at r in
           ap (λ (x : ℕ). x ∷ mid) two ∙ echo-only mid rest msg read
 
-  -- ---- what is spelled is read
+  -- ---- an encoding decodes
 
   abbrev Whole : Word → Type 0
   Whole msg = ((rest : List ℕ) → parse version (spell version msg ++ rest) ≡ Good msg rest) ⊎ ((rest : List ℕ) → IsBad (parse version (spell version msg ++ rest)))
 
-  -- a spelling that is the number of no message
+  -- an encoding that is the number of no message
   none : (rest : List ℕ) → IsBad (parse version (0 ∷ rest))
   none rest = (0, rw parse-is (first_bad (such_that known byte) after_message (0 ∷ rest) 0 (test_failed known byte (0 ∷ rest) rest 0 (byte_again 0 rest) refl)))
 
-  from : (bytes : List ℕ) (at : ℕ) → (such_that known byte >>= after_message) bytes ≡ Bad at → IsBad (parse version bytes)
+  from : (bytes : List ℕ) (at : ℕ) → (such_that known byte >>= after_message) bytes ≡ Bad at →
+      IsBad (parse version bytes)
   from bytes at h = (at, rw parse-is h)
 
   message-is : (n : ℕ) (text : List ℕ) → known n ≡ true → such_that known byte (n ∷ text) ≡ Good n text
@@ -161,7 +167,8 @@ module _ (version : ℕ) where
     say-bytes : spell version (Say slot batch sig) ++ rest ≡ 1 ∷ all
     say-bytes = ap (λ (x : List ℕ). x ++ rest) (spelled-say slot batch sig fits) ∙ regroup 1 (to_be_bytes w64 slot.0) (spell_value version (Value_batch batch)) sig rest
 
-    pub say-good : parse_value version text ≡ Good (Value_batch batch) (sig ++ rest) → parse version (spell version (Say slot batch sig) ++ rest) ≡ Good (Say slot batch sig) rest
+    pub say-good : parse_value version text ≡ Good (Value_batch batch) (sig ++ rest) →
+        parse version (spell version (Say slot batch sig) ++ rest) ≡ Good (Say slot batch sig) rest
     say-good h =
         let msg : Word = Say slot batch sig in
         let third = then_good parse_signature (made slot.0 (Value_batch batch)) (sig ++ rest) rest rest sig msg (signature_again sig rest shape) (done_good msg rest) in
@@ -177,7 +184,9 @@ module _ (version : ℕ) where
         let said : parse_say version all ≡ Bad (length all - length text + h.0) = rw parse_say-is first in
         subst (λ (x : List ℕ). IsBad (parse version x)) (sym say-bytes) (from (1 ∷ all) _ (then_bad (such_that known byte) after_message (1 ∷ all) all 1 _ (message-is 1 all refl) said))
 
-  pub echo-good : (slot : Slot) (d sig rest : List ℕ) → slot.0 < 2 ^ 64 → length d ≡ 32 → is_signature sig ≡ true → fits-echo slot d sig ≡ true → parse version (spell version (Echo slot d sig) ++ rest) ≡ Good (Echo slot d sig) rest
+  pub echo-good : (slot : Slot) (d sig rest : List ℕ) → slot.0 < 2 ^ 64 → length d ≡ 32 → is_signature sig ≡ true →
+      fits-echo slot d sig ≡ true →
+      parse version (spell version (Echo slot d sig) ++ rest) ≡ Good (Echo slot d sig) rest
   echo-good slot d sig rest lt len shape fits =
       let msg : Word = Echo slot d sig in
       let text : List ℕ = d ++ (sig ++ rest) in
@@ -216,14 +225,17 @@ module _ (version : ℕ) where
   good-bad : (m : Word) (rest : List ℕ) (at : ℕ) → Good m rest ≡ Bad at → ⊥
   good-bad m rest at h = cc
 
-  -- the batch of a word that is read as it is spelled is read so too
-  pub say-read : (slot : Slot) (batch : Batch) (sig : List ℕ) → IsReadAgain (spell version) (parse version) (Say slot batch sig) → IsReadAgain (spell_value version) (parse_value version) (Value_batch batch)
+  -- if a message decodes from its encoding, so does its batch
+  pub say-read : (slot : Slot) (batch : Batch) (sig : List ℕ) →
+      IsReadAgain (spell version) (parse version) (Say slot batch sig) →
+      IsReadAgain (spell_value version) (parse_value version) (Value_batch batch)
   say-read slot batch sig h = go (fits-say slot sig) refl
     where
       never : IsBad (parse version (spell version (Say slot batch sig) ++ [])) → ⊥
       never k = good-bad (Say slot batch sig) [] k.0 (sym (h []) ∙ k.1)
 
-      go : (t : Bool) → fits-say slot sig ≡ t → IsReadAgain (spell_value version) (parse_value version) (Value_batch batch)
+      go : (t : Bool) → fits-say slot sig ≡ t →
+          IsReadAgain (spell_value version) (parse_value version) (Value_batch batch)
       go false q = absurd (never (rw q (none [])))
       go true q =
           let t = and-true (nat_lt slot.0 (2 ^ 64)) (is_signature sig) q in
@@ -233,18 +245,22 @@ module _ (version : ℕ) where
             | inr bad ↦ absurd (never (say-bad slot batch sig lt t.1 q [] (bad (sig ++ []))))
           ]
 
-  -- what has a spelling is read again
-  pub say-again : (slot : Slot) (batch : Batch) (sig : List ℕ) → slot.0 < 2 ^ 64 → is_signature sig ≡ true → IsReadAgain (spell_value version) (parse_value version) (Value_batch batch) → IsReadAgain (spell version) (parse version) (Say slot batch sig)
+  -- a message with an encoding decodes
+  pub say-again : (slot : Slot) (batch : Batch) (sig : List ℕ) → slot.0 < 2 ^ 64 → is_signature sig ≡ true →
+      IsReadAgain (spell_value version) (parse_value version) (Value_batch batch) →
+      IsReadAgain (spell version) (parse version) (Say slot batch sig)
   say-again slot batch sig lt shape h rest = say-good slot batch sig lt shape (both (nat_lt slot.0 (2 ^ 64)) (is_signature sig) (lt-ltb slot.0 (2 ^ 64) lt) shape) rest (h (sig ++ rest))
 
-  pub echo-again : (slot : Slot) (d sig : List ℕ) → slot.0 < 2 ^ 64 → length d ≡ 32 → is_signature sig ≡ true → IsReadAgain (spell version) (parse version) (Echo slot d sig)
+  pub echo-again : (slot : Slot) (d sig : List ℕ) → slot.0 < 2 ^ 64 → length d ≡ 32 → is_signature sig ≡ true →
+      IsReadAgain (spell version) (parse version) (Echo slot d sig)
   echo-again slot d sig lt len shape rest =
       let tail = both (length d == 32) (is_signature sig) ((Decides-eqb (length d) 32).1 len) shape in
       echo-good slot d sig rest lt len shape (both (nat_lt slot.0 (2 ^ 64)) ((length d == 32) && is_signature sig) (lt-ltb slot.0 (2 ^ 64) lt) tail)
 
   -- ---- the table
 
-  again-of : (msg : Word) (bytes : List ℕ) → parse version bytes ≡ Good msg [] → IsReadAgain (spell version) (parse version) msg
+  again-of : (msg : Word) (bytes : List ℕ) → parse version bytes ≡ Good msg [] →
+      IsReadAgain (spell version) (parse version) msg
   again-of msg bytes h = read-again (spell version) (parse version) word-grammar bytes [] msg h
 
   unfit : (msg : Word) → spell version msg ≡ 0 ∷ [] → IsReadAgain (spell version) (parse version) msg → ⊥
@@ -272,7 +288,8 @@ module _ (version : ℕ) where
           let u = and-true (length d == 32) (is_signature sig) t.1 in
           (ltb-true slot.0 (2 ^ 64) t.0, (Decides-eqb (length d) 32).0 u.0, u.1, whole-is (Echo slot d sig) bytes h ∙ spelled-echo slot d sig q)
 
-  alone-read : (msg : Word) (bytes : List ℕ) → bytes ≡ spell version msg → IsReadAgain (spell version) (parse version) msg → parse version bytes ≡ Good msg []
+  alone-read : (msg : Word) (bytes : List ℕ) → bytes ≡ spell version msg →
+      IsReadAgain (spell version) (parse version) msg → parse version bytes ≡ Good msg []
   alone-read msg bytes e h = ap (λ (x : List ℕ). parse version x) (e ∙ sym (append-nil (spell version msg))) ∙ h []
 
   spelled-read : (msg : Word) (bytes : List ℕ) → IsSpelledWord version msg bytes → parse version bytes ≡ Good msg []
@@ -290,5 +307,6 @@ module _ (version : ℕ) where
       let fits = both (nat_lt slot.0 (2 ^ 64)) ((length d == 32) && is_signature sig) (lt-ltb slot.0 (2 ^ 64) h.0) tail in
       alone-read (Echo slot d sig) bytes (h.3 ∙ sym (spelled-echo slot d sig fits)) (echo-again slot d sig h.0 h.1 h.2)
 
-  pub word-related : (msg : Word) (bytes : List ℕ) → (parse version bytes ≡ Good msg []) ↔ IsSpelledWord version msg bytes
+  pub word-related : (msg : Word) (bytes : List ℕ) →
+      (parse version bytes ≡ Good msg []) ↔ IsSpelledWord version msg bytes
   word-related msg bytes = (read-spelled msg bytes, spelled-read msg bytes)

@@ -1,4 +1,4 @@
--- Each rule's step from a list that echo stands for.
+-- Each rule's step, from a state that represents a history.
 use Rattle.std.proofs.Common.{◌≡◌, ◌+◌, ℕ, Bool, true, false, not, ◌&&◌, ◌||◌, ◌==◌, if◌then◌else◌, List, [], ◌∷◌, Option, Some, None, is_some, refl, sym, ap, ◌∙◌, subst, ◌↔◌, IsTrue, true≢false}
 use Rattle.std.specs.Prelude.{nat_le}
 use Rattle.iss_base.specs.Lists.{first_of, same_bytes}
@@ -29,12 +29,13 @@ use Rattle.sb_echo.proofs.Bytes.{is-same, same-is}
 use Rattle.sb_echo.proofs.Facts.{accepted-is, decided-stays, none-is}
 use Rattle.sb_echo.proofs.Marks.{IsQuiet, count-alike, decide-quiet, delivers-at, echo-apart, newly, other, some-place}
 
--- what was taken out of a slot is what is decided now, and was not before; what was taken there is o
+-- the value that is delivered is decided now, and was not before; the batch that was accepted there is o
 record IsAt (p : Params) (o : Option Batch) (before now out : Option Value) : Type 0 where
   pub value : out ≡ newly before now
   pub place : (if is_some out then Some Delivered else place_for p o before) ≡ place_for p o now
 
-at-fresh : (p : Params) (b : Batch) (t : Bool) → IsAt p (Some b) None (if t then Some (Value_batch b) else None) (if t then Some (Value_batch b) else None)
+at-fresh : (p : Params) (b : Batch) (t : Bool) →
+    IsAt p (Some b) None (if t then Some (Value_batch b) else None) (if t then Some (Value_batch b) else None)
 at-fresh p b true = record { value = refl; place = refl }
 at-fresh p b false = record { value = refl; place = refl }
 
@@ -47,11 +48,13 @@ module _ (m : Echo) (p : Params) (me : ℕ) (xs : List (Item Word)) (st : Refine
   free-is : (s : ℕ) → is_free m p s ≡ is_open p s xs
   free-is s = ap (λ (b : Bool). has_slot s p.slots && not b) (ap (λ (o : Option Place). is_some o) (st.places s) ∙ some-place p (taken s xs) (decided p me xs s))
 
-  pub asks-cast : (slot : Slot) (batch : Batch) → asks p me xs (Cast slot batch) ≡ (if may_cast m p slot then Some (slot, batch) else None)
+  pub asks-cast : (slot : Slot) (batch : Batch) →
+      asks p me xs (Cast slot batch) ≡ (if may_cast m p slot then Some (slot, batch) else None)
   asks-cast slot batch = ap (λ (b : Bool). let o : Option (Slot × Batch) = if b then Some (slot, batch) else None in o)
       (ap (λ (n : ℕ). (n == p.leader.0) && is_open p slot.0 xs) (sym st.node) ∙ ap (λ (b : Bool). (m.me.0 == p.leader.0) && b) (sym (free-is slot.0)))
 
-  pub asks-say : (from : NodeId) (slot : Slot) (batch : Batch) (sig : List ℕ) → asks p me xs (Receive from (Say slot batch sig)) ≡ (if may_take m p from slot then Some (slot, batch) else None)
+  pub asks-say : (from : NodeId) (slot : Slot) (batch : Batch) (sig : List ℕ) →
+      asks p me xs (Receive from (Say slot batch sig)) ≡ (if may_take m p from slot then Some (slot, batch) else None)
   asks-say from slot batch sig = ap (λ (b : Bool). let o : Option (Slot × Batch) = if (from.0 == p.leader.0) && b then Some (slot, batch) else None in o) (sym (free-is slot.0))
 
   -- ---- one input more
@@ -62,27 +65,33 @@ module _ (m : Echo) (p : Params) (me : ℕ) (xs : List (Item Word)) (st : Refine
   abbrev later : Input Word → ℕ → List (Item Word)
   later i leaf = item i leaf ∷ xs
 
-  accepts-is : (i : Input Word) (leaf : ℕ) (o : Option (Slot × Batch)) → asks p me xs i ≡ o → (item i leaf).made.accepted ≡ o
+  accepts-is : (i : Input Word) (leaf : ℕ) (o : Option (Slot × Batch)) → asks p me xs i ≡ o →
+      (item i leaf).made.accepted ≡ o
   accepts-is i leaf o q = accepted-is p me leaf (is_cast i) (asks p me xs i) ∙ q
 
-  taken-is : (i : Input Word) (leaf s : ℕ) (o : Option (Slot × Batch)) → asks p me xs i ≡ o → taken s (later i leaf) ≡ first_of (taken s xs) (batch_for s o)
+  taken-is : (i : Input Word) (leaf s : ℕ) (o : Option (Slot × Batch)) → asks p me xs i ≡ o →
+      taken s (later i leaf) ≡ first_of (taken s xs) (batch_for s o)
   taken-is i leaf s o q = ap (λ (z : Option (Slot × Batch)). first_of (taken s xs) (batch_for s z)) (accepts-is i leaf o q)
 
   taken-idle : (i : Input Word) (leaf s : ℕ) → asks p me xs i ≡ None → taken s (later i leaf) ≡ taken s xs
   taken-idle i leaf s q = taken-is i leaf s None q ∙ first_of-none (taken s xs)
 
-  decided-is-of : (i : Input Word) (leaf s : ℕ) (o : Option Batch) → taken s (later i leaf) ≡ o → decided p me (later i leaf) s ≡ decide p s (later i leaf) o
+  decided-is-of : (i : Input Word) (leaf s : ℕ) (o : Option Batch) → taken s (later i leaf) ≡ o →
+      decided p me (later i leaf) s ≡ decide p s (later i leaf) o
   decided-is-of i leaf s o q = ap (λ (z : Option Batch). decide p s (later i leaf) z) q
 
-  same-place : (s : ℕ) (ys : List (Item Word)) → taken s ys ≡ taken s xs → decided p me ys s ≡ decided p me xs s → place_at s m ≡ place_for p (taken s ys) (decided p me ys s)
+  same-place : (s : ℕ) (ys : List (Item Word)) → taken s ys ≡ taken s xs → decided p me ys s ≡ decided p me xs s →
+      place_at s m ≡ place_for p (taken s ys) (decided p me ys s)
   same-place s ys a b = st.places s ∙ ap (λ (o : Option Batch). place_for p o (decided p me xs s)) (sym a) ∙ ap (λ (o : Option Value). place_for p (taken s ys) o) (sym b)
 
   -- ---- an input that changes nothing
 
-  decided-idle : (i : Input Word) (leaf s : ℕ) → asks p me xs i ≡ None → IsQuiet p s i → decided p me (later i leaf) s ≡ decided p me xs s
+  decided-idle : (i : Input Word) (leaf s : ℕ) → asks p me xs i ≡ None → IsQuiet p s i →
+      decided p me (later i leaf) s ≡ decided p me xs s
   decided-idle i leaf s q quiet = decided-is-of i leaf s (taken s xs) (taken-idle i leaf s q) ∙ decide-quiet p s (item i leaf) xs quiet (taken s xs)
 
-  idle-refines : (i : Input Word) (leaf : ℕ) → asks p me xs i ≡ None → ((s : ℕ) → IsQuiet p s i) → Refines m p me (later i leaf)
+  idle-refines : (i : Input Word) (leaf : ℕ) → asks p me xs i ≡ None → ((s : ℕ) → IsQuiet p s i) →
+      Refines m p me (later i leaf)
   idle-refines i leaf q quiet = record {
     node = st.node;
     places = λ s. same-place s (later i leaf) (taken-idle i leaf s q) (decided-idle i leaf s q (quiet s));
@@ -96,7 +105,8 @@ module _ (m : Echo) (p : Params) (me : ℕ) (xs : List (Item Word)) (st : Refine
   newly-same None = refl
   newly-same (Some x) = refl
 
-  idle-taken : (i : Input Word) (leaf : ℕ) (e : Effects Word) → asks p me xs i ≡ None → ((s : ℕ) → IsQuiet p s i) → IsNothing e → IsTaken echo p me xs i leaf e
+  idle-taken : (i : Input Word) (leaf : ℕ) (e : Effects Word) → asks p me xs i ≡ None → ((s : ℕ) → IsQuiet p s i) →
+      IsNothing e → IsTaken echo p me xs i leaf e
   idle-taken i leaf e q quiet nothing = record {
     sends = rw q nothing.sends;
     accepted = rw q nothing.accepted;
@@ -106,22 +116,28 @@ module _ (m : Echo) (p : Params) (me : ℕ) (xs : List (Item Word)) (st : Refine
         (λ s ne. decided-idle i leaf s q (quiet s)) e.delivers nothing.delivers;
   }
 
-  asks-as-cast : (slot : Slot) (batch : Batch) (b : Bool) → may_cast m p slot ≡ b → asks p me xs (Cast slot batch) ≡ (if b then Some (slot, batch) else None)
+  asks-as-cast : (slot : Slot) (batch : Batch) (b : Bool) → may_cast m p slot ≡ b →
+      asks p me xs (Cast slot batch) ≡ (if b then Some (slot, batch) else None)
   asks-as-cast slot batch b h = asks-cast slot batch ∙ ap (λ (b : Bool). let o : Option (Slot × Batch) = if b then Some (slot, batch) else None in o) h
 
-  asks-as-say : (from : NodeId) (slot : Slot) (batch : Batch) (sig : List ℕ) (b : Bool) → may_take m p from slot ≡ b → asks p me xs (Receive from (Say slot batch sig)) ≡ (if b then Some (slot, batch) else None)
+  asks-as-say : (from : NodeId) (slot : Slot) (batch : Batch) (sig : List ℕ) (b : Bool) → may_take m p from slot ≡ b →
+      asks p me xs (Receive from (Say slot batch sig)) ≡ (if b then Some (slot, batch) else None)
   asks-as-say from slot batch sig b h = asks-say from slot batch sig ∙ ap (λ (b : Bool). let o : Option (Slot × Batch) = if b then Some (slot, batch) else None in o) h
 
-  pub idle_cast-refines : (slot : Slot) (batch : Batch) (leaf : ℕ) → may_cast m p slot ≡ false → Refines m p me (and_then echo p me xs (Cast slot batch) leaf)
+  pub idle_cast-refines : (slot : Slot) (batch : Batch) (leaf : ℕ) → may_cast m p slot ≡ false →
+      Refines m p me (and_then echo p me xs (Cast slot batch) leaf)
   idle_cast-refines slot batch leaf h = idle-refines (Cast slot batch) leaf (asks-as-cast slot batch false h) (λ s within d k. refl)
 
-  pub idle_cast-taken : (slot : Slot) (batch : Batch) (leaf : ℕ) (e : Effects Word) → may_cast m p slot ≡ false → IsNothing e → IsTaken echo p me xs (Cast slot batch) leaf e
+  pub idle_cast-taken : (slot : Slot) (batch : Batch) (leaf : ℕ) (e : Effects Word) → may_cast m p slot ≡ false →
+      IsNothing e → IsTaken echo p me xs (Cast slot batch) leaf e
   idle_cast-taken slot batch leaf e h nothing = idle-taken (Cast slot batch) leaf e (asks-as-cast slot batch false h) (λ s within d k. refl) nothing
 
-  pub idle_say-refines : (from : NodeId) (slot : Slot) (batch : Batch) (sig : List ℕ) (leaf : ℕ) → may_take m p from slot ≡ false → Refines m p me (and_then echo p me xs (Receive from (Say slot batch sig)) leaf)
+  pub idle_say-refines : (from : NodeId) (slot : Slot) (batch : Batch) (sig : List ℕ) (leaf : ℕ) →
+      may_take m p from slot ≡ false → Refines m p me (and_then echo p me xs (Receive from (Say slot batch sig)) leaf)
   idle_say-refines from slot batch sig leaf h = idle-refines (Receive from (Say slot batch sig)) leaf (asks-as-say from slot batch sig false h) (λ s within d k. refl)
 
-  pub idle_say-taken : (from : NodeId) (slot : Slot) (batch : Batch) (sig : List ℕ) (leaf : ℕ) (e : Effects Word) → may_take m p from slot ≡ false → IsNothing e → IsTaken echo p me xs (Receive from (Say slot batch sig)) leaf e
+  pub idle_say-taken : (from : NodeId) (slot : Slot) (batch : Batch) (sig : List ℕ) (leaf : ℕ) (e : Effects Word) →
+      may_take m p from slot ≡ false → IsNothing e → IsTaken echo p me xs (Receive from (Say slot batch sig)) leaf e
   idle_say-taken from slot batch sig leaf e h nothing = idle-taken (Receive from (Say slot batch sig)) leaf e (asks-as-say from slot batch sig false h) (λ s within d k. refl) nothing
 
   pub idle_timeout-refines : (leaf : ℕ) → Refines m p me (and_then echo p me xs Timeout leaf)
@@ -131,16 +147,19 @@ module _ (m : Echo) (p : Params) (me : ℕ) (xs : List (Item Word)) (st : Refine
   idle_timeout-taken leaf e nothing = idle-taken Timeout leaf e refl (λ s within d k. refl) nothing
 
   -- an echo at a slot of another segment
-  outside-quiet : (from : NodeId) (slot : Slot) (d sig : List ℕ) → has_slot slot.0 p.slots ≡ false → (s : ℕ) → IsQuiet p s (Receive from (Echo_word slot d sig))
+  outside-quiet : (from : NodeId) (slot : Slot) (d sig : List ℕ) → has_slot slot.0 p.slots ≡ false → (s : ℕ) →
+      IsQuiet p s (Receive from (Echo_word slot d sig))
   outside-quiet from slot d sig out s within e k = echo-apart from slot d sig s e k (other slot.0 s (λ q. true≢false (sym within ∙ ap (λ (n : ℕ). has_slot n p.slots) q ∙ out)))
 
-  pub idle_echo-refines : (from : NodeId) (slot : Slot) (d sig : List ℕ) (leaf : ℕ) → has_slot slot.0 p.slots ≡ false → Refines m p me (and_then echo p me xs (Receive from (Echo_word slot d sig)) leaf)
+  pub idle_echo-refines : (from : NodeId) (slot : Slot) (d sig : List ℕ) (leaf : ℕ) → has_slot slot.0 p.slots ≡ false →
+      Refines m p me (and_then echo p me xs (Receive from (Echo_word slot d sig)) leaf)
   idle_echo-refines from slot d sig leaf out = idle-refines (Receive from (Echo_word slot d sig)) leaf refl (outside-quiet from slot d sig out)
 
-  pub idle_echo-taken : (from : NodeId) (slot : Slot) (d sig : List ℕ) (leaf : ℕ) (e : Effects Word) → has_slot slot.0 p.slots ≡ false → IsNothing e → IsTaken echo p me xs (Receive from (Echo_word slot d sig)) leaf e
+  pub idle_echo-taken : (from : NodeId) (slot : Slot) (d sig : List ℕ) (leaf : ℕ) (e : Effects Word) →
+      has_slot slot.0 p.slots ≡ false → IsNothing e → IsTaken echo p me xs (Receive from (Echo_word slot d sig)) leaf e
   idle_echo-taken from slot d sig leaf e out nothing = idle-taken (Receive from (Echo_word slot d sig)) leaf e refl (outside-quiet from slot d sig out) nothing
 
-  -- ---- a batch that is taken, with an input that is no echo
+  -- ---- an input that is no echo and makes the node accept a batch
 
   record IsFree (s : ℕ) : Type 0 where
     pub within : has_slot s p.slots ≡ true
@@ -171,7 +190,8 @@ module _ (m : Echo) (p : Params) (me : ℕ) (xs : List (Item Word)) (st : Refine
     place-here true d e = refl
     place-here false d e = ap (λ (z : List ℕ). let o : Option Place = Some (Waiting z (Value_batch batch)) in o) e
 
-    taken-place : (n : Echo) (d : List ℕ) (e : Effects Word) → HasTaken p m n slot batch d e → (s : ℕ) → place_at s n ≡ place_for p (taken s (later i leaf)) (decided p me (later i leaf) s)
+    taken-place : (n : Echo) (d : List ℕ) (e : Effects Word) → HasTaken p m n slot batch d e → (s : ℕ) →
+        place_at s n ≡ place_for p (taken s (later i leaf)) (decided p me (later i leaf) s)
     taken-place n d e h s = h.places s ∙ go (slot.0 == s) refl
       where
         go : (b : Bool) → (slot.0 == s) ≡ b → (if b then Some (if is_heard m p slot.0 d then Delivered else Waiting d (Value_batch batch)) else place_at s m) ≡ place_for p (taken s (later i leaf)) (decided p me (later i leaf) s)
@@ -184,7 +204,8 @@ module _ (m : Echo) (p : Params) (me : ℕ) (xs : List (Item Word)) (st : Refine
             ∙ ap (λ (o : Option Value). place_for p (Some batch) o) (sym decided-here)
             ∙ ap (λ (o : Option Batch). place_for p o (decided p me (later i leaf) slot.0)) (sym taken-here))
 
-    taken-refines : (n : Echo) (d : List ℕ) (e : Effects Word) → HasTaken p m n slot batch d e → Refines n p me (later i leaf)
+    taken-refines : (n : Echo) (d : List ℕ) (e : Effects Word) → HasTaken p m n slot batch d e →
+        Refines n p me (later i leaf)
     taken-refines n d e h = record {
       node = ap (λ (a : NodeId). a.0) h.node ∙ st.node;
       places = taken-place n d e h;
@@ -194,7 +215,9 @@ module _ (m : Echo) (p : Params) (me : ℕ) (xs : List (Item Word)) (st : Refine
     not-yet : decided p me xs slot.0 ≡ None
     not-yet = ap (λ (o : Option Batch). decide p slot.0 xs o) free.fresh
 
-    taken-effects : (n : Echo) (d : List ℕ) (e f : Effects Word) → HasTaken p m n slot batch d e → f.sends ≡ words p me leaf (is_cast i) (slot, batch) → f.accepted ≡ e.accepted → f.hashed ≡ e.hashed → f.delivers ≡ e.delivers → IsTaken echo p me xs i leaf f
+    taken-effects : (n : Echo) (d : List ℕ) (e f : Effects Word) → HasTaken p m n slot batch d e →
+        f.sends ≡ words p me leaf (is_cast i) (slot, batch) → f.accepted ≡ e.accepted → f.hashed ≡ e.hashed →
+        f.delivers ≡ e.delivers → IsTaken echo p me xs i leaf f
     taken-effects n d e f h sends accepted hashed delivers = record {
       sends = rw asked sends;
       accepted = accepted ∙ h.accepted ∙ sym asked;
@@ -205,12 +228,15 @@ module _ (m : Echo) (p : Params) (me : ℕ) (xs : List (Item Word)) (st : Refine
           (delivers ∙ h.delivers ∙ ap (λ (z : List ℕ). one_at slot (if is_heard m p slot.0 z then Some (Value_batch batch) else None)) h.digest);
     }
 
-  pub cast-refines : (slot : Slot) (batch : Batch) (leaf : ℕ) (n : Echo) (d : List ℕ) (e : Effects Word) → may_cast m p slot ≡ true → HasTaken p m n slot batch d e → Refines n p me (and_then echo p me xs (Cast slot batch) leaf)
+  pub cast-refines : (slot : Slot) (batch : Batch) (leaf : ℕ) (n : Echo) (d : List ℕ) (e : Effects Word) →
+      may_cast m p slot ≡ true → HasTaken p m n slot batch d e →
+      Refines n p me (and_then echo p me xs (Cast slot batch) leaf)
   cast-refines slot batch leaf n d e may h =
       let t = and-true (m.me.0 == p.leader.0) (is_free m p slot.0) may in
       taken-refines (Cast slot batch) leaf slot batch (asks-as-cast slot batch true may) (λ s d k. refl) (free-parts slot.0 t.1) n d e h
 
-  pub cast-taken : (slot : Slot) (batch : Batch) (leaf : ℕ) (n : Echo) (d : List ℕ) (e f : Effects Word) → may_cast m p slot ≡ true → HasTaken p m n slot batch d e →
+  pub cast-taken : (slot : Slot) (batch : Batch) (leaf : ℕ) (n : Echo) (d : List ℕ) (e f : Effects Word) →
+      may_cast m p slot ≡ true → HasTaken p m n slot batch d e →
       f.sends ≡ words p me leaf true (slot, batch) → f.accepted ≡ e.accepted → f.hashed ≡ e.hashed → f.delivers ≡ e.delivers → IsTaken echo p me xs (Cast slot batch) leaf f
   cast-taken slot batch leaf n d e f may h =
       let t = and-true (m.me.0 == p.leader.0) (is_free m p slot.0) may in
@@ -234,7 +260,8 @@ module _ (m : Echo) (p : Params) (me : ℕ) (xs : List (Item Word)) (st : Refine
     abbrev i : Input Word
     i = Receive from (Echo_word slot d sig)
 
-    heard-now : (s : ℕ) (e : List ℕ) (k : ℕ) → has_slot s p.slots ≡ true → has h.heard s e k ≡ has_echo s e k (later i leaf)
+    heard-now : (s : ℕ) (e : List ℕ) (k : ℕ) → has_slot s p.slots ≡ true →
+        has h.heard s e k ≡ has_echo s e k (later i leaf)
     heard-now s e k w = hears s e k ∙ ap (λ (b : Bool). is_echo s e k i || b) (st.heard s e k w)
 
     counted : (e : List ℕ) → is_heard h p slot.0 e ≡ is_echoed p slot.0 e (later i leaf)
@@ -287,7 +314,8 @@ module _ (m : Echo) (p : Params) (me : ℕ) (xs : List (Item Word)) (st : Refine
       heard = λ s e k w. let same = did.heard in rw same (heard-now s e k w);
     }
 
-    pub echo-taken : (e : Effects Word) → e.sends ≡ [] → e.accepted ≡ None → e.hashed ≡ [] → e.delivers ≡ one_at slot v → IsTaken echo p me xs (Receive from (Echo_word slot d sig)) leaf e
+    pub echo-taken : (e : Effects Word) → e.sends ≡ [] → e.accepted ≡ None → e.hashed ≡ [] →
+        e.delivers ≡ one_at slot v → IsTaken echo p me xs (Receive from (Echo_word slot d sig)) leaf e
     echo-taken e sends accepted hashed delivers = record {
       sends = sends;
       accepted = accepted;
@@ -297,28 +325,31 @@ module _ (m : Echo) (p : Params) (me : ℕ) (xs : List (Item Word)) (st : Refine
           (λ s ne. elsewhere s (other slot.0 s ne)) e.delivers delivers;
     }
 
-  -- ---- how many leaves are used
+  -- ---- the number of leaves used
 
-  pub cast-used : (slot : Slot) (batch : Batch) (leaf : ℕ) (b : Bool) → may_cast m p slot ≡ b → (makes p me xs (Cast slot batch) leaf).used ≡ (if b then 2 else 0)
+  pub cast-used : (slot : Slot) (batch : Batch) (leaf : ℕ) (b : Bool) → may_cast m p slot ≡ b →
+      (makes p me xs (Cast slot batch) leaf).used ≡ (if b then 2 else 0)
   cast-used slot batch leaf b h = ap (λ (o : Option (Slot × Batch)). (made_of p me leaf true o).used) (asks-as-cast slot batch b h) ∙ go b
     where
       go : (b : Bool) → (made_of p me leaf true (if b then Some (slot, batch) else None)).used ≡ (if b then 2 else 0)
       go true = refl
       go false = refl
 
-  pub say-used : (from : NodeId) (slot : Slot) (batch : Batch) (sig : List ℕ) (leaf : ℕ) (b : Bool) → may_take m p from slot ≡ b → (makes p me xs (Receive from (Say slot batch sig)) leaf).used ≡ (if b then 1 else 0)
+  pub say-used : (from : NodeId) (slot : Slot) (batch : Batch) (sig : List ℕ) (leaf : ℕ) (b : Bool) →
+      may_take m p from slot ≡ b → (makes p me xs (Receive from (Say slot batch sig)) leaf).used ≡ (if b then 1 else 0)
   say-used from slot batch sig leaf b h = ap (λ (o : Option (Slot × Batch)). (made_of p me leaf false o).used) (asks-as-say from slot batch sig b h) ∙ go b
     where
       go : (b : Bool) → (made_of p me leaf false (if b then Some (slot, batch) else None)).used ≡ (if b then 1 else 0)
       go true = refl
       go false = refl
 
-  -- ---- what the trait's tests answer
+  -- ---- the tests of the trait
 
   no-some : (a : Slot × Batch) → ◌≡◌ {A = Option (Slot × Batch)} None (Some a) → ⊥
   no-some a h = cc
 
-  pub casts-means : (slot : Slot) (batch : Batch) (b : Bool) → b ≡ may_cast m p slot → IsTrue b ↔ (asks p me xs (Cast slot batch) ≡ Some (slot, batch))
+  pub casts-means : (slot : Slot) (batch : Batch) (b : Bool) → b ≡ may_cast m p slot →
+      IsTrue b ↔ (asks p me xs (Cast slot batch) ≡ Some (slot, batch))
   casts-means slot batch b e = (
     (λ t. asks-as-cast slot batch true (sym e ∙ t)),
     (λ h. e ∙ go (may_cast m p slot) refl h),
@@ -328,25 +359,30 @@ module _ (m : Echo) (p : Params) (me : ℕ) (xs : List (Item Word)) (st : Refine
       go true q h = refl
       go false q h = absurd (no-some (slot, batch) (sym (asks-as-cast slot batch false q) ∙ h))
 
-  pub asks-of-cast : (i : Input Word) (slot : Slot) (batch : Batch) (b : Bool) → i ≡ Cast slot batch → may_cast m p slot ≡ b → asks p me xs i ≡ (if b then Some (slot, batch) else None)
+  pub asks-of-cast : (i : Input Word) (slot : Slot) (batch : Batch) (b : Bool) → i ≡ Cast slot batch →
+      may_cast m p slot ≡ b → asks p me xs i ≡ (if b then Some (slot, batch) else None)
   asks-of-cast i slot batch b e h = ap (λ (i : Input Word). asks p me xs i) e ∙ asks-as-cast slot batch b h
 
   pub asks-of-say : (i : Input Word) (from : NodeId) (msg : Word) (slot : Slot) (batch : Batch) (sig : List ℕ) (b : Bool) → i ≡ Receive from msg → msg ≡ Say slot batch sig → may_take m p from slot ≡ b → asks p me xs i ≡ (if b then Some (slot, batch) else None)
   asks-of-say i from msg slot batch sig b e q h = ap (λ (i : Input Word). asks p me xs i) (e ∙ ap (λ (w : Word). Receive from w) q) ∙ asks-as-say from slot batch sig b h
 
--- nothing taken yet
-pub start-refines : (m : Echo) (p : Params) (me : ℕ) → m.me.0 ≡ me → m.places.entries ≡ [] → ((s : ℕ) (d : List ℕ) (k : ℕ) → has m.heard s d k ≡ false) → Refines m p me []
+-- the initial state
+pub start-refines : (m : Echo) (p : Params) (me : ℕ) → m.me.0 ≡ me → m.places.entries ≡ [] →
+    ((s : ℕ) (d : List ℕ) (k : ℕ) → has m.heard s d k ≡ false) → Refines m p me []
 start-refines m p me same none unheard = record { node = same; places = λ s. rw none refl; heard = λ s d k within. unheard s d k }
 
--- ---- what is sent
+-- ---- messages
 
-pub echoed-words : (p : Params) (me leaf : ℕ) (slot : Slot) (batch : Batch) (d sig : List ℕ) → d ≡ digest_of p batch → sig ≡ signature p me leaf (statement p 2 slot.0 d) →
+pub echoed-words : (p : Params) (me leaf : ℕ) (slot : Slot) (batch : Batch) (d sig : List ℕ) → d ≡ digest_of p batch →
+    sig ≡ signature p me leaf (statement p 2 slot.0 d) →
     ◌≡◌ {A = List (To × Word)} ((To_all, Echo_word slot d sig) ∷ []) (words p me leaf false (slot, batch))
 echoed-words p me leaf slot batch d sig e h =
     ap (λ (z : List ℕ). let l : List (To × Word) = (To_all, Echo_word slot d z) ∷ [] in l) h
     ∙ ap (λ (z : List ℕ). let l : List (To × Word) = (To_all, Echo_word slot z (signature p me leaf (statement p 2 slot.0 z))) ∷ [] in l) e
 
-pub said-words : (p : Params) (me leaf : ℕ) (slot : Slot) (batch said : Batch) (d sig own : List ℕ) → said ≡ batch → d ≡ digest_of p batch → sig ≡ signature p me leaf (statement p 1 slot.0 d) → own ≡ signature p me (leaf + 1) (statement p 2 slot.0 d) →
+pub said-words : (p : Params) (me leaf : ℕ) (slot : Slot) (batch said : Batch) (d sig own : List ℕ) → said ≡ batch →
+    d ≡ digest_of p batch → sig ≡ signature p me leaf (statement p 1 slot.0 d) →
+    own ≡ signature p me (leaf + 1) (statement p 2 slot.0 d) →
     ◌≡◌ {A = List (To × Word)} ((To_all, Say slot said sig) ∷ (To_all, Echo_word slot d own) ∷ []) (words p me leaf true (slot, batch))
 said-words p me leaf slot batch said d sig own s e h k =
     ap (λ (z : Batch). let l : List (To × Word) = (To_all, Say slot z sig) ∷ (To_all, Echo_word slot d own) ∷ [] in l) s

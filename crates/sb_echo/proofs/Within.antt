@@ -1,4 +1,4 @@
--- What a step gives is of its segment, whatever echo holds.
+-- The effects of a step are within its segment, whatever the state.
 use Rattle.std.proofs.Common.{◌≡◌, ◌≤◌, ◌+◌, ℕ, true, List, [], Option, Some, None, refl, ap, ◌∙◌, arith}
 use Rattle.iss_base.specs.Lists.{In}
 use Rattle.iss_base.proofs.Lists.{and-true}
@@ -28,8 +28,9 @@ nothing-within p k e nothing = record {
   few = omega arith;
 }
 
--- an echo's step: it sends nothing, and delivers at its slot
-pub echo-within : (p : Params) (k : KeyState) (e : Effects Word) (slot : Slot) (v : Option Value) → has_slot slot.0 p.slots ≡ true →
+-- the step of an echo: it sends nothing, and delivers at its slot
+pub echo-within : (p : Params) (k : KeyState) (e : Effects Word) (slot : Slot) (v : Option Value) →
+    has_slot slot.0 p.slots ≡ true →
     e.sends ≡ [] → e.accepted ≡ None → e.delivers ≡ one_at slot v → IsWithin echo p k k e
 echo-within p k e slot v within sends accepted delivers = record {
   delivered = rw delivers (one-within slot v p.slots (has_slot-In slot p.slots within));
@@ -44,7 +45,7 @@ echo-within p k e slot v within sends accepted delivers = record {
 abbrev pub with_used : KeyState → ℕ → KeyState
 with_used k count = record k { used = k.used + count }
 
--- a step that takes a batch
+-- a step that accepts a batch
 pub taken-within : (p : Params) (m n : Echo) (slot : Slot) (batch : Batch) (d : List ℕ) (e f : Effects Word) (before later : KeyState) (count : ℕ) → is_free m p slot.0 ≡ true → HasTaken p m n slot batch d e →
     f.accepted ≡ e.accepted → f.delivers ≡ e.delivers → AreToNodes p.setup.n f.sends → later ≡ with_used before count → count ≤ 2 → IsWithin echo p before later f
 taken-within p m n slot batch d e f before later count free h accepted delivers addressed used few =
@@ -62,17 +63,20 @@ taken-within p m n slot batch d e f before later count free h accepted delivers 
       few = rw used (omega arith);
     }
 
--- ---- leaves that are used
+-- ---- used leaves
 
 pub none-used : (k u : ℕ) → u ≡ 0 → k ≡ k + u
 none-used k u h = omega (arith, h)
 
-pub some-used : (before later : KeyState) (count u : ℕ) → later ≡ with_used before count → u ≡ count → later.used ≡ before.used + u
+pub some-used : (before later : KeyState) (count u : ℕ) → later ≡ with_used before count → u ≡ count →
+    later.used ≡ before.used + u
 some-used before later count u h e = let used = ap (λ (k : KeyState). k.used) h in omega (arith, used, e)
 
-pub twice-used : (before mid later : KeyState) → mid ≡ with_used before 1 → later ≡ with_used mid 1 → later ≡ with_used before 2
+pub twice-used : (before mid later : KeyState) → mid ≡ with_used before 1 → later ≡ with_used mid 1 →
+    later ≡ with_used before 2
 twice-used before mid later h k = let n : before.used + 1 + 1 ≡ before.used + 2 = omega arith in k ∙ ap (λ (z : KeyState). with_used z 1) h ∙ ap (λ (n : ℕ). record before { used = n }) n
 
--- whose they are does not hang on how many are used
-pub same-owner : (me height : ℕ) (before later : KeyState) (count : ℕ) → later ≡ with_used before count → AreKeysOf me height before → AreKeysOf me height later
+-- the owner of the keys does not depend on how many are used
+pub same-owner : (me height : ℕ) (before later : KeyState) (count : ℕ) → later ≡ with_used before count →
+    AreKeysOf me height before → AreKeysOf me height later
 same-owner me height before later count h own = record { own = ap (λ (k : KeyState). k.secret) h ∙ own.own; tall = ap (λ (k : KeyState). k.height) h ∙ own.tall }

@@ -28,7 +28,7 @@ use Rattle.sb_echo.specs.declared.word.Word.TheVariants.{Say, Echo}
 
 -- ---- digests and statements
 
--- what is hashed of a batch: the string of the value that holds it
+-- the string of a batch: that of the value that holds it
 abbrev pub string_of : Params → Batch → List ℕ
 string_of p b = value_string p.setup.version (Value_batch b)
 
@@ -38,7 +38,7 @@ digest_of p b = digest (string_of p b)
 abbrev pub tag : ℕ
 tag = 6
 
--- what is signed: the instance, the kind of the message, the slot, the digest
+-- the signed statement: the instance, the kind of the message, the slot, the digest
 abbrev pub statement : Params → ℕ → ℕ → List ℕ → List ℕ
 statement p kind s d = statement_head p tag ++ (kind ∷ (eight_bytes s ++ d))
 
@@ -55,7 +55,7 @@ say p me leaf a = Say a.0 a.1 (signature p me leaf (statement p 1 a.0.0 (digest_
 abbrev pub echo_of : Params → ℕ → ℕ → Slot × Batch → Word
 echo_of p me leaf a = Echo a.0 (digest_of p a.1) (signature p me leaf (statement p 2 a.0.0 (digest_of p a.1)))
 
--- ---- what a node took
+-- ---- accepted batches
 
 abbrev pub batch_for : ℕ → Option (Slot × Batch) → Option Batch
 batch_for s None = None
@@ -66,17 +66,18 @@ abbrev pub taken : ℕ → List (Item Word) → Option Batch
 taken s [] = None
 taken s (x ∷ xs) = first_of (taken s xs) (batch_for s x.made.accepted)
 
--- a slot of the segment at which nothing was taken
+-- a slot of the segment at which no batch was accepted
 abbrev pub is_open : Params → ℕ → List (Item Word) → Bool
 is_open p s xs = has_slot s p.slots && not (is_some (taken s xs))
 
 -- ---- rules
 
--- the leader takes a cast at an open slot, and a node the leader's word on one
+-- at an open slot the leader accepts a cast, and a node the leader's batch
 -- rule: Echo: A node takes the leader's first batch for a slot and echoes its digest once
 abbrev pub asks : Params → ℕ → List (Item Word) → Input Word → Option (Slot × Batch)
 asks p me xs (Cast slot batch) = if (me == p.leader.0) && is_open p slot.0 xs then Some (slot, batch) else None
-asks p me xs (Receive from (Say slot batch sig)) = if (from.0 == p.leader.0) && is_open p slot.0 xs then Some (slot, batch) else None
+asks p me xs (Receive from (Say slot batch sig)) =
+    if (from.0 == p.leader.0) && is_open p slot.0 xs then Some (slot, batch) else None
 asks p me xs (Receive from (Echo slot d sig)) = None
 asks p me xs Timeout = None
 
@@ -85,14 +86,15 @@ is_cast (Cast slot batch) = true
 is_cast (Receive from msg) = false
 is_cast Timeout = false
 
--- what is taken is echoed to all, once said where it was cast
+-- an accepted batch is echoed to all; the leader first sends it
 abbrev pub words : Params → ℕ → ℕ → Bool → Slot × Batch → List (To × Word)
 words p me leaf true a = (To_all, say p me leaf a) ∷ (To_all, echo_of p me (leaf + 1) a) ∷ []
 words p me leaf false a = (To_all, echo_of p me leaf a) ∷ []
 
 abbrev pub made_of : Params → ℕ → ℕ → Bool → Option (Slot × Batch) → Made Word
 made_of p me leaf cast None = record { sends = []; accepted = None; strings = []; used = 0 }
-made_of p me leaf cast (Some a) = record { sends = words p me leaf cast a; accepted = Some a; strings = string_of p a.1 ∷ []; used = cond cast 2 1 }
+made_of p me leaf cast (Some a) =
+    record { sends = words p me leaf cast a; accepted = Some a; strings = string_of p a.1 ∷ []; used = cond cast 2 1 }
 
 abbrev pub makes : Params → ℕ → List (Item Word) → Input Word → ℕ → Made Word
 makes p me xs input leaf = made_of p me leaf (is_cast input) (asks p me xs input)
@@ -122,22 +124,25 @@ decide p s xs (Some b) = if has_slot s p.slots && is_echoed p s (digest_of p b) 
 abbrev pub decided : Params → ℕ → List (Item Word) → ℕ → Option Value
 decided p me xs s = decide p s xs (taken s xs)
 
--- ---- bytes
+-- ---- encoding
 
 -- the table: a message's number, the slot, a value that is a batch, or the digest, and the signature
 abbrev pub IsSpelledWord : ℕ → Word → List ℕ → Type 0
 IsSpelledWord version (Say slot batch sig) bytes =
     (slot.0 < 2 ^ 64) × (is_signature sig ≡ true)
-    × ((value : List ℕ) × IsSpelledValue version (Value_batch batch) value × (bytes ≡ 1 ∷ to_be_bytes w64 slot.0 ++ value ++ sig))
+    × ((value : List ℕ) × IsSpelledValue version (Value_batch batch) value ×
+    (bytes ≡ 1 ∷ to_be_bytes w64 slot.0 ++ value ++ sig))
 IsSpelledWord version (Echo slot d sig) bytes =
     (slot.0 < 2 ^ 64) × (length d ≡ 32) × (is_signature sig ≡ true) × (bytes ≡ 2 ∷ to_be_bytes w64 slot.0 ++ d ++ sig)
 
--- one that has no spelling is written as the number of no message
+-- a message without an encoding is written as the number of no message
 abbrev pub spell : ℕ → Word → List ℕ
 spell version (Say slot batch sig) =
-    if nat_lt slot.0 (2 ^ 64) && is_signature sig then 1 ∷ to_be_bytes w64 slot.0 ++ spell_value version (Value_batch batch) ++ sig else 0 ∷ []
+    if nat_lt slot.0 (2 ^ 64) && is_signature sig then
+    1 ∷ to_be_bytes w64 slot.0 ++ spell_value version (Value_batch batch) ++ sig else 0 ∷ []
 spell version (Echo slot d sig) =
-    if nat_lt slot.0 (2 ^ 64) && ((length d == 32) && is_signature sig) then 2 ∷ to_be_bytes w64 slot.0 ++ d ++ sig else 0 ∷ []
+    if nat_lt slot.0 (2 ^ 64) && ((length d == 32) && is_signature sig) then 2 ∷ to_be_bytes w64 slot.0 ++ d ++ sig else
+    0 ∷ []
 
 unfoldable pub parse_say : ℕ → Parser Word
 parse_say version = do

@@ -20,24 +20,24 @@ use Rattle.sb_echo.specs.declared.word.Word.{Word}
 use Rattle.sb_echo.specs.Echo.{decided, digest_of, has_echo, string_of, taken}
 use Rattle.sb_echo.specs.Heard.{has}
 
--- what stands at a slot
+-- the state of a slot
 abbrev pub place_at : ℕ → Echo → Option Place
 place_at s m = get nat_cmp m.places s
 
--- what is to stand at a slot where this was taken, and this decided
+-- the state of a slot, from the batch that was accepted there and the decided value
 abbrev pub place_for : Params → Option Batch → Option Value → Option Place
 place_for p None v = None
 place_for p (Some b) None = Some (Waiting (digest_of p b) (Value_batch b))
 place_for p (Some b) (Some v) = Some Delivered
 
--- the value stands for a list whose batches and echoes it has: at each slot what was taken, with its digest as long as it
--- is not decided, and of the segment's slots the echoes
+-- the state represents the history: at each slot the accepted batch, with its digest until it is decided, and at the
+-- slots of the segment the echoes
 pub record Refines (m : Echo) (p : Params) (me : ℕ) (xs : List (Item Word)) : Type 0 where
   pub node : m.me.0 ≡ me
   pub places : (s : ℕ) → place_at s m ≡ place_for p (taken s xs) (decided p me xs s)
   pub heard : (s : ℕ) (d : List ℕ) (k : ℕ) → has_slot s p.slots ≡ true → has m.heard s d k ≡ has_echo s d k xs
 
--- ---- the tests of the code, over what it holds
+-- ---- the tests of the code, over its state
 
 abbrev pub is_free : Echo → Params → ℕ → Bool
 is_free m p s = has_slot s p.slots && not (is_some (place_at s m))
@@ -64,26 +64,29 @@ completed m p s = completed_of m p s (place_at s m)
 abbrev pub is_complete : Echo → Params → ℕ → Bool
 is_complete m p s = is_some (completed m p s)
 
--- ---- what the parts of a rule do
+-- ---- what the parts of a step do
 
--- what is delivered at one slot
+-- the delivery at one slot
 abbrev pub one_at : Slot → Option Value → List (Slot × Value)
 one_at slot None = []
 one_at slot (Some x) = (slot, x) ∷ []
 
--- a batch was taken at a slot: it waits, or is delivered where a quorum had echoed it
-pub record HasTaken (p : Params) (old new : Echo) (slot : Slot) (batch : Batch) (d : List ℕ) (e : Effects Word) : Type 0 where
+-- a batch was accepted at a slot: it waits, or is delivered if a quorum had echoed it
+pub record HasTaken (p : Params) (old new : Echo) (slot : Slot) (batch : Batch) (d : List ℕ)
+    (e : Effects Word) : Type 0 where
   pub digest : d ≡ digest_of p batch
   pub node : new.me ≡ old.me
   pub heard : new.heard ≡ old.heard
   pub places : (s : ℕ) →
-      place_at s new ≡ (if slot.0 == s then Some (if is_heard old p slot.0 d then Delivered else Waiting d (Value_batch batch)) else place_at s old)
+      place_at s new ≡
+      (if slot.0 == s then Some (if is_heard old p slot.0 d then Delivered else Waiting d (Value_batch batch)) else
+      place_at s old)
   pub sends : e.sends ≡ []
   pub accepted : e.accepted ≡ Some (slot, batch)
   pub hashed : e.hashed ≡ string_of p batch ∷ []
   pub delivers : e.delivers ≡ one_at slot (if is_heard old p slot.0 d then Some (Value_batch batch) else None)
 
--- what waited at the slot was taken out, if a quorum had echoed it
+-- if a quorum had echoed the value that waited at the slot, it was returned, and the slot marked as delivered
 pub record HasCompleted (p : Params) (old new : Echo) (slot : Slot) (v : Option Value) : Type 0 where
   pub value : v ≡ completed old p slot.0
   pub node : new.me ≡ old.me

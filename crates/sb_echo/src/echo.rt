@@ -1,4 +1,4 @@
-//! The rules of echo, and that it is an ordering module.
+//! The rules of echo, which is an ordering module (`Sequenced`).
 ghost use Rattle.std.specs.Prelude.{◌≡◌, ℕ, ◌≤◌, List, IfOk};
 ghost use Rattle.iss_keys.specs.KeyStates.{KeyState, left_of};
 ghost use Rattle.iss_sb.specs.Calls.{IsGoodInput, IsGoodParams, IsTrueStep, has_slot};
@@ -18,15 +18,14 @@ use iss_sb::{Claim, Effects, Input, Params, Sequenced, To, asks_if};
 use std::alloc::Global;
 use std::collections::BTreeMap;
 
-/// What a node has at a slot where it took a batch: the batch as a value, which waits for echoes of its digest, or that
-/// it was delivered.
+/// The state of a slot where a batch was accepted: the value waits for echoes of its digest, or was delivered.
 #[derive(Drop)]
 pub enum Place {
     Waiting { digest: [u8; 32], value: Value },
     Delivered,
 }
 
-/// A node's part in one instance: what it took at each slot, and the echoes that it heard.
+/// A node's state in one instance: the slots where it accepted a batch, and the echoes that it received.
 #[derive(Drop)]
 pub struct Echo {
     me: NodeId,
@@ -41,7 +40,7 @@ fn is_inside(p: &Params, slot: Slot) -> bool
     p.slots.as_slice().contains(&slot)
 }
 
-// What is delivered at a slot.
+// The delivery of a value at a slot, if there is one.
 fn one_at(alloc: Global, slot: Slot, value: Option<Value>) -> Result<Seq<(Slot, Value)>, NoMemory>
     ensures { IfOk result (λ all. all ≡ one_at slot value) }
 {
@@ -54,21 +53,21 @@ fn one_at(alloc: Global, slot: Slot, value: Option<Value>) -> Result<Seq<(Slot, 
 }
 
 impl Echo {
-    // Whether a batch may be taken at the slot: in the segment, once.
+    // Whether a batch may be accepted at the slot: it is in the segment, and none was accepted there.
     fn is_free(&self, p: &Params, slot: Slot) -> bool
         ensures { result ≡ is_free self.now p.now slot.0 }
     {
         is_inside(p, slot) && !self.places.contains_key(&slot.0)
     }
 
-    // Whether a batch may be cast at the slot: by the leader.
+    // Whether a batch may be cast at the slot: this node is the leader, and the slot is free.
     fn may_cast(&self, p: &Params, slot: Slot) -> bool
         ensures { result ≡ may_cast self.now p.now slot }
     {
         self.me == p.leader && self.is_free(p, slot)
     }
 
-    // Whether the word of a node on the slot is to be taken: the leader's.
+    // Whether a batch is accepted from this node: it is the leader, and the slot is free.
     fn may_take(&self, p: &Params, from: NodeId, slot: Slot) -> bool
         ensures { result ≡ may_take self.now p.now from slot }
     {
@@ -83,7 +82,7 @@ impl Echo {
         self.heard.count(slot, digest, p.setup.n as u8) >= p.setup.quorum
     }
 
-    // Whether what waits at the slot has its echoes.
+    // Whether the value that waits at the slot has a quorum of echoes.
     fn is_complete(&self, p: &Params, slot: Slot) -> bool
         requires { IsGoodParams echo p.now }
         ensures { result ≡ is_complete self.now p.now slot.0 }
@@ -94,7 +93,8 @@ impl Echo {
         }
     }
 
-    // Takes a batch at a free slot, and delivers it if its echoes came before it. The digest is that of the batch.
+    // Accepts a batch at a free slot, and delivers it if a quorum of echoes came first. Returns the digest of the
+    // batch.
     fn take(
         &mut self,
         alloc: Global,
@@ -121,7 +121,7 @@ impl Echo {
         Ok((digest, effects))
     }
 
-    // Takes what waits at the slot out of it, where it has its echoes.
+    // If a quorum echoed the value that waits at the slot, marks the slot as delivered and returns the value.
     fn complete(&mut self, p: &Params, slot: Slot) -> Result<Option<Value>, NoMemory>
         requires { IsGoodParams echo p.now }
         ensures { IfOk result (λ v. HasCompleted p.now self.old self.new slot v) }
@@ -135,7 +135,7 @@ impl Echo {
         }
     }
 
-    // The leader takes a batch that is cast to it, says it to all, and echoes it.
+    // The leader accepts a batch that is cast to it, sends it to all, and echoes it.
     fn cast(
         &mut self,
         alloc: Global,
@@ -146,7 +146,8 @@ impl Echo {
     ) -> Result<Effects<Word>, NoMemory>
         requires good { IsGoodParams echo p.now }
         requires enough { 2 ≤ left_of keys.old }
-        ensures { IfOk result (λ e. IsTrueStep echo Refines p.now self.old self.new (Input.Cast slot batch) keys.old keys.new e) }
+        ensures { IfOk result (λ e.
+            IsTrueStep echo Refines p.now self.old self.new (Input.Cast slot batch) keys.old keys.new e) }
     {
         if !self.may_cast(p, slot) {
             return Ok(Effects::nothing(alloc));
@@ -170,7 +171,7 @@ impl Echo {
         Ok(effects)
     }
 
-    // A node takes the leader's first word on a slot, and echoes its digest to all.
+    // A node accepts the leader's first batch for a slot, and echoes its digest to all.
     // rule: Echo: A node takes the leader's first batch for a slot and echoes its digest once
     fn take_say(
         &mut self,
@@ -184,7 +185,8 @@ impl Echo {
         requires good { IsGoodParams echo p.now }
         requires enough { 2 ≤ left_of keys.old }
         ensures { IfOk result (λ e. (sig : List ℕ) →
-            IsTrueStep echo Refines p.now self.old self.new (Input.Receive from (Word.Say slot batch sig)) keys.old keys.new e) }
+            IsTrueStep echo Refines p.now self.old self.new
+            (Input.Receive from (Word.Say slot batch sig)) keys.old keys.new e) }
     {
         if !self.may_take(p, from, slot) {
             return Ok(Effects::nothing(alloc));
@@ -196,7 +198,8 @@ impl Echo {
         Ok(effects)
     }
 
-    // A node hears an echo, and delivers what it took at the slot once a quorum echoed it. It signs nothing.
+    // A node receives an echo, and delivers the batch that it accepted at the slot once a quorum echoed it. It signs
+    // nothing.
     // rule: Echo: A quorum of echoes decides the batch that was taken
     fn take_echo(
         &mut self,
@@ -208,7 +211,8 @@ impl Echo {
     ) -> Result<Effects<Word>, NoMemory>
         requires { IsGoodParams echo p.now }
         ensures { IfOk result (λ e. (sig : List ℕ) (keys : KeyState) → 2 ≤ left_of keys →
-            IsTrueStep echo Refines p.now self.old self.new (Input.Receive from (Word.Echo slot digest sig)) keys keys e) }
+            IsTrueStep echo Refines p.now self.old self.new
+            (Input.Receive from (Word.Echo slot digest sig)) keys keys e) }
     {
         if !is_inside(p, slot) {
             return Ok(Effects::nothing(alloc));

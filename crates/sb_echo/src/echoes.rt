@@ -1,4 +1,4 @@
-//! The echoes that a node heard.
+//! The echoes that a node received.
 ghost use Rattle.std.specs.Prelude.{◌≡◌, ℕ, ◌≤◌, ◌&&◌, ◌||◌, ◌==◌, false, List, OnOk};
 ghost use Rattle.iss_base.specs.Lists.{same_bytes};
 ghost use Rattle.iss_base.specs.Quorum.{count_below};
@@ -16,14 +16,14 @@ pub struct Heard {
     pub digest: [u8; 32],
 }
 
-/// The echoes that were heard, each once.
+/// The received echoes, each once.
 #[derive(Drop)]
 pub struct Echoes {
     all: BTreeSet<Heard>,
 }
 
 impl Echoes {
-    /// None heard.
+    /// No echoes.
     pub fn new(alloc: Global) -> Echoes
         ensures { (s : ℕ) (d : List ℕ) (k : ℕ) → has result s d k ≡ false }
     {
@@ -32,7 +32,7 @@ impl Echoes {
         }
     }
 
-    /// Whether the node's echo of the digest at the slot was heard.
+    /// Whether an echo of the digest at the slot was received from the node.
     pub fn has(&self, slot: Slot, digest: &[u8; 32], from: u8) -> bool
         ensures { result ≡ has self.now slot.0 digest.now from }
     {
@@ -44,7 +44,7 @@ impl Echoes {
         self.all.contains(&heard)
     }
 
-    /// One echo more.
+    /// Adds an echo.
     pub fn hear(&mut self, slot: Slot, digest: [u8; 32], from: NodeId) -> Result<(), NoMemory>
         ensures { OnOk result ((s : ℕ) (d : List ℕ) (k : ℕ) →
             has self.new s d k ≡ (((from.0 == k) && ((slot.0 == s) && same_bytes digest d)) || has self.old s d k)) }
@@ -58,7 +58,7 @@ impl Echoes {
         Ok(())
     }
 
-    /// How many of the first `n` nodes echoed the digest at the slot.
+    /// The number of nodes below `n` that echoed the digest at the slot.
     pub fn count(&self, slot: Slot, digest: &[u8; 32], n: u8) -> u32
         ensures { result ≡ count_below (λ k. has self.now slot.0 digest.now k) n }
     {

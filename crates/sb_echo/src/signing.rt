@@ -1,4 +1,4 @@
-//! What is hashed and what is signed.
+//! What is hashed, and the statements that are signed.
 ghost use Rattle.std.specs.Prelude.{◌≡◌, ℕ, ◌+◌, ◌<◌, IfOk, OnOk};
 ghost use Rattle.iss_keys.specs.Directories.{AreKeysOf};
 ghost use Rattle.iss_keys.specs.KeyStates.{left_of};
@@ -10,23 +10,23 @@ use iss_request::{Batch, Bytes, NoMemory, Slot, Writer, batch_string};
 use iss_sb::{Params, put_head, sign};
 use std::alloc::Global;
 
-/// The number of the module.
+/// The tag of the module, which is part of each statement.
 pub const TAG: u8 = 6;
 
-/// The number of the leader's word, in bytes and in statements.
+/// The number of the leader's message, in encodings and in statements.
 pub const SAY: u8 = 1;
 
 /// The number of an echo.
 pub const ECHO: u8 = 2;
 
-/// The string that is hashed of a batch.
+/// The string of a batch, of which the digest is taken.
 pub fn string_of(alloc: Global, p: &Params, batch: &Batch) -> Result<Bytes, NoMemory>
     ensures { IfOk result (λ s. s ≡ string_of p.now batch.now) }
 {
     batch_string(alloc, p.setup.version, batch)
 }
 
-/// The digest of a batch, by its string.
+/// The digest of a batch, from its string.
 pub fn digest_of(p: &Params, batch: &Batch, string: &Bytes) -> [u8; 32]
     requires { string.now ≡ string_of p.now batch.now }
     ensures { result ≡ digest_of p.now batch.now }
@@ -34,7 +34,7 @@ pub fn digest_of(p: &Params, batch: &Batch, string: &Bytes) -> [u8; 32]
     p.directory.directory().digest(string.as_slice())
 }
 
-/// The statement that a batch of this digest was said, or taken, at the slot.
+/// The statement that a batch of this digest was sent by the leader, or accepted (`kind`), at the slot.
 // rule: Signatures: A statement names its cluster, epoch, leader, module and kind
 pub fn statement(
     alloc: Global,
@@ -53,7 +53,8 @@ pub fn statement(
     Ok(out.into_bytes())
 }
 
-/// Signs that a batch of this digest was said, or taken, at the slot, with the next leaf.
+/// Signs that a batch of this digest was sent by the leader, or accepted (`kind`), at the slot, with the next
+/// one-time key.
 pub fn sign_word(
     alloc: Global,
     p: &Params,

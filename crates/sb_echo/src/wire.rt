@@ -1,4 +1,4 @@
-//! The bytes of the messages, and what they claim that nodes have signed.
+//! The encoding of messages, and their claims: what they say that nodes have signed.
 ghost use Rattle.std.specs.Prelude.{◌≡◌, ◌↔◌, ℕ, List, ◌∷◌, [], true, IfOk, OnOk, Err};
 ghost use Rattle.sb_echo.specs.declared.word.Word.{Word};
 ghost use Rattle.iss_request.specs.Fields.{Good, IsRead, IsUnreadable, and_bytes};
@@ -15,11 +15,11 @@ use iss_request::{
 use iss_sb::{Claim, Params};
 use std::alloc::Global;
 
-/// The number of no message.
+/// The number of no message: bytes that start with it do not decode.
 const NO_MESSAGE: u8 = 0;
 
-/// Writes a message: its number, the slot, the batch as a value or the digest, the signature. One that has no
-/// spelling is written as bytes that no reader takes.
+/// Writes a message: its number, the slot, the batch as a value or the digest, the signature. A message without an
+/// encoding is written as bytes that do not decode.
 pub fn write(msg: &Word, out: &mut Writer) -> Result<(), NoMemory>
     ensures { OnOk result (out.new ≡ and_bytes out.old (spell out.old.version msg.now)) }
 {
@@ -59,7 +59,7 @@ fn write_echo(slot: Slot, digest: &[u8; 32], sig: &Bytes, out: &mut Writer) -> R
     out.put_bytes(sig.as_slice())
 }
 
-/// Reads the message at the front. `BadField` names the first field that does not fit.
+/// Reads the message at the front. `BadField` has the position of the first field that does not decode.
 pub fn read(alloc: Global, f: &mut Fields) -> Result<Word, DecodeError>
     ensures ok { IfOk result (λ m. IsRead (parse f.old.version) f.old f.new m) }
     ensures bad { (at : ℕ) → result ≡ Err (DecodeError.BadField at) → IsUnreadable (parse f.old.version) f.old at }
@@ -129,8 +129,9 @@ fn one_claim(
     Ok(all)
 }
 
-/// The table of the messages: what is read of bytes, and all of them, is what the table relates to them. It computes
-/// nothing: its contract is the theorem.
+/// Bytes decode as a message exactly if the table relates the two. The function computes nothing: its contract is the
+/// theorem.
 pub fn words_are_exact()
-    ensures { (version : ℕ) (msg : Word) (bytes : List ℕ) → (parse version bytes ≡ Good msg []) ↔ IsSpelledWord version msg bytes }
+    ensures { (version : ℕ) (msg : Word) (bytes : List ℕ) → (parse version bytes ≡ Good msg []) ↔
+        IsSpelledWord version msg bytes }
 {}

@@ -27,71 +27,76 @@ use Rattle.sb_pbft.specs.Pbft.{pbft}
 
 -- ---- votes
 
--- a correct node signed a PrePrepare (1), a Prepare (2) or a Commit (3) of this view, slot and digest
+-- replica i is correct and signed a PrePrepare (1), a Prepare (2) or a Commit (3) of this view, slot and digest
 pub record HasVoted (p : Params) (w : World Message) (i kind v s : ℕ) (d : List ℕ) : Type 0 where
   pub correct : is_correct p.setup i ≡ true
   pub signed : IsSigned pbft p w i (state_at p kind v s d)
 
--- each signs one PrePrepare, one Prepare and one Commit a view and slot
+-- a correct replica signs one PrePrepare, one Prepare and one Commit for each view and slot
 pub record HaveOneVote (p : Params) (w : World Message) : Type 0 where
   pub pre_prepare : (i v s : ℕ) (d e : List ℕ) → HasVoted p w i 1 v s d → HasVoted p w i 1 v s e → d ≡ e
   pub prepare : (i v s : ℕ) (d e : List ℕ) → HasVoted p w i 2 v s d → HasVoted p w i 2 v s e → d ≡ e
   pub commit : (i v s : ℕ) (d e : List ℕ) → HasVoted p w i 3 v s d → HasVoted p w i 3 v s e → d ≡ e
 
--- behind its ViewChange a node sends no Commit of a lower view
+-- after its ViewChange for view v a replica sends no Commit of a view below v
 abbrev pub AreQuiet : Params → World Message → Type 0
-AreQuiet p w = (i v c : ℕ) (x y : Item Message) (before : List (Item Message)) (cs : List Certificate) (slot : Slot) (to other : To) (d sig tag : List ℕ) →
+AreQuiet p w =
+    (i v c : ℕ) (x y : Item Message) (before : List (Item Message)) (cs : List Certificate) (slot : Slot)
+    (to other : To) (d sig tag : List ℕ) →
     Front (y ∷ before) (w i) → In x before → In {A = To × Message} (to, ViewChange v cs sig) x.made.sends →
     In {A = To × Message} (other, Commit c slot d tag) y.made.sends → v ≤ c
 
--- a certificate of the slot, of this view or a higher one
+-- there is a certificate of the slot, of view v or a higher one
 pub record Shows (cs : List Certificate) (s v : ℕ) : Type 0 where
   pub certificate : Certificate
   pub stands : In certificate cs
   pub slot : certificate.slot.0 ≡ s
   pub high : v ≤ certificate.view
 
--- its ViewChange of a higher view shows such a one for each slot that it committed
+-- its ViewChange for a higher view has such a certificate for each slot that it committed
 abbrev pub AreShown : Params → World Message → Type 0
-AreShown p w = (i v s u : ℕ) (d : List ℕ) (cs : List Certificate) → HasVoted p w i 3 v s d → IsSigned pbft p w i (state_change p u cs) → v < u → Shows cs s v
+AreShown p w =
+    (i v s u : ℕ) (d : List ℕ) (cs : List Certificate) → HasVoted p w i 3 v s d →
+    IsSigned pbft p w i (state_change p u cs) → v < u → Shows cs s v
 
 -- ---- certificates
 
--- those of these claims that name a correct node were made by it
+-- each of these claims that names a correct replica is a statement that it signed
 abbrev pub AreTrue : Params → World Message → List Claim → Type 0
 AreTrue p w cs = (c : Claim) → In c cs → is_correct p.setup c.by.0 ≡ true → IsSigned pbft p w c.by.0 c.statement
 
--- a value that has a spelling, and whose string a correct node hashed
+-- the value has an encoding, and a correct replica hashed its string
 pub record IsKnown (p : Params) (w : World Message) (x : Value) : Type 0 where
   pub hashed : IsString w (string_of p x)
   pub spelled : fits_value p.setup.version x ≡ true
 
--- a good certificate with true claims and a known value
+-- a valid certificate: it is good, its claims are true, and its value is known
 pub record IsCertificate (p : Params) (w : World Message) (c : Certificate) : Type 0 where
   pub good : is_good p c ≡ true
   pub signed : AreTrue p w (certificate_claims p c)
   pub known : IsKnown p w c.value
 
--- what is proposed is the choice of 2f+1 good ViewChanges with true claims
+-- the digest is that of the value that 2f+1 good ViewChanges with true claims choose
 pub record IsChosen (p : Params) (w : World Message) (v s : ℕ) (d : List ℕ) : Type 0 where
   pub changes : List Change
   pub enough : are_enough p v changes ≡ true
   pub signed : AreTrue p w (changes_claims p changes)
   pub digest : digest_of p (choice changes s) ≡ d
 
--- above view 0 a PrePrepare or Prepare is for such a choice
+-- above view 0 each PrePrepare and Prepare of a correct replica is for such a choice
 pub record AreChosen (p : Params) (w : World Message) : Type 0 where
   pub pre_prepare : (i v s : ℕ) (d : List ℕ) → 0 < v → HasVoted p w i 1 v s d → IsChosen p w v s d
   pub prepare : (i v s : ℕ) (d : List ℕ) → 0 < v → HasVoted p w i 2 v s d → IsChosen p w v s d
 
--- good certificates of one view and slot have one digest
+-- valid certificates of one view and slot have one digest
 abbrev pub HaveOneDigest : Params → World Message → Type 0
-HaveOneDigest p w = (c e : Certificate) → IsCertificate p w c → IsCertificate p w e → c.view ≡ e.view → c.slot.0 ≡ e.slot.0 →
+HaveOneDigest p w =
+    (c e : Certificate) → IsCertificate p w c → IsCertificate p w e → c.view ≡ e.view → c.slot.0 ≡ e.slot.0 →
     digest_of p c.value ≡ digest_of p e.value
 
 -- ---- decided views
 
--- 2f+1 different nodes, of which each that is correct
+-- 2f+1 distinct replicas, of which each correct one satisfies Each
 pub record IsQuorum (p : Params) (Each : ℕ → Type 0) : Type 0 where
   pub nodes : List ℕ
   pub count : 2 * p.setup.f + 1 ≤ length nodes
@@ -99,29 +104,35 @@ pub record IsQuorum (p : Params) (Each : ℕ → Type 0) : Type 0 where
   pub below : all_below p.setup.n nodes ≡ true
   pub each : (j : ℕ) → mem j nodes ≡ true → is_correct p.setup j ≡ true → Each j
 
--- the view decided the digest at the slot: 2f+1 nodes committed it
+-- the view decided the digest at the slot: of 2f+1 distinct replicas each correct one signed a Commit for it
 abbrev pub IsDecidedView : Params → World Message → ℕ → ℕ → List ℕ → Type 0
 IsDecidedView p w v s d = IsQuorum p (λ j. IsSigned pbft p w j (state_at p 3 v s d))
 
--- from a decided view on good certificates of the slot have its digest
+-- once view u decided a slot, each valid certificate of the slot in u or a higher view has the decided digest
 abbrev pub AreFixed : Params → World Message → Type 0
-AreFixed p w = (u s : ℕ) (d : List ℕ) (c : Certificate) → IsDecidedView p w u s d → IsCertificate p w c → c.slot.0 ≡ s → u ≤ c.view → digest_of p c.value ≡ d
+AreFixed p w =
+    (u s : ℕ) (d : List ℕ) (c : Certificate) → IsDecidedView p w u s d → IsCertificate p w c → c.slot.0 ≡ s →
+    u ≤ c.view → digest_of p c.value ≡ d
 
--- and what is delivered was decided by some view
+-- each value that a correct replica delivers was decided in some view
 abbrev pub AreDecided : Params → World Message → Type 0
-AreDecided p w = (i s : ℕ) (x : Value) → is_correct p.setup i ≡ true → delivered pbft p i (w i) s ≡ Some x → (v : ℕ) × IsDecidedView p w v s (digest_of p x)
+AreDecided p w =
+    (i s : ℕ) (x : Value) → is_correct p.setup i ≡ true → delivered pbft p i (w i) s ≡ Some x →
+    (v : ℕ) × IsDecidedView p w v s (digest_of p x)
 
 -- ---- where batches come from
 
--- 2f+1 nodes accepted the batch at the slot, among them the segment's leader
+-- of 2f+1 distinct replicas, the segment's leader among them, each correct one accepted the batch at the slot
 pub record IsRooted (p : Params) (w : World Message) (s : ℕ) (b : Batch) : Type 0 where
   pub quorum : IsQuorum p (λ j. In {A = Slot × Batch} (record { 0 = s }, b) (accepts (w j)))
   pub led : mem p.leader.0 quorum.nodes ≡ true
 
--- of a slot a node accepts one batch
+-- a replica accepts one batch for a slot
 abbrev pub AreOnce : Params → World Message → Type 0
-AreOnce p w = (i : ℕ) (s : Slot) (b c : Batch) → In {A = Slot × Batch} (s, b) (accepts (w i)) → In {A = Slot × Batch} (s, c) (accepts (w i)) → b ≡ c
+AreOnce p w =
+    (i : ℕ) (s : Slot) (b c : Batch) → In {A = Slot × Batch} (s, b) (accepts (w i)) →
+    In {A = Slot × Batch} (s, c) (accepts (w i)) → b ≡ c
 
--- a good certificate with a batch leads down to such a quorum of view 0
+-- if a valid certificate holds a batch, such a quorum accepted it in view 0
 abbrev pub AreRooted : Params → World Message → Type 0
 AreRooted p w = (c : Certificate) (b : Batch) → IsCertificate p w c → c.value ≡ Value_batch b → IsRooted p w c.slot.0 b

@@ -29,7 +29,7 @@ inputs (x ∷ xs) = x.input ∷ inputs xs
 
 -- ---- the signature of a proposal's PrePrepare
 
--- in view 0: of the own one, which is the first that a cast is signed for, or of the one that came
+-- in view 0: the leader's own, which is the first signature of a step that accepts a cast, or that of the PrePrepare
 abbrev pub first_sig : Params → ℕ → ℕ → Slot × Batch → Input Message → List ℕ
 first_sig p me leaf a (Cast slot batch) = signature p me leaf (state_at p 1 0 a.0.0 (digest_of p (Value_batch a.1)))
 first_sig p me leaf a (Receive from (PrePrepare v slot x sig)) = sig
@@ -43,7 +43,7 @@ abbrev pub offered_sig : Params → ℕ → Option (Slot × Batch) → ℕ → �
 offered_sig p me None v s x = None
 offered_sig p me (Some a) v s x = when ((v == 0) && (s == a.0.0)) (first_sig p me x.leaf a x.input)
 
--- the signature that stands where the slot stands
+-- the k-th signature, where s is the k-th slot
 abbrev pub sig_for : ℕ → List Slot → List (List ℕ) → Option (List ℕ)
 sig_for s [] sigs = None
 sig_for s (t ∷ ts) [] = None
@@ -55,10 +55,11 @@ chosen_sig p m (Receive from (PrePrepare w slot x sig)) v s = None
 chosen_sig p m (Receive from (Prepare w slot d sig)) v s = None
 chosen_sig p m (Receive from (Commit w slot d sig)) v s = None
 chosen_sig p m (Receive from (ViewChange w cs sig)) v s = None
-chosen_sig p m (Receive from (NewView w xs sigs sig)) v s = cond ((v == w) && (has_slot s p.slots && enters p m from.0 w xs sigs)) (sig_for s p.slots sigs) None
+chosen_sig p m (Receive from (NewView w xs sigs sig)) v s =
+    cond ((v == w) && (has_slot s p.slots && enters p m from.0 w xs sigs)) (sig_for s p.slots sigs) None
 chosen_sig p m Timeout v s = None
 
--- as 'proposal' goes
+-- the signature of the PrePrepare of 'proposal', by the same recursion
 abbrev pub proposal_sig : Params → ℕ → List (Item Message) → ℕ → ℕ → Option (List ℕ)
 proposal_sig p me [] v s = None
 proposal_sig p me (x ∷ xs) v s =
@@ -75,12 +76,13 @@ abbrev pub has : ℕ → ℕ → List Certificate → Bool
 has v s [] = false
 has v s (c ∷ cs) = ((v == c.view) && (s == c.slot.0)) || has v s cs
 
--- the value that is prepared in the own view, where no Commit was sent for it; l has the input, kept are the
--- certificates from before it
+-- the value for which a Commit is due: it is prepared in the current view, which is active and has no certificate for
+-- the slot. The list l includes the input; the certificates are those from before it
 abbrev pub ready : Params → ℕ → List (Input Message) → List Certificate → ℕ → Option Value
-ready p me l kept s = cond ((mode p l).active && not (has (mode p l).view s kept)) (prepared p me l (mode p l).view s) None
+ready p me l kept s =
+    cond ((mode p l).active && not (has (mode p l).view s kept)) (prepared p me l (mode p l).view s) None
 
--- with the Prepares of the least 2f nodes
+-- a prepared certificate with the Prepares of the 2f lowest replicas
 abbrev pub certificate : Params → ℕ → List (Item Message) → ℕ → Slot → Value → Certificate
 certificate p me xs v slot x = record {
   slot = slot;
@@ -94,17 +96,17 @@ abbrev pub certify : Params → ℕ → List (Item Message) → Slot → Option 
 certify p me xs slot None cs = cs
 certify p me xs slot (Some x) cs = certificate p me xs (mode p (inputs xs)).view slot x ∷ cs
 
--- those that an input gives at these slots; xs has the input
+-- the certificates that an input adds at these slots; xs includes the input
 abbrev pub certified : Params → ℕ → List (Item Message) → List Certificate → List Slot → List Certificate
 certified p me xs kept [] = []
 certified p me xs kept (s ∷ ss) = certify p me xs s (ready p me (inputs xs) kept s.0) (certified p me xs kept ss)
 
--- one for each Commit sent
+-- all certificates of the history, one for each Commit sent
 abbrev pub kept : Params → ℕ → List (Item Message) → List Certificate
 kept p me [] = []
 kept p me (x ∷ xs) = certified p me (x ∷ xs) (kept p me xs) p.slots ++ kept p me xs
 
--- for each slot the certificate of the highest view
+-- for each slot the certificate of the highest view, if there is one
 abbrev pub tops : List Certificate → List Slot → List Certificate
 tops cs [] = []
 tops cs (s ∷ ss) = cons_some (best s.0 cs) (tops cs ss)
@@ -118,24 +120,29 @@ pub data Draft : Type 0 where
   DraftViewChange : (view : ℕ) (certificates : List Certificate) → Draft
   DraftNewView : (view : ℕ) (changes : List Change) → Draft
 
--- what is accepted the leader proposes, and the others prepare
+-- the leader sends a PrePrepare for the batch that it accepts, a backup a Prepare
 abbrev pub first_draft : Params → ℕ → Option (Slot × Batch) → List Draft
 first_draft p me None = []
-first_draft p me (Some a) = cond (me == p.leader.0) (DraftPrePrepare a.0 (Value_batch a.1)) (DraftPrepare 0 a.0 (digest_of p (Value_batch a.1))) ∷ []
+first_draft p me (Some a) =
+    cond (me == p.leader.0) (DraftPrePrepare a.0 (Value_batch a.1))
+    (DraftPrepare 0 a.0 (digest_of p (Value_batch a.1))) ∷ []
 
--- what is sent first: of a proposal, of a view that is given up, of a view that begins
+-- the messages that come first: for an accepted batch, a due NewView, or a timeout
 abbrev pub lead : Params → ℕ → List (Item Message) → Input Message → List Draft
 lead p me xs (Cast slot batch) = first_draft p me (asked p me (inputs xs) (Cast slot batch))
-lead p me xs (Receive from (PrePrepare v slot x sig)) = first_draft p me (asked p me (inputs xs) (Receive from (PrePrepare v slot x sig)))
+lead p me xs (Receive from (PrePrepare v slot x sig)) =
+    first_draft p me (asked p me (inputs xs) (Receive from (PrePrepare v slot x sig)))
 lead p me xs (Receive from (Prepare v slot d sig)) = []
 lead p me xs (Receive from (Commit v slot d sig)) = []
 lead p me xs (Receive from (ViewChange v cs sig)) =
     cond (completes p me (inputs xs) (Receive from (ViewChange v cs sig)) v)
     (DraftNewView v (changes p (Receive from (ViewChange v cs sig) ∷ inputs xs) v) ∷ []) []
 lead p me xs (Receive from (NewView v changes sigs sig)) = []
-lead p me xs Timeout = cond (passes (mode p (inputs xs))) (DraftViewChange ((mode p (inputs xs)).view + 1) (tops (kept p me xs) p.slots) ∷ []) []
+lead p me xs Timeout =
+    cond (passes (mode p (inputs xs)))
+    (DraftViewChange ((mode p (inputs xs)).view + 1) (tops (kept p me xs) p.slots) ∷ []) []
 
--- a Prepare for the slot, in a new view that is entered
+-- the Prepare of a backup for the slot when it enters a new view
 abbrev pub answer : Params → ℕ → Mode → Input Message → Slot → List Draft
 answer p me m (Cast slot batch) s = []
 answer p me m (Receive from (PrePrepare v slot x sig)) s = []
@@ -143,32 +150,35 @@ answer p me m (Receive from (Prepare v slot d sig)) s = []
 answer p me m (Receive from (Commit v slot d sig)) s = []
 answer p me m (Receive from (ViewChange v cs sig)) s = []
 answer p me m (Receive from (NewView v xs sigs sig)) s =
-    cond (enters p m from.0 v xs sigs && not (me == primary p v)) (DraftPrepare v s (digest_of p (choice xs s.0)) ∷ []) []
+    cond (enters p m from.0 v xs sigs && not (me == primary p v))
+    (DraftPrepare v s (digest_of p (choice xs s.0)) ∷ []) []
 answer p me m Timeout s = []
 
--- a Commit for the slot
+-- the Commit for the slot, if one is due
 abbrev pub commit_draft : Params → ℕ → Slot → Option Value → List Draft
 commit_draft p v slot None = []
 commit_draft p v slot (Some x) = DraftCommit v slot (digest_of p x) ∷ []
 
--- by slot, the Prepare before the Commit
+-- slot by slot, the Prepare before the Commit
 abbrev pub by_slot : Params → ℕ → List (Item Message) → Input Message → List Slot → List Draft
 by_slot p me xs i [] = []
 by_slot p me xs i (s ∷ ss) =
     answer p me (mode p (inputs xs)) i s ++
-    (commit_draft p (mode p (i ∷ inputs xs)).view s (ready p me (i ∷ inputs xs) (kept p me xs) s.0) ++ by_slot p me xs i ss)
+    (commit_draft p (mode p (i ∷ inputs xs)).view s (ready p me (i ∷ inputs xs) (kept p me xs) s.0) ++
+    by_slot p me xs i ss)
 
 abbrev pub drafts : Params → ℕ → List (Item Message) → Input Message → List Draft
 drafts p me xs i = lead p me xs i ++ by_slot p me xs i p.slots
 
--- ---- signatures, by the leaves in the order of the sends
+-- ---- signatures: leaves (one-time keys) in the order of the messages
 
--- of a NewView's PrePrepares, by slot
+-- signatures of a NewView's PrePrepares, slot by slot
 abbrev pub choice_sigs : Params → ℕ → ℕ → ℕ → List Change → List Slot → List (List ℕ)
 choice_sigs p me leaf v xs [] = []
-choice_sigs p me leaf v xs (s ∷ ss) = signature p me leaf (state_at p 1 v s.0 (digest_of p (choice xs s.0))) ∷ choice_sigs p me (suc leaf) v xs ss
+choice_sigs p me leaf v xs (s ∷ ss) =
+    signature p me leaf (state_at p 1 v s.0 (digest_of p (choice xs s.0))) ∷ choice_sigs p me (suc leaf) v xs ss
 
--- how many leaves a message takes
+-- the number of one-time keys that a message takes
 abbrev pub uses : Params → Draft → ℕ
 uses p (DraftPrePrepare slot x) = 1
 uses p (DraftPrepare v slot d) = 1
@@ -176,15 +186,17 @@ uses p (DraftCommit v slot d) = 1
 uses p (DraftViewChange v cs) = 1
 uses p (DraftNewView v xs) = length p.slots + 1
 
--- a NewView signs its PrePrepares and then itself
+-- a NewView signs its PrePrepares first, and then itself
 abbrev pub sign : Params → ℕ → ℕ → Draft → Message
-sign p me leaf (DraftPrePrepare slot x) = PrePrepare 0 slot x (signature p me leaf (state_at p 1 0 slot.0 (digest_of p x)))
+sign p me leaf (DraftPrePrepare slot x) =
+    PrePrepare 0 slot x (signature p me leaf (state_at p 1 0 slot.0 (digest_of p x)))
 sign p me leaf (DraftPrepare v slot d) = Prepare v slot d (signature p me leaf (state_at p 2 v slot.0 d))
 sign p me leaf (DraftCommit v slot d) = Commit v slot d (signature p me leaf (state_at p 3 v slot.0 d))
 sign p me leaf (DraftViewChange v cs) = ViewChange v cs (signature p me leaf (state_change p v cs))
-sign p me leaf (DraftNewView v xs) = NewView v xs (choice_sigs p me leaf v xs p.slots) (signature p me (leaf + length p.slots) (state_new p v))
+sign p me leaf (DraftNewView v xs) =
+    NewView v xs (choice_sigs p me leaf v xs p.slots) (signature p me (leaf + length p.slots) (state_new p v))
 
--- all go to all
+-- each message is sent to all
 abbrev pub sign_all : Params → ℕ → ℕ → List Draft → List (To × Message)
 sign_all p me leaf [] = []
 sign_all p me leaf (d ∷ ds) = (To_all, sign p me leaf d) ∷ sign_all p me (leaf + uses p d) ds
@@ -207,22 +219,25 @@ abbrev pub asked_strings : Params → Option (Slot × Batch) → List (List ℕ)
 asked_strings p None = []
 asked_strings p (Some a) = string_of p (Value_batch a.1) ∷ []
 
--- of a batch that is accepted; of the values of a ViewChange's certificates, where it is kept, or of a NewView's; and
--- then, where a NewView is made or taken, those of the choice by slot
+-- the strings that an input hashes: of an accepted batch; of the values in a stored ViewChange, or in a NewView that
+-- is entered. A NewView that is sent or entered adds those of its choices, slot by slot
 abbrev pub strings : Params → ℕ → List (Input Message) → Input Message → List (List ℕ)
 strings p me l (Cast slot batch) = asked_strings p (asked p me l (Cast slot batch))
-strings p me l (Receive from (PrePrepare v slot x sig)) = asked_strings p (asked p me l (Receive from (PrePrepare v slot x sig)))
+strings p me l (Receive from (PrePrepare v slot x sig)) =
+    asked_strings p (asked p me l (Receive from (PrePrepare v slot x sig)))
 strings p me l (Receive from (Prepare v slot d sig)) = []
 strings p me l (Receive from (Commit v slot d sig)) = []
 strings p me l (Receive from (ViewChange v cs sig)) =
     cond (all_good p v cs && not (is_some (change_of p l v from.0))) (value_strings p cs) [] ++
-    cond (completes p me l (Receive from (ViewChange v cs sig)) v) (choice_strings p (changes p (Receive from (ViewChange v cs sig) ∷ l) v) p.slots) []
+    cond (completes p me l (Receive from (ViewChange v cs sig)) v)
+    (choice_strings p (changes p (Receive from (ViewChange v cs sig) ∷ l) v) p.slots) []
 strings p me l (Receive from (NewView v xs sigs sig)) =
     cond (enters p (mode p l) from.0 v xs sigs) (value_strings p (certificates_of xs) ++ choice_strings p xs p.slots) []
 strings p me l Timeout = []
 
 abbrev pub made_of : Params → ℕ → ℕ → Option (Slot × Batch) → List (List ℕ) → List Draft → Made Message
-made_of p me leaf a strings ds = record { sends = sign_all p me leaf ds; accepted = a; strings = strings; used = uses_all p ds }
+made_of p me leaf a strings ds =
+    record { sends = sign_all p me leaf ds; accepted = a; strings = strings; used = uses_all p ds }
 
 abbrev pub makes : Params → ℕ → List (Item Message) → Input Message → ℕ → Made Message
 makes p me xs i leaf = made_of p me leaf (asked p me (inputs xs) i) (strings p me (inputs xs) i) (drafts p me xs i)

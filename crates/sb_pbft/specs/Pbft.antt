@@ -19,11 +19,12 @@ use Rattle.sb_pbft.specs.Makes.{inputs, makes}
 abbrev pub asks : Params → ℕ → List (Item Message) → Input Message → Option (Slot × Batch)
 asks p me xs i = asked p me (inputs xs) i
 
--- in whatever view, the lowest where there are several
+-- the value that is committed in some view, the lowest where there are several
 abbrev pub decided : Params → ℕ → List (Item Message) → ℕ → Option Value
 decided p me xs s = lowest (λ v. committed p me (inputs xs) v s) (mode p (inputs xs)).view
 
--- f Byzantine nodes of 3f+1. A NewView signs for each slot and for itself, and a Commit may stand beside each
+-- f Byzantine replicas of 3f+1. A step signs at most a Prepare and a Commit for each slot, or a PrePrepare for each
+-- slot and a NewView
 abbrev pub pbft : Module Message
 pbft = record {
   nodes = nodes_of_kind Byzantine;

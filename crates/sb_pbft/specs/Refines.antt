@@ -30,7 +30,7 @@ use Rattle.sb_pbft.specs.Turns.{Held, Turn, certified, changes_at, commits_to, d
 use Rattle.sb_pbft.specs.Turns.{drafts_all, handed, model, newly_at, placed, prepares_to, ready_at}
 use Rattle.sb_pbft.specs.Turns.{settled_all, turn}
 
--- the code as what it holds
+-- the code's state as the model's
 abbrev pub held : Pbft → Held
 held m = record {
   mode = record { view = m.view; active = m.active };
@@ -42,7 +42,7 @@ held m = record {
   done = λ s. contains nat_cmp m.delivered s;
 }
 
--- the code holds what a node holds that took that list
+-- the code's state represents the history xs of replica me
 pub record Refines (m : Pbft) (p : Params) (me : ℕ) (xs : List (Item Message)) : Type 0 where
   pub node : m.me.0 ≡ me
   pub state : held m ≡ model p me xs
@@ -60,13 +60,13 @@ may_take p m from v s = (not (m.me.0 == p.leader.0) && (from == p.leader.0)) && 
 
 -- ---- what is signed and sent
 
--- these drafts, signed with the next leaves, behind what was sent
+-- these drafts were signed with the next leaves and appended to the messages
 pub record Sent (p : Params) (ds : List Draft) (before later : KeyState) (old new : List (To × Message)) : Type 0 where
   pub used : later ≡ record before { used = before.used + uses_all p ds }
   pub sends : (me : ℕ) → AreKeysOf me p.setup.keys before → new ≡ old ++ sign_all p me before.used ds
   pub addressed : (n : ℕ) → AreToNodes n old → AreToNodes n new
 
--- ---- what the parts of a rule do
+-- ---- what the parts of a step do
 
 abbrev pub digest_in : Option Proposal → Option (List ℕ)
 digest_in None = None
@@ -76,27 +76,29 @@ abbrev pub value_in : Option Proposal → Option Value
 value_in None = None
 value_in (Some q) = Some q.value
 
--- a certificate was kept of what was ready at the slot, and its digest is told
+-- if a Commit was due at the slot, its certificate is stored and its digest returned
 pub record HasCertified (p : Params) (old new : Pbft) (slot : Slot) (told : Option (List ℕ)) : Type 0 where
   pub node : new.me ≡ old.me
   pub holds : held new ≡ certified p (held old) slot
   pub digest : told ≡ digest_in (ready_at p (held old) slot.0)
 
--- what is new to deliver was taken
+-- if the slot was committed and not delivered, it is marked as delivered and its value returned
 pub record HasDelivered (p : Params) (old new : Pbft) (v s : ℕ) (taken : Option Value) : Type 0 where
   pub node : new.me ≡ old.me
   pub holds : held new ≡ handed p (held old) v s
   pub value : taken ≡ value_in (newly_at p (held old) v s)
 
--- a Prepare for the proposal was sent, where the node answers
-pub record Answers (p : Params) (answers : Bool) (v : ℕ) (slot : Slot) (m : Pbft) (before later : KeyState) (e f : Effects Message) : Type 0 where
+-- if the replica answers, a Prepare for the proposal was sent
+pub record Answers (p : Params) (answers : Bool) (v : ℕ) (slot : Slot) (m : Pbft) (before later : KeyState)
+    (e f : Effects Message) : Type 0 where
   pub sent : Sent p (cond answers (prepares_to v slot ((held m).proposal v slot.0)) []) before later e.sends f.sends
   pub delivers : f.delivers ≡ e.delivers
   pub accepted : f.accepted ≡ e.accepted
   pub hashed : f.hashed ≡ e.hashed
 
--- a certificate was kept of what was ready at the slot, and its Commit sent
-pub record Commits (p : Params) (slot : Slot) (old new : Pbft) (before later : KeyState) (e f : Effects Message) : Type 0 where
+-- if a Commit was due at the slot, its certificate is stored and the Commit sent
+pub record Commits (p : Params) (slot : Slot) (old new : Pbft) (before later : KeyState)
+    (e f : Effects Message) : Type 0 where
   pub node : new.me ≡ old.me
   pub holds : held new ≡ certified p (held old) slot
   pub sent : Sent p (commits_to (held old).mode.view slot (ready_at p (held old) slot.0)) before later e.sends f.sends
@@ -104,7 +106,7 @@ pub record Commits (p : Params) (slot : Slot) (old new : Pbft) (before later : K
   pub accepted : f.accepted ≡ e.accepted
   pub hashed : f.hashed ≡ e.hashed
 
--- what was new was delivered
+-- if the slot was committed and not delivered, its value was delivered
 pub record HandsOver (p : Params) (v : ℕ) (slot : Slot) (old new : Pbft) (e f : Effects Message) : Type 0 where
   pub node : new.me ≡ old.me
   pub holds : held new ≡ handed p (held old) v slot.0
@@ -113,8 +115,9 @@ pub record HandsOver (p : Params) (v : ℕ) (slot : Slot) (old new : Pbft) (e f 
   pub accepted : f.accepted ≡ e.accepted
   pub hashed : f.hashed ≡ e.hashed
 
--- slot by slot what was due
-pub record Settles (p : Params) (answers : Bool) (v : ℕ) (slots : List Slot) (old new : Pbft) (before later : KeyState) (e f : Effects Message) : Type 0 where
+-- each of these slots was settled, in order
+pub record Settles (p : Params) (answers : Bool) (v : ℕ) (slots : List Slot) (old new : Pbft) (before later : KeyState)
+    (e f : Effects Message) : Type 0 where
   pub node : new.me ≡ old.me
   pub holds : held new ≡ settled_all p (held old) v slots
   pub sent : Sent p (drafts_all p (held old) answers v slots) before later e.sends f.sends
@@ -122,8 +125,9 @@ pub record Settles (p : Params) (answers : Bool) (v : ℕ) (slots : List Slot) (
   pub accepted : f.accepted ≡ e.accepted
   pub hashed : f.hashed ≡ e.hashed
 
--- what the definitions say of this turn
-pub record IsTurn (p : Params) (new : Pbft) (me leaf : ℕ) (t : Turn) (e : Effects Message) (before later : KeyState) : Type 0 where
+-- the effects are those of the turn t, signed from this leaf on
+pub record IsTurn (p : Params) (new : Pbft) (me leaf : ℕ) (t : Turn) (e : Effects Message)
+    (before later : KeyState) : Type 0 where
   pub holds : held new ≡ t.held
   pub sends : e.sends ≡ sign_all p me leaf t.drafts
   pub used : later.used ≡ leaf + uses_all p t.drafts
@@ -131,14 +135,18 @@ pub record IsTurn (p : Params) (new : Pbft) (me leaf : ℕ) (t : Turn) (e : Effe
   pub hashed : e.hashed ≡ t.strings
   pub delivers : e.delivers ≡ t.delivers
 
--- what a rule owes: where the keys are the node's own, the turn of what is held, and what it gives is of its segment in any case
-pub record Does (p : Params) (old new : Pbft) (i : Input Message) (before later : KeyState) (e : Effects Message) : Type 0 where
+-- the contract of a step: if the keys are the replica's own, it is the turn of its state; with any keys its effects
+-- are within the segment
+pub record Does (p : Params) (old new : Pbft) (i : Input Message) (before later : KeyState)
+    (e : Effects Message) : Type 0 where
   pub node : new.me ≡ old.me
-  pub turns : AreKeysOf old.me.0 p.setup.keys before → IsTurn p new old.me.0 before.used (turn p old.me.0 before.used (held old) i) e before later
+  pub turns : AreKeysOf old.me.0 p.setup.keys before →
+      IsTurn p new old.me.0 before.used (turn p old.me.0 before.used (held old) i) e before later
   pub within : IsWithin pbft p before later e
 
--- the effects of a batch that is accepted at the slot, with its value and digest
-pub record HasAccepted (p : Params) (slot : Slot) (batch : Batch) (x : Value) (d : List ℕ) (e : Effects Message) : Type 0 where
+-- the effects of accepting a batch at the slot, with its value and digest
+pub record HasAccepted (p : Params) (slot : Slot) (batch : Batch) (x : Value) (d : List ℕ)
+    (e : Effects Message) : Type 0 where
   pub value : x ≡ Value_batch batch
   pub digest : d ≡ digest_of p (Value_batch batch)
   pub sends : e.sends ≡ []
@@ -146,26 +154,28 @@ pub record HasAccepted (p : Params) (slot : Slot) (batch : Batch) (x : Value) (d
   pub hashed : e.hashed ≡ string_of p (Value_batch batch) ∷ []
   pub delivers : e.delivers ≡ []
 
--- these strings were hashed behind the others
+-- these strings were appended to the hashed ones
 pub record HasHashed (strings : List (List ℕ)) (e f : Effects Message) : Type 0 where
   pub hashed : f.hashed ≡ e.hashed ++ strings
   pub sends : f.sends ≡ e.sends
   pub accepted : f.accepted ≡ e.accepted
   pub delivers : f.delivers ≡ e.delivers
 
--- whether a NewView is due where so many ViewChanges of the view were held before
+-- whether the NewView is due: the primary, in no higher view, has just reached 2f+1 ViewChanges
 abbrev pub is_due : Params → Pbft → ℕ → ℕ → Bool
 is_due p m v before =
     ((m.me.0 == primary p v) && nat_le m.view v) &&
     (nat_lt before (2 * p.setup.f + 1) && (length (changes_at p (held m) v) == 2 * p.setup.f + 1))
 
--- where it is due, the NewView of the ViewChanges that are held was sent, and what they choose hashed
-pub record Renews (p : Params) (due : Bool) (m : Pbft) (v : ℕ) (before later : KeyState) (e f : Effects Message) : Type 0 where
+-- if it is due, the NewView with the stored ViewChanges was sent, and the strings of its choices hashed
+pub record Renews (p : Params) (due : Bool) (m : Pbft) (v : ℕ) (before later : KeyState)
+    (e f : Effects Message) : Type 0 where
   pub sent : Sent p (cond due (DraftNewView v (changes_at p (held m) v) ∷ []) []) before later e.sends f.sends
   pub hashed : f.hashed ≡ e.hashed ++ cond due (choice_strings p (changes_at p (held m) v) p.slots) []
   pub accepted : f.accepted ≡ e.accepted
   pub delivers : f.delivers ≡ e.delivers
 
--- what these ViewChanges choose at these slots of a view, each with its signature
+-- a new view's proposals at these slots: the values that these ViewChanges choose, with their signatures
 abbrev pub chosen_among : Params → ℕ → List Change → List Slot → List (List ℕ) → ℕ → ℕ → Option Proposal
-chosen_among p v xs slots sigs w s = cond ((w == v) && has_slot s slots) (placed p (Some (choice xs s)) (sig_for s slots sigs)) None
+chosen_among p v xs slots sigs w s =
+    cond ((w == v) && has_slot s slots) (placed p (Some (choice xs s)) (sig_for s slots sigs)) None

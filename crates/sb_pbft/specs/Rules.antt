@@ -20,7 +20,7 @@ use Rattle.pbft_wire.specs.Statements.{digest_of}
 use Rattle.pbft_views.specs.Choice.{choice}
 use Rattle.pbft_views.specs.Good.{all_good, are_enough, primary}
 
--- x, where the test passes
+-- x, if the test passes
 abbrev pub when : {A : Type 0} → Bool → A → Option A
 when b x = cond b (Some x) None
 
@@ -30,16 +30,17 @@ pub record Mode : Type 0 where
   pub view : ℕ
   pub active : Bool
 
--- a view above the own one, or the own one that is not active yet
+-- a view above the current one, or the current one if it is not active
 abbrev pub is_newer : Mode → ℕ → Bool
 is_newer m v = nat_lt m.view v || ((m.view == v) && not m.active)
 
--- where a NewView is taken: of the primary of a newer view, with 2f+1 ViewChanges and a signature for each slot
+-- whether a NewView starts its view: it is of the primary, has 2f+1 good ViewChanges, and a signature for each slot
 -- rule: PBFT: A replica enters a view above its own, or its inactive own one, by the primary's NewView
 abbrev pub enters : Params → Mode → ℕ → ℕ → List Change → List (List ℕ) → Bool
-enters p m from v xs sigs = is_newer m v && (are_enough p v xs && ((from == primary p v) && (nat_lt 0 v && (length sigs == length p.slots))))
+enters p m from v xs sigs =
+    is_newer m v && (are_enough p v xs && ((from == primary p v) && (nat_lt 0 v && (length sigs == length p.slots))))
 
--- where a Timeout is
+-- whether a timeout has an effect: views are at most 65,535
 abbrev pub passes : Mode → Bool
 passes m = nat_lt m.view 65535
 
@@ -49,7 +50,8 @@ mode_after p m (Receive from (PrePrepare v slot x sig)) = m
 mode_after p m (Receive from (Prepare v slot d sig)) = m
 mode_after p m (Receive from (Commit v slot d sig)) = m
 mode_after p m (Receive from (ViewChange v cs sig)) = m
-mode_after p m (Receive from (NewView v xs sigs sig)) = cond (enters p m from.0 v xs sigs) (record { view = v; active = true }) m
+mode_after p m (Receive from (NewView v xs sigs sig)) =
+    cond (enters p m from.0 v xs sigs) (record { view = v; active = true }) m
 mode_after p m Timeout = cond (passes m) (record { view = m.view + 1; active = false }) m
 
 abbrev pub mode : Params → List (Input Message) → Mode
@@ -58,13 +60,13 @@ mode p (i ∷ l) = mode_after p (mode p l) i
 
 -- ---- proposals
 
--- view 0, active, and a slot of the segment
+-- whether view 0 is active, and the slot in the segment
 -- rule: PBFT: A replica takes a batch for a slot once, in view 0 while that is active
 abbrev pub is_open : Params → Mode → ℕ → Bool
 is_open p m s = (m.view == 0) && (m.active && has_slot s p.slots)
 
--- what an input proposes in view 0, but for that there may be a proposal already: the leader's cast, and its PrePrepare
--- of a batch
+-- the batch that an input proposes in view 0, whether or not there is a proposal already: a cast at the leader, or
+-- the leader's PrePrepare at a backup
 -- rule: PBFT: The leader alone casts, and replicas take a batch from the leader alone
 abbrev pub offer : Params → ℕ → Mode → Input Message → Option (Slot × Batch)
 offer p me m (Cast slot batch) = when ((me == p.leader.0) && is_open p m slot.0) (slot, batch)
@@ -77,27 +79,29 @@ offer p me m (Receive from (ViewChange v cs sig)) = None
 offer p me m (Receive from (NewView v xs sigs sig)) = None
 offer p me m Timeout = None
 
--- the value that an offer gives to (v, s)
+-- the value that an offer proposes at (v, s)
 abbrev pub offered : Option (Slot × Batch) → ℕ → ℕ → Option Value
 offered None v s = None
 offered (Some a) v s = when ((v == 0) && (s == a.0.0)) (Value_batch a.1)
 
--- the value that an input gives to (v, s) as the choice of a new view
+-- the value that a NewView proposes at (v, s)
 abbrev pub chosen : Params → Mode → Input Message → ℕ → ℕ → Option Value
 chosen p m (Cast slot batch) v s = None
 chosen p m (Receive from (PrePrepare w slot x sig)) v s = None
 chosen p m (Receive from (Prepare w slot d sig)) v s = None
 chosen p m (Receive from (Commit w slot d sig)) v s = None
 chosen p m (Receive from (ViewChange w cs sig)) v s = None
-chosen p m (Receive from (NewView w xs sigs sig)) v s = when ((v == w) && (has_slot s p.slots && enters p m from.0 w xs sigs)) (choice xs s)
+chosen p m (Receive from (NewView w xs sigs sig)) v s =
+    when ((v == w) && (has_slot s p.slots && enters p m from.0 w xs sigs)) (choice xs s)
 chosen p m Timeout v s = None
 
--- the node's own proposal at (v, s)
+-- the replica's proposal at (v, s): the value of the PrePrepare that it sent or accepted
 abbrev pub proposal : Params → ℕ → List (Input Message) → ℕ → ℕ → Option Value
 proposal p me [] v s = None
-proposal p me (i ∷ l) v s = first_of (chosen p (mode p l) i v s) (first_of (proposal p me l v s) (offered (offer p me (mode p l) i) v s))
+proposal p me (i ∷ l) v s =
+    first_of (chosen p (mode p l) i v s) (first_of (proposal p me l v s) (offered (offer p me (mode p l) i) v s))
 
--- what there is no proposal for yet
+-- the batch, if there is no proposal yet
 abbrev pub unless : Option Value → Slot × Batch → Option (Slot × Batch)
 unless None a = Some a
 unless (Some x) a = None
@@ -106,13 +110,13 @@ abbrev pub asked_of : Params → ℕ → List (Input Message) → Option (Slot �
 asked_of p me l None = None
 asked_of p me l (Some a) = unless (proposal p me l 0 a.0.0) a
 
--- the batch that is accepted
+-- the batch that an input makes the replica accept
 abbrev pub asked : Params → ℕ → List (Input Message) → Input Message → Option (Slot × Batch)
 asked p me l i = asked_of p me l (offer p me (mode p l) i)
 
 -- ---- votes
 
--- the first Prepare and Commit of each node
+-- a vote: the digest and the signature of a Prepare or a Commit
 pub record Ballot : Type 0 where
   pub digest : List ℕ
   pub sig : List ℕ
@@ -124,7 +128,8 @@ abbrev pub prepare_in : Params → Input Message → ℕ → ℕ → ℕ → Opt
 prepare_in p (Cast slot batch) v s k = None
 prepare_in p (Receive from (PrePrepare w slot x sig)) v s k = None
 prepare_in p (Receive from (Prepare w slot d sig)) v s k =
-    when (is_at from.0 w slot.0 v s k && (has_slot slot.0 p.slots && not (from.0 == primary p w))) (record { digest = d; sig = sig })
+    when (is_at from.0 w slot.0 v s k && (has_slot slot.0 p.slots && not (from.0 == primary p w)))
+    (record { digest = d; sig = sig })
 prepare_in p (Receive from (Commit w slot d sig)) v s k = None
 prepare_in p (Receive from (ViewChange w cs sig)) v s k = None
 prepare_in p (Receive from (NewView w xs sigs sig)) v s k = None
@@ -140,7 +145,8 @@ abbrev pub commit_in : Params → Input Message → ℕ → ℕ → ℕ → Opti
 commit_in p (Cast slot batch) v s k = None
 commit_in p (Receive from (PrePrepare w slot x sig)) v s k = None
 commit_in p (Receive from (Prepare w slot d sig)) v s k = None
-commit_in p (Receive from (Commit w slot d sig)) v s k = when (is_at from.0 w slot.0 v s k && has_slot slot.0 p.slots) (record { digest = d; sig = sig })
+commit_in p (Receive from (Commit w slot d sig)) v s k =
+    when (is_at from.0 w slot.0 v s k && has_slot slot.0 p.slots) (record { digest = d; sig = sig })
 commit_in p (Receive from (ViewChange w cs sig)) v s k = None
 commit_in p (Receive from (NewView w xs sigs sig)) v s k = None
 commit_in p Timeout v s k = None
@@ -149,12 +155,12 @@ abbrev pub commit_of : Params → List (Input Message) → ℕ → ℕ → ℕ �
 commit_of p [] v s k = None
 commit_of p (i ∷ l) v s k = first_of (commit_of p l v s k) (commit_in p i v s k)
 
--- the vote of node k put in front, if it is for the digest
+-- the vote of replica k put before the others, if it is for the digest
 abbrev pub cons_vote : List ℕ → ℕ → Option Ballot → List Signed → List Signed
 cons_vote d k None xs = xs
 cons_vote d k (Some b) xs = cond (same_bytes d b.digest) (record { by = record { 0 = k }; sig = b.sig } ∷ xs) xs
 
--- of the m nodes from k on those that voted for the digest
+-- the votes for the digest among replicas k, .., k+m-1
 abbrev pub voters : (ℕ → Option Ballot) → List ℕ → ℕ → ℕ → List Signed
 voters g d k zero = []
 voters g d k (suc m) = cons_vote d k (g k) (voters g d (suc k) m)
@@ -165,7 +171,7 @@ prepares p l v s d = voters (prepare_of p l v s) d 0 p.setup.n
 abbrev pub commits : Params → List (Input Message) → ℕ → ℕ → List ℕ → List Signed
 commits p l v s d = voters (commit_of p l v s) d 0 p.setup.n
 
--- the value of the proposal with Prepares of 2f different nodes other than the primary
+-- PBFT's "prepared": the proposal, if 2f distinct replicas other than the primary prepared it
 abbrev pub prepared_with : Params → List (Input Message) → ℕ → ℕ → Option Value → Option Value
 prepared_with p l v s None = None
 prepared_with p l v s (Some x) = when (nat_le (2 * p.setup.f) (length (prepares p l v s (digest_of p x)))) x
@@ -173,7 +179,7 @@ prepared_with p l v s (Some x) = when (nat_le (2 * p.setup.f) (length (prepares 
 abbrev pub prepared : Params → ℕ → List (Input Message) → ℕ → ℕ → Option Value
 prepared p me l v s = prepared_with p l v s (proposal p me l v s)
 
--- and with Commits of 2f+1 different nodes
+-- PBFT's "committed-local": prepared, with Commits of 2f+1 distinct replicas
 abbrev pub committed_with : Params → List (Input Message) → ℕ → ℕ → Option Value → Option Value
 committed_with p l v s None = None
 committed_with p l v s (Some x) = when (nat_le (2 * p.setup.f + 1) (length (commits p l v s (digest_of p x)))) x
@@ -181,21 +187,22 @@ committed_with p l v s (Some x) = when (nat_le (2 * p.setup.f + 1) (length (comm
 abbrev pub committed : Params → ℕ → List (Input Message) → ℕ → ℕ → Option Value
 committed p me l v s = committed_with p l v s (prepared p me l v s)
 
--- the value that is committed in the lowest of the views up to v. There are no proposals above the own view
+-- the value that is committed in the lowest of the views 0 to v. No view above the current one has a proposal
 abbrev pub lowest : (ℕ → Option Value) → ℕ → Option Value
 lowest in_view zero = in_view 0
 lowest in_view (suc v) = first_of (lowest in_view v) (in_view (suc v))
 
 -- ---- ViewChanges
 
--- the first good ViewChange of each node
+-- the ViewChange that an input brings, if it is good
 abbrev pub change_in : Params → Input Message → ℕ → ℕ → Option Change
 change_in p (Cast slot batch) v k = None
 change_in p (Receive from (PrePrepare w slot x sig)) v k = None
 change_in p (Receive from (Prepare w slot d sig)) v k = None
 change_in p (Receive from (Commit w slot d sig)) v k = None
 change_in p (Receive from (ViewChange w cs sig)) v k =
-    when (((from.0 == k) && (v == w)) && all_good p w cs) (record { node = from; view = w; certificates = cs; sig = sig })
+    when (((from.0 == k) && (v == w)) && all_good p w cs)
+    (record { node = from; view = w; certificates = cs; sig = sig })
 change_in p (Receive from (NewView w xs sigs sig)) v k = None
 change_in p Timeout v k = None
 
@@ -212,11 +219,11 @@ abbrev pub changes_from : (ℕ → Option Change) → ℕ → ℕ → List Chang
 changes_from g k zero = []
 changes_from g k (suc m) = cons_some (g k) (changes_from g (suc k) m)
 
--- by ascending nodes
+-- the stored ViewChanges for view v, in ascending order of their senders
 abbrev pub changes : Params → List (Input Message) → ℕ → List Change
 changes p l v = changes_from (change_of p l v) 0 p.setup.n
 
--- whether a ViewChange of view v makes the NewView: with it, and not before, 2f+1 are kept
+-- whether the primary of view v sends its NewView at this input: with it, and not before, it has 2f+1 ViewChanges
 abbrev pub completes : Params → ℕ → List (Input Message) → Input Message → ℕ → Bool
 completes p me l i v =
     ((me == primary p v) && nat_le (mode p l).view v) &&

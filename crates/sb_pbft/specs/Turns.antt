@@ -29,7 +29,8 @@ use Rattle.sb_pbft.specs.Rules.{prepare_in, prepare_of, proposal, voters, when}
 
 -- ---- what is held
 
--- of Commits the digest alone; of each slot the certificate of the highest view, and whether it is delivered
+-- the state of a replica. Commits are stored without their signatures; top is the certificate of the highest view at
+-- a slot, done whether the slot is delivered
 pub record Held : Type 0 where
   pub mode : Mode
   pub proposal : ℕ → ℕ → Option Proposal
@@ -48,7 +49,7 @@ abbrev pub placed : Params → Option Value → Option (List ℕ) → Option Pro
 placed p None sig = None
 placed p (Some x) sig = Some (record { value = x; digest = digest_of p x; sig = or_empty sig })
 
--- what a node holds that took this list
+-- the state of a replica with this history
 abbrev pub model : Params → ℕ → List (Item Message) → Held
 model p me xs = record {
   mode = mode p (inputs xs);
@@ -60,9 +61,9 @@ model p me xs = record {
   done = λ s. is_some (delivered pbft p me xs s);
 }
 
--- ---- what stands at a slot
+-- ---- what is prepared and committed at a slot
 
--- whether so many voted for the proposal
+-- whether at least that many replicas voted for the proposal
 abbrev pub voted : Params → (ℕ → Option Ballot) → ℕ → Proposal → Bool
 voted p g most q = nat_le most (length (voters g q.digest 0 p.setup.n))
 
@@ -76,12 +77,13 @@ prepared_at p h v s = only_if (voted p (h.prepare v s) (2 * p.setup.f)) (h.propo
 abbrev pub committed_at : Params → Held → ℕ → ℕ → Option Proposal
 committed_at p h v s = only_if (voted p (h.commit v s) (2 * p.setup.f + 1)) (prepared_at p h v s)
 
--- whether the certificate is of the view
+-- whether there is a certificate, of this view
 abbrev pub is_of : ℕ → Option Certificate → Bool
 is_of v None = false
 is_of v (Some c) = v == c.view
 
--- what is prepared in the own view and was not committed to there
+-- the proposal for which a Commit is due: it is prepared in the current view, which is active, and no Commit for it
+-- was sent there
 -- rule: PBFT: A replica commits once a view and slot to what 2f distinct replicas prepared
 abbrev pub ready_at : Params → Held → ℕ → Option Proposal
 ready_at p h s = cond (h.mode.active && not (is_of h.mode.view (h.top s))) (prepared_at p h h.mode.view s) None
@@ -96,18 +98,19 @@ certificate_of p h slot (Some q) = Some (record {
   prepares = take (2 * p.setup.f) (voters (h.prepare h.mode.view slot.0) q.digest 0 p.setup.n);
 })
 
--- committed in this view, and not delivered before
+-- the proposal to deliver: it is committed in this view, and the slot was not delivered before
 -- rule: PBFT: A slot is delivered once, when 2f+1 distinct replicas committed it in one view
 abbrev pub newly_at : Params → Held → ℕ → ℕ → Option Proposal
 newly_at p h v s = cond (h.done s) None (committed_at p h v s)
 
--- ---- what follows at a slot where something came in view v
+-- ---- what follows at a slot that an input touched in view v
 
--- the certificate is kept
+-- with the prepared certificate stored, if a Commit is due
 abbrev pub certified : Params → Held → Slot → Held
-certified p h slot = record h { top = set_at h.top slot.0 (first_of (certificate_of p h slot (ready_at p h slot.0)) (h.top slot.0)) }
+certified p h slot =
+    record h { top = set_at h.top slot.0 (first_of (certificate_of p h slot (ready_at p h slot.0)) (h.top slot.0)) }
 
--- what is new is delivered
+-- with the slot marked as delivered, if it is to be delivered
 abbrev pub handed : Params → Held → ℕ → ℕ → Held
 handed p h v s = record h { done = set_at h.done s (h.done s || is_some (newly_at p h v s)) }
 
@@ -122,15 +125,16 @@ abbrev pub prepares_to : ℕ → Slot → Option Proposal → List Draft
 prepares_to v slot None = []
 prepares_to v slot (Some q) = DraftPrepare v slot q.digest ∷ []
 
--- a Prepare, where the node answers, before the Commit
+-- a Prepare, if the replica answers, before the Commit
 abbrev pub drafts_at : Params → Held → Bool → ℕ → Slot → List Draft
-drafts_at p h answers v slot = cond answers (prepares_to v slot (h.proposal v slot.0)) [] ++ commits_to h.mode.view slot (ready_at p h slot.0)
+drafts_at p h answers v slot =
+    cond answers (prepares_to v slot (h.proposal v slot.0)) [] ++ commits_to h.mode.view slot (ready_at p h slot.0)
 
 abbrev pub delivery : Slot → Option Proposal → List (Slot × Value)
 delivery slot None = []
 delivery slot (Some q) = (slot, q.value) ∷ []
 
--- slot by slot
+-- each slot in order
 abbrev pub settled_all : Params → Held → ℕ → List Slot → Held
 settled_all p h v [] = h
 settled_all p h v (s ∷ ss) = settled_all p (settled p h v s) v ss
@@ -143,7 +147,7 @@ abbrev pub deliveries : Params → Held → ℕ → List Slot → List (Slot × 
 deliveries p h v [] = []
 deliveries p h v (s ∷ ss) = delivery s (newly_at p h v s.0) ++ deliveries p (settled p h v s) v ss
 
--- ---- what an input makes of what is held
+-- ---- the step of an input
 
 pub record Turn : Type 0 where
   pub held : Held
@@ -155,7 +159,7 @@ pub record Turn : Type 0 where
 abbrev pub idle : Held → Turn
 idle h = record { held = h; drafts = []; strings = []; accepted = None; delivers = [] }
 
--- something came in view v at these slots
+-- an input touched these slots in view v
 abbrev pub at_slots : Params → Held → Bool → ℕ → List Slot → Turn
 at_slots p h answers v slots = record {
   held = settled_all p h v slots;
@@ -165,12 +169,12 @@ at_slots p h answers v slots = record {
   delivers = deliveries p h v slots;
 }
 
--- where there is no proposal yet
+-- the batch, if there is no proposal yet
 abbrev pub free : Held → Option (Slot × Batch) → Option (Slot × Batch)
 free h None = None
 free h (Some a) = cond (is_some (h.proposal 0 a.0.0)) None (Some a)
 
--- the batch that is accepted
+-- the batch that an input makes the replica accept
 abbrev pub asked_at : Params → ℕ → Held → Input Message → Option (Slot × Batch)
 asked_at p me h i = free h (offer p me h.mode i)
 
@@ -180,14 +184,16 @@ with_proposal h v s q = record h { proposal = set_at2 h.proposal v s (Some q) }
 abbrev pub first_proposal : Params → Slot × Batch → List ℕ → Proposal
 first_proposal p a sig = record { value = Value_batch a.1; digest = digest_of p (Value_batch a.1); sig = sig }
 
--- what was accepted is said first
+-- the PrePrepare or Prepare for an accepted batch is sent first
 abbrev pub and_said : Params → ℕ → Slot × Batch → Turn → Turn
-and_said p me a t = record t { drafts = first_draft p me (Some a) ++ t.drafts; strings = asked_strings p (Some a); accepted = Some a }
+and_said p me a t =
+    record t { drafts = first_draft p me (Some a) ++ t.drafts; strings = asked_strings p (Some a); accepted = Some a }
 
 abbrev pub accepts_of : Params → ℕ → ℕ → Held → Input Message → Option (Slot × Batch) → Turn
 accepts_of p me leaf h i None = idle h
 accepts_of p me leaf h i (Some a) =
-    and_said p me a (at_slots p (with_proposal h 0 a.0.0 (first_proposal p a (first_sig p me leaf a i))) false 0 (a.0 ∷ []))
+    and_said p me a
+    (at_slots p (with_proposal h 0 a.0.0 (first_proposal p a (first_sig p me leaf a i))) false 0 (a.0 ∷ []))
 
 abbrev pub and_prepare : Params → Held → Input Message → Held
 and_prepare p h i = record h { prepare = λ v s k. first_of (h.prepare v s k) (prepare_in p i v s k) }
@@ -198,11 +204,11 @@ and_commit p h i = record h { commit = λ v s k. first_of (h.commit v s k) (bare
 abbrev pub and_change : Params → Held → Input Message → Held
 and_change p h i = record h { change = λ v k. first_of (h.change v k) (change_in p i v k) }
 
--- the ViewChanges of a view that are held
+-- the stored ViewChanges for a view
 abbrev pub changes_at : Params → Held → ℕ → List Change
 changes_at p h v = changes_from (h.change v) 0 p.setup.n
 
--- whether they become enough between the two, at the primary
+-- whether ViewChanges reach 2f+1 between the states h and u, at the primary
 -- rule: PBFT: The primary sends a NewView once, with the ViewChange that makes 2f+1
 abbrev pub completes_at : Params → ℕ → Held → Held → ℕ → Bool
 completes_at p me h u v =
@@ -217,9 +223,10 @@ changed p me h u from v cs = record (idle u) {
       cond (completes_at p me h u v) (choice_strings p (changes_at p u v) p.slots) [];
 }
 
--- the proposals of a new view
+-- the proposals of a NewView
 abbrev pub chosen_at : Params → ℕ → List Change → List (List ℕ) → ℕ → ℕ → Option Proposal
-chosen_at p v xs sigs w s = cond ((w == v) && has_slot s p.slots) (placed p (Some (choice xs s)) (sig_for s p.slots sigs)) None
+chosen_at p v xs sigs w s =
+    cond ((w == v) && has_slot s p.slots) (placed p (Some (choice xs s)) (sig_for s p.slots sigs)) None
 
 abbrev pub entered : Params → Held → ℕ → List Change → List (List ℕ) → Held
 entered p h v xs sigs = record h {
@@ -245,18 +252,23 @@ gives_up p h = record (idle (record h { mode = record { view = h.mode.view + 1; 
 abbrev pub turn : Params → ℕ → ℕ → Held → Input Message → Turn
 turn p me leaf h (Cast slot batch) = accepts_of p me leaf h (Cast slot batch) (asked_at p me h (Cast slot batch))
 turn p me leaf h (Receive from (PrePrepare v slot x sig)) =
-    accepts_of p me leaf h (Receive from (PrePrepare v slot x sig)) (asked_at p me h (Receive from (PrePrepare v slot x sig)))
+    accepts_of p me leaf h (Receive from (PrePrepare v slot x sig))
+    (asked_at p me h (Receive from (PrePrepare v slot x sig)))
 turn p me leaf h (Receive from (Prepare v slot d sig)) =
     cond (has_slot slot.0 p.slots && not (from.0 == primary p v))
     (at_slots p (and_prepare p h (Receive from (Prepare v slot d sig))) false v (slot ∷ [])) (idle h)
 turn p me leaf h (Receive from (Commit v slot d sig)) =
-    cond (has_slot slot.0 p.slots) (at_slots p (and_commit p h (Receive from (Commit v slot d sig))) false v (slot ∷ [])) (idle h)
-turn p me leaf h (Receive from (ViewChange v cs sig)) = changed p me h (and_change p h (Receive from (ViewChange v cs sig))) from v cs
-turn p me leaf h (Receive from (NewView v xs sigs sig)) = cond (enters p h.mode from.0 v xs sigs) (begins p me h v xs sigs) (idle h)
+    cond (has_slot slot.0 p.slots)
+    (at_slots p (and_commit p h (Receive from (Commit v slot d sig))) false v (slot ∷ [])) (idle h)
+turn p me leaf h (Receive from (ViewChange v cs sig)) =
+    changed p me h (and_change p h (Receive from (ViewChange v cs sig))) from v cs
+turn p me leaf h (Receive from (NewView v xs sigs sig)) =
+    cond (enters p h.mode from.0 v xs sigs) (begins p me h v xs sigs) (idle h)
 turn p me leaf h Timeout = cond (passes h.mode) (gives_up p h) (idle h)
 
--- a turn is what the list's functions say
-pub record TurnsTo (p : Params) (me : ℕ) (xs : List (Item Message)) (i : Input Message) (leaf : ℕ) (t : Turn) : Type 0 where
+-- the turn agrees with the definitions over the whole history
+pub record TurnsTo (p : Params) (me : ℕ) (xs : List (Item Message)) (i : Input Message) (leaf : ℕ)
+    (t : Turn) : Type 0 where
   pub held : t.held ≡ model p me (and_then pbft p me xs i leaf)
   pub drafts : t.drafts ≡ drafts p me xs i
   pub strings : t.strings ≡ strings p me (inputs xs) i

@@ -1,4 +1,4 @@
-//! The change of views: ViewChanges, NewViews, timeouts.
+//! View changes: ViewChanges, NewViews, timeouts.
 ghost use Rattle.std.specs.Prelude.{◌≡◌, ◌≤◌, ◌<◌, ◌*◌, ◌+◌, ◌==◌, ◌&&◌, ℕ, List, length, not, is_some, IfOk, OnOk};
 ghost use Rattle.iss_base.specs.Lists.{first_of};
 ghost use Rattle.iss_keys.specs.KeyStates.{left_of};
@@ -21,9 +21,9 @@ use pbft_views::{all_good, are_enough, choice, choice_string, primary};
 use pbft_wire::{Certificate, Change, Message, digest_of, string_of};
 use std::alloc::Global;
 
-// ---- what is hashed
+// ---- hashed strings
 
-// The strings of these certificates' values, behind what was hashed.
+// Appends the strings of these certificates' values to the hashed strings.
 fn hash_values(
     alloc: Global,
     p: &Params,
@@ -40,7 +40,7 @@ fn hash_values(
     hash_values(alloc, p, others, effects)
 }
 
-// The strings of the values of all their certificates.
+// Appends the strings of the values of all certificates in these ViewChanges.
 fn hash_changes(
     alloc: Global,
     p: &Params,
@@ -57,7 +57,7 @@ fn hash_changes(
     Ok(())
 }
 
-// The strings of what these ViewChanges choose, slot by slot.
+// Appends the strings of the values that these ViewChanges choose, slot by slot.
 fn hash_choices(
     alloc: Global,
     p: &Params,
@@ -77,7 +77,8 @@ fn hash_choices(
 
 // ---- what a new view proposes
 
-// Puts what these ViewChanges choose at these slots, each with its signature.
+// Stores the new view's proposals: at each slot the value that these ViewChanges choose, with the signature of its
+// PrePrepare.
 fn put_choices(
     alloc: Global,
     p: &Params,
@@ -106,9 +107,10 @@ fn put_choices(
 }
 
 impl Pbft {
-    // ---- ViewChanges, and the NewView of the primary for which they are enough
+    // ---- ViewChanges, and the primary's NewView
 
-    // Whether a ViewChange is kept: its node's first that is good.
+    // Whether a ViewChange is stored: all its certificates are good and of lower views, and it is its sender's first
+    // for this view.
     // rule: PBFT: A replica's first good ViewChange of a view is kept
     fn keeps(&self, p: &Params, change: &Change) -> bool
         requires { IsGoodParams pbft p.now }
@@ -119,7 +121,8 @@ impl Pbft {
             && !self.changes.has(change.view, change.node)
     }
 
-    // Whether a NewView is due where so many ViewChanges of the view were kept before.
+    // Whether the NewView is due: this replica is the view's primary, is not in a higher view, and has just reached
+    // 2f+1 ViewChanges. `before` is their number before this step.
     fn is_due(&self, p: &Params, view: u16, before: u32) -> bool
         requires { IsGoodParams pbft p.now }
         ensures { result ≡ is_due p.now self.now view before }
@@ -129,7 +132,7 @@ impl Pbft {
             && (before < enough && self.changes.count(view, p.setup.n as u8) == enough)
     }
 
-    // The NewView of the ViewChanges that are kept, where it is due.
+    // If the NewView is due, sends it with the stored ViewChanges and hashes the strings of what they choose.
     // rule: PBFT: The primary sends a NewView once, with the ViewChange that makes 2f+1
     fn renew(
         &self,
@@ -142,7 +145,8 @@ impl Pbft {
     ) -> Result<(), NoMemory>
         requires good { IsGoodParams pbft p.now }
         requires enough { length p.now.slots + 1 ≤ left_of keys.old }
-        ensures { OnOk result (Renews p.now (is_due p.now self.now view before) self.now view keys.old keys.new effects.old effects.new) }
+        ensures { OnOk result
+            (Renews p.now (is_due p.now self.now view before) self.now view keys.old keys.new effects.old effects.new) }
     {
         if !self.is_due(p, view, before) {
             return Ok(());
@@ -163,7 +167,8 @@ impl Pbft {
         requires good { IsGoodParams pbft p.now }
         requires enough { 2 * length p.now.slots + 1 ≤ left_of keys.old }
         ensures { IfOk result (λ e. Does p.now self.old self.new
-            (Input.Receive change.node (Message.ViewChange change.view change.certificates change.sig)) keys.old keys.new e) }
+            (Input.Receive change.node
+            (Message.ViewChange change.view change.certificates change.sig)) keys.old keys.new e) }
     {
         let view = change.view;
         let mut effects = Effects::nothing(alloc);
@@ -179,14 +184,15 @@ impl Pbft {
 
     // ---- NewViews
 
-    // Whether the view is above the own one, or the own one that did not begin.
+    // Whether the view is above the current one, or is the current one and not active.
     fn is_newer(&self, view: u16) -> bool
         ensures { result ≡ is_newer (held self.now).mode view }
     {
         self.view < view || (self.view == view && !self.active)
     }
 
-    // Whether a NewView is taken.
+    // Whether this NewView starts its view: it is of the primary, has 2f+1 good ViewChanges, and a signature for each
+    // slot.
     // rule: PBFT: A replica enters a view above its own, or its inactive own one, by the primary's NewView
     fn enters(
         &self,
@@ -204,7 +210,7 @@ impl Pbft {
                 && (from == primary(p, view) && (0 < view && signatures.len() == p.slots.len())))
     }
 
-    // Whether another node is the primary of the view.
+    // Whether this replica is a backup in the view.
     fn follows(&self, p: &Params, view: u16) -> bool
         requires { IsGoodParams pbft p.now }
         ensures { result ≡ not (self.now.me.0 == primary p.now view) }
@@ -225,7 +231,8 @@ impl Pbft {
         requires good { IsGoodParams pbft p.now }
         requires enough { 2 * length p.now.slots + 1 ≤ left_of keys.old }
         ensures { IfOk result (λ e. (sig : List ℕ) →
-            Does p.now self.old self.new (Input.Receive from (Message.NewView view changes signatures sig)) keys.old keys.new e) }
+            Does p.now self.old self.new
+            (Input.Receive from (Message.NewView view changes signatures sig)) keys.old keys.new e) }
     {
         let mut effects = Effects::nothing(alloc);
         let shown = changes.as_slice();
@@ -246,7 +253,7 @@ impl Pbft {
 
     // ---- timeouts
 
-    // Whether there is a view above the own one.
+    // Whether there is a next view: the last one is 65,535.
     fn passes(&self) -> bool
         ensures { result ≡ passes (held self.now).mode }
     {

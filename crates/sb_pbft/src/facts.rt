@@ -1,5 +1,5 @@
-//! What holds of each world that the moves of an instance lead to: the facts that agreement stands on, in their order.
-//! The functions compute nothing: their contracts are the theorems.
+//! Facts about every reachable world of an instance, in the order in which agreement follows from them. The functions
+//! compute nothing: their contracts are the theorems.
 ghost use Rattle.iss_sb.specs.Calls.{IsGoodParams};
 ghost use Rattle.iss_sb.specs.Evidence.{IsReached, IsString, Separate, World};
 ghost use Rattle.iss_sb.specs.declared.effects.Params.{Params};
@@ -7,47 +7,52 @@ ghost use Rattle.pbft_wire.specs.declared.messages.Message.{Message};
 ghost use Rattle.sb_pbft.specs.Facts.{AreChosen, AreDecided, AreFixed, AreOnce, AreQuiet, AreRooted, AreShown, HaveOneDigest, HaveOneVote};
 ghost use Rattle.sb_pbft.specs.Pbft.{pbft};
 
-/// A correct node signs one PrePrepare, one Prepare and one Commit a view and slot.
+/// A correct replica votes once: all its PrePrepares of a view and slot have one digest, and also its Prepares and
+/// its Commits.
 pub fn nodes_vote_once()
     ensures { (p : Params) (w : World Message) → IsGoodParams pbft p → IsReached pbft p w → HaveOneVote p w }
 {}
 
-/// Behind its ViewChange a node sends no Commit of a lower view.
+/// After its ViewChange for view v a replica sends no Commit of a view below v.
 pub fn nodes_commit_nothing_below()
     ensures { (p : Params) (w : World Message) → IsGoodParams pbft p → IsReached pbft p w → AreQuiet p w }
 {}
 
-/// A correct node's ViewChange shows, for each slot that it committed, a certificate of that view or a higher one.
+/// The ViewChange of a correct replica shows, for each slot that it committed in a lower view, a certificate of that
+/// view or a higher one.
 pub fn view_changes_show_what_is_committed()
     ensures { (p : Params) (w : World Message) → IsGoodParams pbft p → IsReached pbft p w → AreShown p w }
 {}
 
-/// Above view 0 each PrePrepare and Prepare of a correct node is for the choice of 2f+1 good ViewChanges.
+/// Above view 0, each PrePrepare and Prepare of a correct replica is for the value that 2f+1 good ViewChanges choose.
 pub fn proposals_are_choices()
     ensures { (p : Params) (w : World Message) → IsGoodParams pbft p → IsReached pbft p w → AreChosen p w }
 {}
 
-/// Good certificates of one view and slot have one digest.
+/// Valid prepared certificates of one view and slot have the same digest.
 pub fn certificates_of_a_view_agree()
     ensures { (p : Params) (w : World Message) → IsGoodParams pbft p → IsReached pbft p w → HaveOneDigest p w }
 {}
 
-/// From a decided view on good certificates of the slot have its digest.
+/// Once a view has decided a slot, each valid prepared certificate of the slot in that view or a higher one has the
+/// decided digest.
 pub fn later_views_keep_what_is_decided()
     ensures { (p : Params) (w : World Message) → IsGoodParams pbft p → IsReached pbft p w → AreFixed p w }
 {}
 
-/// What a correct node delivers was decided by some view.
+/// What a correct replica delivers was decided in some view: 2f+1 replicas committed it there.
 pub fn what_is_delivered_was_decided()
     ensures { (p : Params) (w : World Message) → IsGoodParams pbft p → IsReached pbft p w → AreDecided p w }
 {}
 
-/// A certificate with a batch leads down to a quorum of view 0 that accepted it.
+/// If a valid prepared certificate holds a batch, then 2f+1 replicas, the leader among them, accepted the batch. This
+/// assumes that no two hashed strings have one digest.
 pub fn batches_come_from_a_quorum()
-    ensures { (p : Params) (w : World Message) → IsGoodParams pbft p → IsReached pbft p w → Separate (IsString w) → AreRooted p w }
+    ensures { (p : Params) (w : World Message) → IsGoodParams pbft p → IsReached pbft p w → Separate (IsString w) →
+        AreRooted p w }
 {}
 
-/// Of a slot a node accepts one batch, however often it is asked for it.
+/// A replica accepts one batch for a slot, however often it receives it.
 pub fn batches_are_accepted_once()
     ensures { (p : Params) (w : World Message) → IsGoodParams pbft p → IsReached pbft p w → AreOnce p w }
 {}

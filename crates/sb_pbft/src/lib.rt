@@ -1,5 +1,5 @@
-//! PBFT, an ordering module for f Byzantine nodes of 3f+1 over any number of primaries (Castro and Liskov, "Practical
-//! Byzantine Fault Tolerance"; ISS, "Sequenced Broadcast").
+//! PBFT as an ordering module: 3f+1 replicas of which f are Byzantine, and any number of view changes (Castro and
+//! Liskov, "Practical Byzantine Fault Tolerance"; ISS, "Sequenced Broadcast").
 #![tactic(auto)]
 
 pub mod changing;

@@ -1,4 +1,4 @@
-//! A node's part in an instance of PBFT, and that PBFT is an ordering module.
+//! A replica's state in an instance of PBFT, which is an ordering module (`Sequenced`).
 ghost use Rattle.std.specs.Prelude.{◌≡◌, ◌≤◌, ◌*◌, ◌+◌, ℕ, List, length, IfOk};
 ghost use Rattle.iss_keys.specs.KeyStates.{left_of};
 ghost use Rattle.iss_sb.specs.Calls.{IsGoodInput, IsGoodParams, IsTrueStep, named};
@@ -20,23 +20,24 @@ use pbft_wire::{Change, Message};
 use std::alloc::Global;
 use std::collections::BTreeSet;
 
-/// A node's part in one instance.
+/// A replica's state in one instance.
 #[derive(Drop)]
 pub struct Pbft {
     pub(crate) me: NodeId,
-    // the view, and whether it began
+    // the current view, which is not active between a timeout and the NewView
     pub(crate) view: u16,
     pub(crate) active: bool,
     pub(crate) proposals: Proposals,
     pub(crate) prepares: Votes,
-    // their digests alone
+    // without signatures
     pub(crate) commits: Votes,
     pub(crate) changes: ViewChanges,
     pub(crate) tops: PreparedCertificates,
     pub(crate) delivered: BTreeSet<u64>,
 }
 
-// The most leaves that a step takes: a Prepare and a Commit for each slot, or a PrePrepare and the NewView.
+// The most one-time keys that a step uses. Entering a view takes a Prepare and a Commit for each slot; a NewView
+// takes a PrePrepare for each slot and itself.
 fn most_leaves(p: &Params) -> u32
     requires { IsGoodParams pbft p.now }
     ensures { result ≡ 2 * length p.now.slots + 1 }
@@ -45,7 +46,7 @@ fn most_leaves(p: &Params) -> u32
 }
 
 impl Pbft {
-    // A PrePrepare: one of nil is no offer.
+    // Handles a PrePrepare. One for nil is ignored: in view 0 the leader proposes batches only.
     fn take_proposal(
         &mut self,
         alloc: Global,
@@ -59,7 +60,9 @@ impl Pbft {
     ) -> Result<Effects<Message>, NoMemory>
         requires good { IsGoodParams pbft p.now }
         requires enough { 2 * length p.now.slots + 1 ≤ left_of keys.old }
-        ensures { IfOk result (λ e. Does p.now self.old self.new (Input.Receive from (Message.PrePrepare view slot value sig)) keys.old keys.new e) }
+        ensures { IfOk result (λ e.
+            Does p.now self.old self.new
+            (Input.Receive from (Message.PrePrepare view slot value sig)) keys.old keys.new e) }
     {
         match value {
             Value::Nil => Ok(Effects::nothing(alloc)),
@@ -69,7 +72,7 @@ impl Pbft {
         }
     }
 
-    // The batch that a message offers, where it would be taken.
+    // The batch that a message asks this replica to accept, if it would accept it.
     fn offers<'a>(&'a self, p: &Params, from: NodeId, msg: &'a Message) -> Option<(Slot, &'a Batch)>
         requires good { IsGoodParams pbft p.now }
         ensures { (me : ℕ) (xs : List (Item Message)) → Refines self.now p.now me xs →
@@ -95,7 +98,7 @@ impl Pbft {
         }
     }
 
-    // A message, by its kind.
+    // Handles a message by its kind.
     fn receive(
         &mut self,
         alloc: Global,

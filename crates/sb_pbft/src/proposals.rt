@@ -1,4 +1,4 @@
-//! What was proposed, by view and slot.
+//! The accepted proposals of an instance, by view and slot.
 ghost use Rattle.std.specs.Prelude.{◌≡◌, ℕ, Some, None, OnOk};
 ghost use Rattle.std.specs.Option.{option_copied};
 ghost use Rattle.iss_base.specs.Lists.{set_at2};
@@ -23,14 +23,14 @@ pub struct Proposal {
     pub sig: Bytes,
 }
 
-/// The proposals that were taken.
+/// The accepted proposals: at most one for each view and slot.
 #[derive(Drop)]
 pub struct Proposals {
     pub(crate) all: BTreeMap<Place, Proposal>,
 }
 
 impl Proposals {
-    /// None taken.
+    /// No proposals.
     pub fn new(alloc: Global) -> Proposals
         ensures { (v s : ℕ) → proposal_at result v s ≡ None }
     {
@@ -39,7 +39,7 @@ impl Proposals {
         }
     }
 
-    /// The one at the place, lent.
+    /// The proposal of the view at the slot, if there is one.
     pub fn get(&self, view: u16, slot: Slot) -> Option<&Proposal>
         ensures { option_copied result ≡ proposal_at self.now view slot.0 }
     {
@@ -47,9 +47,10 @@ impl Proposals {
         self.all.get(&place)
     }
 
-    /// Puts one at the place.
+    /// Stores the proposal of the view at the slot, in place of an earlier one.
     pub fn put(&mut self, view: u16, slot: Slot, proposal: Proposal) -> Result<(), NoMemory>
-        ensures { OnOk result ((v s : ℕ) → proposal_at self.new v s ≡ set_at2 (proposal_at self.old) view slot.0 (Some proposal) v s) }
+        ensures { OnOk result
+            ((v s : ℕ) → proposal_at self.new v s ≡ set_at2 (proposal_at self.old) view slot.0 (Some proposal) v s) }
     {
         let place = Place { view, slot: slot.0 };
         self.all.insert(place, proposal)?;

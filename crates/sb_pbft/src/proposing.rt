@@ -1,4 +1,4 @@
-//! Proposals of view 0: the leader's casts, and its PrePrepares.
+//! Proposals of view 0: batches that are cast to the leader, and the leader's PrePrepares.
 ghost use Rattle.std.specs.Prelude.{◌≡◌, ◌≤◌, ◌*◌, ◌+◌, length, IfOk};
 ghost use Rattle.iss_keys.specs.KeyStates.{left_of};
 ghost use Rattle.iss_sb.specs.Calls.{IsGoodParams};
@@ -16,7 +16,8 @@ use pbft_wire::signing::PRE_PREPARE;
 use pbft_wire::{Message, string_of};
 use std::alloc::Global;
 
-// The effects of a batch that is accepted at a slot, with its value and the value's digest.
+// Accepts a batch at a slot. Returns the value that holds it, the value's digest, and the effects: an accepted batch
+// and a hashed string.
 fn accept(
     alloc: Global,
     p: &Params,
@@ -35,7 +36,7 @@ fn accept(
 }
 
 impl Pbft {
-    // Whether a batch may be taken at the slot: view 0 stands, and has no proposal there.
+    // Whether a batch may be accepted at the slot: view 0 is active, and has no proposal at this slot of the segment.
     // rule: PBFT: A replica takes a batch for a slot once, in view 0 while that is active
     fn is_free(&self, p: &Params, slot: Slot) -> bool
         ensures { result ≡ is_free p.now (held self.now) slot.0 }
@@ -43,14 +44,14 @@ impl Pbft {
         self.view == 0 && self.active && has_slot(p, slot) && self.proposals.get(0, slot).is_none()
     }
 
-    /// Whether a batch may be cast at the slot: by the leader.
+    /// Whether this replica may propose a batch at the slot: it is the leader, and the slot is free.
     pub(crate) fn may_cast(&self, p: &Params, slot: Slot) -> bool
         ensures { result ≡ may_cast p.now self.now slot.0 }
     {
         self.me == p.leader && self.is_free(p, slot)
     }
 
-    /// Whether a PrePrepare of a batch may be taken: the leader's, in view 0.
+    /// Whether a backup accepts a PrePrepare: the leader's, of view 0, at a free slot.
     // rule: PBFT: The leader alone casts, and replicas take a batch from the leader alone
     pub(crate) fn may_take(&self, p: &Params, from: NodeId, view: u16, slot: Slot) -> bool
         ensures { result ≡ may_take p.now self.now from.0 view slot.0 }
@@ -58,7 +59,7 @@ impl Pbft {
         self.me != p.leader && from == p.leader && view == 0 && self.is_free(p, slot)
     }
 
-    // The leader proposes a batch that is cast to it.
+    // The leader proposes a batch: it accepts the batch and sends the PrePrepare of view 0 to all.
     pub(crate) fn cast(
         &mut self,
         alloc: Global,
@@ -91,7 +92,7 @@ impl Pbft {
         Ok(effects)
     }
 
-    // Another node takes the leader's proposal, and prepares it.
+    // A backup accepts the leader's PrePrepare and sends its Prepare to all.
     pub(crate) fn take_pre_prepare(
         &mut self,
         alloc: Global,

@@ -1,4 +1,4 @@
-//! What a node signs and sends to all.
+//! The messages that a replica signs and sends to all.
 ghost use Rattle.std.specs.Prelude.{◌≡◌, ◌<◌, ◌≤◌, ℕ, ◌∷◌, ◌++◌, [], ◌+◌, length, IfOk, OnOk};
 ghost use Rattle.iss_keys.specs.Directories.{AreKeysOf};
 ghost use Rattle.iss_keys.specs.KeyStates.{left_of};
@@ -15,7 +15,7 @@ use pbft_wire::signing::{COMMIT, PRE_PREPARE, PREPARE};
 use pbft_wire::{Certificate, Change, Message, state_at, state_change, state_new};
 use std::alloc::Global;
 
-/// Signs a PrePrepare, a Prepare or a Commit with the next leaf.
+/// Signs the statement of a PrePrepare, a Prepare or a Commit (`kind`) with the next one-time key.
 pub fn sign_at(
     alloc: Global,
     p: &Params,
@@ -35,7 +35,7 @@ pub fn sign_at(
     sign(&statement, keys)
 }
 
-/// Sends a Prepare to all.
+/// Signs a Prepare and sends it to all.
 pub fn send_prepare(
     alloc: Global,
     p: &Params,
@@ -60,7 +60,7 @@ pub fn send_prepare(
     Ok(())
 }
 
-/// Sends a Commit to all.
+/// Signs a Commit and sends it to all.
 pub fn send_commit(
     alloc: Global,
     p: &Params,
@@ -85,7 +85,7 @@ pub fn send_commit(
     Ok(())
 }
 
-/// Sends a ViewChange with these certificates to all.
+/// Signs a ViewChange with these prepared certificates and sends it to all.
 pub fn send_change(
     alloc: Global,
     p: &Params,
@@ -109,7 +109,8 @@ pub fn send_change(
     Ok(())
 }
 
-// Signs a PrePrepare of what these ViewChanges choose, slot by slot, each with the next leaf.
+// Signs the new view's PrePrepares: slot by slot the value that these ViewChanges choose. Each signature takes the
+// next one-time key.
 fn sign_choices(
     alloc: Global,
     p: &Params,
@@ -134,7 +135,7 @@ fn sign_choices(
     sign_choices(alloc, p, view, changes, others, keys, all)
 }
 
-/// Sends the NewView that begins with these ViewChanges to all.
+/// Signs the NewView with these ViewChanges and its PrePrepares, and sends it to all.
 pub fn send_new_view(
     alloc: Global,
     p: &Params,

@@ -1,4 +1,5 @@
-//! What is due at a slot where something came: a certificate with its Commit, and a delivery.
+//! What follows at a slot that an input touched: a Prepare in a new view, a Commit for what is prepared, and the
+//! delivery of what is committed.
 ghost use Rattle.std.specs.Prelude.{◌≡◌, ◌≤◌, ◌*◌, ◌∷◌, [], length, is_some, true, IfOk, OnOk};
 ghost use Rattle.iss_keys.specs.KeyStates.{left_of};
 ghost use Rattle.iss_sb.specs.Calls.{IsGoodParams};
@@ -15,7 +16,8 @@ use pbft_wire::{Certificate, Message};
 use std::alloc::Global;
 
 impl Pbft {
-    // Whether 2f nodes prepared the own proposal.
+    // PBFT's "prepared": the replica has a proposal of the view at the slot, and Prepares of 2f replicas for its
+    // digest.
     fn is_prepared(&self, p: &Params, view: u16, slot: Slot) -> bool
         requires { IsGoodParams pbft p.now }
         ensures { result ≡ is_some (prepared_at p.now (held self.now) view slot.0) }
@@ -30,7 +32,7 @@ impl Pbft {
         }
     }
 
-    // Whether 2f+1 nodes committed to it besides.
+    // PBFT's "committed-local": prepared, and Commits of 2f+1 replicas for the digest.
     fn is_committed(&self, p: &Params, view: u16, slot: Slot) -> bool
         requires { IsGoodParams pbft p.now }
         ensures { result ≡ is_some (committed_at p.now (held self.now) view slot.0) }
@@ -38,13 +40,14 @@ impl Pbft {
         let Some(proposal) = self.proposals.get(view, slot) else {
             return false;
         };
-        // Commits come last, so that mostly they are what is missing.
+        // Commits arrive last, so they are counted first: mostly they are what is missing.
         let nodes = p.setup.n as u8;
         let committed = self.commits.count(view, slot, &proposal.digest, nodes);
         committed >= 2 * p.setup.f + 1 && self.is_prepared(p, view, slot)
     }
 
-    // Whether a Commit is due in the own view.
+    // Whether a Commit is due: the slot is prepared in the current view, which is active and has no certificate for
+    // the slot yet.
     // rule: PBFT: A replica commits once a view and slot to what 2f distinct replicas prepared
     fn is_ready(&self, p: &Params, slot: Slot) -> bool
         requires { IsGoodParams pbft p.now }
@@ -53,7 +56,7 @@ impl Pbft {
         self.active && !self.tops.is_of(self.view, slot) && self.is_prepared(p, self.view, slot)
     }
 
-    // Whether what is committed in the view is to be delivered.
+    // Whether the slot is committed in the view and not delivered yet.
     // rule: PBFT: A slot is delivered once, when 2f+1 distinct replicas committed it in one view
     fn is_new(&self, p: &Params, view: u16, slot: Slot) -> bool
         requires { IsGoodParams pbft p.now }
@@ -62,7 +65,8 @@ impl Pbft {
         !self.delivered.contains(&slot.0) && self.is_committed(p, view, slot)
     }
 
-    // Keeps a certificate of what is ready at the slot, and tells its digest.
+    // If a Commit is due, stores the prepared certificate, with the Prepares of the 2f lowest replicas, and returns
+    // its digest.
     fn certify(
         &mut self,
         alloc: Global,
@@ -97,7 +101,7 @@ impl Pbft {
         Ok(Some(digest))
     }
 
-    // Takes what is to be delivered of the view at the slot.
+    // If the slot is committed in the view and not delivered yet, marks it as delivered and returns its value.
     fn deliver(&mut self, p: &Params, view: u16, slot: Slot) -> Result<Option<Value>, NoMemory>
         requires { IsGoodParams pbft p.now }
         ensures { IfOk result (λ value. HasDelivered p.now self.old self.new view slot.0 value) }
@@ -113,7 +117,8 @@ impl Pbft {
         Ok(Some(value))
     }
 
-    // A Prepare for the proposal of the view, where the node answers.
+    // If `answers` (a backup entered this view by a NewView), sends a Prepare for the proposal of the view at the
+    // slot.
     fn prepare_if_asked(
         &self,
         alloc: Global,
@@ -138,7 +143,7 @@ impl Pbft {
         Ok(())
     }
 
-    // A certificate of what is ready at the slot, and its Commit.
+    // If a Commit is due at the slot, stores the prepared certificate and sends the Commit.
     fn commit(
         &mut self,
         alloc: Global,
@@ -159,7 +164,7 @@ impl Pbft {
         Ok(())
     }
 
-    // Delivers what is to be delivered of the view at the slot.
+    // Delivers the value that is committed in the view at the slot, unless the slot was delivered before.
     // rule: Modules: A step delivers exactly what the module's definition delivers
     fn deliver_committed(
         &mut self,
@@ -178,7 +183,7 @@ impl Pbft {
         Ok(())
     }
 
-    // What is due at one slot where something came in the view.
+    // Settles one slot that an input touched in `view`: Prepare (if `answers`), Commit, delivery.
     pub(crate) fn settle_at(
         &mut self,
         alloc: Global,
@@ -191,7 +196,8 @@ impl Pbft {
     ) -> Result<(), NoMemory>
         requires good { IsGoodParams pbft p.now }
         requires enough { 2 ≤ left_of keys.old }
-        ensures { OnOk result (Settles p.now answers view (slot ∷ []) self.old self.new keys.old keys.new effects.old effects.new) }
+        ensures { OnOk result
+            (Settles p.now answers view (slot ∷ []) self.old self.new keys.old keys.new effects.old effects.new) }
     {
         self.prepare_if_asked(alloc, p, answers, view, slot, keys, effects)?;
         self.commit(alloc, p, slot, keys, effects)?;
@@ -199,7 +205,7 @@ impl Pbft {
         Ok(())
     }
 
-    // What is due at each of these slots, where something came in the view.
+    // Settles each of these slots, in order.
     pub(crate) fn settle(
         &mut self,
         alloc: Global,
@@ -212,7 +218,8 @@ impl Pbft {
     ) -> Result<(), NoMemory>
         requires good { IsGoodParams pbft p.now }
         requires enough { 2 * length slots.now ≤ left_of keys.old }
-        ensures { OnOk result (Settles p.now answers view slots.now self.old self.new keys.old keys.new effects.old effects.new) }
+        ensures { OnOk result
+            (Settles p.now answers view slots.now self.old self.new keys.old keys.new effects.old effects.new) }
     {
         for slot in slots {
             self.settle_at(alloc, p, answers, view, *slot, keys, effects)?;

@@ -1,4 +1,4 @@
-//! The first vote of each node, by view and slot.
+//! Votes: for each view, slot and replica the first one.
 ghost use Rattle.std.specs.Prelude.{◌≡◌, ℕ, length, take, None, IfOk, OnOk};
 ghost use Rattle.iss_base.specs.Lists.{first_of};
 ghost use Rattle.sb_pbft.specs.Rules.{Ballot, is_at, voters, when};
@@ -9,7 +9,7 @@ use iss_sb::Signed;
 use std::alloc::Global;
 use std::collections::BTreeMap;
 
-/// A node at a slot in a view.
+/// The key of a vote: its view, its slot and the voter.
 #[derive(PartialEq, Eq, PartialOrd, Ord, Drop)]
 pub struct Mark {
     pub view: u16,
@@ -17,21 +17,21 @@ pub struct Mark {
     pub node: u8,
 }
 
-/// What a node voted for, and its signature where that is kept.
+/// The digest that a replica voted for, and the signature of the vote. Commits are stored with an empty signature.
 #[derive(Drop)]
 pub struct Voted {
     pub digest: [u8; 32],
     pub sig: Bytes,
 }
 
-/// The votes that were kept.
+/// The stored votes of one kind: Prepares or Commits.
 #[derive(Drop)]
 pub struct Votes {
     pub(crate) first: BTreeMap<Mark, Voted>,
 }
 
 impl Votes {
-    /// None kept.
+    /// No votes.
     pub fn new(alloc: Global) -> Votes
         ensures { (v s k : ℕ) → vote_at result v s k ≡ None }
     {
@@ -40,7 +40,7 @@ impl Votes {
         }
     }
 
-    /// Keeps a node's vote, if it is the node's first there.
+    /// Stores a vote, unless one of this replica in the view at the slot is stored.
     // rule: PBFT: A replica's first Prepare and first Commit count, once a view and slot
     pub fn keep(
         &mut self,
@@ -51,7 +51,8 @@ impl Votes {
         sig: Bytes,
     ) -> Result<(), NoMemory>
         ensures { OnOk result ((v s k : ℕ) → vote_at self.new v s k ≡
-            first_of (vote_at self.old v s k) (when (is_at node.0 view slot.0 v s k) (record { digest = digest; sig = sig }))) }
+            first_of (vote_at self.old v s k)
+            (when (is_at node.0 view slot.0 v s k) (record { digest = digest; sig = sig }))) }
     {
         let mark = Mark {
             view,
@@ -65,7 +66,7 @@ impl Votes {
         Ok(())
     }
 
-    // Whether the node voted for the digest.
+    // Whether the replica voted for the digest.
     fn has_voted(&self, view: u16, slot: Slot, digest: &[u8; 32], node: u8) -> bool
         ensures { result ≡ has_voted digest.now (vote_at self.now view slot.0 node) }
     {
@@ -80,7 +81,7 @@ impl Votes {
         }
     }
 
-    // The node's signature once more, nothing where it did not vote.
+    // A copy of the signature of the replica's vote, empty if it did not vote.
     fn signature(&self, alloc: Global, view: u16, slot: Slot, node: u8) -> Result<Bytes, NoMemory>
         ensures { IfOk result (λ sig. sig ≡ signature_in (vote_at self.now view slot.0 node)) }
     {
@@ -95,7 +96,7 @@ impl Votes {
         }
     }
 
-    /// How many of the first `n` nodes voted for the digest.
+    /// The number of replicas below `n` that voted for the digest.
     pub fn count(&self, view: u16, slot: Slot, digest: &[u8; 32], n: u8) -> u32
         ensures { result ≡ length (voters (vote_at self.now view slot.0) digest.now 0 n) }
     {
@@ -108,7 +109,8 @@ impl Votes {
         count
     }
 
-    /// The votes for the digest of the first `n` nodes, so many at most, by ascending nodes.
+    /// The votes for the digest, of replicas below `n` in ascending order: the first `most` of them, with their
+    /// signatures.
     pub fn votes(
         &self,
         alloc: Global,

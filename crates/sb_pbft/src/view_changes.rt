@@ -1,4 +1,4 @@
-//! The first good ViewChange of each node, by view.
+//! ViewChanges: for each view and replica the first good one.
 ghost use Rattle.std.specs.Prelude.{◌≡◌, ◌==◌, ◌&&◌, ℕ, length, None, is_some, IfOk, OnOk};
 ghost use Rattle.iss_base.specs.Lists.{first_of};
 ghost use Rattle.sb_pbft.specs.Rules.{changes_from, when};
@@ -9,21 +9,21 @@ use pbft_wire::Change;
 use std::alloc::Global;
 use std::collections::BTreeMap;
 
-/// A node in a view.
+/// The key of a ViewChange: the view that it asks for, and its sender.
 #[derive(PartialEq, Eq, PartialOrd, Ord, Drop)]
 pub struct Maker {
     pub view: u16,
     pub node: u8,
 }
 
-/// The ViewChanges that were kept.
+/// The stored ViewChanges.
 #[derive(Drop)]
 pub struct ViewChanges {
     pub(crate) first: BTreeMap<Maker, Change>,
 }
 
 impl ViewChanges {
-    /// None kept.
+    /// No ViewChanges.
     pub fn new(alloc: Global) -> ViewChanges
         ensures { (v k : ℕ) → change_at result v k ≡ None }
     {
@@ -32,7 +32,7 @@ impl ViewChanges {
         }
     }
 
-    /// Whether the node's is kept.
+    /// Whether a ViewChange of this replica for the view is stored.
     pub fn has(&self, view: u16, node: NodeId) -> bool
         ensures { result ≡ is_some (change_at self.now view node.0) }
     {
@@ -40,7 +40,7 @@ impl ViewChanges {
         self.first.contains_key(&maker)
     }
 
-    /// Keeps one, if it is its node's first of the view.
+    /// Stores a ViewChange, unless one of its sender for this view is stored.
     pub fn keep(&mut self, change: Change) -> Result<(), NoMemory>
         ensures { OnOk result ((v k : ℕ) → change_at self.new v k ≡
             first_of (change_at self.old v k) (when ((change.node.0 == k) && (v == change.view)) change)) }
@@ -56,7 +56,7 @@ impl ViewChanges {
         Ok(())
     }
 
-    /// How many of the first `n` nodes' are kept.
+    /// The number of replicas below `n` whose ViewChange for the view is stored.
     pub fn count(&self, view: u16, n: u8) -> u32
         ensures { result ≡ length (changes_from (change_at self.now view) 0 n) }
     {
@@ -69,7 +69,7 @@ impl ViewChanges {
         count
     }
 
-    /// Those of the first `n` nodes once more, by ascending nodes.
+    /// Copies of the stored ViewChanges for the view, of replicas below `n`, in ascending order of their senders.
     pub fn all(&self, alloc: Global, view: u16, n: u8) -> Result<Seq<Change>, NoMemory>
         ensures { IfOk result (λ all. all ≡ changes_from (change_at self.now view) 0 n) }
     {

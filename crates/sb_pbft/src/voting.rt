@@ -1,4 +1,4 @@
-//! Votes: the first Prepare and the first Commit of each node.
+//! Prepares and Commits. Of each replica the first one counts, once a view and slot.
 ghost use Rattle.std.specs.Prelude.{◌≡◌, ◌≤◌, ◌*◌, ◌+◌, ◌==◌, ◌&&◌, not, List, ℕ, length, IfOk};
 ghost use Rattle.iss_keys.specs.KeyStates.{left_of};
 ghost use Rattle.iss_sb.specs.Calls.{IsGoodParams, has_slot};
@@ -14,7 +14,8 @@ use pbft_views::{has_slot, primary};
 use pbft_wire::Message;
 use std::alloc::Global;
 
-// Whether a node's Prepare counts: at a slot of the segment, and not the primary's own.
+// Whether a Prepare counts: it is for a slot of the segment, and its sender is not the view's primary, whose
+// PrePrepare is its vote.
 // rule: PBFT: A Prepare of the primary does not count
 fn counts(p: &Params, from: NodeId, view: u16, slot: Slot) -> bool
     requires { IsGoodParams pbft p.now }
@@ -24,7 +25,7 @@ fn counts(p: &Params, from: NodeId, view: u16, slot: Slot) -> bool
 }
 
 impl Pbft {
-    // A Prepare is kept with its signature, which goes into a certificate.
+    // Stores a Prepare with its signature, which becomes part of a prepared certificate, and then settles the slot.
     pub(crate) fn take_prepare(
         &mut self,
         alloc: Global,
@@ -38,7 +39,9 @@ impl Pbft {
     ) -> Result<Effects<Message>, NoMemory>
         requires good { IsGoodParams pbft p.now }
         requires enough { 2 * length p.now.slots + 1 ≤ left_of keys.old }
-        ensures { IfOk result (λ e. Does p.now self.old self.new (Input.Receive from (Message.Prepare view slot digest sig)) keys.old keys.new e) }
+        ensures { IfOk result (λ e.
+            Does p.now self.old self.new
+            (Input.Receive from (Message.Prepare view slot digest sig)) keys.old keys.new e) }
     {
         if !counts(p, from, view, slot) {
             return Ok(Effects::nothing(alloc));
@@ -49,7 +52,7 @@ impl Pbft {
         Ok(effects)
     }
 
-    // A Commit is kept without its signature.
+    // Stores a Commit without its signature, which no message contains, and then settles the slot.
     pub(crate) fn take_commit(
         &mut self,
         alloc: Global,
@@ -63,7 +66,8 @@ impl Pbft {
         requires good { IsGoodParams pbft p.now }
         requires enough { 2 * length p.now.slots + 1 ≤ left_of keys.old }
         ensures { IfOk result (λ e. (sig : List ℕ) →
-            Does p.now self.old self.new (Input.Receive from (Message.Commit view slot digest sig)) keys.old keys.new e) }
+            Does p.now self.old self.new
+            (Input.Receive from (Message.Commit view slot digest sig)) keys.old keys.new e) }
     {
         if !has_slot(p, slot) {
             return Ok(Effects::nothing(alloc));

@@ -29,14 +29,14 @@ module _ (setup : Setup) (directory : DirectoryView) (b c : Batch) where
   abbrev p : Params
   p = record { setup = setup; epoch = record { 0 = 0 }; leader = node 0; slots = slot 0 ∷ slot 3 ∷ []; directory = directory }
 
-  -- the leader casts b at slot 0: it accepts it and says it to all
+  -- the leader casts b at slot 0: it accepts b and sends it to all
   abbrev after_cast : List (Item Say)
   after_cast = and_then relay p 0 [] (Cast (slot 0) b) 0
 
   casts : after_cast ≡ record { input = Cast (slot 0) b; leaf = 0; made = record { sends = (To_all, say 0 b) ∷ []; accepted = Some (slot 0, b); strings = []; used = 0 } } ∷ []
   casts = refl
 
-  -- the slot is cast once, and the other one is still free
+  -- a slot is cast once, and the other one is still free
   casts_once : asks p 0 after_cast (Cast (slot 0) c) ≡ None
   casts_once = refl
 
@@ -50,7 +50,7 @@ module _ (setup : Setup) (directory : DirectoryView) (b c : Batch) where
   no_cast_elsewhere : asks p 1 [] (Cast (slot 0) b) ≡ None
   no_cast_elsewhere = refl
 
-  -- node 1 takes the leader's first word on slot 0, and no later one
+  -- node 1 delivers the leader's first batch for slot 0, and no later one
   abbrev after_word : List (Item Say)
   after_word = and_then relay p 1 [] (Receive (node 0) (say 0 b)) 0
 
@@ -60,7 +60,7 @@ module _ (setup : Setup) (directory : DirectoryView) (b c : Batch) where
   delivers_first : delivered relay p 1 (and_then relay p 1 after_word (Receive (node 0) (say 0 c)) 0) 0 ≡ Some (Value_batch b)
   delivers_first = refl
 
-  -- not the word of another node, nor one on a slot of another segment; nor does a cast deliver
+  -- not a message of another node, nor one for a slot of another segment; nor does a cast deliver
   no_stranger : delivered relay p 1 (and_then relay p 1 [] (Receive (node 2) (say 0 b)) 0) 0 ≡ None
   no_stranger = refl
 
@@ -70,7 +70,7 @@ module _ (setup : Setup) (directory : DirectoryView) (b c : Batch) where
   no_word_yet : delivered relay p 0 (and_then relay p 0 after_cast Timeout 0) 0 ≡ None
   no_word_yet = refl
 
--- the number of the message, the slot, and a batch of no requests, by each version
+-- the number of the message, the slot, and the empty batch, in each version
 abbrev row : List ℕ
 row = 1 ∷ 0 ∷ 0 ∷ 0 ∷ 0 ∷ 0 ∷ 0 ∷ 1 ∷ 3 ∷ 1 ∷ 0 ∷ []
 
@@ -85,7 +85,7 @@ second_spelling : spell 2 (say 259 []) ≡ second_row
 unfolding spell_batch spell_count spell_value
 second_spelling = refl
 
--- and it is read again, with what stands behind left
+-- and it decodes, with the bytes after it left
 reading : parse 1 (row ++ 7 ∷ []) ≡ Good (say 259 []) (7 ∷ [])
 unfolding parse parse_value parse_rest parse_batch parse_count count_field times such_that byte number block done ◌>>=◌
 reading = refl

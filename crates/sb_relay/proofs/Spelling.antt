@@ -1,4 +1,4 @@
--- A message has one spelling, that of its table.
+-- A message has one encoding, that of its table.
 use Rattle.std.proofs.Common.{◌≡◌, ◌≢◌, ℕ, ◌^◌, ◌<◌, ◌==◌, Bool, true, false, List, [], ◌∷◌, ◌++◌, append_assoc, refl, sym, ap, subst, ◌∙◌, ◌⊎◌, inl, inr, true≢false}
 use Rattle.std.specs.Prelude.{nat_lt, ◌↔◌}
 use Rattle.std.specs.Int.{to_be_bytes, w64}
@@ -42,10 +42,11 @@ module _ (version : ℕ) where
   unfolding parse
   parse-is = refl
 
-  pub spelled : (msg : Say) → msg.slot.0 < 2 ^ 64 → spell version msg ≡ 1 ∷ to_be_bytes w64 msg.slot.0 ++ spell_value version (Value_batch msg.batch)
+  pub spelled : (msg : Say) → msg.slot.0 < 2 ^ 64 →
+      spell version msg ≡ 1 ∷ to_be_bytes w64 msg.slot.0 ++ spell_value version (Value_batch msg.batch)
   spelled msg lt = rw (lt-ltb msg.slot.0 (2 ^ 64) lt) refl
 
-  -- what bytes are that are read as a message
+  -- bytes that decode as a message
   record IsSay (bytes rest : List ℕ) (msg : Say) : Type 0 where
     pub small : msg.slot.0 < 2 ^ 64
     pub value : List ℕ
@@ -74,8 +75,10 @@ module _ (version : ℕ) where
         parts = all ∙ ap (λ (n : ℕ). n ∷ a.mid) one ∙ ap (λ (t : List ℕ). 1 ∷ t) mid;
       }
 
-  -- where the value is read, the message is
-  said : (msg : Say) (text rest : List ℕ) → msg.slot.0 < 2 ^ 64 → parse_value version text ≡ Good (Value_batch msg.batch) rest → parse version (1 ∷ to_be_bytes w64 msg.slot.0 ++ text) ≡ Good msg rest
+  -- if the value decodes, so does the message
+  said : (msg : Say) (text rest : List ℕ) → msg.slot.0 < 2 ^ 64 →
+      parse_value version text ≡ Good (Value_batch msg.batch) rest →
+      parse version (1 ∷ to_be_bytes w64 msg.slot.0 ++ text) ≡ Good msg rest
   said msg text rest lt h =
       let third = test_passed is_batch (parse_value version) text rest (Value_batch msg.batch) h refl in
       let second = then_good (such_that is_batch (parse_value version)) (made msg.slot.0) text rest rest (Value_batch msg.batch) msg third (done_good msg rest) in
@@ -83,10 +86,12 @@ module _ (version : ℕ) where
       let all = then_good (such_that (λ n. n == 1) byte) (after_message version) (1 ∷ to_be_bytes w64 msg.slot.0 ++ text) (to_be_bytes w64 msg.slot.0 ++ text) rest 1 msg (message-is (to_be_bytes w64 msg.slot.0 ++ text)) first in
       rw parse-is all
 
-  from : (bytes : List ℕ) (at : ℕ) → (such_that (λ n. n == 1) byte >>= after_message version) bytes ≡ Bad at → IsBad (parse version bytes)
+  from : (bytes : List ℕ) (at : ℕ) → (such_that (λ n. n == 1) byte >>= after_message version) bytes ≡ Bad at →
+      IsBad (parse version bytes)
   from bytes at h = (at, rw parse-is h)
 
-  unsaid : (slot : ℕ) (text : List ℕ) → slot < 2 ^ 64 → IsBad (parse_value version text) → IsBad (parse version (1 ∷ to_be_bytes w64 slot ++ text))
+  unsaid : (slot : ℕ) (text : List ℕ) → slot < 2 ^ 64 → IsBad (parse_value version text) →
+      IsBad (parse version (1 ∷ to_be_bytes w64 slot ++ text))
   unsaid slot text lt h =
       let third = test_bad is_batch (parse_value version) text h.0 h.1 in
       let second = first_bad (such_that is_batch (parse_value version)) (made slot) text h.0 third in
@@ -94,14 +99,19 @@ module _ (version : ℕ) where
       let all = then_bad (such_that (λ n. n == 1) byte) (after_message version) (1 ∷ to_be_bytes w64 slot ++ text) (to_be_bytes w64 slot ++ text) 1 _ (message-is (to_be_bytes w64 slot ++ text)) first in
       from (1 ∷ to_be_bytes w64 slot ++ text) _ all
 
-  -- a spelling is read as its value is
-  pub say-again : (msg : Say) → msg.slot.0 < 2 ^ 64 → IsReadAgain (spell_value version) (parse_value version) (Value_batch msg.batch) → IsReadAgain (spell version) (parse version) msg
+  -- an encoding decodes as its message
+  pub say-again : (msg : Say) → msg.slot.0 < 2 ^ 64 →
+      IsReadAgain (spell_value version) (parse_value version) (Value_batch msg.batch) →
+      IsReadAgain (spell version) (parse version) msg
   say-again msg lt again rest = subst (λ (l : List ℕ). parse version (l ++ rest) ≡ Good msg rest) (sym (spelled msg lt)) (said msg (spell_value version (Value_batch msg.batch) ++ rest) rest lt (again rest))
 
-  say-bad : (msg : Say) → msg.slot.0 < 2 ^ 64 → ((rest : List ℕ) → IsBad (parse_value version (spell_value version (Value_batch msg.batch) ++ rest))) → (rest : List ℕ) → IsBad (parse version (spell version msg ++ rest))
+  say-bad : (msg : Say) → msg.slot.0 < 2 ^ 64 →
+      ((rest : List ℕ) → IsBad (parse_value version (spell_value version (Value_batch msg.batch) ++ rest))) →
+      (rest : List ℕ) → IsBad (parse version (spell version msg ++ rest))
   say-bad msg lt bad rest = subst (λ (l : List ℕ). IsBad (parse version (l ++ rest))) (sym (spelled msg lt)) (unsaid msg.slot.0 (spell_value version (Value_batch msg.batch) ++ rest) lt (bad rest))
 
-  unspelled : (msg : Say) → nat_lt msg.slot.0 (2 ^ 64) ≡ false → (rest : List ℕ) → IsBad (parse version (spell version msg ++ rest))
+  unspelled : (msg : Say) → nat_lt msg.slot.0 (2 ^ 64) ≡ false → (rest : List ℕ) →
+      IsBad (parse version (spell version msg ++ rest))
   unspelled msg large rest = (0, rw (parse-is, large) (first_bad (such_that (λ n. n == 1) byte) (after_message version) (0 ∷ rest) 0 (test_failed (λ n. n == 1) byte (0 ∷ rest) rest 0 (byte_again 0 rest) refl)))
 
   whole : (msg : Say) → IsReadAgain (spell version) (parse version) msg ⊎ ((rest : List ℕ) → IsBad (parse version (spell version msg ++ rest)))
@@ -130,7 +140,8 @@ module _ (version : ℕ) where
     (λ h. ap (parse version) h.1.2 ∙ said msg h.1.0 [] h.0 ((value_related version (Value_batch msg.batch) h.1.0).1 h.1.1)),
   )
 
--- the bytes that are written one after the other are the spelling
-pub written : (msg : Say) (start a b later : Written) → msg.slot.0 < 2 ^ 64 → a ≡ and_bytes start (1 ∷ []) → b ≡ and_bytes a (to_be_bytes w64 msg.slot.0) →
+-- the written bytes, concatenated, are the encoding
+pub written : (msg : Say) (start a b later : Written) → msg.slot.0 < 2 ^ 64 → a ≡ and_bytes start (1 ∷ []) →
+    b ≡ and_bytes a (to_be_bytes w64 msg.slot.0) →
     later ≡ and_bytes b (spell_value b.version (Value_batch msg.batch)) → later ≡ and_bytes start (spell start.version msg)
 written msg start a b later lt ha hb hl = rw (spelled start.version msg lt, hl, hb, ha) (simp append_assoc)

@@ -1,5 +1,5 @@
-//! The relay: an ordering module that takes the sender's word. The leader says each batch that is cast to it to all
-//! nodes, and a node delivers what the leader said first at a slot. It withstands no fault.
+//! The relay: an ordering module that trusts the sender. The leader sends each batch that is cast to it to all nodes,
+//! and a node delivers the leader's first batch for a slot. It tolerates no fault.
 #![tactic(auto)]
 
 pub mod relay;

@@ -1,4 +1,4 @@
-//! The relay's two rules, and that it is an ordering module.
+//! The two rules of the relay, which is an ordering module (`Sequenced`).
 ghost use Rattle.std.specs.Prelude.{◌≡◌, ◌≤◌, ℕ, List, IfOk, OnOk};
 ghost use Rattle.iss_keys.specs.KeyStates.{left_of};
 ghost use Rattle.iss_sb.specs.Calls.{IsGoodInput, IsGoodParams, IsTaken, IsTrueStep};
@@ -13,7 +13,7 @@ use iss_request::{Batch, DecodeError, Fields, NoMemory, NodeId, Seq, Slot, Value
 use iss_sb::{Claim, Effects, Input, Params, Sequenced, To, asks_if};
 use std::alloc::Global;
 
-/// A node's part in one instance: which slots of the segment it cast, and which it delivered.
+/// A node's state in one instance: the slots of the segment that it cast at, and those that it delivered.
 #[derive(Drop, Debug)]
 pub struct Relay {
     me: NodeId,
@@ -22,7 +22,8 @@ pub struct Relay {
 }
 
 impl Relay {
-    /// Whether a batch may be cast at the slot: by the leader, in its segment, once.
+    /// Whether a batch may be cast at the slot: this node is the leader, and has cast nothing at this slot of its
+    /// segment.
     fn may_cast(&self, p: &Params, slot: Slot) -> bool
         ensures { result ≡ may_cast self.now p.now slot }
     {
@@ -31,7 +32,7 @@ impl Relay {
             && !self.cast.as_slice().contains(&slot)
     }
 
-    /// Whether the word of a node on the slot is to be delivered: the leader's, in its segment, the first.
+    /// Whether a message is delivered: it is the leader's, and the first for this slot of the segment.
     fn may_deliver(&self, p: &Params, from: NodeId, slot: Slot) -> bool
         ensures { result ≡ may_deliver self.now p.now from slot }
     {
@@ -40,7 +41,7 @@ impl Relay {
             && !self.delivered.as_slice().contains(&slot)
     }
 
-    /// Says the batch to all, where it may be cast.
+    /// Sends the batch to all, if it may be cast.
     // rule: Relay: The leader sends one batch a slot
     fn cast(
         &mut self,
@@ -69,7 +70,7 @@ impl Relay {
         Ok(effects)
     }
 
-    /// Delivers what a node said, where it is to be delivered.
+    /// Delivers the batch in a message, if it is to be delivered.
     // rule: Relay: The leader's first batch for a slot is delivered, once
     // rule: Modules: A step delivers exactly what the module's definition delivers
     fn hear(

@@ -1,4 +1,4 @@
-//! The one message of the relay, and its bytes.
+//! The one message of the relay, and its encoding.
 ghost use Rattle.std.specs.Prelude.{◌≡◌, ◌↔◌, ℕ, List, [], IfOk, OnOk, Err};
 ghost use Rattle.iss_request.specs.Fields.{Good, IsRead, IsUnreadable, and_bytes};
 ghost use Rattle.sb_relay.specs.Relay.{IsSpelledSay, parse, spell};
@@ -8,10 +8,10 @@ use iss_request::{
 };
 use std::alloc::Global;
 
-/// The number of the message.
+/// The number of the message in its encoding.
 const SAY: u8 = 1;
 
-/// The leader's word that the slot holds this batch.
+/// The leader says that the slot holds this batch.
 #[derive(Drop, Debug)]
 pub struct Say {
     pub slot: Slot,
@@ -28,8 +28,8 @@ impl Say {
         write_batch_value(&self.batch, out)
     }
 
-    /// Reads the message at the front. `BadField` names the first field that does not fit: the number where it is
-    /// another's, the value where it is nil.
+    /// Reads the message at the front. `BadField` has the position of the first field that does not decode: the
+    /// number if it is not that of this message, the value if it is nil.
     pub fn read(alloc: Global, f: &mut Fields) -> Result<Say, DecodeError>
         ensures ok { IfOk result (λ m. IsRead (parse f.old.version) f.old f.new m) }
         ensures bad { (at : ℕ) → result ≡ Err (DecodeError.BadField at) → IsUnreadable (parse f.old.version) f.old at }
@@ -45,8 +45,9 @@ impl Say {
     }
 }
 
-/// The table of the message: what is read of bytes, and all of them, is what the table relates to them. It computes
-/// nothing: its contract is the theorem.
+/// Bytes decode as a message exactly if the table relates the two. The function computes nothing: its contract is the
+/// theorem.
 pub fn say_is_exact()
-    ensures { (version : ℕ) (said : Say) (bytes : List ℕ) → (parse version bytes ≡ Good said []) ↔ IsSpelledSay version said bytes }
+    ensures { (version : ℕ) (said : Say) (bytes : List ℕ) → (parse version bytes ≡ Good said []) ↔
+        IsSpelledSay version said bytes }
 {}

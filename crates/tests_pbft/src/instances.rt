@@ -8,7 +8,7 @@ use iss_request::{Epoch, Kind, NoMemory, NodeId, Nodes, Policy, Seq, Setup, Slot
 use iss_sb::Params;
 use std::alloc::Global;
 
-/// So many nodes that f of them may lie. Node 0 leads the slots 0 and 7.
+/// An instance with 3f+1 replicas. Replica 0 leads the slots 0 and 7.
 pub fn instance(alloc: Global, f: u32) -> Result<Params, NoMemory>
     requires { f ≤ 3 }
     ensures good { IfOk result (λ p. IsGoodParams pbft p) }

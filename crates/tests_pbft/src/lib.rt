@@ -1,5 +1,5 @@
-//! Tests of PBFT through public calls, of what no schedule can show: signatures are not looked at here. They stand here since a
-//! crate with tests of its own is proved twice.
+//! Tests of PBFT through public calls, for inputs that no schedule can cause: signatures are not verified here. They
+//! are a crate apart, because a crate with tests of its own is proved twice.
 #![tactic(auto)]
 
 pub mod instances;

@@ -1,4 +1,4 @@
-//! What comes to a node, in a few words: messages with a signature that nobody made.
+//! Inputs of a replica in short notation: messages with signatures that no key made.
 ghost use Rattle.std.specs.Prelude.{◌≡◌, ◌<◌, IfOk};
 ghost use Rattle.iss_sb.specs.Calls.{IsGoodInput};
 
@@ -7,7 +7,8 @@ use iss_sb::{Input, Params, Signed};
 use pbft_wire::{Certificate, Change, Message, digest_of};
 use std::alloc::Global;
 
-/// What a ViewChange shows: nothing, or one certificate. But for the first it is not good for view 1, of which node 0 is no primary.
+/// What a ViewChange shows: no certificate or one. Only the first two are good for view 1; `VoteOfThePrimary` has a
+/// Prepare of node 0, the primary of view 0.
 #[derive(Clone, Copy)]
 pub enum Shown {
     Nothing,
@@ -23,12 +24,13 @@ pub enum Shown {
     NilInTheFirstView,
 }
 
-/// A NewView's ViewChanges: the nodes, how many of these, their view, and what the first of them shows; how many signatures.
+/// The contents of a NewView: the senders of its ViewChanges, how many of these are used, their view, what the first
+/// one shows, and the number of signatures.
 #[derive(Clone, Copy)]
 pub struct Begins(pub [u8; 4], pub usize, pub u16, pub Shown, pub usize);
 
-/// What comes: a cast at slot 0, a proposal there of a view, a vote of a view, for the empty batch or for nil, a ViewChange and
-/// a NewView of a view, time that has run out.
+/// An input: a cast at slot 0; a PrePrepare there of a view; a Prepare or Commit of a view, for nil (true) or the
+/// empty batch; a ViewChange or a NewView for a view; a timeout.
 #[derive(Clone, Copy)]
 pub enum Said {
     Cast,
@@ -40,7 +42,7 @@ pub enum Said {
     Timeout,
 }
 
-// What stands in the place of a signature.
+// Bytes in the place of a signature.
 fn signature(alloc: Global) -> Result<Bytes, NoMemory> {
     let mut out = Writer::new(alloc, 1);
     out.put_u8(2)?;
@@ -69,7 +71,7 @@ fn votes(alloc: Global, nodes: [u8; 3], many: usize) -> Result<Seq<Signed>, NoMe
     Ok(votes)
 }
 
-// The nodes that vote for what is shown, and how many of them.
+// The voters of the certificate that is shown, and how many of them vote.
 fn voters(shown: Shown) -> ([u8; 3], usize) {
     match shown {
         Shown::OneVoteTooFew => ([1, 2, 3], 1),
@@ -176,7 +178,7 @@ fn message(alloc: Global, p: &Params, said: Said) -> Result<Message, NoMemory> {
     }
 }
 
-/// What comes, from a node.
+/// The input, from a replica.
 pub fn input(alloc: Global, p: &Params, said: Said, from: u8) -> Result<Input<Message>, NoMemory>
     requires { from < p.now.setup.n }
     ensures { IfOk result (λ i. IsGoodInput p.now i) }

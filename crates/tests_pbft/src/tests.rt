@@ -1,4 +1,4 @@
-//! Runs of a node of PBFT through the calls of the trait: node 0 leads the slots 0 and 7.
+//! Runs of a replica of PBFT through the calls of the trait. Replica 0 leads the slots 0 and 7.
 ghost use Rattle.std.specs.Prelude.{◌≤◌};
 ghost use Rattle.iss_sb.specs.Calls.{IsGoodParams};
 ghost use Rattle.sb_pbft.specs.Pbft.{pbft};
@@ -20,11 +20,11 @@ fn key(alloc: Global, height: u8) -> Result<Keys, Fail>
     Ok(Keys::make(alloc, [0; 32], height)?)
 }
 
-// What comes and from whom, how many messages are sent then, and how many slots delivered.
+// An input and its sender, and the number of messages sent and of slots delivered then.
 #[derive(Clone, Copy)]
 struct Line(Said, u8, usize, usize);
 
-// Whether a line goes as it says.
+// Whether a line has the expected effects.
 fn goes(
     alloc: Global,
     p: &Params,
@@ -43,7 +43,7 @@ fn goes(
     Ok(effects.sends.len() == *sends && effects.delivers.len() == *delivers)
 }
 
-// How many of the lines, one after the other, go as they say at a node.
+// The number of lines, one after the other at one replica, that have the expected effects.
 fn right(alloc: Global, f: u32, me: u8, lines: &[Line]) -> Result<usize, Fail>
     requires { f ≤ 3 }
 {
@@ -62,32 +62,32 @@ fn right(alloc: Global, f: u32, me: u8, lines: &[Line]) -> Result<usize, Fail>
     Ok(right)
 }
 
-// A NewView of the ViewChanges of nodes 0, 1 and 2 of the view, with two signatures.
+// A NewView with the ViewChanges of replicas 0, 1 and 2 for the view, and two signatures.
 fn begin(view: u16) -> Said {
     Said::NewView(view, Begins([0, 1, 2, 3], 3, view, Shown::Nothing, 2))
 }
 
-// One of view 1 with the ViewChanges of the first so many of these.
+// A NewView for view 1 with the ViewChanges of the first `many` of these.
 fn by(nodes: [u8; 4], many: usize) -> Said {
     Said::NewView(1, Begins(nodes, many, 1, Shown::Nothing, 2))
 }
 
-// One with so many signatures.
+// A NewView with `many` signatures.
 fn signed(many: usize) -> Said {
     Said::NewView(1, Begins([0, 1, 2, 3], 3, 1, Shown::Nothing, many))
 }
 
-// One of which the first ViewChange shows this.
+// A NewView whose first ViewChange shows this.
 fn showing(shown: Shown) -> Said {
     Said::NewView(1, Begins([0, 1, 2, 3], 3, 1, shown, 2))
 }
 
-// One whose ViewChanges are of another view.
+// A NewView whose ViewChanges are for another view.
 fn of_another(view: u16) -> Said {
     Said::NewView(1, Begins([0, 1, 2, 3], 3, view, Shown::Nothing, 2))
 }
 
-// A NewView begins its view once, where it is just as it is to be.
+// A NewView starts its view once, and only if each part of it is right.
 #[test]
 fn new_views_that_begin_nothing(rt: HostRuntime) -> Result<(), Fail> {
     let lines = [
@@ -115,7 +115,7 @@ fn give_up(shown: Shown) -> Said {
     Said::Change(1, shown)
 }
 
-// The primary of view 1 says a NewView with the third ViewChange that is good, and no other one.
+// The primary of view 1 sends its NewView with the third good ViewChange, and no other one.
 #[test]
 fn certificates_that_are_not_good(rt: HostRuntime) -> Result<(), Fail> {
     let lines = [
@@ -138,7 +138,7 @@ fn certificates_that_are_not_good(rt: HostRuntime) -> Result<(), Fail> {
     Ok(())
 }
 
-// Views go up to 65,535: its primary, node 3, begins it, and no Timeout gives it up.
+// The last view is 65,535: its primary, replica 3, starts it, and no timeout leaves it.
 #[test]
 fn the_last_view(rt: HostRuntime) -> Result<(), Fail> {
     let lines = [
@@ -160,7 +160,8 @@ fn the_last_view(rt: HostRuntime) -> Result<(), Fail> {
     Ok(())
 }
 
-// Seven nodes, of which two may lie: four Prepares beside the primary's proposal, five Commits, each of another node.
+// Seven replicas, two of them Byzantine: a Commit needs four Prepares of distinct backups, a delivery five Commits of
+// distinct replicas.
 #[test]
 fn seven_nodes(rt: HostRuntime) -> Result<(), Fail> {
     let lines = [
@@ -186,7 +187,7 @@ fn seven_nodes(rt: HostRuntime) -> Result<(), Fail> {
     Ok(())
 }
 
-// One node alone: its cast is prepared at once, and its own Commit decides. In a new view it is its own primary.
+// One replica alone: its cast is prepared at once, and its own Commit decides. It is the primary of each view.
 #[test]
 fn one_node(rt: HostRuntime) -> Result<(), Fail> {
     let lines = [
@@ -207,7 +208,7 @@ fn is_nil(value: &Value) -> bool {
     }
 }
 
-// Of two certificates of one view the first counts, of two views the higher one's.
+// The certificate of the highest view is chosen, the first one in a tie.
 #[test]
 fn the_first_of_the_highest_view(rt: HostRuntime) -> Result<(), Fail> {
     let alloc = rt.alloc();

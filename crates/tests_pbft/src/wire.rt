@@ -1,4 +1,4 @@
-//! Messages that are read from rows of bytes, and rows that are none.
+//! Bytes that decode as messages, and bytes that do not.
 use iss_request::{DecodeError, Fields, NoMemory, Slot, Writer};
 use pbft_wire::{Message, read};
 use std::alloc::Global;
@@ -22,7 +22,7 @@ fn put_vote(kind: u8, out: &mut Writer) -> Result<(), NoMemory> {
     put_signature(out)
 }
 
-// A ViewChange of view 2 with one certificate of slot 7 in view 1: nil, and the Prepares of these nodes.
+// A ViewChange for view 2 with one certificate: slot 7, view 1, nil, and the Prepares of these two replicas.
 fn put_view_change(first: u8, second: u8, out: &mut Writer) -> Result<(), NoMemory> {
     out.put_u8(4)?;
     out.put_u16(2)?;
@@ -44,7 +44,7 @@ fn read_from(alloc: Global, bytes: &[u8]) -> Result<Message, DecodeError> {
     read(alloc, &mut f)
 }
 
-// Each of the two is read as what it is.
+// A Commit decodes as a Commit, not as a Prepare.
 #[test]
 fn votes_are_read(rt: HostRuntime) -> Result<(), Fail> {
     let alloc = rt.alloc();
@@ -60,7 +60,7 @@ fn votes_are_read(rt: HostRuntime) -> Result<(), Fail> {
     Ok(())
 }
 
-// Certificates are read whole.
+// A certificate decodes whole.
 #[test]
 fn certificates_are_read(rt: HostRuntime) -> Result<(), Fail> {
     let alloc = rt.alloc();
@@ -73,7 +73,7 @@ fn certificates_are_read(rt: HostRuntime) -> Result<(), Fail> {
     Ok(())
 }
 
-// The second of two votes of one node is the field that does not fit, and so is a number that no message has.
+// The second of two votes of one replica is the bad field, and also a number of no message.
 #[test]
 fn faults_are_named(rt: HostRuntime) -> Result<(), Fail> {
     let alloc = rt.alloc();

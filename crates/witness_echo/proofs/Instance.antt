@@ -1,4 +1,5 @@
--- The cluster, move by move: node 0 casts, and node 1 takes its word, its echo, its own echo, and the faulty node's.
+-- The cluster, move by move: node 0 casts; node 1 receives its batch, its echo, node 1's own echo, and that of the
+-- faulty node.
 use Rattle.std.proofs.Common.{◌≡◌, inl, inr, ℕ, ◌<◌, true, List, [], ◌∷◌, ◌++◌, None, append-nil, refl, sym, ap, ◌∙◌, subst, true≢false, arith}
 use Rattle.sha2.specs.Sha256.{compress, digest_bytes, first_words, hash_after, rounds, schedule, sha256}
 use Rattle.iss_base.specs.Lists.{Extends, In, push_all, set_at}
@@ -63,7 +64,7 @@ slot = record { 0 = 0 }
 abbrev d : List ℕ
 d = digest_of instance batch
 
--- a node's signature of its word or echo, by a leaf
+-- a node's signature of its batch or echo, with a leaf
 abbrev sig : ℕ → ℕ → ℕ → List ℕ
 sig k kind leaf = signature instance k leaf (statement instance kind 0 d)
 
@@ -81,7 +82,7 @@ batch-again = batch-read 1 batch (omega arith) (λ q i. elim i [ inl e ↦ rw e 
 batch-spelled : S.spells (Value_batch batch) ≡ true
 batch-spelled = ap (λ (t : List ℕ). is_good (parse_value 1 t)) (sym (append-nil (spell_value 1 (Value_batch batch)))) ∙ ap is_good (batch-again [])
 
--- an empty log, or the whole
+-- the empty log, or the whole log
 abbrev IsPart : List Value → Type 0
 IsPart log = Extends log whole
 
@@ -97,7 +98,7 @@ whole-spelled v (inr none) = absurd none
 abbrev Net : Type 0
 Net = Cluster Word
 
--- node i takes an input in the instance of node 0, with this next leaf
+-- node i processes an input in the instance of node 0, with this next leaf
 abbrev after : Net → ℕ → Input Word → ℕ → Net
 after w i input leaf = record {
   pasts = set_at w.pasts i (takes R echo i (w.pasts i) 0 input leaf);
@@ -110,7 +111,7 @@ record Reached (w : Net) : Type 0 where
   reach : Reach four S R echo w
   same : w.strings ≡ strings
 
--- what a move asks for
+-- the premises of a move
 record Fits (w : Net) (i : ℕ) (input : Input Word) (leaf : ℕ) : Type 0 where
   correct : is_correct four i ≡ true
   leads : leads_in R echo i (w.pasts i) 0 ≡ true
@@ -119,7 +120,8 @@ record Fits (w : Net) (i : ℕ) (input : Input Word) (leaf : ℕ) : Type 0 where
   fresh : (x : List ℕ) → In x (made_in R echo i (w.pasts i) 0 input leaf).strings → In x strings
   part : IsPart (log_of R echo i (takes R echo i (w.pasts i) 0 input leaf))
 
-moves : (w : Net) (i : ℕ) (input : Input Word) (leaf : ℕ) → Reached w → Fits w i input leaf → Reached (after w i input leaf)
+moves : (w : Net) (i : ℕ) (input : Input Word) (leaf : ℕ) → Reached w → Fits w i input leaf →
+    Reached (after w i input leaf)
 moves w i input leaf r f =
     let next = takes R echo i (w.pasts i) 0 input leaf in
     let own = as_signed (own_claims echo (params_of R echo i (w.pasts i) 0) i (made_in R echo i (w.pasts i) 0 input leaf).sends) in
@@ -154,7 +156,7 @@ casts = Cast slot batch
 abbrev hears-word : Input Word
 hears-word = Receive (record { 0 = 0 }) (Say slot batch (sig 0 1 0))
 
--- the echo of node k, by this leaf
+-- the echo of node k, signed with this leaf
 abbrev hears : ℕ → ℕ → Input Word
 hears k leaf = Receive (record { 0 = k }) (Echo slot d (sig k 2 leaf))
 
@@ -181,8 +183,10 @@ batch-hashed : (x : List ℕ) → In x (string_of instance batch ∷ []) → In 
 batch-hashed x (inl q) = over-new x (chain_strings S whole) ([] ∷ []) (inl q)
 batch-hashed x (inr none) = absurd none
 
--- a message with the one claim of node k, which verifies, and is in the book where k is correct
-credible : (w : Net) (k kind leaf : ℕ) (msg : Word) → k < 4 → leaf < 16 → claims instance k msg ≡ claim k (statement instance kind 0 d) (sig k kind leaf) ∷ [] → IsReadMessage echo instance msg →
+-- a message with one claim, of node k, which verifies, and is in the book if k is correct
+credible : (w : Net) (k kind leaf : ℕ) (msg : Word) → k < 4 → leaf < 16 →
+    claims instance k msg ≡ claim k (statement instance kind 0 d) (sig k kind leaf) ∷ [] →
+    IsReadMessage echo instance msg →
     (is_correct four k ≡ true → IsBooked w.book k (statement instance kind 0 d)) → IsCredible echo instance (IsVerified R) (IsBooked w.book) k msg
 credible w k kind leaf msg low few is read booked = record {
   named = low;
@@ -198,7 +202,8 @@ credible w k kind leaf msg low few is read booked = record {
     verified c (inl q) = rw q (own-verifies four k leaf (statement instance kind 0 d) (omega arith) few low)
     verified c (inr none) = absurd none
 
-    signed : (c : Claim) → In c (claim k (statement instance kind 0 d) (sig k kind leaf) ∷ []) → is_correct four c.by.0 ≡ true → IsBooked w.book c.by.0 c.statement
+    signed : (c : Claim) → In c (claim k (statement instance kind 0 d) (sig k kind leaf) ∷ []) →
+        is_correct four c.by.0 ≡ true → IsBooked w.book c.by.0 c.statement
     signed c (inl q) ok = (subst (λ (z : Claim). is_correct four z.by.0 ≡ true → IsBooked w.book z.by.0 z.statement) (sym q) booked) ok
     signed c (inr none) ok = absurd none
 
@@ -249,7 +254,7 @@ r4 = moves w3 1 (hears 1 0) 1 r3 (record {
   part = (whole, refl);
 })
 
--- nobody has to have signed what the faulty node claims
+-- the claims of the faulty node need not be in the book
 none-signed : is_correct four 3 ≡ true → IsBooked w4.book 3 echoed
 none-signed ok = absurd (true≢false (sym ok))
 
@@ -268,7 +273,7 @@ r5 = moves w4 1 (hears 3 0) 1 r4 (record {
   part = ([], refl);
 })
 
--- the digests are computed, and no two are the same
+-- the digests are computed, and are distinct
 no-collision : collision_in (chain_strings S whole) ([] ∷ []) ≡ None
 unfolding spell_value spell_batch spell_count spell_request sha256 digest_bytes hash_after compress rounds schedule first_words
 no-collision = refl
@@ -281,14 +286,15 @@ root-separate a b (inr none) q h = absurd none
 strings-separate : Separate (Among w5.strings)
 strings-separate = separate-more (chain_strings S whole) ([] ∷ []) no-collision root-separate
 
--- no claim in the book is of node 3
+-- the book has no claim of node 3
 by-few : (x : Signed) → In x w5.book → x.by ≡ 3 → ⊥
 by-few x (inl q) e = absurd (omega (arith, ap (λ (y : Signed). y.by) q, e))
 by-few x (inr (inl q)) e = absurd (omega (arith, ap (λ (y : Signed). y.by) q, e))
 by-few x (inr (inr (inl q))) e = absurd (omega (arith, ap (λ (y : Signed). y.by) q, e))
 by-few x (inr (inr (inr none))) e = none
 
-pub shown : ((w : Cluster Word) → Separate (Among w.strings) → Reach four S R echo w → Ordered four R echo w.pasts) → IsWitness
+pub shown : ((w : Cluster Word) → Separate (Among w.strings) → Reach four S R echo w → Ordered four R echo w.pasts) →
+    IsWitness
 shown composed = record {
   cluster = w5;
   reached = r5.reach;

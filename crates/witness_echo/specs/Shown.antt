@@ -38,7 +38,7 @@ four =
       tag = replicate 32 67;
     }
 
--- the rules of this set-up, but that every request counts as signed: what a client signed cannot be computed here
+-- the rules of this set-up, except that every request counts as signed: a client's signature cannot be computed here
 abbrev pub rules : Rules
 rules = record (rules_of four) { signed = λ q. true }
 
@@ -50,27 +50,27 @@ batch = record { id = record { client = 0; number = 0 }; payload = 170 ∷ []; s
 abbrev pub instance : Params
 instance = rules.params [] 0 0
 
--- that the batch was said at slot 0, and that it was taken there
+-- the statements that the batch was sent by the leader at slot 0, and that it was accepted there
 abbrev pub said : List ℕ
 said = statement instance 1 0 (digest_of instance batch)
 
 abbrev pub echoed : List ℕ
 echoed = statement instance 2 0 (digest_of instance batch)
 
--- a cluster that moves lead to, and what is to be seen in it
+-- a reachable cluster, and what happened in it
 pub record IsWitness : Type 0 where
   pub cluster : Cluster Word
   pub reached : Reach four (scheme_of four) rules echo cluster
   pub sound : IsSoundRules four echo rules
   pub separate : Separate (Among cluster.strings)
-  -- node 0 signed its word and its echo, and node 1 its echo
+  -- node 0 signed its batch and its echo, and node 1 its echo
   pub word : IsBooked cluster.book 0 said
   pub first_echo : IsBooked cluster.book 0 echoed
   pub second_echo : IsBooked cluster.book 1 echoed
-  -- the third echo is the faulty node's, which stands in no book
+  -- the third echo is the faulty node's, whose signatures no book records
   pub faulty : is_correct four 3 ≡ false
   pub unbooked : IsBooked cluster.book 3 echoed → ⊥
-  -- by these three node 1 delivered the batch, and it is its log
+  -- by these three echoes node 1 delivered the batch, and its log is this batch
   pub log : log_of rules echo 1 (cluster.pasts 1) ≡ Value_batch batch ∷ []
-  -- and what the composition says of this cluster
+  -- what the composition theorem says of this cluster
   pub ordered : Ordered four rules echo cluster.pasts

@@ -1,5 +1,5 @@
-//! Echo in a cluster: what the composition says of every cluster, said of one in which nodes signed, and one of them is
-//! faulty. So its premises can all be met at once.
+//! A witness that the premises of the composition theorem can all be met at once: a cluster over echo in which nodes
+//! signed and one node is faulty.
 #![tactic(auto)]
 
 pub mod laws;

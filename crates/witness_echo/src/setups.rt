@@ -1,4 +1,4 @@
-//! The set-up of the cluster that is shown.
+//! The set-up of the witness.
 ghost use Rattle.std.specs.Prelude.{◌≡◌, IfOk};
 ghost use Rattle.witness_echo.specs.Shown.{four};
 

@@ -1,4 +1,4 @@
-use Rattle.sb_pbft.proofs.Once.{accepted-once}
+use Rattle.sb_pbft.proofs.History.OneBatchASlot.{accepted-once}
 use Rattle.sb_pbft.proofs.facts.batches_are_accepted_once.Goals as goal
 
 pub returns : goal.returns

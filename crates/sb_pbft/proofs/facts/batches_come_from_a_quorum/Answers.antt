@@ -1,4 +1,4 @@
-use Rattle.sb_pbft.proofs.Safe.{roots}
+use Rattle.sb_pbft.proofs.Safety.PbftIsSafe.{roots}
 use Rattle.sb_pbft.proofs.facts.batches_come_from_a_quorum.Goals as goal
 
 pub returns : goal.returns

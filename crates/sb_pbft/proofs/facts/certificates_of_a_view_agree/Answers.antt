@@ -1,4 +1,4 @@
-use Rattle.sb_pbft.proofs.Safe.{one-digest}
+use Rattle.sb_pbft.proofs.Safety.PbftIsSafe.{one-digest}
 use Rattle.sb_pbft.proofs.facts.certificates_of_a_view_agree.Goals as goal
 
 pub returns : goal.returns

@@ -1,4 +1,4 @@
-use Rattle.sb_pbft.proofs.Safe.{quiet}
+use Rattle.sb_pbft.proofs.Safety.PbftIsSafe.{quiet}
 use Rattle.sb_pbft.proofs.facts.nodes_commit_nothing_below.Goals as goal
 
 pub returns : goal.returns

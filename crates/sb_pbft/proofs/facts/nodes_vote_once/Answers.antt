@@ -1,4 +1,4 @@
-use Rattle.sb_pbft.proofs.Safe.{one-vote-each}
+use Rattle.sb_pbft.proofs.Safety.PbftIsSafe.{one-vote-each}
 use Rattle.sb_pbft.proofs.facts.nodes_vote_once.Goals as goal
 
 pub returns : goal.returns

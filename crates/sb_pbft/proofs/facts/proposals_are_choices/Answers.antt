@@ -1,4 +1,4 @@
-use Rattle.sb_pbft.proofs.Safe.{chosen-above}
+use Rattle.sb_pbft.proofs.Safety.PbftIsSafe.{chosen-above}
 use Rattle.sb_pbft.proofs.facts.proposals_are_choices.Goals as goal
 
 pub returns : goal.returns

@@ -1,4 +1,4 @@
-use Rattle.sb_pbft.proofs.Safe.{shown}
+use Rattle.sb_pbft.proofs.Safety.PbftIsSafe.{shown}
 use Rattle.sb_pbft.proofs.facts.view_changes_show_what_is_committed.Goals as goal
 
 pub returns : goal.returns

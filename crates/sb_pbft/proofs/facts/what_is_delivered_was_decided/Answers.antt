@@ -1,4 +1,4 @@
-use Rattle.sb_pbft.proofs.Safe.{decided-views}
+use Rattle.sb_pbft.proofs.Safety.PbftIsSafe.{decided-views}
 use Rattle.sb_pbft.proofs.facts.what_is_delivered_was_decided.Goals as goal
 
 pub returns : goal.returns

@@ -1,4 +1,4 @@
-use Rattle.sb_pbft.proofs.Turning.{turn-is}
+use Rattle.sb_pbft.proofs.Model.TurnsAreAsDefined.{turn-is}
 use Rattle.sb_pbft.proofs.laws.turns_are_as_defined.Goals as goal
 
 pub returns : goal.returns

@@ -1,7 +1,7 @@
 use Rattle.pbft_wire.proofs.MessageGrammar.{message-grammar}
-use Rattle.sb_pbft.proofs.Lawful.{pbft-lawful}
-use Rattle.sb_pbft.proofs.Leaves.{pbft-once}
-use Rattle.sb_pbft.proofs.Safe.{pbft-safe}
+use Rattle.sb_pbft.proofs.Messages.StepsAreLawful.{pbft-lawful}
+use Rattle.sb_pbft.proofs.Messages.LeafSignsOneStatement.{pbft-once}
+use Rattle.sb_pbft.proofs.Safety.PbftIsSafe.{pbft-safe}
 use Rattle.sb_pbft.proofs.pbft.PbftSequenced.laws.Goals as goal
 
 pub returns-clause-grammar : goal.returns-clause-grammar

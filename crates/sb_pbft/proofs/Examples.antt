@@ -1,0 +1,3 @@
+pub mod ByzantineRun
+pub mod FourReplicas
+pub mod PremisesAreMet

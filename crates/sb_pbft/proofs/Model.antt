@@ -1,0 +1,15 @@
+pub mod CertificatesAgree
+pub mod DeliveredInOneView
+pub mod DeliveriesAgree
+pub mod DraftsAgree
+pub mod IgnoredInputs
+pub mod NewViewTurn
+pub mod ProposalTurn
+pub mod ProposalsAreSigned
+pub mod SettledAgrees
+pub mod SlotsAreIndependent
+pub mod TimeoutTurn
+pub mod TurnsAreAsDefined
+pub mod ViewChangeTurn
+pub mod VoteTurn
+pub mod VotesTouchOneSlot

@@ -1,0 +1,5 @@
+pub mod DecidedValuesStay
+pub mod PbftIsSafe
+pub mod SeenClaimsAreTrue
+pub mod SignaturesAreJustified
+pub mod VotesAreJustified

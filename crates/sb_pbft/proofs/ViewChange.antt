@@ -1,0 +1,4 @@
+pub mod CommitsAreShown
+pub mod HighestCertificates
+pub mod NewViewsHaveAQuorum
+pub mod OneNewViewAView
