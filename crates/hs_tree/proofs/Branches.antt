@@ -1,4 +1,4 @@
--- Branches as the code keeps them.
+-- The code's branches are the model's.
 use Rattle.std.proofs.Common.{◌≡◌, ◌≤◌, ◌<◌, ℕ, zero, suc, ◌+◌, ◌-◌, ◌||◌, cond, Bool, true, false, if◌then◌else◌, List, [], ◌∷◌, ◌++◌, length, drop, reverse, Option, Some, None, is_some, refl, sym, ap, ◌∙◌, subst, arith, append_assoc, append-nil}
 use Rattle.std.specs.Prelude.{slice_get, min}
 use Rattle.std.proofs.lemmas.List.{drop-append-le, length-append, length-drop, nil_from_length}
@@ -73,7 +73,7 @@ leads-more nodes x o (k ∷ ks) h = (h.0, more-at nodes x h.0 o h.1, h.2, leads-
 -- ---- what is read at a place
 
 module _ (nodes : List Known) (o : Option ℕ) where
-  -- a node stands at the place, below others
+  -- the node at this index, with its branch
   pub record IsOne (n : Known) (ks : List Node) : Type 0 where
     pub node : Node
     pub rest : List Node
@@ -106,7 +106,7 @@ module _ (nodes : List Known) (o : Option ℕ) where
 
 -- ---- up from a place
 
--- what is left of the walk after so many nodes
+-- the rest of the walk after this many nodes
 pub record Looks (nodes : List Known) (here : Option ℕ) (count : ℕ) (e : List ℕ) (ks : List Node) : Type 0 where
   pub rest : List Node
   pub leads : Leads nodes here rest
@@ -306,11 +306,11 @@ module _ (t : Tree) (ks : List Node) (d : List ℕ) (h : Keeps t ks) (o : Option
   pub values-there : (from : ℕ) (vs : List Value) → vs ≡ drop from (values (whats (path ks d))) → vs ≡ drop from (values (branch ks d))
   values-there from vs e = e ∙ ap (λ (z : List Content). drop from (values z)) (sym (branch-path ks d))
 
--- the root's digest, as a constant
+-- the root's digest as a constant
 pub has-there : (t : Tree) (ks : List Node) (d : List ℕ) → Keeps t ks → (b : Bool) → is_some (place t d) ≡ b → (c : Bool) → c ≡ (b || same_bytes d root) → c ≡ is_known ks d
 has-there t ks d h b e c is = is ∙ ap (λ (z : Bool). z || same_bytes d root) (sym e) ∙ sym (h.known d)
 
--- a node that is put behind the others
+-- a node appended to the vector
 pub added : (t u : Tree) (k : Node) (ks : List Node) (above : Option ℕ) (depth slots weighs at : ℕ) → Keeps t ks → above ≡ place t k.parent →
     (n : Known) → n.parent ≡ k.parent → n.what ≡ k.what → n.above ≡ above → length t.nodes.items < 9223372036854775808 →
     ((rest : List Node) → Leads t.nodes.items above rest → depth ≡ length rest) → ((rest : List Node) → Leads t.nodes.items above rest → slots ≡ filled (whats rest)) →

@@ -1,4 +1,4 @@
--- A certificate has one spelling, and what is read is what the table relates to the bytes.
+-- A certificate has at most one encoding, and decoding is the relation of the encoding.
 use Rattle.std.proofs.Common.{◌≡◌, ◌<◌, ℕ, zero, suc, ◌^◌, ◌==◌, ◌&&◌, Bool, true, false, List, [], ◌∷◌, ◌++◌, length, refl, sym, ap, ◌∙◌, subst, inl, inr, arith}
 use Rattle.std.specs.Prelude.{nat_le, nat_lt}
 use Rattle.std.specs.Int.{to_be_bytes, w32}

@@ -1,4 +1,4 @@
--- A message has one spelling by each version.
+-- In each version a message has at most one encoding.
 use Rattle.std.proofs.Common.{◌≡◌, ◌≤◌, ◌<◌, ℕ, ◌^◌, ◌==◌, ◌&&◌, ◌||◌, Bool, true, false, if◌then◌else◌, List, [], ◌∷◌, ◌++◌, length, append-nil, refl, sym, ap, ◌∙◌, subst, inl, inr, true≢false, arith}
 use Rattle.std.specs.Prelude.{◌↔◌, nat_le, nat_lt}
 use Rattle.std.specs.Int.{to_be_bytes, w16, w32}
@@ -193,7 +193,7 @@ module _ (phases version : ℕ) where
       let t = and-true (nat_le 3 n) (nat_le n 5) h in
       between n (leb-true 3 n t.0) (leb-true n 5 t.1) (not-same n 3 f3) (not-same n 4 f4) (not-same n 5 f5)
 
-  -- a number of a message that is none of these is that of a vote
+  -- the only other valid number is a vote's
   known-six : (n : ℕ) → is_message phases n ≡ true → (n == 1) ≡ false → (n == 2) ≡ false → (n == 3) ≡ false → (n == 4) ≡ false → (n == 5) ≡ false → (n == 6) ≡ true
   known-six n known f1 f2 f3 f4 f5 = go (n == 1) (n == 2) (n == 6) (phases == 3) known f1 f2
     where
@@ -204,7 +204,7 @@ module _ (phases version : ℕ) where
       go false false false true h f g = absurd (in-range n h f3 f4 f5)
       go false false false false h f g = absurd (true≢false (sym h))
 
-  -- a message that shows a certificate is one of three phases
+  -- PreCommit, Commit and Decide need three phases
   three-is : (k : ℕ) → is_message phases k ≡ true → (k == 1) ≡ false → (k == 2) ≡ false → (k == 6) ≡ false → phases ≡ 3
   three-is k known f1 f2 f6 = go (k == 1) (k == 2) (k == 6) (phases == 3) refl known f1 f2 f6
     where
@@ -316,7 +316,7 @@ module _ (phases version : ℕ) where
       let all = again-fate (read && behind) (number w32) after_view (to_be_bytes w32 view) (text ++ (certificate ++ sig)) view msg (number-field w32 (2 ^ 32) wide32 view low) second in
       number-fate (read && behind) 2 (to_be_bytes w32 view ++ (text ++ (certificate ++ sig))) msg refl (fate-same (read && behind) (to_be_bytes w32 view ++ (text ++ (certificate ++ sig))) (parse_prepare phases version) _ msg parse_prepare-is all)
 
-  -- the three messages that show a certificate
+  -- PreCommit, Commit and Decide
   shown-fate : (read : Bool) (make : Makes) (kind view : ℕ) (shown : Certificate) (sig certificate : List ℕ) → (has_shows phases ≡ true → is_message phases kind ≡ true) → fields_of phases version kind ≡ parse_shown phases make →
       has_shows phases ≡ true → view < 2 ^ 32 → is_signature sig ≡ true → Fate read certificate (parse_certificate phases) shown → Fate read (shown_row kind view certificate sig) (parse phases version) (make view shown sig)
   shown-fate read make kind view shown sig certificate known fields three low shape h =
@@ -411,7 +411,7 @@ module _ (phases version : ℕ) where
       subst (λ (x : List ℕ). Again x (parse phases version) (Vote phase view d sig)) (sym h.row)
       (vote-again phase view d sig (both _ _ (le-leb 1 phase h.phase_low) (le-leb phase phases h.phase_fits)) h.view_fits h.digest_fits h.signed)
 
-  -- what is read of bytes, and all of them, is what the table relates to them
+  -- decoding all of the bytes is the relation of the encoding
   pub message-related : (msg : Message) (bytes : List ℕ) → (parse phases version bytes ≡ Good msg []) ↔ IsSpelledMessage phases version msg bytes
   message-related msg bytes = (
     (λ h. let r = message-parts bytes [] msg h in subst (λ (x : List ℕ). IsSpelledMessage phases version msg x) (sym (r.parts ∙ append-nil r.front)) r.spelled),

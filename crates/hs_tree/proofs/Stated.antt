@@ -1,4 +1,4 @@
--- Fields that are written one after the other are the strings and statements.
+-- The fields that the code writes in sequence are the strings and statements.
 use Rattle.std.proofs.Common.{◌≡◌, ◌<◌, ◌^◌, ℕ, List, [], ◌∷◌, ◌++◌, append_assoc, Option, refl, ap, ◌∙◌}
 use Rattle.sha2.specs.Sha256.{sha256}
 use Rattle.iss_sb.specs.Evidence.{one_or_none}

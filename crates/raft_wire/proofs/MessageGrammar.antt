@@ -1,4 +1,4 @@
--- A message has one spelling by each version.
+-- In each version a message has at most one encoding.
 use Rattle.std.proofs.Common.{◌≡◌, ℕ, ◌^◌, ◌<◌, ◌≤◌, ◌==◌, ◌&&◌, Bool, true, false, zero, suc, List, [], ◌∷◌, ◌++◌, length, append_assoc, append-nil, refl, sym, ap, ◌∙◌, subst, inl, inr, true≢false, arith}
 use Rattle.std.specs.Prelude.{◌↔◌, nat_le}
 use Rattle.std.specs.List.{flat_map}
@@ -161,7 +161,7 @@ module _ (version : ℕ) where
   vote-flat : (t : ℕ) (g : Bool) (rest : List ℕ) → vote_row t g ++ rest ≡ 4 ∷ (to_be_bytes w16 t ++ (flag g ∷ rest))
   vote-flat t g rest = regroup-flag 4 (flag g) (to_be_bytes w16 t) [] rest
 
-  -- what the table gives is the spelling
+  -- the bytes that the relation gives are the encoding
   spelled-is : (msg : Message) (front : List ℕ) → IsSpelledMessage version msg front → front ≡ spell version msg
   spelled-is (Append t p pt c es) front h =
       let fits = both _ _ (both _ _ (is16 t h.term_fits) (is32 p h.previous_fits)) (both _ _ (is16 pt h.previous_term_fits) (both _ _ (is32 c h.commit_fits) (is32 (length es) h.count_fits))) in
@@ -274,7 +274,7 @@ module _ (version : ℕ) where
   bad-is : {A : Type 0} (p q : Parser A) (bytes : List ℕ) → p ≡ q → IsBad (q bytes) → IsBad (p bytes)
   bad-is p q bytes e h = bad-by p q bytes h.0 e h.1
 
-  -- fields in their ranges, and the entries where they are read again
+  -- fields in range, and entries that can be decoded
   append-good : (t p pt c : ℕ) (es : List Entry) (text rest : List ℕ) → t < 2 ^ 16 → p < 2 ^ 32 → pt < 2 ^ 16 → c < 2 ^ 32 → length es < 2 ^ 32 →
       times (length es) (parse_entry version) (text ++ rest) ≡ Good es rest → parse version (append_row t p pt c (length es) text ++ rest) ≡ Good (Append t p pt c es) rest
   append-good t p pt c es text rest a b d e g h =
@@ -377,7 +377,7 @@ module _ (version : ℕ) where
   table-good (AskVote t l lt) bytes h = rw h.3 (ask-good t l lt [] h.0 h.1 h.2)
   table-good (Vote t g) bytes h = rw h.1 (vote-good t g [] h.0)
 
-  -- what is read of bytes, and all of them, is what the table relates to them
+  -- decoding all of the bytes is the relation of the encoding
   pub message-related : (msg : Message) (bytes : List ℕ) → (parse version bytes ≡ Good msg []) ↔ IsSpelledMessage version msg bytes
   message-related msg bytes = (
     (λ h. let r = message-parts bytes [] msg h in subst (λ (x : List ℕ). IsSpelledMessage version msg x) (sym (r.parts ∙ append-nil r.front)) r.spelled),

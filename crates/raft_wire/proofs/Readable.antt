@@ -1,4 +1,4 @@
--- What the table relates to some bytes is read again, and what is read again it relates to some.
+-- A value can be decoded exactly if the relation gives it some bytes.
 use Rattle.std.proofs.Common.{◌<◌, ◌^◌, ℕ, List, [], ◌∷◌, ◌++◌, refl, sym, subst, inl, inr}
 use Rattle.iss_base.specs.Lists.{In}
 use Rattle.iss_request.specs.Fields.{IsReadAgain}
@@ -56,6 +56,6 @@ module _ (version : ℕ) where
   pub mark-has : (term : ℕ) → term < 2 ^ 16 → HasBytes (record { term = term; what = Mark })
   mark-has term lt = entry-has term Mark (2 ∷ []) lt refl
 
-  -- a batch that is read again
+  -- a batch that can be decoded
   pub batch-has : (term : ℕ) (b : Batch) → term < 2 ^ 16 → IsReadAgain (spell_value version) (parse_value version) (Value_batch b) → HasBytes (record { term = term; what = Holds b })
   batch-has term b lt h = let row = batch-table version b h in entry-has term (Holds b) row.0 lt row.1

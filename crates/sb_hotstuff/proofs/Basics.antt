@@ -1,4 +1,4 @@
--- Small facts: what stands behind a test, the cases of a state, statements told apart.
+-- Basic lemmas: tests as records, the fields of a state, and statements of different messages differ.
 use Rattle.std.proofs.Common.{◌≡◌, ◌≤◌, ℕ, ◌%◌, ◌==◌, ◌&&◌, not, Bool, true, false, if◌then◌else◌, List, ◌∷◌, ◌++◌, Option, Some, None, refl, sym, subst, true≢false, arith}
 use Rattle.std.specs.Prelude.{nat_le}
 use Rattle.std.proofs.lemmas.Bool.{leb-true}
@@ -126,7 +126,7 @@ own-vote p (Vote q v e sig) phase view d h =
     let z = s.digest_is in
     record { sig = sig; is = cc }
 
--- one whose own statement is a proposal's is a proposal of that view and node
+-- a message whose own statement is a proposal's is a proposal of that view and node
 pub record IsProposal (p : Params) (msg : Message) (view : ℕ) (d : List ℕ) : Type 0 where
   pub what : Content
   pub just : Certificate

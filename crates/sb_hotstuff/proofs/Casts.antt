@@ -1,4 +1,4 @@
--- What becomes of a node's casts: none is forgotten, and one that is taken is the next.
+-- The list of casts is append-only, and a cast that is taken is the next one.
 use Rattle.std.proofs.Common.{◌≡◌, ℕ, zero, suc, true, List, [], ◌∷◌, ◌++◌, length, Option, Some, None, refl, ap, ◌∙◌, subst, inl, inr}
 use Rattle.iss_base.specs.Lists.{nth}
 use Rattle.iss_request.specs.declared.ids.Slot.{Slot}

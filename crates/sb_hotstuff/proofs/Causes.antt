@@ -1,4 +1,4 @@
--- Why a vote is sent; that a node votes once at an input, and that its votes are of views that never fall.
+-- Each vote has one cause. A step casts at most one vote, in views that never decrease.
 use Rattle.std.proofs.Common.{◌≡◌, ◌≢◌, ◌≤◌, ◌<◌, ℕ, suc, ◌*◌, ◌/◌, ◌==◌, ◌&&◌, not, Bool, true, false, if◌then◌else◌, List, [], ◌∷◌, Option, Some, None, refl, sym, ap, ◌∙◌, subst, ◌⊎◌, inl, inr, true≢false, arith}
 use Rattle.std.specs.Prelude.{nat_lt}
 use Rattle.std.proofs.lemmas.Bool.{ltb-true}
@@ -228,7 +228,7 @@ third-view p me s i view d f =
 pub cause-new : (p : Params) (me : ℕ) (x : Item Message) (xs : List (Item Message)) (phase view : ℕ) (d : List ℕ) → AreMade hotstuff p me (x ∷ xs) → VotedIn x phase view d → Cause p (state p me xs) x.input view d phase
 cause-new p me x xs phase view d made v = cause p me x.leaf xs x.input v.to phase view d v.sig (subst (λ (z : Made Message). In {A = To × Message} (v.to, Vote phase view d v.sig) z.sends) made.0 v.sent)
 
--- an input has one cause of a vote
+-- a step has at most one cause of a vote
 cause-one : (p : Params) (s : State) (i : Input Message) (phase view q v : ℕ) (d e : List ℕ) → Cause p s i view d phase → Cause p s i v e q → (phase ≡ q) × (view ≡ v) × (d ≡ e)
 cause-one p s i phase view q v d e (by_first f) (by_first g) =
     let k : Receive f.from (Prepare view f.what f.just f.sig) ≡ Receive g.from (Prepare v g.what g.just g.sig) = sym f.is ∙ g.is in
@@ -255,7 +255,7 @@ cause-one p s i phase view q v d e (by_third f) (by_third g) =
 
 -- ---- what a node's state remembers of its votes
 
--- a vote of this phase was given in the view: the view is the own one, and the phase is marked, or it is a lower one
+-- The state records a vote of this phase and view: the view is lower than its own, or equal with the phase marked.
 abbrev pub Marked : State → ℕ → ℕ → Type 0
 Marked s phase view = (view < s.view) ⊎ ((view ≡ s.view) × (phase ≡ 2 → s.second ≡ true) × (phase ≡ 3 → s.third ≡ true))
 
@@ -312,7 +312,7 @@ voted-below p me xs x phase view d made k v = elim (voted-marked p me xs x phase
   | inr a ↦ let e = a.0 in omega (arith, e)
 ]
 
--- a vote that may be given now is of no lower view, and of another phase than those of its view
+-- a new vote is in no lower view than a recorded one, and in the same view for another phase
 rises-over : (p : Params) (s : State) (i : Input Message) (phase view q v : ℕ) (d : List ℕ) → Cause p s i view d phase → Marked s q v → (v < view) ⊎ ((v ≡ view) × (q ≢ phase))
 rises-over p s i phase view q v d (by_first f) m =
     let a = prepare-above p s f.from.0 view f.what f.just f.may in
@@ -338,7 +338,7 @@ first-of p s i view d phase (by_first f) e = f
 first-of p s i view d phase (by_second f) e = absurd cc
 first-of p s i view d phase (by_third f) e = absurd cc
 
--- one first vote in a view
+-- at most one prepare vote in a view
 pub one-first : (p : Params) (me : ℕ) (xs : List (Item Message)) (x y : Item Message) (view : ℕ) (d e : List ℕ) → AreMade hotstuff p me xs → In x xs → In y xs → VotedIn x 1 view d → VotedIn y 1 view e → d ≡ e
 one-first p me [] x y view d e made k l v u = absurd k
 one-first p me (z ∷ xs) x y view d e made k l v u = go k l (λ a b. one-first p me xs x y view d e made.1 a b v u)

@@ -1,4 +1,5 @@
--- What a node shows of others' votes, it heard: each claim in a certificate that it sends stood in a message that it took.
+-- A replica passes on only votes that it received: each claim in a certificate that it sends was in a message that it
+-- took.
 use Rattle.std.proofs.Common.{◌≡◌, ◌⊎◌, ℕ, zero, suc, ◌+◌, ◌*◌, ◌==◌, ◌&&◌, Bool, true, false, if◌then◌else◌, List, [], ◌∷◌, ◌++◌, length, Option, Some, None, refl, sym, ap, ◌∙◌, subst, inl, inr}
 use Rattle.std.specs.Prelude.{nat_lt}
 use Rattle.iss_base.specs.Lists.{In, nth}
@@ -28,7 +29,7 @@ use Rattle.sb_hotstuff.specs.HotStuff.{answers, answers_heard, drafts, hotstuff,
 use Rattle.sb_hotstuff.specs.Rules.{Kept, News, State, Turn, all_news, best, cast_turn, certificate, first_turn, heard, is_for, is_reached, is_ready, keeps_news, keeps_vote, kept, may_cast, may_end, may_prepare, may_second, may_third, news_of, next_turn, nil_or_mark, node_digest, proposed, round_of, slots_below, turn, turn_after, turn_on, vote_of, votes_of, with_cast, with_news, with_node, with_round, with_turn, with_vote}
 use Rattle.sb_hotstuff.proofs.Basics.{by-if, is-same}
 
--- G c: that the claim was heard
+-- G c: the claim c was received
 module _ (p : Params) (G : Claim → Type 0) where
   abbrev AllSaid : List ℕ → List Signed → Type 0
   AllSaid s [] = Unit {0}
@@ -278,7 +279,7 @@ module _ (p : Params) where
           λ c h. inr (record { item = x; taken = q; holds = inl (subst (λ (z : Input Message). ComesWith hotstuff p c z) (sym e) h) })
       go Timeout e = tt
 
-  -- each claim in a certificate that is sent was seen
+  -- each claim in a certificate that is sent was received before
   pub inside-seen : (me : ℕ) (xs : List (Item Message)) (input : Input Message) (leaf : ℕ) (to : To) (msg : Message) → In {A = To × Message} (to, msg) (sign_all p me leaf (drafts p me (state p me xs) input)) →
       (c : Claim) → In c (certificate_claims basic p (inside msg)) → Seen me xs input c
   inside-seen me xs input leaf to msg sent =

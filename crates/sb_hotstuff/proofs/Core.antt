@@ -1,4 +1,5 @@
--- From facts on single correct nodes: what good certificates tell, and that two branches that are decided agree.
+-- HotStuff's safety argument, from facts on single correct replicas: what certificates imply, and that two decided
+-- branches agree.
 use Rattle.std.proofs.Common.{◌≡◌, ◌≤◌, ◌<◌, ℕ, zero, suc, Bool, true, List, [], ◌∷◌, ◌++◌, Some, refl, sym, ap, ◌∙◌, subst, inl, inr, ◌⊎◌, arith}
 use Rattle.std.proofs.lemmas.Bool.{cases_eq, cases_lt}
 use Rattle.iss_base.specs.Quorum.{count_below}
@@ -28,7 +29,7 @@ module _ (p : Params) (w : World Message) (acc : ℕ → ℕ → Batch → Type 
   abbrev Holder : List ℕ → Content → Type 0
   Holder a c = Has p.setup.version (IsString w) a c
 
-  -- a first vote: the node, with its justification. Node k accepted its batch at the place where it stands
+  -- A prepare vote of replica k: the node with its justification, and that k accepted its batch at the node's place.
   pub record First (k view : ℕ) (d : List ℕ) : Type 0 where
     pub parent : List ℕ
     pub what : Content
@@ -43,7 +44,7 @@ module _ (p : Params) (w : World Message) (acc : ℕ → ℕ → Batch → Type 
     pub third : (k v : ℕ) (d : List ℕ) → IsVoted w k 3 v d → IsCertified p w 2 v d
     pub locked : (k u v : ℕ) (d e : List ℕ) → IsVoted w k 3 u d → IsVoted w k 1 v e → u < v → IsSafeVote p w u v e
 
-  -- a quorum that accepted a batch at a place, by their first votes for its node
+  -- a quorum whose correct replicas accepted a batch at a place, by their prepare votes for its node
   pub record Accepted (k : ℕ) (b : Batch) : Type 0 where
     pub view : ℕ
     pub parent : List ℕ
@@ -88,7 +89,7 @@ module _ (p : Params) (w : World Message) (acc : ℕ → ℕ → Batch → Type 
           ]
     ]
 
-    -- the node of a prepare certificate at or above a commit certificate's view extends that one's node
+    -- a node with a prepareQC extends each node with a commitQC of no later view
     pub extends-it : (u : ℕ) (d : List ℕ) (v : ℕ) (e : List ℕ) → u ≤ v → IsCertified p w 3 u d → IsCertified p w 1 v e → (cs : List Content) × Leads p w e d cs
     extends-it u d v e m c g = above (suc v) u d v e (omega arith) m c g
 
@@ -110,7 +111,7 @@ module _ (p : Params) (w : World Message) (acc : ℕ → ℕ → Batch → Type 
           let both : Some x ≡ Some y = sym a ∙ b in
           cc
 
-      -- what stands at a place of two decided branches is the same
+      -- two decided branches hold the same value at each place
       pub agree : (u : ℕ) (d : List ℕ) (v : ℕ) (e : List ℕ) (k : ℕ) (cs es : List Content) (x y : Value) → IsCertified p w 3 u d → IsCertified p w 3 v e →
           Leads p w d root cs → Leads p w e root es → value_at cs k ≡ Some x → value_at es k ≡ Some y → x ≡ y
       agree u d v e k cs es x y c g bd be hx hy = elim (cases_lt v u) [
@@ -119,7 +120,7 @@ module _ (p : Params) (w : World Message) (acc : ℕ → ℕ → Batch → Type 
       ]
 
     module _ (sep : Separate (IsString w)) (first : (k v : ℕ) (d : List ℕ) → IsVoted w k 1 v d → First k v d) where
-      -- the batch on top of a certified branch
+      -- the batch of a certified node itself
       top : (v : ℕ) (d a : List ℕ) (b : Batch) (cs : List Content) → IsCertified p w 1 v d → Holder a (Holds b) → hash p.setup.version a (Holds b) ≡ d → Leads p w a root cs → Accepted (filled cs) b
       top v d a b cs q i h br = record {
         view = v;
@@ -139,7 +140,7 @@ module _ (p : Params) (w : World Message) (acc : ℕ → ℕ → Batch → Type 
             f.accepted cs b (subst (λ (z : List ℕ). Leads p w z root cs) (sym s.0) br) s.1;
       }
 
-      -- the parent of a certified node is the root or certified
+      -- the parent of a certified node is the root or has a prepareQC
       below-it : (v : ℕ) (d a : List ℕ) (c : Content) → IsCertified p w 1 v d → Holder a c → hash p.setup.version a c ≡ d → (a ≡ root) ⊎ ((x : ℕ) × IsCertified p w 1 x a)
       below-it v d a c q i h =
           let j = some 1 v d q in
@@ -156,7 +157,7 @@ module _ (p : Params) (w : World Message) (acc : ℕ → ℕ → Batch → Type 
       root-or b k (c ∷ cs) a r (inl z) br h = absurd (no-root p.setup.version (IsString w) sep (inl refl) br.0 c br.1 (br.2 ∙ z))
       root-or b k (c ∷ cs) a r (inr z) br h = r z.0 z.1 h
 
-      -- a batch of a certified branch was accepted by a quorum there
+      -- each batch of a certified branch was accepted by a quorum at its place
       pub accepted-root : (cs : List Content) (v : ℕ) (d : List ℕ) (k : ℕ) (b : Batch) → IsCertified p w 1 v d → Leads p w d root cs → value_at cs k ≡ Some (Value_batch b) → Accepted k b
       accepted-root [] v d k b q br h = absurd cc
       accepted-root (c ∷ cs) v d k b q br h = elim (here-is k (filled cs) c (value_at cs k) b h) [

@@ -1,4 +1,4 @@
--- HotStuff on worked examples: four nodes, of which node 0 leads the slots 0 and 4.
+-- Worked examples of HotStuff: four replicas; replica 0 leads the slots 0 and 4.
 use Rattle.std.proofs.Common.{◌≡◌, ℕ, List, [], ◌∷◌, Some, None, refl}
 use Rattle.std.specs.Prelude.{replicate}
 use Rattle.sha2.specs.Sha256.{sha256, digest_bytes, hash_after, compress, rounds, schedule, first_words}
@@ -35,7 +35,7 @@ slot n = record { 0 = n }
 abbrev pub node : ℕ → NodeId
 node n = record { 0 = n }
 
--- node 3 is Byzantine
+-- replica 3 is Byzantine
 abbrev pub setup : Setup
 setup = record {
   version = 1;
@@ -58,21 +58,21 @@ setup = record {
 abbrev p : Params
 p = record { setup = setup; epoch = record { 0 = 2 }; leader = node 0; slots = slot 0 ∷ slot 4 ∷ []; directory = directory_of 4 1 4 }
 
--- the batch of no requests, at slot 0
+-- the empty batch, at slot 0
 abbrev pub b : Batch
 b = []
 
 abbrev d : List ℕ
 d = node_digest p 1 (Holds b) Root
 
--- a message with the signature of node k by a leaf
+-- a message signed by replica k with this leaf
 abbrev by : ℕ → ℕ → Message → Message
 by k leaf msg = with_signature (signature p k leaf (own_statement basic p msg)) msg
 
 abbrev vote : ℕ → Signed
 vote k = record { by = node k; sig = k ∷ [] }
 
--- three votes for it in a phase of the first turn
+-- three votes for it in a phase of turn 1
 abbrev shown : ℕ → Certificate
 shown phase = Votes 1 phase d (vote 0 ∷ vote 1 ∷ vote 2 ∷ [])
 
@@ -102,12 +102,12 @@ casts_in_order = refl
 casts_none : asks p 1 [] (Cast (slot 0) b) ≡ None
 casts_none = refl
 
--- a second cast waits for the first turn's end
+-- a second cast waits until the first turn is complete
 waits : makes p 0 cast (Cast (slot 4) b) 6 ≡ record { sends = []; accepted = Some (slot 4, b); strings = []; used = 0 }
 unfolding sha256 digest_bytes hash_after compress rounds schedule first_words spell_batch spell_count spell_value
 waits = refl
 
--- it takes its own proposal, which it accepted already, and votes; the third vote shows the first quorum
+-- the leader takes its own proposal, whose batch it accepted already, and votes; the third vote completes the prepareQC
 abbrev proposed : List (Item Message)
 proposed = hears 0 0 (Prepare 1 (Holds b) Root []) cast
 
@@ -125,7 +125,7 @@ shows_first : sends 0 (two_of 1 proposed) (told 2 (Vote 1 1 d (2 ∷ []))) ≡ (
 unfolding sha256 digest_bytes hash_after compress rounds schedule first_words spell_batch spell_count spell_value
 shows_first = refl
 
--- the same node's vote once more shows nothing, nor does a fourth
+-- a repeated vote and a fourth vote have no effect
 not_twice : sends 0 (two_of 1 proposed) (told 1 (Vote 1 1 d (7 ∷ []))) ≡ []
 unfolding sha256 digest_bytes hash_after compress rounds schedule first_words spell_batch spell_count spell_value
 not_twice = refl
@@ -138,12 +138,12 @@ shows_second : sends 0 (two_of 2 (three_of 1 proposed)) (told 2 (Vote 2 1 d (2 �
 unfolding sha256 digest_bytes hash_after compress rounds schedule first_words spell_batch spell_count spell_value
 shows_second = refl
 
--- votes of the third phase may be counted before the first one's quorum; the next turn needs both
+-- commit votes may be counted before the prepareQC is complete; the next turn needs both
 shows_third_first : sends 0 (two_of 3 proposed) (told 2 (Vote 3 1 d (2 ∷ []))) ≡ (To_all, by 0 9 (Decide 1 (shown 3) [])) ∷ []
 unfolding sha256 digest_bytes hash_after compress rounds schedule first_words spell_batch spell_count spell_value
 shows_third_first = refl
 
--- with a cast that waits, the third quorum's Decide goes before the next proposal, on the first certificate
+-- if a cast waits, the Decide is sent before the next proposal, whose justification is the prepareQC
 abbrev waiting : List (Item Message)
 waiting = take_in 0 proposed (Cast (slot 4) b) 6
 
@@ -162,7 +162,7 @@ votes_first : makes p 1 [] (told 0 (Prepare 1 (Holds b) Root [])) 9 ≡
 unfolding sha256 digest_bytes hash_after compress rounds schedule first_words spell_batch spell_count spell_value
 votes_first = refl
 
--- a second proposal of one view is none, nor one of another node
+-- a second proposal of one view is refused, also for another node
 no_second_proposal : sends 1 first (told 0 (Prepare 1 (Holds b) Root [])) ≡ []
 unfolding sha256 digest_bytes hash_after compress rounds schedule first_words spell_batch spell_count spell_value
 no_second_proposal = refl
@@ -170,7 +170,7 @@ no_second_proposal = refl
 no_leader : sends 1 [] (told 2 (Prepare 1 (Holds b) Root [])) ≡ []
 no_leader = refl
 
--- nil in the first round, and turn 0, are not allowed
+-- nil in round 0 and a proposal in turn 0 are refused
 no_nil : sends 1 [] (told 0 (Prepare 1 Nil Root [])) ≡ []
 unfolding sha256 digest_bytes hash_after compress rounds schedule first_words spell_batch spell_count spell_value
 no_nil = refl
@@ -189,7 +189,7 @@ votes_once : sends 1 second (told 0 (PreCommit 1 (shown 1) [])) ≡ []
 unfolding sha256 digest_bytes hash_after compress rounds schedule first_words spell_batch spell_count spell_value
 votes_once = refl
 
--- one vote short, and one too many, are no certificates
+-- a certificate with one vote less or more than a quorum is refused
 no_quorum : sends 1 first (told 0 (PreCommit 1 (Votes 1 1 d (vote 0 ∷ vote 1 ∷ [])) [])) ≡ []
 unfolding sha256 digest_bytes hash_after compress rounds schedule first_words spell_batch spell_count spell_value
 no_quorum = refl
@@ -221,7 +221,7 @@ delivers_no_more : delivered hotstuff p 1 (hears 1 0 (Decide 1 (shown 3) []) thi
 unfolding sha256 digest_bytes hash_after compress rounds schedule first_words spell_batch spell_count spell_value
 delivers_no_more = refl
 
--- a Decide delivers all slots of the branch: that of turn 2 stands on turn 1
+-- a Decide delivers the whole branch: turn 2 extends turn 1
 abbrev d2 : List ℕ
 d2 = node_digest p 2 (Holds b) (shown 1)
 
@@ -252,7 +252,7 @@ proposes_nil : makes p 1 two_news (told 2 (NewView 1 Root [])) 9 ≡
 unfolding sha256 digest_bytes hash_after compress rounds schedule first_words spell_batch spell_count spell_value
 proposes_nil = refl
 
--- a node's second word counts for none, and a certificate of no lower round is none
+-- a repeated NewView and one whose certificate is of no lower round are refused
 no_word_twice : sends 1 two_news (told 1 (NewView 1 Root [])) ≡ []
 unfolding sha256 digest_bytes hash_after compress rounds schedule first_words spell_batch spell_count spell_value
 no_word_twice = refl
@@ -261,7 +261,7 @@ no_later_round : sends 1 two_news (told 2 (NewView 1 (Votes 65537 1 d (vote 0 �
 unfolding sha256 digest_bytes hash_after compress rounds schedule first_words spell_batch spell_count spell_value
 no_later_round = refl
 
--- no proposal of a batch in round 1; and a locked node takes one that extends its lock, and none that does not
+-- in round 1 a batch is refused; a locked replica takes a proposal that extends its lock, and no other
 no_batch : asks p 1 ended (told 1 (Prepare 65537 (Holds b) (shown 1) [])) ≡ None
 unfolding sha256 digest_bytes hash_after compress rounds schedule first_words spell_batch spell_count spell_value
 no_batch = refl
@@ -277,7 +277,8 @@ safe : sends 1 locked (told 1 (Prepare 65537 Nil (shown 1) [])) ≡ (To_one (nod
 unfolding sha256 digest_bytes hash_after compress rounds schedule first_words spell_batch spell_count spell_value
 safe = refl
 
--- ---- marks: where both slots of the branch are filled, a new round's leader proposes a mark, and nothing follows on it
+-- ---- marks: where both slots of the branch are filled, a new round's leader proposes a mark, and nothing follows on
+-- it
 
 abbrev full : List (Item Message)
 full = take_in 1 (hears 1 0 (PreCommit 2 (shown2 1) []) (hears 1 0 (Prepare 2 (Holds b) (shown 1) []) first)) Timeout 9
@@ -290,7 +291,7 @@ proposes_a_mark : makes p 1 full_news (told 2 (NewView 1 Root [])) 9 ≡
 unfolding sha256 digest_bytes hash_after compress rounds schedule first_words spell_batch spell_count spell_value
 proposes_a_mark = refl
 
--- nil on a full branch is not allowed, nor a mark on one that is not
+-- nil on a full branch is refused, and so is a mark on one that is not full
 no_nil_on_full : sends 1 full (told 1 (Prepare 65537 Nil (shown2 1) [])) ≡ []
 unfolding sha256 digest_bytes hash_after compress rounds schedule first_words spell_batch spell_count spell_value
 no_nil_on_full = refl

@@ -1,4 +1,4 @@
--- The laws of HotStuff's single steps.
+-- HotStuff meets the laws of single steps.
 use Rattle.std.proofs.Common.{◌≡◌, ◌≤◌, ◌<◌, ℕ, suc, ◌+◌, ◌*◌, ◌%◌, Bool, true, false, ◌==◌, ◌&&◌, List, [], ◌∷◌, ◌++◌, length, Option, Some, None, refl, sym, ap, ◌∙◌, subst, inl, inr, arith, true≢false, if◌then◌else◌}
 use Rattle.std.proofs.lemmas.List.{length-append}
 use Rattle.iss_base.specs.Lists.{In, nth}
@@ -186,7 +186,7 @@ module _ (p : Params) (some : 0 < p.setup.n) where
       let few_b = b.few in
       record { to = to-append p.setup.n (answers p s k i) (proposals (proposed p me s k i)) a.to b.to; few = omega (arith, long, few_a, few_b) }
 
--- signing leaves the addressees, and the number of messages
+-- signing changes neither the recipients nor the number of messages
 signed-to : (p : Params) (me leaf n : ℕ) (ds : List (To × Message)) → AreToNodes n ds → (k : NodeId) (msg : Message) → In {A = To × Message} (To_one k, msg) (sign_all p me leaf ds) → k.0 < n
 signed-to p me leaf n [] h k msg q = absurd q
 signed-to p me leaf n (x ∷ ds) h k msg (inl e) = subst (λ (z : To). IsToNode n z) (ap (λ (z : To × Message). z.0) (sym e)) h.0

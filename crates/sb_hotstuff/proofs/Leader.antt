@@ -1,4 +1,4 @@
--- What a node proposes: in the first round its casts, each on the one before.
+-- The proposals of round 0 are the leader's casts in order, each on the one before.
 use Rattle.std.proofs.Common.{◌≡◌, ◌≤◌, ℕ, zero, suc, ◌+◌, ◌*◌, ◌/◌, ◌==◌, ◌&&◌, Bool, true, false, if◌then◌else◌, List, [], ◌∷◌, ◌++◌, length, Option, Some, None, refl, sym, ap, ◌∙◌, subst, inl, inr, ◌⊎◌, true≢false, arith}
 use Rattle.std.specs.Prelude.{nat_lt}
 use Rattle.std.proofs.lemmas.Bool.{eqb-false, leb-true}
@@ -57,7 +57,7 @@ unsigned p me leaf (x ∷ ds) to view what just sig (inl e) =
     (r.0, inl (ap (λ (z : To). let y : To × Message = (z, Prepare view what just r.0) in y) goes ∙ ap (λ (z : Message). let y : To × Message = (x.0, z) in y) (sym r.1)))
 unsigned p me leaf (x ∷ ds) to view what just sig (inr k) = let r = unsigned p me (suc leaf) ds to view what just sig k in (r.0, inr r.1)
 
--- a proposal that is sent is that of the turn which the input led to
+-- a proposal that is sent belongs to the turn that the input triggered
 pub record IsTurn (o : Option Turn) (view : ℕ) (what : Content) (just : Certificate) : Type 0 where
   pub turn : Turn
   pub is : o ≡ Some turn
@@ -124,16 +124,16 @@ module _ (p : Params) (w : World Message) (good : IsGoodParams hotstuff p) (lega
   abbrev Holder : List ℕ → Content → Type 0
   Holder a c = Has p.setup.version (IsString w) a c
 
-  -- a cast that the node has in the end too
+  -- the casts are a prefix of the replica's final ones
   abbrev pub Later : List Batch → Type 0
   Later cs = (k : ℕ) (b : Batch) → nth cs k ≡ Some b → nth (state p me (w me)).casts k ≡ Some b
 
-  -- a cast of the node, which was accepted at its place
+  -- a cast of the replica, accepted at its place
   pub record IsCast (k : ℕ) (b : Batch) : Type 0 where
     pub accepted : acc p w me k b
     pub cast : nth (state p me (w me)).casts k ≡ Some b
 
-  -- a turn that proposes a cast: the place of the cast is that of the node on its branch
+  -- a turn that proposes a cast: the cast's place is the node's place on its branch
   pub record CastTurn (t : Turn) : Type 0 where
     pub batch : Batch
     pub holds : t.what ≡ Holds batch
@@ -251,7 +251,7 @@ module _ (p : Params) (w : World Message) (good : IsGoodParams hotstuff p) (lega
   same-ok : (s t : State) → Same s t → LeaderOk s → LeaderOk t
   same-ok s t e h = record { turns = subst AllOk (sym e.0) h.turns; casts = subst (λ (cs : List Batch). (k : ℕ) (b : Batch) → nth cs k ≡ Some b → IsCast k b) (sym e.1) h.casts }
 
-  -- the last of a longer list is the new one
+  -- the last element of the longer list is the new one
   nth-last : (cs : List Batch) (c b : Batch) (k : ℕ) → nth (cs ++ c ∷ []) k ≡ Some b → (nth cs k ≡ Some b) ⊎ ((k ≡ length cs) × (c ≡ b))
   nth-last [] c b zero h = inr (refl, (let e : Some c ≡ Some b = h in cc))
   nth-last [] c b (suc k) h = absurd cc
@@ -278,7 +278,7 @@ module _ (p : Params) (w : World Message) (good : IsGoodParams hotstuff p) (lega
   turn-ok s None h g m = h
   turn-ok s (Some t) h g m = record { turns = (g, m, h.turns); casts = h.casts }
 
-  -- a list of the world whose items were all heard
+  -- an earlier history of the replica, whose inputs were all received
   pub record IsPart (xs : List (Item Message)) : Type 0 where
     pub heard : AreHeard hotstuff p me xs
     pub here : (x : Item Message) → In x xs → In x (w me)
@@ -313,7 +313,7 @@ module _ (p : Params) (w : World Message) (good : IsGoodParams hotstuff p) (lega
       let ok = step-ok x xs h (state-ok xs (part-older x xs h)) in
       turn-ok k (proposed p me s k x.input) ok (proposed-ok s k x.input ok) (step-holds x xs h)
 
-  -- what a node sends as a proposal
+  -- what a replica sends as a proposal
   pub record IsProposed (view : ℕ) (what : Content) (just : Certificate) : Type 0 where
     pub turn : Turn
     pub view_is : turn.view ≡ view

@@ -1,4 +1,4 @@
--- The lock of a legal list, and what stands behind what is delivered.
+-- The lock is never below a commit vote, and what justifies a delivery.
 use Rattle.std.proofs.Common.{◌≡◌, ◌≤◌, ◌<◌, ℕ, suc, ◌*◌, ◌/◌, ◌&&◌, ◌||◌, Bool, true, false, List, [], ◌∷◌, Option, Some, None, refl, sym, ap, ◌∙◌, subst, inl, inr, true≢false, arith}
 use Rattle.std.specs.Prelude.{nat_lt}
 use Rattle.std.proofs.lemmas.Bool.{ltb-true}
@@ -37,7 +37,7 @@ module _ (p : Params) (w : World Message) (good : IsGoodParams hotstuff p) (lega
     pub ok : LockOk t
     pub rises : view_of s.lock ≤ view_of t.lock
 
-  -- the same lock, in a view that is no lower
+  -- the same lock, in a view that is not lower
   same-lock : (s t : State) → t.lock ≡ s.lock → s.view ≤ t.view → LockOk s → LockStep s t
   same-lock s t e l h =
       let a = h.low in
@@ -94,7 +94,7 @@ module _ (p : Params) (w : World Message) (good : IsGoodParams hotstuff p) (lega
   first-of s i view d q (by_second f) e = absurd cc
   first-of s i view d q (by_third f) e = absurd cc
 
-  -- the lock is at or above each third vote
+  -- the lock is at or above each commit vote
   third-lock : (me : ℕ) (xs : List (Item Message)) (x : Item Message) (u : ℕ) (d : List ℕ) → AreMade hotstuff p me xs → Here me xs → In x xs → VotedIn x 3 u d → (1 ≤ u) × (u ≤ view_of (state p me xs).lock)
   third-lock me [] x u d made here k v = absurd k
   third-lock me (y ∷ xs) x u d made here (inl e) v =
@@ -111,7 +111,7 @@ module _ (p : Params) (w : World Message) (good : IsGoodParams hotstuff p) (lega
       let a = r.1 in
       (r.0, omega (arith, a, l))
 
-  -- the first vote came after the third one
+  -- the prepare vote was cast after the commit vote
   record Before (me : ℕ) (x y : Item Message) : Type 0 where
     pub older : List (Item Message)
     pub made : AreMade hotstuff p me (y ∷ older)

@@ -1,4 +1,4 @@
--- A correct leader accepts one batch at a slot: what it accepts there is its cast at the slot's place, also where it takes a
+-- A correct leader accepts at most one batch at a slot: its cast at the slot's place. This also holds if it takes a
 -- proposal, which is its own.
 use Rattle.std.proofs.Common.{◌≡◌, ◌≤◌, ℕ, zero, suc, true, List, [], ◌∷◌, length, Option, Some, None, refl, sym, ap, ◌∙◌, subst, inl, inr, arith}
 use Rattle.iss_base.specs.Lists.{In, nth}

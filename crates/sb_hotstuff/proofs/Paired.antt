@@ -1,4 +1,4 @@
--- Slots with values: one pair after another, and what a branch gives to the slots.
+-- Slots paired with values: the pairs of the code are the values of a branch at the slots.
 use Rattle.std.proofs.Common.{◌≡◌, ℕ, zero, suc, ◌≤◌, ◌<◌, ◌+◌, ◌==◌, ◌&&◌, ◌||◌, Bool, true, false, if◌then◌else◌, List, [], ◌∷◌, ◌++◌, take, drop, length, get_or, Option, Some, None, is_some, refl, sym, subst, ap, ◌∙◌, append_assoc, inl, inr, true≢false, arith}
 use Rattle.std.proofs.Math.Seq.{drop-cons}
 use Rattle.std.proofs.lemmas.List.{append-nil}
@@ -26,7 +26,7 @@ drop-over (s ∷ ss) zero h = absurd (omega (arith, h))
 drop-over (s ∷ ss) (suc k) h = drop-over ss k (omega (arith, h))
 
 module _ (ss : List Slot) (all fresh : List (Slot × Value)) (place : ℕ) (rest : List Value) (h : all ≡ fresh ++ paired (drop place ss) rest) where
-  -- no values are left, or no slots
+  -- no values or no slots are left
   pub no-values : rest ≡ [] → fresh ≡ all
   no-values e = sym (h ∙ ap (λ (z : List Value). fresh ++ paired (drop place ss) z) e ∙ ap (λ (z : List (Slot × Value)). fresh ++ z) (paired-none (drop place ss)) ∙ append-nil fresh)
 
@@ -63,7 +63,7 @@ value-none n (s ∷ ss) = refl
 
 -- ---- behind the first so many slots
 
--- what is paired there has its value, and is none of the first slots
+-- a pair from place k on has its value, and its slot is not one of the first k
 pub fresh-value : (low : ℕ) (k : ℕ) (s : Slot) (x : Value) (ss : List Slot) (vs : List Value) → AreAscending low ss → In {A = Slot × Value} (s, x) (paired (drop k ss) (drop k vs)) →
     (value_with s.0 ss vs ≡ Some x) × (has_slot s.0 (take k ss) ≡ false)
 fresh-value low zero s x ss vs a h = (pair-value low s x ss vs a h, refl)
@@ -157,7 +157,7 @@ value-nth (c ∷ cs) k =
     here (Holds b) e = plain (Some (Value_batch b)) e (k == filled cs)
     here Mark e = mark e (k == filled cs) refl
 
--- what stands behind the first so many values
+-- the value first, if there is one
 abbrev front : Option Value → List Value → List Value
 front None vs = []
 front (Some v) vs = v ∷ vs

@@ -1,5 +1,5 @@
--- The premises can be met: a world that moves lead to, in which a Byzantine node leads, votes were signed, and a
--- slot was delivered.
+-- The premises can be met: a reachable world in which a Byzantine replica leads, votes were signed, and a slot was
+-- delivered.
 use Rattle.std.proofs.Common.{◌≡◌, ◌<◌, ◌≤◌, ◌^◌, ℕ, Bool, true, false, cond, eqb, List, [], ◌∷◌, Some, refl, sym, ap, ◌∙◌, subst, inl, inr, arith, true≢false}
 use Rattle.sha2.specs.Sha256.{sha256, digest_bytes, hash_after, compress, rounds, schedule, first_words}
 use Rattle.sha2.proofs.Facts256.{length-sha256}
@@ -43,7 +43,7 @@ use Rattle.sb_hotstuff.proofs.Safe.{hotstuff-safe}
 good-setup : IsGoodSetup setup
 good-setup = good-by setup refl
 
--- the Byzantine node leads
+-- the Byzantine replica leads
 abbrev q : Params
 q = record { setup = setup; epoch = record { 0 = 2 }; leader = node 3; slots = slot 0 ∷ slot 4 ∷ []; directory = directory_of 4 1 4 }
 
@@ -70,7 +70,7 @@ d = node_digest q 1 (Holds b) Root
 abbrev states : ℕ → List ℕ
 states phase = vote_statement basic q phase 1 d
 
--- node k's vote, by a leaf
+-- replica k's vote, signed with this leaf
 abbrev vote : ℕ → ℕ → ℕ → Signed
 vote phase leaf k = record { by = node k; sig = signature q k leaf (states phase) }
 
@@ -184,7 +184,7 @@ read4 = spelled-read 3 1 m4 _ (record { three = refl; view_fits = omega arith; c
 verifies : (k leaf : ℕ) (s : List ℕ) → k < 4 → leaf < 2 ^ 4 → Verifies q (claim k s (signature q k leaf s))
 verifies k leaf s below few = signature-verifies hotstuff q good k leaf s below few
 
--- the votes of both correct nodes were signed
+-- the votes of both correct replicas were signed
 record AreSigned (w : World Message) (phase : ℕ) : Type 0 where
   zero_did : IsSigned hotstuff q w 0 (states phase)
   one_did : IsSigned hotstuff q w 1 (states phase)
@@ -200,7 +200,7 @@ four phase leaf own msg =
     claim 3 (states phase) (signature q 3 leaf (states phase)) ∷
     claim 3 (own_statement basic q msg) (signature q 3 own (own_statement basic q msg)) ∷ []
 
--- a message of the leader that shows a certificate, once its votes are signed
+-- a message of the leader with a certificate, once its votes are signed
 shows-come : (w : World Message) (phase leaf own : ℕ) (msg : Message) → leaf < 2 ^ 4 → own < 2 ^ 4 → IsRead msg → AreSigned w phase →
     claims basic q 3 msg ≡ four phase leaf own msg →
     IsCredible hotstuff q (Verifies q) (IsSigned hotstuff q w) 3 msg
@@ -221,7 +221,7 @@ shows-come w phase leaf own msg few small read signed e = record { named = omega
     given c (inr (inr (inr (inl k)))) r = never (ap (λ (z : Claim). is_correct setup z.by.0) (sym k) ∙ r)
     given c (inr (inr (inr (inr k)))) r = absurd k
 
--- the leader's proposal, which claims its own signature alone
+-- the leader's proposal, which claims only its own signature
 proposal-comes : (w : World Message) → IsCredible hotstuff q (Verifies q) (IsSigned hotstuff q w) 3 m1
 proposal-comes w = record { named = omega arith; read = read1; verified = check; signed = given }
   where
@@ -233,7 +233,7 @@ proposal-comes w = record { named = omega arith; read = read1; verified = check;
     given c (inl k) r = never (ap (λ (z : Claim). is_correct setup z.by.0) (sym k) ∙ r)
     given c (inr k) r = absurd k
 
--- a vote that stands in a node's list was signed
+-- a vote in a replica's history was signed
 signed-by : (w : World Message) (k : ℕ) (x : Item Message) (phase leaf : ℕ) → In x (w k) → x.made.sends ≡ sent k phase leaf → IsSigned hotstuff q w k (states phase)
 signed-by w k x phase leaf h e = record {
   item = x;
@@ -325,7 +325,7 @@ strings3 me = refl
 strings4 : (me : ℕ) → (makes q me (list3 me) (told m4) 3).strings ≡ []
 strings4 me = refl
 
--- one of the two
+-- one of the two strings
 abbrev IsOf : List ℕ → Type 0
 IsOf s = In s (value ∷ tree_node ∷ [])
 
@@ -398,6 +398,6 @@ premises-met = record {
   was_delivered = delivers;
 }
 
--- and what the laws give of it
+-- hence this world is a broadcast
 its-broadcast : IsBroadcast hotstuff q w7
 its-broadcast = hotstuff-safe q w7 good reached separate

@@ -1,4 +1,4 @@
--- What a node sends is read again, where all that it heard is.
+-- What a replica sends can be decoded, if everything that it received can.
 use Rattle.std.proofs.Common.{◌≡◌, ◌≤◌, ◌<◌, ℕ, zero, suc, ◌+◌, ◌*◌, ◌/◌, ◌%◌, ◌^◌, ◌==◌, ◌&&◌, ◌||◌, Bool, true, false, List, [], ◌∷◌, ◌++◌, length, Option, Some, None, refl, sym, subst, inl, inr, arith, true≢false}
 use Rattle.std.specs.Prelude.{nat_lt}
 use Rattle.std.proofs.lemmas.Bool.{ltb-true}
@@ -73,7 +73,7 @@ module _ (p : Params) (good : IsGoodParams hotstuff p) where
   abbrev pub ReadAll : List Batch → Type 0
   ReadAll bs = (b : Batch) → In b bs → IsReadBatch p b
 
-  -- a turn's number is at most that of the slots of its branch, and one
+  -- a turn's number is at most one more than the number of slots of its branch
   pub record TurnFits (t : Turn) : Type 0 where
     some : 1 ≤ t.view
     round_fits : round_of t.view ≤ 65535
@@ -210,7 +210,7 @@ module _ (p : Params) (good : IsGoodParams hotstuff p) where
       go None q = tt
       go (Some x) q = turn-new view just (Holds x) slots a b c h (batch-table p.setup.version x (g x (nth-in casts k x q)))
 
-  -- in the first round, where a further cast stands
+  -- in round 0, if there is another cast
   first-next : (s : State) (t : Turn) → Fits s → TurnFits t → Spelled (certificate p s 1 t.view t.digest) → round_of t.view ≡ 0 → MayTurn (cast_turn p (suc t.view) (certificate p s 1 t.view t.digest) t.slots (nth s.casts t.view))
   first-next s t h f c r = go (nth s.casts t.view) refl
     where

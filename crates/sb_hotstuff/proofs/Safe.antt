@@ -1,4 +1,4 @@
--- Reached worlds with separate strings are broadcasts: the facts, and what follows of them.
+-- Each reachable world is a broadcast, unless SHA-256 collides on its strings: the facts, and what follows from them.
 use Rattle.std.proofs.Common.{◌≡◌, ◌<◌, ℕ, suc, ◌+◌, ◌%◌, ◌==◌, Bool, true, false, if◌then◌else◌, List, [], ◌∷◌, Some, refl, sym, ap, ◌∙◌, subst, inl, inr, arith}
 use Rattle.std.proofs.Math.Nat.{mod-eq_of_lt}
 use Rattle.iss_base.specs.Lists.{In, nth}
@@ -142,7 +142,7 @@ module _ (p : Params) (w : World Message) (good : IsGoodParams hotstuff p) (reac
         let b = see j s y g in
         slot-agree a.whats b.whats p.slots 0 s x y (λ n u v. agree p w (acc p w) good facts sep a.view a.node b.view b.node n a.whats b.whats x y a.cert b.cert a.is_branch b.is_branch u v) a.value b.value
 
-    -- a batch that is delivered stands at a place, and a quorum accepted it there
+    -- a delivered batch has a place, and a quorum accepted it there
     record Rests (s : Slot) (b : Batch) : Type 0 where
       place : ℕ
       slot : nth p.slots place ≡ Some s
@@ -183,14 +183,14 @@ module _ (p : Params) (w : World Message) (good : IsGoodParams hotstuff p) (reac
     first-leader : (n l : ℕ) → l < n → (l + 0) % n ≡ l
     first-leader n l h = ap (λ (z : ℕ). z % n) (plus-none l) ∙ mod-eq_of_lt h
 
-    -- the first vote of a batch was for a proposal of the segment's leader
+    -- the prepare vote for a batch answered a proposal of the segment's leader
     record IsProposal (b : Batch) (parent : List ℕ) : Type 0 where
       view : ℕ
       just : Certificate
       parent_is : digest_of just ≡ parent
       signed : is_correct p.setup p.leader.0 ≡ true → IsSigned hotstuff p w p.leader.0 (own_statement basic p (Prepare view (Holds b) just []))
 
-    -- a proposal of a batch that a node takes, a correct leader of the segment signed
+    -- a correct leader of the segment signed each proposal of a batch that a replica takes
     pub leader-signed : (k : ℕ) (x : Item Message) (s : State) (from : NodeId) (v : ℕ) (b : Batch) (just : Certificate) (sig : List ℕ) → In x (w k) → x.input ≡ Receive from (Prepare v (Holds b) just sig) →
         may_prepare p s from.0 v (Holds b) just ≡ true → is_correct p.setup p.leader.0 ≡ true → IsSigned hotstuff p w p.leader.0 (own_statement basic p (Prepare v (Holds b) just []))
     leader-signed k x s from v b just sig h e may correct =
@@ -215,7 +215,7 @@ module _ (p : Params) (w : World Message) (good : IsGoodParams hotstuff p) (reac
         let may = subst (λ (z : Content). may_prepare p s f.from.0 v z f.just ≡ true) same.1 f.may in
         record { view = v; just = f.just; parent_is = same.0; signed = leader-signed k h.item s f.from v b f.just f.sig h.taken is may }
 
-    -- what a node took up to an item of its list
+    -- the history of a replica up to one of its entries
     part : (k : ℕ) (x : Item Message) (older : List (Item Message)) → Front (x ∷ older) (w k) → IsPart p w good legal voted k (x ∷ older)
     part k x older f = record {
       heard = front-heard k (x ∷ older) (w k) f (heard-reached hotstuff hotstuff-lawful p good w reached k);
@@ -229,7 +229,7 @@ module _ (p : Params) (w : World Message) (good : IsGoodParams hotstuff p) (reac
         front-heard me a (y ∷ l) (inl q) h = subst (λ (z : List (Item Message)). AreHeard hotstuff p me z) (sym q) h
         front-heard me a (y ∷ l) (inr g) h = front-heard me a l g h.2
 
-    -- what a correct leader signed as a proposal is its cast at the place behind the node's branch
+    -- a proposal that a correct leader signed holds its cast at the place after the parent's branch
     pub proposed-cast : (l v : ℕ) (just : Certificate) (b : Batch) (parent : List ℕ) (below : List Content) → is_correct p.setup l ≡ true → IsSigned hotstuff p w l (own_statement basic p (Prepare v (Holds b) just [])) →
         digest_of just ≡ parent → Has p.setup.version (IsString w) parent (Holds b) → Leads p w parent root below → IsCast p w good legal voted l (filled below) b
     proposed-cast l v just b parent below correct signed e has leads =

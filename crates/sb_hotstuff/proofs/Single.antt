@@ -1,4 +1,4 @@
--- What a legal world tells of single nodes: what stands behind a vote, and the tree of each list.
+-- What a legal world implies for single replicas: the cause of each vote, and the tree of each history.
 use Rattle.std.proofs.Common.{◌≡◌, ◌<◌, ℕ, ◌==◌, ◌&&◌, ◌||◌, Bool, true, false, if◌then◌else◌, List, [], ◌∷◌, ◌++◌, length, Option, Some, None, refl, sym, ap, ◌∙◌, subst, inl, inr, ◌⊎◌, true≢false, arith}
 use Rattle.std.specs.Prelude.{nat_lt}
 use Rattle.std.proofs.lemmas.Bool.{lt-ltb, ltb-true}
@@ -106,11 +106,11 @@ spot p me xs x made k =
 abbrev pub acc : Params → World Message → ℕ → ℕ → Batch → Type 0
 acc p w j k b = (s : Slot) × (nth p.slots k ≡ Some s) × In {A = Slot × Batch} (s, b) (accepts (w j))
 
--- a vote that a correct node signed, it sent as a message of its own
+-- each vote that a correct replica signed, it also sent
 abbrev pub AreVoted : Params → World Message → Type 0
 AreVoted p w = (i phase view : ℕ) (d : List ℕ) → is_correct p.setup i ≡ true → IsSigned hotstuff p w i (vote_statement basic p phase view d) → IsVoted w i phase view d
 
--- a message that came to a node
+-- a message that may be received
 abbrev pub Came : Params → World Message → ℕ → Message → Type 0
 Came p w from msg = IsCredible hotstuff p (Verifies p) (IsSigned hotstuff p w) from msg
 
@@ -160,7 +160,7 @@ module _ (p : Params) (w : World Message) (good : IsGoodParams hotstuff p) (lega
   by-certificate phase view Root h g b = absurd (true≢false (sym h))
   by-certificate phase view (Votes v q d votes) h g b = by-votes phase view q v d votes h g b
 
-  -- a good certificate in a message that came
+  -- a valid certificate in a message that was received
   pub came-certified : (phase view from : ℕ) (msg : Message) → Came p w from msg → is_good p phase view (inside msg) ≡ true → IsCertified p w phase view (digest_of (inside msg))
   came-certified phase view from msg m h = by-certificate phase view (inside msg) (good-is p phase view (inside msg) h).quorum
       (λ c k. m.verified c (in_left c (certificate_claims basic p (inside msg)) _ k)) (λ c k. m.signed c (in_left c (certificate_claims basic p (inside msg)) _ k))
@@ -208,7 +208,7 @@ module _ (p : Params) (w : World Message) (good : IsGoodParams hotstuff p) (lega
   value-in : (what : Content) (v : Value) → value_of what ≡ Some v → In (value_string p.setup.version v) (strings_of p.setup.version (value_of what))
   value-in what v e = rw e (inl refl)
 
-  -- the strings of a node are among those of an item
+  -- the strings of a node are among those of a history's entry
   pub hashed-has : (me : ℕ) (x : Item Message) (view : ℕ) (what : Content) (just : Certificate) → In x (w me) → length (digest_of just) ≡ 32 → IsReadAgain (spell_content p.setup.version) (parse_content p.setup.version) what →
       ((z : List ℕ) → In z (strings_at p view what just) → In z x.made.strings) → Holder (digest_of just) what
   hashed-has me x view what just k long read all = record {
@@ -313,7 +313,7 @@ module _ (p : Params) (w : World Message) (good : IsGoodParams hotstuff p) (lega
   allowed-low round n b h = let a = and-true (round == 0) (nat_lt n (length p.slots)) h in (is-same round 0 a.0, ltb-true n (length p.slots) a.1)
 
   module _ (sep : Separate (IsString w)) where
-    -- what a node accepts with a first vote
+    -- the batch that a replica accepts with a prepare vote
     accepted-why : (k v : ℕ) (x : Item Message) (d : List ℕ) (q : In x (w k)) → (f : IsFirst p (state p k (Here k x q).older) x.input v d) → (cs : List Content) (b : Batch) → Leads p w (digest_of f.just) root cs → f.what ≡ Holds b →
         acc p w k (filled cs) b
     accepted-why k v x d q f cs b br full =
@@ -350,7 +350,7 @@ module _ (p : Params) (w : World Message) (good : IsGoodParams hotstuff p) (lega
           accepted = λ cs b br full. accepted-why k v h.item d h.taken f cs b br full;
         }
 
-    -- the proposal behind a first vote
+    -- the proposal that a prepare vote answers
     pub first-cause : (k v : ℕ) (d : List ℕ) (h : IsVoted w k 1 v d) → IsFirst p (state p k (Here k h.item h.taken).older) h.item.input v d
     first-cause k v d h = go (cause-new p k h.item (Here k h.item h.taken).older 1 v d (Here k h.item h.taken).made h.vote) refl
       where

@@ -1,4 +1,4 @@
--- What the code of a step owes, where its rule did what the definitions do.
+-- The effects of a step of the code are the model's, if its rule did what the model says.
 use Rattle.std.proofs.Common.{◌≡◌, ℕ, ◌+◌, ◌<◌, ◌≤◌, ◌&&◌, ◌||◌, Bool, true, false, if◌then◌else◌, List, [], ◌++◌, length, take, drop, Option, Some, None, is_some, refl, sym, ap, subst, ◌∙◌, true≢false, arith}
 use Rattle.std.specs.Prelude.{IfSome, IsTrue, ◌↔◌}
 use Rattle.std.proofs.lemmas.List.{length-append}
@@ -166,7 +166,7 @@ module _ (p : Params) (good : IsGoodParams hotstuff p) (m n : HotStuff) (i : Inp
     enough = enough;
   }
 
--- nothing is decided anew
+-- no new decision
 module _ (p : Params) (m : HotStuff) (i : Input Message) (e : Effects Message) (nothing : e.delivers ≡ []) (quiet : (me : ℕ) (xs : List (Item Message)) → Refines m p me xs → (k : ℕ) → decides p (state p me xs) i k ≡ None)
     (me : ℕ) (xs : List (Item Message)) (st : Refines m p me xs) where
   still : (k : ℕ) → first_of (decided p me xs k) (decides p (state p me xs) i k) ≡ decided p me xs k
@@ -299,7 +299,7 @@ unprepared-step p good m keys e enough nothing from view what just sig b nope ma
     not-may : (me : ℕ) (xs : List (Item Message)) → Refines m p me xs → may_prepare p (state p me xs) from.0 view what just ≡ false
     not-may me xs st = sym (may (state p me xs) st.keeps) ∙ nope
 
--- a certificate of the last phase
+-- a commitQC
 module _ (p : Params) (good : IsGoodParams hotstuff p) (m : HotStuff) (keys : KeyState) (e : Effects Message) (enough : 2 ≤ left_of keys) (sends : e.sends ≡ []) (accepted : e.accepted ≡ None) (hashed : e.hashed ≡ [])
     (from : NodeId) (view : ℕ) (shown : Certificate) (sig : List ℕ) (b : Bool) (may : (s : State) → RefinesState m.node s → b ≡ (is_good p 3 view shown && is_known s.tree (digest_of shown))) where
   abbrev said : Input Message

@@ -1,4 +1,4 @@
--- What an input makes of the code's state.
+-- Each input changes the code's state as the model says.
 use Rattle.std.proofs.Common.{◌≡◌, ℕ, ◌==◌, Bool, true, false, if◌then◌else◌, List, [], ◌∷◌, ◌++◌, Option, Some, None, refl, sym, ap, ◌∙◌, subst, append-nil}
 use Rattle.std.specs.Prelude.{not, ◌&&◌}
 use Rattle.iss_request.specs.declared.ids.NodeId.{NodeId}
@@ -32,7 +32,7 @@ use Rattle.hs_tree.specs.Known.{Keeps}
 use Rattle.hs_tree.specs.Tree.{Node as Tree_node}
 use Rattle.sb_hotstuff.proofs.Turning.{node-is, strings-are}
 
--- the parts of a step, put together
+-- the parts of a step, composed
 module _ (p : Params) (old new : Node) (s : State) (i : Input Message) (o : Outcome) where
   pub does : (k : State) (t : Option Turn) (xs : List (To × Message)) (ss : List (List ℕ)) → kept p old.me.0 s i ≡ k → proposed p old.me.0 s k i ≡ t → answers p s k i ≡ xs → taken_of p s i ≡ ss → new.me ≡ old.me → RefinesState new (with_turn k t) →
       AreDrafts p o.answer xs → AreDrafts p o.proposal (proposals t) → o.hashed ≡ ss ++ turn_strings p t → Does p old new s i o
@@ -50,7 +50,7 @@ module _ (p : Params) (old new : Node) (s : State) (i : Input Message) (o : Outc
   none : (a : Option Draft) → a ≡ None → AreDrafts p a []
   none a e = subst (λ (z : Option Draft). AreDrafts p z []) (sym e) refl
 
-  -- a proposal alone
+  -- only a proposal
   pub led : (mid : Node) (k : State) (t : Option Turn) → kept p old.me.0 s i ≡ k → proposed p old.me.0 s k i ≡ t → answers p s k i ≡ [] → taken_of p s i ≡ [] → mid.me ≡ old.me → Proposes p mid new k t o → Does p old new s i o
   led mid k t ek et ea es me d = does k t [] [] ek et ea es (d.node ∙ me) d.state (none o.answer d.answer) d.proposal d.hashed
 

@@ -1,4 +1,4 @@
--- The test of a proposal, part by part.
+-- The code's test of a proposal is the model's.
 use Rattle.std.proofs.Common.{◌≡◌, ℕ, Bool, true, false, ◌&&◌, ◌||◌, List, refl, sym, ap, ◌∙◌}
 use Rattle.std.specs.Prelude.{nat_lt}
 use Rattle.iss_base.specs.Lists.{same_bytes}

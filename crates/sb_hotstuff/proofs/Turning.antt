@@ -1,4 +1,4 @@
--- What a turn that is proposed makes of the code's state.
+-- A new turn changes the code's state as the model says.
 use Rattle.std.proofs.Common.{◌≡◌, ◌≤◌, ◌<◌, ℕ, ◌+◌, ◌*◌, ◌%◌, ◌/◌, ◌^◌, ◌==◌, Bool, true, false, if◌then◌else◌, List, [], ◌∷◌, ◌++◌, Option, Some, None, refl, sym, ap, ◌∙◌, subst, arith}
 use Rattle.std.specs.Prelude.{min, suc, nat_lt, nat_le, length, ◌&&◌}
 use Rattle.iss_base.proofs.Lists.{eqb-same}
