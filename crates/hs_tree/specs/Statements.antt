@@ -80,5 +80,5 @@ certificate_claims form p (Votes view phase d votes) = vote_claims (vote_stateme
 -- the votes of the certificate in the message, then the sender's own signature
 -- rule: HotStuff: A message claims the votes of its certificate, then its sender's signature
 abbrev pub claims : Form → Params → ℕ → Message → List Claim
-claims form p from msg = certificate_claims form p (inside msg) ++ claim from (own_statement form p msg)
-    (signature_of msg) ∷ []
+claims form p from msg =
+    certificate_claims form p (inside msg) ++ claim from (own_statement form p msg) (signature_of msg) ∷ []

@@ -48,7 +48,7 @@ vote_read : parse 1 (4 ∷ 0 ∷ 2 ∷ 1 ∷ 9 ∷ []) ≡ Good (Vote 2 true) (9
 unfolding parse parse_vote parse_flag such_that byte number done ◌>>=◌
 vote_read = refl
 
--- message numbers 0 and 5, the flag 2, a fourth kind of entry, and the value nil in a batch are refused
+-- message numbers 0 and 5, the flag 2, a fourth kind of content, and the value nil in place of a batch are refused
 no_number : (parse 1 (0 ∷ 0 ∷ 2 ∷ 1 ∷ []) ≡ Bad 0) × (parse 1 (5 ∷ 0 ∷ 2 ∷ 1 ∷ []) ≡ Bad 0)
 unfolding parse such_that byte ◌>>=◌
 no_number = (refl, refl)

@@ -1,4 +1,4 @@
--- Agreement, from legal lists and ballots.
+-- Agreement, for legal histories and valid ballots.
 use Rattle.std.proofs.Common.{◌≡◌, ℕ, List, ◌∷◌, sym, subst, ap, ◌∙◌, inl, inr, Some, true≢false}
 use Rattle.iss_base.specs.Lists.{In}
 use Rattle.iss_request.specs.declared.requests.Value.{Value}

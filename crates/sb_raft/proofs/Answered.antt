@@ -1,4 +1,4 @@
--- A leader's matches are what other nodes answered while it led the term.
+-- A leader's match indices are what other nodes replied while it led the term.
 use Rattle.std.proofs.Common.{◌≡◌, ℕ, ◌≤◌, ◌==◌, ◌&&◌, ◌||◌, not, Bool, true, false, cond, if◌then◌else◌, List, [], ◌∷◌, length, refl, sym, subst, ap, ◌∙◌, inl, inr, ◌⊎◌, true≢false, eq-eqb, arith}
 use Rattle.std.specs.Prelude.{max, nat_le, nat_lt}
 use Rattle.std.proofs.lemmas.Bool.{and_parts, cases_lt, eqb-true, le-leb, leb-true, ltb-true, or_cases}
@@ -26,14 +26,14 @@ same-is a b e = eq-eqb a b e
 pub leads-is : (r : Role) → r ≡ Leader → is_leader r ≡ true
 leads-is r e = ap is_leader e
 
--- two roles at once
+-- no node has two roles
 pub no-role : (r a b : Role) (A : Type 0) → r ≡ a → r ≡ b → is_leader a ≡ false → is_leader b ≡ true → A
 no-role r a b A h k f t = absurd (true≢false (sym t ∙ (ap is_leader (sym k ∙ h) ∙ f)))
 
 pub or_left_true : (a b : Bool) → a ≡ true → (a || b) ≡ true
 or_left_true a b e = ap (λ (z : Bool). z || b) e
 
--- an answer, part by part
+-- the fields of such a Reply
 record IsAnswer (t i k long : ℕ) (input : Input Message) : Type 0 where
   pub from : NodeId
   pub index : ℕ
@@ -79,7 +79,7 @@ raised-same s = go (nat_lt s.term s.term) refl
 set-here : (g : ℕ → ℕ) (j x k : ℕ) → j ≡ k → set_at g j x k ≡ x
 set-here g j x k e = ap (λ (b : Bool). cond b x (g k)) (same-is k j (sym e))
 
--- an answer of another node counts at once
+-- a Reply of another node counts at once
 answers-now : (p : Params) (me : ℕ) (s : State) (i k : ℕ) (input : Input Message) → s.role ≡ Leader → not (k == me) ≡ true → is_answer s.term i k (length s.log) input ≡ true → i ≤ (next p me s input).matched k
 answers-now p me s i k input r ne h =
     let a = answer-parts s.term i k (length s.log) input h in
@@ -105,7 +105,7 @@ set-rises g j x k = go (k == j) refl
     go true q = let e = ap g (eqb-true k j q) in omega (arith, e)
     go false q = omega arith
 
--- a leader's matches do not fall while it leads
+-- a leader's match indices never decrease while it leads
 matches-rise : (p : Params) (me : ℕ) (s : State) (i : Input Message) (v : State) → s.role ≡ Leader → v.role ≡ Leader → Handled p me s i v → (k : ℕ) → s.matched k ≤ v.matched k
 matches-rise p me s i v r q (none e) k = let m = ap (λ (z : State). z.matched k) e in omega (arith, m)
 matches-rise p me s i v r q (down e) k = no-role v.role Follower Leader _ (ap (λ (z : State). z.role) e) q refl refl
@@ -119,7 +119,7 @@ matches-rise p me s i v r q (casts n x ei mc e) k = let m = ap (λ (z : State). 
 matches-rise p me s i v r q (times ei f e) k = absurd (true≢false (sym (leads-is s.role r) ∙ f))
 matches-rise p me s i v r q (alone ei f n e) k = absurd (true≢false (sym (leads-is s.role r) ∙ f))
 
--- what a match comes from
+-- the origin of a match index
 data Comes (p : Params) (me : ℕ) (s : State) (i : Input Message) (v : State) (k : ℕ) : Type 0 where
   anew : v.matched k ≡ 0 → Comes p me s i v k
   stays : s.role ≡ Leader → s.term ≡ v.term → v.matched k ≡ s.matched k → Comes p me s i v k
@@ -155,7 +155,7 @@ comes-level p me s i v q (casts n x ei mc e) k = stays (sym (ap (λ (z : State).
 comes-level p me s i v q (times ei f e) k = no-role v.role Candidate Leader _ (ap (λ (z : State). z.role) e) q refl refl
 comes-level p me s i v q (alone ei f n e) k = anew (ap (λ (z : State). z.matched k) e)
 
--- a step that raised the term before found a follower
+-- a step that raised the term started from a follower
 module _ (p : Params) (me : ℕ) (s : State) (i : Input Message) where
   level-of : (A : Type 0) → s.role ≡ Leader → (next p me s i).term ≡ s.term → (Handled p me s i (next p me s i) → A) → A
   level-of A r t f = go (next_cases p me s i)
@@ -188,7 +188,7 @@ module _ (p : Params) (me : ℕ) (s : State) (i : Input Message) where
 -- ---- all items
 
 module _ (p : Params) (me : ℕ) where
-  -- an answer came to the leader of the term
+  -- the Reply was received by the leader of the term
   answered-led : (t i k : ℕ) (xs : List (Item Message)) → has_answered p me t i xs k ≡ true → (m : List Entry) × LeadIn p me xs t m
   answered-led t i k [] h = absurd (true≢false (sym h))
   answered-led t i k (x ∷ xs) h = elim (or_cases (leads_term p me xs t && is_answer t i k (length (raft_log p me xs)) x.input) (has_answered p me t i xs k) h) [
@@ -200,7 +200,7 @@ module _ (p : Params) (me : ℕ) where
     | inr a ↦ let r = answered-led t i k xs a in (r.0, inr r.1)
   ]
 
-  -- an answer at or above an index raises the match so far
+  -- a Reply at or above an index raises the match index to it
   pub answered-matched : (xs : List (Item Message)) (i k : ℕ) → (state p me xs).role ≡ Leader → not (k == me) ≡ true → has_answered p me (state p me xs).term i xs k ≡ true → i ≤ (state p me xs).matched k
   answered-matched [] i k r ne h = absurd (true≢false (sym h))
   answered-matched (x ∷ xs) i k r ne h =
@@ -224,7 +224,7 @@ module _ (p : Params) (me : ℕ) where
       old ih l a (wins e b c j f g n own o q) = absurd (cand_never p me xs l.0 b (subst (λ (z : ℕ). LeadIn p me xs z l.0) (sym c) l.1))
       old ih l a (wins_alone e b c d n own f o) = let low = (lead_term p me xs (state p me (x ∷ xs)).term l.0 l.1).0 in absurd (omega (arith, low, b))
 
-  -- and each match was answered
+  -- each match index was replied
   pub matched-answered : (xs : List (Item Message)) (i k : ℕ) → (state p me xs).role ≡ Leader → 1 ≤ i → i ≤ (state p me xs).matched k → another_answered p me (state p me xs).term i xs k ≡ true
   matched-answered [] i k r one h = absurd (omega (arith, one, h))
   matched-answered (x ∷ xs) i k r one h = go (matched-answered xs i k) (comes p me (state p me xs) x.input r k)

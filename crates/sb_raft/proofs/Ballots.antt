@@ -1,5 +1,5 @@
--- What holds of every world of Raft besides that its lists are legal: a counted vote was given before its voter took an
--- Append of the term. Single lists would allow a leader that its own followers elect.
+-- An invariant of reachable worlds besides legal histories: a counted vote was granted before its voter took an Append
+-- of the term. Single histories would allow a leader that is elected by its own followers.
 use Rattle.std.proofs.Common.{◌≡◌, ℕ, true, List, [], ◌∷◌}
 use Rattle.iss_sb.specs.declared.effects.Input.TheVariants.{Receive}
 use Rattle.iss_sb.specs.declared.effects.Params.{Params}
@@ -10,12 +10,12 @@ use Rattle.raft_wire.specs.declared.messages.Message.TheVariants.{AskVote}
 use Rattle.sb_raft.specs.Raft.{state}
 use Rattle.sb_raft.specs.Rules.{Leader, grants, raised}
 
--- no item changed the log in the term
+-- the log did not change in the term
 abbrev pub IsStill : Params → ℕ → ℕ → List (Item Message) → Type 0
 IsStill p me t [] = Unit {0}
 IsStill p me t (x ∷ xs) = ((state p me (x ∷ xs)).term ≡ t → (state p me (x ∷ xs)).log ≡ (state p me xs).log) × IsStill p me t xs
 
--- a vote that k gave to j in the term, before k took an Append of it
+-- k granted j its vote in term t, before k took an Append of that term
 pub record Ballot (p : Params) (w : World Message) (j k t : ℕ) : Type 0 where
   pub item : Item Message
   pub before : List (Item Message)
@@ -26,6 +26,6 @@ pub record Ballot (p : Params) (w : World Message) (j k t : ℕ) : Type 0 where
   pub granted : grants (raised (state p k before) t) j t last last_term ≡ true
   pub still : IsStill p k t before
 
--- whoever a leader counts besides itself gave it such a vote
+-- each other node that a leader counts granted it such a vote
 abbrev pub Ballots : Params → World Message → Type 0
 Ballots p w = (j : ℕ) (a : List (Item Message)) → Front a (w j) → (state p j a).role ≡ Leader → (k : ℕ) → (state p j a).granted k ≡ true → (k ≡ j → ⊥) → Ballot p w j k (state p j a).term

@@ -1,4 +1,4 @@
--- A batch in a log was accepted by the leader of term 1, at the slot that its place holds.
+-- Each batch in a log was accepted by the leader of term 1, at the slot of its place.
 use Rattle.std.proofs.Common.{◌≡◌, ℕ, zero, suc, ◌<◌, ◌≤◌, ◌==◌, Bool, true, false, cond, if◌then◌else◌, List, [], ◌∷◌, ◌++◌, length, refl, sym, subst, ap, ◌∙◌, ◌⊎◌, inl, inr, Some, arith}
 use Rattle.std.proofs.lemmas.Bool.{eqb-true}
 use Rattle.iss_base.specs.Lists.{In, nth}
@@ -132,7 +132,7 @@ module _ (p : Params) (w : World Message) (inv : Inv p w) where
         omega arith
   ]
 
-  -- a later leader adds no batch
+  -- a leader of a later term adds no batch
   pub later-plain : (k : ℕ) (l : List (Item Message)) → Front l (w k) → (state p k l).role ≡ Leader → 1 < (state p k l).term → (x : Entry) (b : Batch) → In x (state p k l).log → x.term ≡ (state p k l).term → x.what ≡ Holds b → ⊥
   later-plain k [] f r t x b i e h = i
   later-plain k (y ∷ l) f r t x b i e h = go (next_cases p k (state p k l) y.input) (later-plain k l fl')

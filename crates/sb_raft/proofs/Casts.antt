@@ -1,4 +1,4 @@
--- The leader of term 1 cast what its log holds.
+-- The leader of term 1 accepted what its log has.
 use Rattle.std.proofs.Common.{◌≡◌, ℕ, Bool, true, if◌then◌else◌, List, [], ◌∷◌, ◌++◌, sym, subst, ap, ◌∙◌, inl, inr, Option, Some, None, arith}
 use Rattle.iss_base.specs.Lists.{In, nth}
 use Rattle.iss_request.specs.declared.ids.Slot.{Slot}

@@ -1,4 +1,4 @@
--- What is committed anywhere is the front of one log.
+-- All committed logs are prefixes of one log.
 use Rattle.std.proofs.Common.{if◌then◌else◌, ◌||◌, ◌≡◌, ℕ, zero, suc, ◌+◌, ◌<◌, ◌≤◌, Bool, true, false, cond, List, [], ◌∷◌, ◌++◌, length, take, drop, arith, refl, inl, inr, ◌⊎◌, sym, ◌∙◌, subst, ap, None}
 use Rattle.std.specs.Prelude.{◌==◌, nat_lt, nat_le, min}
 use Rattle.std.proofs.lemmas.Bool.{cases_lt, eqb-true, leb-true, or_cases}
@@ -24,7 +24,7 @@ use Rattle.sb_raft.proofs.Histories.{lead_front, lead_here}
 use Rattle.sb_raft.proofs.Elections.{LeadOf, histories, mom, older, front_tail, legal_front, append_lead, append_sent, take_drop, take_count, previous, term_last, facts}
 use Rattle.sb_raft.proofs.Matches.{Commit, same, counted, copied, commit, matches}
 
--- fronts of lists
+-- prefixes of lists
 
 pub pre_take : (c : ℕ) (xs : List Entry) → Prefix (take c xs) xs
 pre_take zero xs = tt
@@ -107,7 +107,7 @@ module _ (p : Params) (w : World Message) (inv : Inv p w) where
   pub good_at : (k : ℕ) (l : List (Item Message)) → Front l (w k) → Good (LeadOf p w) (state p k l).log
   good_at k l f = (all_fine p.setup.f (LeadOf p w) (histories p w) (facts p w inv) k (mom p k l) (older p k l) (front_tail p k l (w k) f)).good
 
-  -- an Append that was taken is a front of the log then
+  -- after an Append was taken, what was sent is a prefix of the log
   copy_front : (k j t prev pt c : ℕ) (es : List Entry) (i : Item Message) (l : List (Item Message)) → Front (i ∷ l) (w k) → IsSent w j k (Append t prev pt c es) → t ≡ (state p k (i ∷ l)).term → prev ≤ length (state p k l).log → last_term (take prev (state p k l).log) ≡ pt → (state p k (i ∷ l)).log ≡ take prev (state p k l).log ++ merge (drop prev (state p k l).log) es → (front : List Entry) × LeadOf p w t j (front ++ es) × (length front ≡ prev) × Prefix (front ++ es) (state p k (i ∷ l)).log
   copy_front k j t prev pt c es i l f h et n e el =
       let q = append_lead p w inv j k t prev pt c es h in
@@ -126,7 +126,7 @@ module _ (p : Params) (w : World Message) (inv : Inv p w) where
       } in
       (q.0, q.1, q.2, copied_has p.setup.f (LeadOf p w) (histories p w) (facts p w inv) (mom p k (i ∷ l)) (mom p k l) (good_at k l fl) (λ j m a. (all_lead p.setup.f (LeadOf p w) (histories p w) (facts p w inv) (state p k (i ∷ l)).term j m a).0) cp)
 
-  -- who answered holds the log up to that index
+  -- a node that replied ok held the log up to that index
   answered : (k j t x : ℕ) → IsSent w k j (Reply t true x) → (a : List (Item Message)) × Front a (w k) × ((state p k a).term ≡ t) × ((m : List Entry) × LeadOf p w t j m × (length m ≡ x) × Prefix m (state p k a).log)
   answered k j t x h = let q = inv.justified k j (Reply t true x) h in go q.0 q.1 q.2
     where
@@ -162,7 +162,7 @@ module _ (p : Params) (w : World Message) (inv : Inv p w) where
               by true = refl
               by false = refl
 
-  -- a leader counts who holds the log, and commits
+  -- a leader counts the holders of an index, and commits
   counted_done : (me : ℕ) (l : List (Item Message)) (c : ℕ) → Front l (w me) → (state p me l).role ≡ Leader → 1 ≤ c → c ≤ length (state p me l).log → last_term (take c (state p me l).log) ≡ (state p me l).term → p.setup.quorum ≤ count_below (λ k. (k == me) || nat_le c ((state p me l).matched k)) p.setup.n → Done (state p me l).term (take c (state p me l).log)
   counted_done me l c f r one n lt q =
       let e = take_some c (state p me l).log one n in
@@ -202,7 +202,7 @@ module _ (p : Params) (w : World Message) (inv : Inv p w) where
         ];
       }
 
-  -- an old commit in a longer log
+  -- an old commit index in a longer log
   ok_same : (k : ℕ) (i : Item Message) (l : List (Item Message)) → (state p k (i ∷ l)).commit ≡ (state p k l).commit → Prefix (state p k l).log (state p k (i ∷ l)).log → Ok k l → Ok k (i ∷ l)
   ok_same k i l e f (inl z) = inl (e ∙ z)
   ok_same k i l e f (inr s) =
@@ -234,7 +234,7 @@ module _ (p : Params) (w : World Message) (inv : Inv p w) where
   abbrev OkBelow : ℕ → Type 0
   OkBelow n = (k : ℕ) (l : List (Item Message)) → Front l (w k) → (state p k l).term < n → Ok k l
 
-  -- leaders and candidates, whose commit is not from a message of their term
+  -- leaders and candidates, whose commit index is not from a message of their term
   ok_lead : (n : ℕ) → OkBelow n → (k : ℕ) (l : List (Item Message)) → Front l (w k) → (state p k l).term < suc n → ((state p k l).role ≡ Leader) ⊎ ((state p k l).role ≡ Candidate) → Ok k l
   ok_lead n ih k [] f l r = inl refl
   ok_lead n ih k (i ∷ l) f lt r =
@@ -325,7 +325,7 @@ module _ (p : Params) (w : World Message) (inv : Inv p w) where
                   let lx = x.2 in
                   let room = s.room in
                   let new : (state p k (i ∷ l)).commit ≡ min c (prev + length es) = omega arith in
-                  -- the leader's log is the front that was sent
+                  -- the leader's log is the prefix that was sent
                   let lb = length_both cf.0 es in
                   let lbx = length_both x.0 es in
                   let ll = ap length x.1 in
@@ -354,7 +354,7 @@ module _ (p : Params) (w : World Message) (inv : Inv p w) where
   ok_below zero k l f lt = absurd (omega arith)
   ok_below (suc n) k l f lt = ok_at n (ok_below n) k l f lt
 
-  -- what a node has committed stands in the log of each leader of a later term
+  -- what a node has committed is in the log of each leader of a later term
   pub committed_kept : (i j : ℕ) (a : List (Item Message)) (t : ℕ) (m : List Entry) → Front a (w i) → LeadOf p w t j m → (state p i a).term < t → Prefix (take (state p i a).commit (state p i a).log) m
   committed_kept i j a t m f lead later = go (ok_below (suc (state p i a).term) i a f (omega arith))
     where
@@ -364,7 +364,7 @@ module _ (p : Params) (w : World Message) (inv : Inv p w) where
           let low = x.low in
           pre_trans _ x.front m x.stands (completeness p.setup.f (LeadOf p w) (histories p w) (facts p w inv) x.term t j x.front m (omega (arith, low, later)) x.done lead)
 
-  -- what two nodes have committed, at any two moments: the one is the front of the other
+  -- of two committed logs, at any two times, one is a prefix of the other
   pub committed_agree : (i j : ℕ) (a b : List (Item Message)) → Front a (w i) → Front b (w j) → Prefix (take (state p i a).commit (state p i a).log) (take (state p j b).commit (state p j b).log) ⊎ Prefix (take (state p j b).commit (state p j b).log) (take (state p i a).commit (state p i a).log)
   committed_agree i j a b f g = go (ok_below (suc (state p i a).term) i a f (omega arith)) (ok_below (suc (state p j b).term) j b g (omega arith))
     where

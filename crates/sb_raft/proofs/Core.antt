@@ -1,5 +1,5 @@
--- Log matching, leader completeness and agreement, from facts on single nodes. Lead t j m: node j led term t while its
--- log was m. hist k: the moments of node k, the newest first.
+-- Raft's safety argument: log matching, leader completeness and agreement, from facts on single nodes. Lead t j m: node
+-- j led term t when its log was m. hist k: the terms and logs of node k over time, newest first.
 use Rattle.std.proofs.Common.{◌≡◌, ℕ, zero, suc, ◌+◌, ◌*◌, ◌<◌, ◌≤◌, Bool, true, false, ◌&&◌, cond, List, [], ◌∷◌, ◌++◌, length, arith, refl, inl, inr, ◌⊎◌, sym, ◌∙◌, subst, ap, append_assoc}
 use Rattle.std.specs.Prelude.{◌==◌}
 use Rattle.std.proofs.lemmas.Bool.{cases_eq, cases_lt, eqb-true, and_parts}
@@ -24,7 +24,7 @@ share f t u a b =
     let z = and_parts (t r.0) (u r.0) r.2 in
     (r.0, r.1, z.0, z.1)
 
--- the front up to an entry is that of a leader of its term
+-- the log up to entry x is a prefix of a log of a leader of its term
 pub record Led (Lead : ℕ → ℕ → List Entry → Type 0) (P : List Entry) (x : Entry) : Type 0 where
   pub leader : ℕ
   pub rest : List Entry
@@ -45,7 +45,7 @@ pub record Grow (Lead : ℕ → ℕ → List Entry → Type 0) (k : ℕ) (n o : 
   pub term : OfTerm n.term own
   pub lead : Lead n.term k n.log
 
--- an Append is taken behind a place at which both logs have an entry of one term, or at the front
+-- an Append is taken after an index at which both logs have an entry of one term, or after index 0
 pub record Copy (Lead : ℕ → ℕ → List Entry → Type 0) (n o : Moment) : Type 0 where
   pub leader : ℕ
   pub old_front : List Entry
@@ -66,11 +66,11 @@ Steps Lead k [] = Unit {0}
 Steps Lead k (o ∷ []) = o.log ≡ []
 Steps Lead k (n ∷ (o ∷ r)) = Step Lead k n o × Steps Lead k (o ∷ r)
 
--- the last entry of a is not below that of b, by term and then by length
+-- a is at least as up to date as b, by last term and then by length
 pub record Newer (a b : List Entry) : Type 0 where
   pub shows : (Q : List Entry) (y : Entry) → b ≡ Q ++ (y ∷ []) → (P : List Entry) × (x : Entry) × (a ≡ P ++ (x ∷ [])) × ((y.term < x.term) ⊎ ((y.term ≡ x.term) × (length b ≤ length a)))
 
--- a vote in term u: what the voter had when it reached u
+-- a vote in term u: the voter's log when it entered u
 pub record Voted (hist : ℕ → List Moment) (k u : ℕ) (base : List Entry) : Type 0 where
   pub moment : Moment
   pub before : List Moment
@@ -84,7 +84,7 @@ pub record Won (f : ℕ) (hist : ℕ → List Moment) (u : ℕ) (base : List Ent
   pub majority : Majority f makers
   pub each : (k : ℕ) → makers k ≡ true → Voted hist k u base
 
--- how a leader came to its log: from its log before the term, and with a majority of votes
+-- how a leader came to its log: from its log before the term, with the votes of a majority
 pub record Based (f : ℕ) (hist : ℕ → List Moment) (t j : ℕ) (m : List Entry) : Type 0 where
   pub base : List Entry
   pub own : List Entry
@@ -123,7 +123,7 @@ tail_terms Lead k o r n [] s (inr t) = cc
 tail_terms Lead k o r n (m ∷ h) s (inl e) = let q : o ≡ n = cc in let g = ap (λ (z : Moment). z.term) q in omega arith
 tail_terms Lead k o r n (m ∷ h) s (inr t) = let g = tail_terms Lead k o r m h s.1 t in let l = s.0.0 in omega arith
 
--- fronts of good logs
+-- prefixes of valid logs
 
 good_front : (Lead : ℕ → ℕ → List Entry → Type 0) (a b : List Entry) → Good Lead (a ++ b) → Good Lead a
 good_front Lead a b g P x xs e = g P x (xs ++ b) (ap (λ (z : List Entry). z ++ b) e ∙ append_assoc P (x ∷ xs) b)
@@ -142,11 +142,11 @@ pub record Committed (f : ℕ) (Lead : ℕ → ℕ → List Entry → Type 0) (h
   pub each : (k : ℕ) → makers k ≡ true → (o : Moment) × (r : List Moment) × Tail (o ∷ r) (hist k) × (o.term ≡ t) × Prefix C o.log
 
 module _ (f : ℕ) (Lead : ℕ → ℕ → List Entry → Type 0) (hist : ℕ → List Moment) (facts : Facts f Lead hist) where
-  -- two leader logs of one term
+  -- two logs of the leader of one term
   pub leads : (t i j : ℕ) (m n : List Entry) → Lead t i m → Lead t j n → Prefix m n ⊎ Prefix n m
   leads t i j m n a b = facts.chain t j m n (subst (λ (z : ℕ). Lead t z m) (facts.one t i j m n a b) a) b
 
-  -- equal terms at equal places: equal fronts
+  -- log matching: entries of equal terms at equal indices have equal prefixes
   pub matching : (P Q : List Entry) (x y : Entry) → Led Lead P x → Led Lead Q y → length P ≡ length Q → x.term ≡ y.term → (P ≡ Q) × (x ≡ y)
   matching P Q x y a b l e =
       elim (leads x.term a.leader b.leader (P ++ (x ∷ a.rest)) (Q ++ (y ∷ b.rest)) a.lead (subst (λ (z : ℕ). Lead z b.leader (Q ++ (y ∷ b.rest))) (sym e) b.lead)) [
@@ -154,7 +154,7 @@ module _ (f : ℕ) (Lead : ℕ → ℕ → List Entry → Type 0) (hist : ℕ �
         | inr p ↦ let r = pre_rest _ _ p in same_split P Q x y a.rest (b.rest ++ r.0) (r.1 ∙ append_assoc Q (y ∷ b.rest) r.0) l
       ]
 
-  -- merging gives the one log or the other
+  -- merging gives one log or the other
   merged : (xs es P : List Entry) → Good Lead (P ++ xs) → Good Lead (P ++ es) → (P ++ merge xs es ≡ P ++ xs) ⊎ (P ++ merge xs es ≡ P ++ es)
   merged [] [] P g h = inl refl
   merged [] (e ∷ es) P g h = inr refl
@@ -175,7 +175,7 @@ module _ (f : ℕ) (Lead : ℕ → ℕ → List Entry → Type 0) (hist : ℕ �
             | inr a ↦ inr (sym (snoc x (merge xs es)) ∙ (a ∙ (snoc x es ∙ ap (λ (z : Entry). P ++ (z ∷ es)) same)))
           ]
 
-  -- and what was sent is a front of it
+  -- and what was sent is a prefix of it
   merged_has : (xs es P : List Entry) → Good Lead (P ++ xs) → Good Lead (P ++ es) → Prefix (P ++ es) (P ++ merge xs es)
   merged_has [] [] P g h = pre_refl (P ++ [])
   merged_has [] (e ∷ es) P g h = pre_refl (P ++ (e ∷ es))
@@ -197,7 +197,7 @@ module _ (f : ℕ) (Lead : ℕ → ℕ → List Entry → Type 0) (hist : ℕ �
           let h' = subst (λ (z : List Entry). Good Lead z) (sym (snoc x es)) (subst (λ (z : Entry). Good Lead (P ++ (z ∷ es))) (sym same) h) in
           subst (λ (z : Entry). Prefix (P ++ (z ∷ es)) (P ++ (x ∷ merge xs es))) same (subst (λ (z : List Entry). Prefix z (P ++ (x ∷ merge xs es))) (snoc x es) (subst (λ (z : List Entry). Prefix ((P ++ (x ∷ [])) ++ es) z) (snoc x (merge xs es)) (r g' h')))
 
-  -- what a copy leaves: the old log, or the leader's
+  -- an Append leaves the old log or makes it the leader's
   pub record Copied (n o : Moment) : Type 0 where
     pub leader : ℕ
     pub log : List Entry
@@ -263,7 +263,7 @@ module _ (f : ℕ) (Lead : ℕ → ℕ → List Entry → Type 0) (hist : ℕ �
   unfolding copied
   copied_has n o g h c = (copied n o g h c).has
 
-  -- all logs are good
+  -- all logs are valid
 
   pub record Fine (o : Moment) : Type 0 where
     pub good : Good Lead o.log
@@ -348,7 +348,7 @@ module _ (f : ℕ) (Lead : ℕ → ℕ → List Entry → Type 0) (hist : ℕ �
   in_last : (P : List Entry) (x : Entry) → In x (P ++ (x ∷ []))
   in_last P x = in_right x P (x ∷ []) (inl refl)
 
-  -- C stays in a holder's log until it reaches term u
+  -- a committed prefix stays in a holder's log until it enters term u
   kept_front : (t u k : ℕ) (C : List Entry) (c : Committed f Lead hist t C) → ((v j : ℕ) (m : List Entry) → v < u → t < v → Lead v j m → Prefix C m) → (h : Moment) (s : List Moment) → h.term ≡ t → Prefix C h.log → (o : Moment) (r : List Moment) → Tail (o ∷ r) (hist k) → Steps Lead k (o ∷ r) → Tail (h ∷ s) (o ∷ r) → o.term < u → Prefix C o.log
   kept_front t u k C c ih h s et p o r tl st (inl e) l = let q : h ≡ o = cc in subst (λ (z : Moment). Prefix C z.log) q p
   kept_front t u k C c ih h s et p o [] tl st (inr e) l = cc
@@ -417,7 +417,7 @@ module _ (f : ℕ) (Lead : ℕ → ℕ → List Entry → Type 0) (hist : ℕ �
           compare log held gl bt lb g ub w' newer =
               let Q = w'.0 in let y = w'.1 in
               let ly = gl w'.0 w'.1 [] w'.2 in
-              -- the committed entry stands in the voter's log, so its last term is not below t
+              -- the committed entry is in the voter's log, so its last term is at least t
               let c_in : In c.entry C = subst (λ (z : List Entry). In c.entry z) (sym c.is) (in_last c.front c.entry) in
               let in_log = pre_in c.entry C log held c_in in
               let in_lead : In c.entry (w'.0 ++ (w'.1 ∷ ly.rest)) = elim (in_append c.entry w'.0 (w'.1 ∷ []) (subst (λ (z : List Entry). In c.entry z) w'.2 in_log)) [
@@ -460,11 +460,11 @@ module _ (f : ℕ) (Lead : ℕ → ℕ → List Entry → Type 0) (hist : ℕ �
               head y ys (inl e) = inl e
               head y ys (inr e) = elim e [ ]
 
-  -- a committed front stands in the log of each later leader
+  -- a committed prefix is in the log of each later leader
   pub completeness : (t u j : ℕ) (C m : List Entry) → t < u → Committed f Lead hist t C → Lead u j m → Prefix C m
   completeness t u j C m l c a = complete (suc u) t u j C m (omega arith) l c a
 
-  -- two committed fronts: one is the front of the other
+  -- of two committed prefixes, one is a prefix of the other
   pub agreement : (t u : ℕ) (C D : List Entry) → Committed f Lead hist t C → Committed f Lead hist u D → Prefix C D ⊎ Prefix D C
   agreement t u C D c d = elim (cases_lt t u) [
     | inl l ↦ pre_compare C D d.log (completeness t u d.leader C d.log l c d.lead) d.stands

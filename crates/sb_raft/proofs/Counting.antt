@@ -1,4 +1,4 @@
--- What becomes of a log's counts, and what stands at an index.
+-- The log's counters, and the term at an index.
 use Rattle.std.proofs.Common.{◌≡◌, ℕ, zero, suc, ◌+◌, ◌-◌, ◌<◌, ◌≤◌, Bool, true, false, cond, List, [], ◌∷◌, ◌++◌, length, take, drop, get_or, append_assoc, append-nil, refl, sym, ap, ◌∙◌, true≢false, zero-add, arith}
 use Rattle.std.specs.Prelude.{min}
 use Rattle.std.proofs.Math.Seq.{drop-cons, take-length, take-suc}
@@ -33,7 +33,7 @@ counted-pop es rest e slots commit passed less m is lt h =
     let low : commit ≤ length rest = omega (arith, l, lt) in
     (omega (arith, f, o, m, a), low, h.2 ∙ ap (λ (z : List Entry). filled (take commit z)) is ∙ ap filled (take-append-le commit rest (e ∷ []) low))
 
--- the slots of what is taken off were counted
+-- the slots of a removed entry were counted
 pub pop-less : (es rest : List Entry) (e : Entry) (slots commit passed less : ℕ) → less ≡ length (content e.what) → es ≡ rest ++ e ∷ [] → AreCounted es slots commit passed → less ≤ slots
 pop-less es rest e slots commit passed less m is h =
     let f = ap filled is ∙ filled-both rest (e ∷ []) in
@@ -87,7 +87,7 @@ starts-longer : (xs : List Entry) (t : ℕ) → starts_with xs t ≡ true → 1 
 starts-longer [] t h = absurd (true≢false (sym h))
 starts-longer (x ∷ xs) t h = omega arith
 
--- of the entries behind index i, so many were compared
+-- this many of the entries after the index agree in term
 pub record IsRun (log es : List Entry) (index at : ℕ) : Type 0 where
   pub within : index + at ≤ length log
   pub so_far : at + same (drop (index + at) log) (drop at es) ≡ same (drop index log) es
@@ -139,7 +139,7 @@ pub nils-more : (t k : ℕ) → nils t k ++ entry t Nil ∷ [] ≡ nils t (suc k
 nils-more t zero = refl
 nils-more t (suc k) = ap (λ (z : List Entry). entry t Nil ∷ z) (nils-more t k)
 
--- one nil more behind so many
+-- one more nil
 pub nils-pushed : (start old new : LogState) (t k : ℕ) → old ≡ record start { entries = start.entries ++ nils t k } → new ≡ record old { entries = old.entries ++ entry t Nil ∷ [] } →
     new ≡ record start { entries = start.entries ++ nils t (k + 1) }
 nils-pushed start old new t k h e =

@@ -1,4 +1,4 @@
--- What is committed stays, so what is delivered is what is decided.
+-- Committed entries stay, so what is delivered is what is decided.
 use Rattle.std.proofs.Common.{◌≡◌, ℕ, zero, suc, ◌≤◌, ◌==◌, Bool, true, false, cond, if◌then◌else◌, List, [], ◌∷◌, ◌++◌, length, take, drop, append_assoc, refl, sym, subst, ap, ◌∙◌, Some, None, arith}
 use Rattle.iss_request.specs.declared.ids.Slot.{Slot}
 use Rattle.iss_request.specs.declared.requests.Value.{Value}
@@ -81,7 +81,7 @@ value-front s slots a b x f h =
     let e = ap contents r.1 ∙ contents-both a r.0 in
     subst (λ (z : List Value). value_with s slots z ≡ Some x) (sym e) (value-more s slots (contents a) (contents r.0) x h)
 
--- what is committed now begins with what was
+-- what was committed before is a prefix of what is committed now
 pub grown : (p : Params) (me : ℕ) (xs : List (Item Message)) (y : Item Message) →
     Prefix (take (state p me xs).commit (state p me xs).log) (take (state p me (y ∷ xs)).commit (state p me (y ∷ xs)).log)
 grown p me xs y = (on p me (state p me xs) y.input (state p me (y ∷ xs)) (room p me xs) (commit p me (state p me xs) y.input)).front

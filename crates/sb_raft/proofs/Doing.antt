@@ -1,4 +1,4 @@
--- What the code of a rule did, put together of what its parts did.
+-- A rule of the code does what the model's rule does, composed from its parts.
 use Rattle.std.proofs.Common.{◌≡◌, ℕ, ◌^◌, ◌<◌, Bool, List, [], ◌∷◌, length, take, drop, sym, subst, ap, ◌∙◌, Option, None, arith}
 use Rattle.std.proofs.lemmas.List.{length-drop, length-take, nil_from_length}
 use Rattle.iss_request.specs.declared.ids.NodeId.{NodeId}
@@ -19,7 +19,7 @@ use Rattle.sb_raft.specs.Refines.{Does, IsLow, IsReply, OnlySends, held, newly}
 use Rattle.iss_sb.proofs.Paired.{paired-none}
 use Rattle.sb_raft.proofs.Steps.{Raise, level, higher, raise}
 
--- functions that agree everywhere
+-- functions that agree everywhere are equal
 pub everywhere : {A : Type 0} (f g : ℕ → A) → ((k : ℕ) → f k ≡ g k) → f ≡ g
 everywhere f g h = λ i k. h k i
 
@@ -31,13 +31,13 @@ drop-taken n es =
     let t = length-take n es in
     nil_from_length (drop n (take n es)) (omega (arith, d, t))
 
--- nothing, where the commit index stays
+-- nothing, if the commit index stays
 pub newly-none : (p : Params) (s v : State) → v.commit ≡ s.commit → newly p s v ≡ []
 newly-none p s v e =
     let slots = drop (filled (take s.commit s.log)) p.slots in
     ap (λ (k : ℕ). paired slots (contents (drop s.commit (take k v.log)))) e ∙ ap (λ (z : List Entry). paired slots (contents z)) (drop-taken s.commit v.log) ∙ paired-none slots
 
--- it hangs on the committed front alone
+-- it is a function of the committed prefix
 pub newly-front : (p : Params) (s u v : State) → u.commit ≡ s.commit → take s.commit u.log ≡ take s.commit s.log → newly p u v ≡ newly p s v
 newly-front p s u v e f =
     ap (λ (k : ℕ). paired (drop (filled (take k u.log)) p.slots) (contents (drop k (take v.commit v.log)))) e
@@ -81,7 +81,7 @@ module _ (p : Params) (can : Type 0) (old new : Raft) (step : Step) (e : Effects
 
 -- ---- a rule that goes on
 
--- what was done from a state further on, of the same committed front, was done from the first one
+-- what was done from a later state with the same committed prefix was done from the first one
 pub rebased : (p : Params) (can : Type 0) (P : State → Type 0) (f : ℕ → State → Step) (old mid new : Raft) (u : State) (accepted : Option (Slot × Batch)) (e : Effects Message) →
     Does p mid.me (P (held mid)) (held mid) new (f mid.me.0 (held mid)) accepted e → mid.me ≡ old.me → (can → held mid ≡ u) → (can → P u) →
     mid.log.commit ≡ old.log.commit → take old.log.commit mid.log.entries ≡ take old.log.commit old.log.entries → Does p old.me can (held old) new (f old.me.0 u) accepted e
@@ -98,7 +98,7 @@ rebased p can P f old mid new u accepted e d me is holds stays front = record {
     path : can → f mid.me.0 (held mid) ≡ f old.me.0 u
     path c = ap (λ (n : NodeId). f n.0 (held mid)) me ∙ ap (λ (z : State). f old.me.0 z) (is c)
 
--- the same step in other words
+-- the same for an equal step
 pub restep : (p : Params) (can : Type 0) (me : NodeId) (from : State) (new : Raft) (step other : Step) (accepted : Option (Slot × Batch)) (e : Effects Message) →
     Does p me can from new step accepted e → (can → step ≡ other) → Does p me can from new other accepted e
 restep p can me from new step other accepted e d is = record {
@@ -133,7 +133,7 @@ raised-log : (s u : State) → Raise s u → (u.log ≡ s.log) × (u.commit ≡ 
 raised-log s u (level e) = (ap (λ (z : State). z.log) e, ap (λ (z : State). z.commit) e)
 raised-log s u (higher v l e) = (ap (λ (z : State). z.log) e, ap (λ (z : State). z.commit) e)
 
--- a rule that is used once the node has taken the term of a message
+-- a rule that applies after the node took over the term of a message
 pub raised-does : (p : Params) (m mid new : Raft) (t : ℕ) (f : ℕ → State → Step) (e : Effects Message) → mid.me ≡ m.me → held mid ≡ raised (held m) t →
     Does p mid.me (IsLow (held mid)) (held mid) new (f mid.me.0 (held mid)) None e → Does p m.me (IsLow (held m)) (held m) new (f m.me.0 (raised (held m) t)) None e
 raised-does p m mid new t f e me is d =

@@ -1,4 +1,4 @@
--- What a step does to term, vote, role and log.
+-- How a step changes term, vote, role and log.
 use Rattle.std.proofs.Common.{Bool, ◌≡◌, ℕ, zero, suc, ◌+◌, ◌-◌, ◌<◌, ◌≤◌, true, ◌&&◌, List, [], ◌∷◌, ◌++◌, length, take, drop, arith, refl, inl, inr, ◌⊎◌, sym, ◌∙◌, subst, ap, Option, Some, append-nil}
 use Rattle.std.specs.Prelude.{◌==◌, nat_le, max, min}
 use Rattle.std.proofs.lemmas.Bool.{eqb-true, leb-true, and_parts}
@@ -87,7 +87,7 @@ turn_level p me s i v (alone ei r n e) =
     wins_alone (ap (λ (z : State). z.role) e) (omega arith) g (ap (λ (z : State). z.vote) e) (subst (λ (z : ℕ → Bool). p.setup.quorum ≤ count_below z p.setup.n) (sym g) n)
     (filling p (candidate me s)) (ap (λ (z : State). z.log) e) (subst (λ (z : ℕ). OfTerm z (filling p (candidate me s))) (sym t) (won_term p (candidate me s)))
 
--- after a message of a higher term the node follows, but for a timeout
+-- after a message of a higher term the node is a follower, unless the input is a timeout
 turn_raised : (p : Params) (me : ℕ) (s u : State) (i : Input Message) (v : State) → s.term < u.term → u.role ≡ Follower → u.log ≡ s.log → Turn p me u i v → u.term ≤ v.term → Turn p me s i v
 turn_raised p me s u i v l r lg (follows e) m = follows e
 turn_raised p me s u i v l r lg (stands a b c d e) m = let z = sym r ∙ b in cc
@@ -131,7 +131,7 @@ turn p me s i = go (next_cases p me s i)
             let t = ap (λ (z : State). z.term) e in
             turn_raised p me s u i (next p me s i) (omega arith) (ap (λ (z : State). z.role) e) (ap (λ (z : State). z.log) e) (turn_level p me u i (next p me s i) h) (term_level p me u i (next p me s i) h)
 
--- a vote stays in its term
+-- a vote stays for its term
 vote_level : (p : Params) (me : ℕ) (s : State) (i : Input Message) (v : State) (c : ℕ) → Handled p me s i v → s.term ≡ v.term → s.vote ≡ Some c → v.vote ≡ Some c
 vote_level p me s i v c (none e) t h = ap (λ (z : State). z.vote) e ∙ h
 vote_level p me s i v c (down e) t h = ap (λ (z : State). z.vote) e ∙ h
@@ -159,7 +159,7 @@ next_vote p me s i c t h = go (next_cases p me s i)
         by u (level e) q = vote_level p me s i (next p me s i) c (subst (λ (z : State). Handled p me z i (next p me s i)) e q) t h
         by u (higher k l e) q = let a = ap (λ (z : State). z.term) e in let b = term_level p me u i (next p me s i) q in absurd (omega arith)
 
--- what becomes of the log
+-- how the log changes
 
 pub data Change (p : Params) (me : ℕ) (s : State) (i : Input Message) (v : State) : Type 0 where
   keeps : v.log ≡ s.log → Change p me s i v

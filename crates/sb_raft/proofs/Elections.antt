@@ -1,4 +1,4 @@
--- The invariant of Raft's world, and from it the facts that log matching and completeness stand on.
+-- The invariant of reachable worlds, and from it the facts that log matching and leader completeness need.
 use Rattle.std.proofs.Common.{if◌then◌else◌, ◌≡◌, ℕ, zero, suc, ◌<◌, ◌≤◌, Bool, true, false, List, [], ◌∷◌, ◌++◌, length, take, drop, arith, refl, inl, inr, ◌⊎◌, sym, ◌∙◌, subst, ap, Some, None}
 use Rattle.std.specs.Prelude.{◌==◌, nat_lt, nat_le}
 use Rattle.std.proofs.lemmas.Bool.{cases_eq, cases_lt, eqb-true, ltb-true, leb-true, and_parts, or_cases}
@@ -75,7 +75,7 @@ granted_vote p k b j t last lt h =
       ap (λ (z : Bool). (if z then answer (record (raised (state p k b) t) { vote = Some j }) j (Vote (raised (state p k b) t).term true) else answer (raised (state p k b) t) j (Vote (raised (state p k b) t).term false)).state.vote) h,
     )
 
--- majorities of votes
+-- the votes of a majority
 
 pub record Elected (p : Params) (w : World Message) (j t : ℕ) : Type 0 where
   pub makers : ℕ → Bool
@@ -116,7 +116,7 @@ module _ (p : Params) (w : World Message) (inv : Inv p w) where
     ];
   }
 
-  -- a later log is of a term above 1
+  -- the log of a later leader or candidate is of a term above 1
   pub later_term : (j : ℕ) (a : List (Item Message)) → Later p j a → 1 < (state p j a).term
   later_term j a h = let l = h.low in let o = term_one p j h.before in omega arith
 
@@ -141,7 +141,7 @@ module _ (p : Params) (w : World Message) (inv : Inv p w) where
       go a b ea eb (inr x) (inl y) = let l = later_term i a x.0 in let e = y.term in absurd (omega arith)
       go a b ea eb (inr x) (inr y) = elected_one p w i j t (subst (λ (z : ℕ). Elected p w i z) ea x.1) (subst (λ (z : ℕ). Elected p w j z) eb y.1)
 
-  -- an Append that was sent is the leader's
+  -- an Append that was sent has the leader's log
   pub append_sent : (j k t prev pt c : ℕ) (es : List Entry) → IsSent w j k (Append t prev pt c es) → (a : List (Item Message)) × Front a (w j) × ((state p j a).role ≡ Leader) × (t ≡ (state p j a).term) × (c ≤ (state p j a).commit) × ((front : List Entry) × ((state p j a).log ≡ front ++ es) × (length front ≡ prev) × (last_term front ≡ pt))
   append_sent j k t prev pt c es h = let q = inv.justified j k (Append t prev pt c es) h in go q.0 q.1 q.2
     where
@@ -205,7 +205,7 @@ module _ (p : Params) (w : World Message) (inv : Inv p w) where
   steps_front k [] f g = refl
   steps_front k (i ∷ l) f g = (step_of k i l f g.0, steps_front k l (front_trans l (i ∷ l) (w k) (inr (front_self l)) f) g.1)
 
-  -- the last moment below a term, with no change of the log after it
+  -- the last time below a term, with no change of the log after it
   below : (k t : ℕ) (b : List (Item Message)) → IsStill p k t b → (state p k b).term ≤ t → 1 < t → (d : List (Item Message)) × Front d b × ((state p k d).term < t) × ((state p k b).log ≡ (state p k d).log) × ((a : List (Item Message)) → Front a b → (state p k a).term < t → Front a d)
   below k t [] s m l = ([], refl, l, refl, λ a f q. f)
   below k t (i ∷ b) s m l = go (cases_lt (state p k (i ∷ b)).term t) (below k t b s.1)
@@ -297,7 +297,7 @@ module _ (p : Params) (w : World Message) (inv : Inv p w) where
       go [] f m = elim m [ ]
       go (i ∷ l) f m = (i ∷ l, f, m.0, m.1, m.2, m.3, inl (m.0, refl, refl))
 
-  -- a candidate's log was the base of the leader's
+  -- the candidate's log is what the leader's was based on
   base_log : (j : ℕ) (a c : List (Item Message)) → Front a (w j) → (state p j a).role ≡ Leader → (h : Later p j a) → Front c (w j) → (state p j c).role ≡ Candidate → (state p j c).term ≡ (state p j a).term → CandIn p j c (state p j c).term (state p j c).log → (state p j c).log ≡ (state p j h.before).log
   base_log j a c f r h g rc e q = elim (front_compare c a (w j) g f) [
     | inl x ↦ h.cands (state p j c).log (subst (λ (z : ℕ). CandIn p j a z (state p j c).log) e (cand_front p j c a (state p j c).term (state p j c).log x q))
@@ -378,7 +378,7 @@ module _ (p : Params) (w : World Message) (inv : Inv p w) where
     steps = λ k. steps_front k (w k) (front_self (w k)) (inv.legal k);
   }
 
-  -- where nobody leads a term, no log changes in it
+  -- if nobody leads a term, no log changes in it
   pub still_of : (t k : ℕ) → ((j : ℕ) (m : List Entry) → LeadOf p w t j m → ⊥) → (b : List (Item Message)) → Front b (w k) → HaveCome raft p w k b → IsStill p k t b
   still_of t k none [] f g = tt
   still_of t k none (i ∷ b) f g = (λ e. go e (change p k (state p k b) i.input), still_of t k none b (front_trans b (i ∷ b) (w k) (inr (front_self b)) f) g.1)

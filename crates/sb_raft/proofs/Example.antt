@@ -1,4 +1,4 @@
--- Raft on worked examples: three nodes, of which node 0 leads the slots 0 and 3.
+-- Worked examples of Raft: three nodes; node 0 leads the slots 0 and 3.
 use Rattle.std.proofs.Common.{◌≡◌, ℕ, suc, ◌+◌, Bool, true, false, if◌then◌else◌, List, [], ◌∷◌, length, Some, None, refl, ap, ◌∙◌}
 use Rattle.std.specs.Prelude.{nat_le, replicate}
 use Rattle.iss_keys.specs.Directories.{directory_of}
@@ -50,7 +50,7 @@ setup = record {
 abbrev pub p : Params
 p = record { setup = setup; epoch = record { 0 = 2 }; leader = node 0; slots = slot 0 ∷ slot 3 ∷ []; directory = directory_of 3 1 4 }
 
--- the batch of no requests
+-- the empty batch
 abbrev pub b : Batch
 b = []
 
@@ -92,11 +92,11 @@ copied = take_in 1 [] (tell 0 (Append 1 0 0 0 (e1 ∷ [])))
 copies : sends 1 [] (tell 0 (Append 1 0 0 0 (e1 ∷ []))) ≡ to 0 (Reply 1 true 1) ∷ []
 copies = refl
 
--- one reply is a quorum with the leader, which commits and says so to both
+-- one reply makes a quorum with the leader, which commits and tells both others
 commits : sends 0 cast (tell 1 (Reply 1 true 1)) ≡ to 1 (Append 1 1 1 1 []) ∷ to 2 (Append 1 0 0 1 (e1 ∷ [])) ∷ []
 commits = refl
 
--- its own reply, one past the log, and one that is there already change nothing
+-- its own reply, one after the log's end, and a repeated one change nothing
 no_reply_of_its_own : sends 0 cast (tell 0 (Reply 1 true 1)) ≡ []
 no_reply_of_its_own = refl
 
@@ -118,7 +118,7 @@ delivers = refl
 delivers_at_a_follower : delivered raft p 1 (take_in 1 copied (tell 0 (Append 1 1 1 1 []))) 0 ≡ Some (Value_batch b)
 delivers_at_a_follower = refl
 
--- an index that is sent as committed and that the Append does not reach is none yet
+-- a commit index above what the Append covers is not taken
 commits_what_it_has : (state p 1 (take_in 1 copied (tell 0 (Append 1 0 0 7 [])))).commit ≡ 0
 commits_what_it_has = refl
 
@@ -162,7 +162,7 @@ led = take_in 1 stood (tell 2 (Vote 2 true))
 abbrev pub log2 : List Entry
 log2 = e1 ∷ entry 2 Mark ∷ entry 2 Nil ∷ []
 
--- a mark, and nil for the slot that is missing. 'next' was taken before
+-- a mark, and nil for the open slot; nextIndex is from before
 wins : sends 1 stood (tell 2 (Vote 2 true)) ≡ to 0 (Append 2 1 1 0 (entry 2 Mark ∷ entry 2 Nil ∷ [])) ∷ to 2 (Append 2 1 1 0 (entry 2 Mark ∷ entry 2 Nil ∷ [])) ∷ []
 wins = refl
 
@@ -172,7 +172,7 @@ wins_log = refl
 no_vote_of_the_past : sends 1 stood (tell 2 (Vote 1 true)) ≡ []
 no_vote_of_the_past = refl
 
--- an older term's entry is not committed by counting
+-- an entry of an older term is not committed by counting
 old_by_counting : (state p 1 (take_in 1 led (tell 2 (Reply 2 true 1)))).commit ≡ 0
 old_by_counting = refl
 
@@ -188,7 +188,7 @@ keeps_the_batch = refl
 says_again : sends 1 led Timeout ≡ to 0 (Append 2 1 1 0 (entry 2 Mark ∷ entry 2 Nil ∷ [])) ∷ to 2 (Append 2 1 1 0 (entry 2 Mark ∷ entry 2 Nil ∷ [])) ∷ []
 says_again = refl
 
--- the leader of term 1 takes the higher term, and casts no more
+-- the leader of term 1 takes over the higher term, and takes no more casts
 no_cast_later : asks p 0 (take_in 0 cast (tell 1 (AskVote 2 1 1))) (Cast (slot 3) b) ≡ None
 no_cast_later = refl
 
@@ -216,11 +216,11 @@ term_taken = refl
 no_leader_more : sends 0 silent Timeout ≡ to 1 (AskVote 4 1 1) ∷ to 2 (AskVote 4 1 1) ∷ []
 no_leader_more = refl
 
--- entries that differ in term go, where they are not committed
+-- entries that differ in term are removed, if they are not committed
 removes : (state p 0 (take_in 0 cast (tell 2 (Append 3 0 0 0 (entry 3 Mark ∷ []))))).log ≡ entry 3 Mark ∷ []
 removes = refl
 
--- a late Append takes nothing away
+-- a late Append removes nothing
 stays : (state p 1 (take_in 1 led (tell 2 (Append 3 0 0 0 (e1 ∷ []))))).log ≡ log2
 stays = refl
 
@@ -235,7 +235,7 @@ refuses = refl
 sends_one_more : sends 1 led (tell 2 (Reply 2 false 1)) ≡ to 2 (Append 2 0 0 0 log2) ∷ []
 sends_one_more = refl
 
--- the same refusal once more, which is not of the Append that was sent last, and one of a lower term
+-- a repeated refusal, which is not for the last Append, and one of a lower term
 refused_once : (sends 1 refused (tell 2 (Reply 2 false 1)) ≡ []) × (sends 1 led (tell 2 (Reply 1 false 1)) ≡ [])
 refused_once = (refl, refl)
 
@@ -251,7 +251,7 @@ says_so = refl
 commits_repaired : sends 1 refused (tell 2 (Reply 2 true 3)) ≡ to 0 (Append 2 1 1 3 (entry 2 Mark ∷ entry 2 Nil ∷ [])) ∷ to 2 (Append 2 3 2 3 []) ∷ []
 commits_repaired = refl
 
--- and at node 0, where a second cast stands in the place of the mark, that cast goes
+-- at node 0, whose second cast is at the index of the mark, the cast is removed
 abbrev pub cast_twice : List (Item Message)
 cast_twice = take_in 0 cast (Cast (slot 3) b)
 
@@ -285,7 +285,7 @@ commits_at_once = refl
 abbrev pub many : Entry → List Entry → Input Message
 many e es = tell 0 (Append 1 0 0 0 (e ∷ es))
 
--- what node 2 makes of it, by whether it is short enough
+-- what node 2 does with it, by whether it is within the limit
 abbrev made : Entry → List Entry → Bool → Step
 made e es short = if short then answer (appended (start p 2) 0 0 (e ∷ es)) 0 (Reply 1 true (0 + suc (length es))) else quiet (start p 2)
 

@@ -1,4 +1,4 @@
--- How long a log can be, whatever was heard: its marks are counted.
+-- A bound on the length of a log, whatever was received: its marks are counted.
 use Rattle.std.proofs.Common.{◌≡◌, ℕ, zero, suc, ◌+◌, ◌-◌, ◌<◌, ◌≤◌, ◌==◌, Bool, true, false, cond, List, [], ◌∷◌, ◌++◌, length, refl, sym, subst, ap, ◌∙◌, arith}
 use Rattle.std.proofs.lemmas.List.{length-append}
 use Rattle.iss_request.specs.declared.requests.Value.{Value}
@@ -29,7 +29,7 @@ content-low e = go e.what
     go (Holds b) = omega arith
     go Mark = omega arith
 
--- a log fills no more slots than it has entries
+-- a log fills at most as many slots as it has entries
 pub filled-low : (log : List Entry) → filled log ≤ length log
 filled-low [] = omega arith
 filled-low (e ∷ log) =
@@ -57,7 +57,8 @@ one-more : (c : Bool) (a b t f g : ℕ) → a + cond c 1 0 ≤ 65600 + t + f →
 one-more true a b t f g h e d = omega (arith, h, e, d)
 one-more false a b t f g h e d = omega (arith, h, e, d)
 
--- the marks of a log are few: those of an Append, and one for each term since. A candidate has none of its term
+-- The marks of a log are bounded by those of one Append, plus one for each term since. A candidate has none of its
+-- term.
 pub record Few (s : State) : Type 0 where
   pub marks : length s.log + cond (is_candidate s.role) 1 0 ≤ 65600 + s.term + filled s.log
   pub full : filled s.log ≤ 65600
@@ -69,7 +70,7 @@ few-start p me = record { marks = go (me == p.leader.0); full = omega arith }
     go true = omega arith
     go false = omega arith
 
--- a follower with that log, and no lower term
+-- a follower with the same log, in no lower term
 follows : (s v : State) → Few s → s.term ≤ v.term → v.role ≡ Follower → v.log ≡ s.log → Few v
 follows s v r up role log =
     let m = no-more (is_candidate s.role) (length s.log) (65600 + s.term + filled s.log) r.marks in
@@ -88,7 +89,7 @@ same-few s v r term role log =
     }
 
 module _ (p : Params) (good : IsGoodParams raft p) (me : ℕ) where
-  -- the log with a mark and the nils that are missing
+  -- the log with a mark and the missing nils
   fills : (s v : State) → length s.log + 1 ≤ 65600 + v.term + filled s.log → filled s.log ≤ 65600 → v.role ≡ Leader → v.log ≡ s.log ++ filling p s → Few v
   fills s v marks full role log =
       let k = length p.slots - filled s.log in

@@ -1,4 +1,4 @@
--- The committed index of the rules is the greatest of what may be committed.
+-- The commit index is the greatest index that may be committed.
 use Rattle.std.proofs.Common.{◌≡◌, ℕ, zero, suc, ◌+◌, ◌≤◌, ◌<◌, ◌==◌, ◌&&◌, ◌||◌, not, Bool, true, false, if◌then◌else◌, List, [], ◌∷◌, length, refl, sym, subst, ap, ◌∙◌, inl, inr, ◌⊎◌, true≢false, arith}
 use Rattle.std.specs.Prelude.{max, min, nat_le, nat_lt}
 use Rattle.std.proofs.lemmas.Bool.{cases_lt, and_parts, eqb-true, le-leb, leb-true, lt-ltb, or_cases}
@@ -142,7 +142,7 @@ module _ (u : State) (j t prev pt c : ℕ) (es : List Entry) where
   abbrev f : State
   f = record u { role = Follower }
 
-  -- an ok tells that much
+  -- an ok implies this commit index
   append-told : IsOk (on_append u j t prev pt c es) → min c (prev + length es) ≤ (on_append u j t prev pt c es).state.commit
   append-told =
       by-both (λ (z : Step). IsOk z → min c (prev + length es) ≤ z.state.commit) (t == u.term) (taken f j prev pt c es) (answer u j (Reply u.term false prev))
@@ -153,7 +153,7 @@ module _ (u : State) (j t prev pt c : ℕ) (es : List Entry) where
       (λ g o. absurd (not-ok j j t f.term (prev + length es) prev o)))
       (λ h o. absurd (not-ok j j t u.term (prev + length es) prev o))
 
-  -- what is committed stays, or an ok was answered
+  -- the commit index stays, or an ok was replied
   append-kinds : ((on_append u j t prev pt c es).state.commit ≡ u.commit) ⊎ (IsOk (on_append u j t prev pt c es) × ((on_append u j t prev pt c es).state.commit ≡ max u.commit (min c (prev + length es))))
   append-kinds =
       by-both Kinds (t == u.term) (taken f j prev pt c es) (answer u j (Reply u.term false prev))

@@ -1,4 +1,4 @@
--- The rules of the code, each as its parts make it.
+-- The code's rules for followers, composed from their parts.
 use Rattle.std.proofs.Common.{◌≡◌, ◌≢◌, ℕ, ◌+◌, ◌^◌, ◌<◌, ◌≤◌, ◌==◌, Bool, true, false, if◌then◌else◌, List, [], ◌∷◌, length, take, drop, refl, sym, subst, ap, ◌∙◌, Option, None, inl, inr, arith}
 use Rattle.std.specs.Prelude.{max, min, nat_le}
 use Rattle.std.proofs.lemmas.Bool.{cases_lt, and_parts, leb-true}
@@ -80,7 +80,7 @@ module _ (p : Params) (m : Raft) (from term previous previous_term commit : ℕ)
 
 -- ---- entries that are put behind an index
 
--- the committed front stays
+-- the committed prefix stays
 kept-front : (log es : List Entry) (front commit : ℕ) → front ≤ length log → commit ≤ front + stay (drop front log) es → take commit (merged log front es) ≡ take commit log
 kept-front log es front commit le h =
     let l = length-take front log in
@@ -150,14 +150,14 @@ module _ (p : Params) (m new : Raft) (from previous commit : ℕ) (es : List Ent
       front : take m.log.commit (merged m.log.entries previous es) ≡ take m.log.commit m.log.entries
       front = kept-front m.log.entries es previous m.log.commit within parts.0
 
--- what a log is after a merge that answers so
+-- the log after a merge that was refused
 pub when-false : {A : Type 0} (b : Bool) (new old other : A) → b ≡ false → new ≡ (if b then other else old) → new ≡ old
 when-false b new old other h e = e ∙ ap (λ (z : Bool). if z then other else old) h
 
 pub when-true : {A : Type 0} (b : Bool) (new old other : A) → b ≡ true → new ≡ (if b then other else old) → new ≡ other
 when-true b new old other h e = e ∙ ap (λ (z : Bool). if z then other else old) h
 
--- what is told lies in the merged log
+-- the index to commit is within the merged log
 pub merged-told : (l new : LogState) (front : ℕ) (es : List Entry) (sent commit told : ℕ) → front ≤ length l.entries → new ≡ with_merged l front es → sent ≡ min (front + length es) 18446744073709551615 → told ≡ min sent commit → told ≤ length new.entries
 merged-told l new front es sent commit told within is s t =
     let r = merged-reach l.entries front es within in

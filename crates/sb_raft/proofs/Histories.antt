@@ -1,4 +1,4 @@
--- Facts of one node's list.
+-- Facts on one node's history.
 use Rattle.std.proofs.Common.{◌≡◌, ℕ, ◌<◌, ◌≤◌, Bool, true, false, cond, List, [], ◌∷◌, ◌++◌, arith, refl, inl, inr, ◌⊎◌, sym, ◌∙◌, subst, ap, Some, append_assoc, append-nil}
 use Rattle.std.specs.Prelude.{◌==◌}
 use Rattle.std.proofs.lemmas.Bool.{eqb-true}
@@ -23,7 +23,7 @@ use Rattle.sb_raft.proofs.Prefixes.{pre_refl, pre_trans, pre_append}
 use Rattle.sb_raft.proofs.Core.{OfTerm}
 use Rattle.sb_raft.proofs.Effects.{Turn, follows, stands, runs, rules, wins, wins_alone, turn, next_term, next_vote}
 
--- the leader of term 1, with a log of that term alone. Nobody granted it that term
+-- the leader of term 1: its log is of that term, and it was not elected
 pub record IsFirst (p : Params) (me : ℕ) (xs : List (Item Message)) : Type 0 where
   pub leads : (state p me xs).role ≡ Leader
   pub term : (state p me xs).term ≡ 1
@@ -127,7 +127,7 @@ module _ (p : Params) (me : ℕ) where
       go ih (wins a b c d e f g k o q) = not_both (state p me (i ∷ l)).role a r
       go ih (wins_alone a b c d n own e o) = below b
 
-  -- a leader's log only grows
+  -- a leader's log is append-only
   pub lead_now : (l : List (Item Message)) (m : List Entry) → (state p me l).role ≡ Leader → LeadIn p me l (state p me l).term m → Prefix m (state p me l).log
   lead_now [] m r h = subst (λ (z : List Entry). Prefix z (state p me []).log) h.2 (pre_refl (state p me []).log)
   lead_now (i ∷ l) m r (inl h) = subst (λ (z : List Entry). Prefix z (state p me (i ∷ l)).log) h.2 (pre_refl (state p me (i ∷ l)).log)
@@ -151,7 +151,7 @@ module _ (p : Params) (me : ℕ) where
   lead_chain (i ∷ l) t m n (inr h) (inl g) = inl (subst (λ (z : List Entry). Prefix m z) g.2 (lead_now (i ∷ l) m g.0 (inr (subst (λ (z : ℕ). LeadIn p me l z m) (sym g.1) h))))
   lead_chain (i ∷ l) t m n (inr h) (inr g) = lead_chain l t m n h g
 
-  -- where a leader's or candidate's log comes from
+  -- the origin of the log of a leader or candidate
   pub record Later (l : List (Item Message)) : Type 0 where
     pub before : List (Item Message)
     pub front : Front before l
@@ -255,7 +255,7 @@ module _ (p : Params) (me : ℕ) where
       ]
       go ih (wins_alone a b c d n own e o) = inr (fresh b own e o (λ q. absurd (not_both (state p me (i ∷ l)).role a q)) d)
 
-  -- who granted
+  -- which nodes granted their vote
   pub record Counts (w : World Message) (l : List (Item Message)) : Type 0 where
     pub from : (k : ℕ) → (state p me l).granted k ≡ true → (k ≡ me) ⊎ IsSent w k me (Vote (state p me l).term true)
     pub enough : (state p me l).role ≡ Leader → p.setup.quorum ≤ count_below (state p me l).granted p.setup.n

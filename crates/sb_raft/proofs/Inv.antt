@@ -1,4 +1,4 @@
--- What the proof of agreement rests on: lists that are legal, messages that have a cause, ballots.
+-- The invariant of agreement: legal histories, a cause for each message, and valid ballots.
 use Rattle.std.proofs.Common.{◌≡◌, ℕ, ◌+◌, ◌*◌, ◌≤◌, Bool, true, false, List, [], ◌∷◌, ◌++◌, length, subst}
 use Rattle.iss_request.specs.declared.ids.NodeId.{NodeId}
 use Rattle.iss_sb.specs.declared.effects.Input.{Input}
@@ -19,7 +19,7 @@ use Rattle.sb_raft.proofs.Core.{Majority}
 abbrev pub node : ℕ → NodeId
 node k = record { 0 = k }
 
--- what a node in state s may send to k with the input that takes it to v: more than it does send
+-- what a node in state s may send to k with an input that leads to v, which is more than it sends
 abbrev pub May : State → Input Message → State → ℕ → Message → Type 0
 May s i v k (Append t prev pt c es) = (v.role ≡ Leader) × (t ≡ v.term) × (c ≤ v.commit) × ((front : List Entry) × (v.log ≡ front ++ es) × (length front ≡ prev) × (last_term front ≡ pt))
 May s i v k (Reply t false x) = (u pt c : ℕ) × (es : List Entry) × (i ≡ Receive (node k) (Append u x pt c es)) × (t ≡ v.term)

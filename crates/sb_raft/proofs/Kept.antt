@@ -1,4 +1,4 @@
--- Each move keeps the ballots.
+-- Each move preserves the ballots.
 use Rattle.std.proofs.Common.{true≢false, ◌≡◌, ℕ, Bool, true, List, [], ◌∷◌, arith, inl, inr, ◌⊎◌, sym, ◌∙◌, subst, ap}
 use Rattle.std.proofs.lemmas.Bool.{eqb-true}
 use Rattle.iss_sb.specs.declared.effects.Params.{Params}
@@ -46,7 +46,7 @@ module _ (p : Params) (w u : World Message) (inv : Inv p w) (v : Move raft p w u
   ballot_more : (j k t : ℕ) → Ballot p w j k t → Ballot p u j k t
   ballot_more j k t b = record { item = b.item; before = b.before; last = b.last; last_term = b.last_term; front = front_more k (b.item ∷ b.before) b.front; asked = b.asked; granted = b.granted; still = b.still }
 
-  -- who wins now, wins a term that nobody led
+  -- a node that wins now wins a term that nobody has led
   none_leads : (c : Later p v.node (w v.node)) → (state p v.node (w v.node)).role ≡ Candidate → Elected p w v.node (state p v.node (w v.node)).term → (j : ℕ) (m : List Entry) → LeadOf p w (state p v.node (w v.node)).term j m → ⊥
   none_leads c r e j m h =
       let a = lead_at p j (w j) (state p v.node (w v.node)).term m h in

@@ -1,4 +1,4 @@
--- The laws of Raft's single steps.
+-- Raft meets the laws of single steps.
 use Rattle.std.proofs.Common.{◌≡◌, ◌≤◌, ◌<◌, ◌+◌, ℕ, zero, suc, Bool, true, false, ◌==◌, ◌&&◌, cond, if◌then◌else◌, List, [], ◌∷◌, ◌++◌, length, Some, None, refl, sym, subst, inl, inr, arith}
 use Rattle.std.specs.Prelude.{nat_lt}
 use Rattle.std.proofs.lemmas.Bool.Decides.{Decides-eqb}
@@ -150,7 +150,7 @@ cast-within p s slot batch x h =
     let t = some-only (may_cast p s slot.0) (slot, batch) x h in
     subst (λ (z : Slot × Batch). In z.0 p.slots) (sym t.1) (place-In slot p.slots _ (cast-next p s slot.0 t.0))
 
--- only a cast asks
+-- only a cast offers a batch
 asked : (p : Params) (me : ℕ) (xs : List (Item Message)) (x : Slot × Batch) (i : Input Message) → asks p me xs i ≡ Some x → In x.0 p.slots
 asked p me xs x (Cast slot batch) h = cast-within p (state p me xs) slot batch x h
 asked p me xs x (Receive from msg) h = absurd cc

@@ -1,4 +1,4 @@
--- The rules of leaders and candidates in the code, each as its parts make it.
+-- The code's rules for leaders and candidates, composed from their parts.
 use Rattle.std.proofs.Common.{◌≡◌, ℕ, ◌+◌, ◌-◌, ◌^◌, ◌<◌, ◌≤◌, ◌==◌, ◌&&◌, Bool, true, false, not, cond, if◌then◌else◌, List, [], ◌∷◌, ◌++◌, length, take, drop, append_assoc, refl, sym, subst, ap, ◌∙◌, Some, None, inl, inr, arith}
 use Rattle.std.specs.Prelude.{max, min, nat_le, nat_lt}
 use Rattle.std.proofs.lemmas.Bool.{and_parts, eqb-true, le-leb, le-ltb, lt-leb, lt-ltb}
@@ -97,7 +97,7 @@ module _ (p : Params) (m : Raft) where
   abbrev me : ℕ
   me = m.me.0
 
-  -- commits by counting, from a state further on
+  -- committing by counting, from a later state
   further : (can : Type 0) (mid new : Raft) (u : State) (sends wanted : List (To × Message)) (e : Effects Message) →
       Does p mid.me (Fits (held mid)) (held mid) new (advanced p mid.me.0 (record { state = held mid; sends = sends })) None e → mid.me ≡ m.me → (can → held mid ≡ u) → (can → Fits u) → (can → sends ≡ wanted) →
       mid.log.commit ≡ m.log.commit → take m.log.commit mid.log.entries ≡ take m.log.commit m.log.entries → Does p m.me can (held m) new (advanced p me (record { state = u; sends = wanted })) None e
@@ -189,7 +189,7 @@ module _ (p : Params) (m : Raft) where
           sent (subst (λ (z : State). Fits z) (sym is) (room-won good room))
           ∙ ap (λ (k : NodeId). sends ++ appends p k.0 (held mid)) node ∙ ap (λ (z : State). sends ++ appends p me z) is
 
-  -- counts, from a state further on
+  -- counting votes, from a later state
   pub votes-further : (can : Type 0) (mid new : Raft) (u : State) (sends wanted : List (To × Message)) (e : Effects Message) → Does p mid.me (HasRoom (held mid)) (held mid) new (counted p mid.me.0 (held mid) sends) None e →
       mid.me ≡ m.me → held mid ≡ u → (can → HasRoom u) → (can → sends ≡ wanted) → mid.log ≡ m.log → Does p m.me can (held m) new (counted p me u wanted) None e
   votes-further can mid new u sends wanted e d node is room same log =
@@ -288,7 +288,7 @@ lead-state p m new mid missing last state count after next matched marked filled
     none : kept new.matched ≡ (λ (k : ℕ). 0)
     none = everywhere (kept new.matched) (λ k. 0) matched
 
--- who granted a new candidate its term: itself
+-- a new candidate has only its own vote
 pub own-vote : (mine : ℕ) (all one : ℕ → Bool) → ((k : ℕ) → all k ≡ false) → ((k : ℕ) → one k ≡ set_at all mine true k) → (k : ℕ) → one k ≡ (k == mine)
 own-vote mine all one none set k = set k ∙ go (k == mine) (none k)
   where

@@ -1,4 +1,4 @@
--- What a step does to the commit index and to a leader's matches.
+-- How a step changes the commit index and a leader's match indices.
 use Rattle.std.proofs.Common.{if◌then◌else◌, ◌&&◌, ◌≡◌, ℕ, zero, suc, ◌+◌, ◌<◌, ◌≤◌, Bool, true, false, ◌||◌, cond, List, [], ◌∷◌, ◌++◌, length, take, drop, arith, refl, inl, inr, ◌⊎◌, sym, ◌∙◌, subst, ap}
 use Rattle.std.specs.Prelude.{◌==◌, nat_lt, nat_le, max, min}
 use Rattle.std.proofs.lemmas.Bool.{cases_lt, eqb-true, ltb-true, leb-true, and_parts}
@@ -46,7 +46,7 @@ pub data Commit (p : Params) (me : ℕ) (s : State) (i : Input Message) (v : Sta
 pub front_same : (a b : List Entry) → b ≡ a → Prefix a b
 front_same a b e = subst (λ (z : List Entry). Prefix a z) (sym e) (pre_refl a)
 
--- after committing by counting in a state u that keeps s's commit and extends its log
+-- after committing by counting in a state u that keeps s's commit index and extends its log
 reach_commit : (p : Params) (me : ℕ) (s u : State) (i : Input Message) (v : State) → v ≡ with_reach p me u → u.commit ≡ s.commit → Prefix s.log u.log → u.role ≡ Leader → Commit p me s i v
 reach_commit p me s u i v e c f r =
     let el : v.log ≡ u.log = ap (λ (z : State). z.log) e in
@@ -98,7 +98,7 @@ commit p me s i = go (next_cases p me s i)
         by u (level e) h = subst (λ (z : State). Commit p me z i (next p me s i)) e h
         by u (higher k l e) h = commit_raised p me s u i (next p me s i) (ap (λ (z : State). z.log) e) (ap (λ (z : State). z.commit) e) h
 
--- a leader's matches
+-- a leader's match indices
 
 pub data Ruled (p : Params) (me : ℕ) (s : State) (i : Input Message) (v : State) : Type 0 where
   anew : ((k : ℕ) → v.matched k ≡ 0) → Ruled p me s i v
@@ -150,7 +150,7 @@ ruled p me s i r = go (next_cases p me s i)
         by u (level e) h = subst (λ (z : State). Ruled p me z i (next p me s i)) e h
         by u (higher k l e) h = ruled_raised p me s u i (next p me s i) (ap (λ (z : State). z.role) e) h
 
--- each match was answered in this term
+-- each match index was replied in this term
 pub matches : (p : Params) (me : ℕ) (w : World Message) (l : List (Item Message)) → HaveCome raft p w me l → (state p me l).role ≡ Leader → (k : ℕ) → ((state p me l).matched k ≡ 0) ⊎ ((x : ℕ) × ((state p me l).matched k ≡ x) × IsSent w k me (Reply (state p me l).term true x))
 matches p me w [] g r k = inl refl
 matches p me w (i ∷ l) g r k = go (matches p me w l g.1) (ruled p me (state p me l) i.input r)

@@ -1,5 +1,4 @@
--- Entries that were sent, compared with those of a log: how many stand there already says what stays and what becomes
--- of the log.
+-- The code's merge is the model's: how many entries agree in term determines the merged log.
 use Rattle.std.proofs.Common.{◌≡◌, ℕ, zero, suc, ◌+◌, ◌<◌, ◌≤◌, ◌==◌, ◌&&◌, Bool, true, false, cond, if◌then◌else◌, List, [], ◌∷◌, ◌++◌, length, take, drop, append_assoc, refl, sym, ap, ◌∙◌, arith}
 use Rattle.std.specs.Prelude.{nat_le}
 use Rattle.std.proofs.Math.Seq.{take-nil}
@@ -139,7 +138,7 @@ module _ (log : List Entry) (front : ℕ) (es : List Entry) (within : front ≤ 
   mergeable-part commit h c f =
       both _ _ (le-leb commit (front + stay (drop front log) es) (let s = stays-part h in omega (arith, s, c))) (le-leb (length (merged log front es)) 65600 (let s = merged-long h in omega (arith, s, f)))
 
-  -- what was sent is reached
+  -- the merged log covers what was sent
   pub merged-reach : front + length es ≤ length (merged log front es)
   merged-reach =
       let l = length-append (take front log) (merge (drop front log) es) in

@@ -1,4 +1,4 @@
--- What a step delivers: the slots that the newly committed part of the log fills.
+-- A step delivers the slots that the newly committed entries fill.
 use Rattle.std.proofs.Common.{◌≡◌, ℕ, zero, suc, ◌<◌, ◌≤◌, ◌==◌, Bool, true, false, if◌then◌else◌, List, [], ◌∷◌, ◌++◌, length, drop, get_or, refl, sym, subst, ap, ◌∙◌, Some, None, inl, inr, arith}
 use Rattle.std.proofs.Math.Seq.{drop-cons}
 use Rattle.iss_base.specs.Lists.{In}
@@ -19,7 +19,7 @@ paired-both [] (v ∷ vs) ws = refl
 paired-both (s ∷ ss) [] ws = refl
 paired-both (s ∷ ss) (v ∷ vs) ws = ap (λ (z : List (Slot × Value)). (s, v) ∷ z) (paired-both ss vs ws)
 
--- one value behind so many slots
+-- one more value after these
 pub paired-at : (ss : List Slot) (place : ℕ) (s : Slot) (v : Value) → place < length ss → s ≡ get_or ss place s → paired (drop place ss) (v ∷ []) ≡ (s, v) ∷ []
 paired-at ss place s v lt is =
     ap (λ (z : List Slot). paired z (v ∷ [])) (drop-cons ss place s lt) ∙ ap (λ (z : List (Slot × Value)). (get_or ss place s, v) ∷ z) (paired-none (drop (suc place) ss))
@@ -27,7 +27,7 @@ paired-at ss place s v lt is =
 
 -- ---- behind the values that there were
 
--- it has a value now, and had none
+-- the slot has a value now, and had none
 pub fresh-decided : (low : ℕ) (s : Slot) (x : Value) (ss : List Slot) (vs ws : List Value) → AreAscending low ss → In {A = Slot × Value} (s, x) (paired (drop (length vs) ss) ws) →
     (value_with s.0 ss (vs ++ ws) ≡ Some x) × (value_with s.0 ss vs ≡ None)
 fresh-decided low s x [] [] ws a h = absurd h

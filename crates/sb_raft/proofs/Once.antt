@@ -1,4 +1,5 @@
--- A node accepts one batch at a slot: it accepts while it leads term 1, and each time its log fills one slot more.
+-- A node accepts at most one batch at a slot: it accepts only while it leads term 1, and then its log fills one more
+-- slot.
 use Rattle.std.proofs.Common.{◌≡◌, ℕ, zero, suc, ◌+◌, ◌<◌, ◌≤◌, Bool, true, false, cond, if◌then◌else◌, List, [], ◌∷◌, ◌++◌, refl, sym, subst, ap, ◌∙◌, inl, inr, Option, Some, None, arith, true≢false}
 use Rattle.std.specs.Prelude.{◌==◌}
 use Rattle.iss_base.specs.Lists.{In, nth}
@@ -51,7 +52,7 @@ asked p me l (Cast c d) s b h =
 asked p me l (Receive from msg) s b h = absurd cc
 asked p me l Timeout s b h = absurd cc
 
--- a cast that is taken fills one slot more
+-- a cast that is taken fills one more slot
 cast-log : (p : Params) (me : ℕ) (s : State) (slot : ℕ) (b : Batch) → may_cast p s slot ≡ true → (on_cast p me s slot b).state.log ≡ s.log ++ entry s.term (Holds b) ∷ []
 cast-log p me s slot b h =
     ap (λ (z : Bool). (let r : Step = if z then spread p me (with_cast s b) else quiet s in r).state.log) h
@@ -117,7 +118,7 @@ filled-so-far p me (y ∷ l) m s b i r t = elim (accepts-cases y l (s, b) i) [
     go (wins a b' t' j e g n own lg o) ih = absurd (omega (arith, stood-later p me l b', t', t))
     go (wins_alone a lt g v n own lg o) ih = absurd (omega (arith, term_one p me l, lt, t))
 
--- a slot that was filled is not asked for
+-- no batch is accepted at a slot that is filled
 fresh : (p : Params) (me : ℕ) (y : Item Message) (l : List (Item Message)) (s : Slot) (b c : Batch) → AreAscending 0 p.slots → AreMade raft p me (y ∷ l) → y.made.accepted ≡ Some (s, b) → In {A = Slot × Batch} (s, c) (accepts l) → ⊥
 fresh p me y l s b c rising m e i =
     let a = accepted-of p me y l s b m e in

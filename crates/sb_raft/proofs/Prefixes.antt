@@ -1,4 +1,4 @@
--- Fronts of lists.
+-- Prefixes of lists.
 use Rattle.std.proofs.Common.{◌≡◌, ◌≤◌, Bool, cond, List, [], ◌∷◌, ◌++◌, length, arith, refl, inl, inr, ◌⊎◌, sym, ◌∙◌, subst, ap}
 use Rattle.std.proofs.lemmas.Bool.{eq-eqb}
 use Rattle.iss_base.specs.Lists.{In}
@@ -52,7 +52,7 @@ pre_in x (y ∷ a) [] h i = elim h [ ]
 pre_in x (y ∷ a) (z ∷ b) h (inl e) = inl (e ∙ h.0)
 pre_in x (y ∷ a) (z ∷ b) h (inr i) = inr (pre_in x a b h.1 i)
 
--- at equal places
+-- equal elements at equal places
 pub same_split : {A : Type 0} (P Q : List A) (x y : A) (a b : List A) → P ++ (x ∷ a) ≡ Q ++ (y ∷ b) → length P ≡ length Q → (P ≡ Q) × (x ≡ y)
 same_split [] [] x y a b h l = (refl, cc)
 same_split [] (q ∷ Q) x y a b h l = absurd (omega arith)
@@ -63,7 +63,7 @@ same_split (p ∷ P) (q ∷ Q) x y a b h l =
     let r = same_split P Q x y a b t (omega arith) in
     (let f = r.0 in cc, r.1)
 
--- an element of a list of two parts
+-- an element of a concatenation
 pub split_cases : {A : Type 0} (P : List A) (x : A) (xs a b : List A) → a ++ b ≡ P ++ (x ∷ xs) → ((ys : List A) × (a ≡ P ++ (x ∷ ys))) ⊎ In x b
 split_cases [] x xs [] b h = inr (subst (λ (z : List _). In x z) (sym h) (inl refl))
 split_cases [] x xs (y ∷ a) b h = inl (a, let e : y ≡ x = cc in cc)

@@ -1,5 +1,5 @@
--- The terms, indices and counts of a node that heard only what was read are in the ranges of the messages' fields, and
--- its entries are read again. So is all that it sends.
+-- If all that a node received was decoded, its terms, indices and counts fit the messages' fields, and its entries can
+-- be decoded. So can all that it sends.
 use Rattle.std.proofs.Common.{◌≡◌, ℕ, zero, suc, ◌+◌, ◌-◌, ◌^◌, ◌<◌, ◌≤◌, ◌==◌, Bool, true, false, cond, List, [], ◌∷◌, ◌++◌, length, take, drop, refl, sym, subst, ap, ◌∙◌, inl, inr, ◌⊎◌, arith}
 use Rattle.std.specs.Prelude.{nat_lt}
 use Rattle.std.proofs.lemmas.List.{length-append, length-take}
@@ -106,7 +106,7 @@ module _ (p : Params) where
       go (level e) = subst (λ (z : State). Ranged z) (sym e) r
       go (higher u l e) = keeps s (raised s t) r (raised-low s t low r.term) (ap (λ (z : State). z.log) e)
 
-  -- the log with a mark and the nils that are missing
+  -- the log with a mark and the missing nils
   fills : (s v : State) → v.term < 2 ^ 16 → HaveBytes version s.log → v.log ≡ s.log ++ filling p s → s.term ≡ v.term → Ranged v
   fills s v low entries log term =
       let k = length p.slots - filled s.log in
@@ -125,7 +125,7 @@ module _ (p : Params) where
       of-nils t (suc k) e low (inl q) = subst (λ (z : Entry). HasBytes version z) (sym q) (nil-has version t low)
       of-nils t (suc k) e low (inr h) = of-nils t k e low h
 
-  -- what an Append that was heard holds
+  -- what a received Append holds
   append-heard : (j : NodeId) (t prev pt c : ℕ) (es : List Entry) → IsHeard raft p (Receive j (Append t prev pt c es)) → IsSpelledAppend version t prev pt c es (spell version (Append t prev pt c es))
   append-heard j t prev pt c es h = read-spelled version (Append t prev pt c es) h.1
 
@@ -255,7 +255,7 @@ module _ (p : Params) where
     sent-one P (x ∷ sends) to msg h (inl e) = one-node to P msg (subst (λ (z : To × Message). IsOne P z.0 z.1) (sym e) h.0)
     sent-one P (x ∷ sends) to msg h (inr i) = sent-one P sends to msg h.1 i
 
-    -- all that a node sends is read again
+    -- all that a node sends can be decoded
     pub sends-read : (xs : List (Item Message)) (i : Input Message) → AreHeard raft p me xs → IsHeard raft p i → (to : To) (msg : Message) → In {A = To × Message} (to, msg) (step p me (state p me xs) i).sends → IsReadMessage raft p msg
     sends-read xs i heard hi to msg h =
         let s = state p me xs in

@@ -1,4 +1,4 @@
--- The premises can be met: a world that moves lead to, in which a slot was delivered.
+-- The premises can be met: a reachable world in which a slot was delivered.
 use Rattle.std.proofs.Common.{◌≡◌, ℕ, sym, ap, subst, ◌∙◌, inr, Bool, true, false, cond, eqb, List, [], ◌∷◌, Some, refl, inl, arith}
 use Rattle.iss_base.specs.Lists.{In}
 use Rattle.iss_base.proofs.Lists.{eqb-other}
@@ -40,7 +40,7 @@ good = record {
 
 -- ---- worlds in which the nodes 0 and 1 took something
 
--- no item hashed a string
+-- nothing was hashed
 abbrev AreBare : List (Item Message) → Type 0
 AreBare [] = Unit {0}
 AreBare (x ∷ xs) = (x.made.strings ≡ []) × AreBare xs
@@ -61,7 +61,7 @@ move-zero xs ys input may = record { node = 0; correct = refl; input = input; ma
 move-one : (xs ys : List (Item Message)) (input : Input Message) → MayCome raft p (world xs ys) 1 input → Move raft p (world xs ys) (world xs (and_then raft p 1 ys input 0))
 move-one xs ys input may = record { node = 1; correct = refl; input = input; may = may; leaf = 0; takes = refl; others = λ i ne. rw (eqb-other i 1 ne) refl }
 
--- node 0 casts, node 1 takes its Append, and node 0 the reply
+-- node 0 takes a cast, node 1 its Append, and node 0 the reply
 batch-read : IsReadBatch p b
 unfolding parse_value parse_rest parse_batch parse_count count_field spell_value spell_batch spell_count ◌>>=◌ such_that byte times done
 batch-read rest = refl
@@ -75,7 +75,7 @@ reached =
 delivers : delivered raft p 0 (world committed copied 0) 0 ≡ Some (Value_batch b)
 delivers = refl
 
--- nothing is hashed, so its strings are the empty one
+-- nothing is hashed, so the empty string is the only one
 separate : Separate (IsString (world committed copied))
 separate a b h k e = empty a h ∙ sym (empty b k)
   where
@@ -106,6 +106,6 @@ record ArePremisesMet : Type 0 where
 premises-met : ArePremisesMet
 premises-met = record { params = p; world_of = world committed copied; are_good = good; is_reached = reached; are_separate = separate; was_delivered = delivers }
 
--- and what the laws give of it
+-- hence this world is a broadcast
 its-broadcast : IsBroadcast raft p (world committed copied)
 its-broadcast = raft-safe p (world committed copied) good reached separate

@@ -1,4 +1,4 @@
--- How far the log may be committed by counting.
+-- The code's search for the commit index finds the model's.
 use Rattle.std.proofs.Common.{◌≡◌, ℕ, zero, suc, ◌+◌, ◌<◌, ◌≤◌, ◌==◌, ◌&&◌, ◌||◌, Bool, true, false, cond, if◌then◌else◌, length, refl, sym, subst, ap, ◌∙◌, inl, inr, ◌⊎◌, true≢false, arith}
 use Rattle.std.specs.Prelude.{max, min, nat_le, nat_lt}
 use Rattle.std.proofs.lemmas.Bool.{cases_lt, and_parts, eqb-true, le-leb, leb-true, lt-ltb, ltb-true, or_cases}
@@ -97,7 +97,7 @@ module _ (p : Params) (me : ℕ) (s : State) where
   abbrev Held : ℕ → Type 0
   Held = IsHeld p me s
 
-  -- the greatest of those that the first nodes hold
+  -- the greatest index among the first nodes
   pub record IsMostOf (nodes most : ℕ) : Type 0 where
     pub within : most ≤ last
     pub held_so : 1 ≤ most → Held most
@@ -166,7 +166,7 @@ module _ (p : Params) (me : ℕ) (s : State) where
           let held = m.greatest i within (leb-true p.setup.quorum (count_below (holds me s i) p.setup.n) a.1) in
           others i (omega (arith, above)) held (omega (arith, above)) (eqb-true (term_at s.log i) s.term a.0)
 
-  -- the loop from the greatest that is held downwards
+  -- the loop from the greatest index that a quorum holds downwards
   abbrev IsDown : ℕ → ℕ → ℕ → Type 0
   IsDown most commit index = (index ≤ most) × ((i : ℕ) → index < i → i ≤ most → commit < i → term_at s.log i ≡ s.term → ⊥)
 

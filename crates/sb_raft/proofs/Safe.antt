@@ -1,4 +1,4 @@
--- Raft is a broadcast in every world of legal lists and ballots, and both are kept.
+-- A world of legal histories and valid ballots is a broadcast, and both are invariants.
 use Rattle.std.proofs.Common.{◌≡◌, ℕ, List, ◌∷◌, ◌++◌, take, drop, append_assoc, refl, sym, subst, ap, ◌∙◌, inl, inr, Some}
 use Rattle.iss_base.specs.Lists.{In}
 use Rattle.iss_request.specs.declared.ids.Slot.{Slot}
@@ -34,7 +34,7 @@ module _ (p : Params) (w : World Message) (good : IsGoodParams raft p) (legal : 
   inv : Inv p w
   inv = inv-of p w good legal b
 
-  -- a batch in a log was accepted by the first leader, at the slot that its place holds
+  -- a batch in a log was accepted by the leader of term 1, at the slot of its place
   pub batch-owned : (i : ℕ) (l : List (Item Message)) → Front l (w i) → (front : List Entry) (e : Entry) (rest : List Entry) (c : Batch) → (state p i l).log ≡ front ++ (e ∷ rest) → e.what ≡ Holds c → IsOwned p w front c
   batch-owned i l f front e rest c whole holds =
       let fine = all_fine p.setup.f (LeadOf p w) (histories p w) (facts p w inv) i (mom p i l) (older p i l) (front_tail p i l (w i) f) in
@@ -55,7 +55,7 @@ module _ (p : Params) (w : World Message) (good : IsGoodParams raft p) (legal : 
             absurd (later-plain p w inv led.leader a.0 a.1 a.2 t e c stands_in (sym a.3) holds)
       ]
 
-  -- what is delivered the leader accepted
+  -- the leader accepted what is delivered
   pub owned : (i : ℕ) (s : Slot) (c : Batch) → delivered raft p i (w i) s.0 ≡ Some (Value_batch c) → In {A = Slot × Batch} (s, c) (accepts (w p.leader.0))
   owned i s c d =
       let n = (state p i (w i)).commit in

@@ -1,4 +1,4 @@
--- What the code sends, one message behind the other.
+-- The code's messages are the model's, one after the other.
 use Rattle.std.proofs.Common.{◌≡◌, ◌≢◌, ℕ, suc, ◌+◌, ◌<◌, ◌==◌, Bool, true, cond, List, [], ◌∷◌, ◌++◌, append_assoc, append-nil, refl, sym, subst, ap, ◌∙◌, arith}
 use Rattle.iss_base.proofs.Lists.{eqb-other, eqb-same}
 use Rattle.iss_request.specs.declared.ids.NodeId.{NodeId}
@@ -20,14 +20,14 @@ to_each-both f [] b = refl
 to_each-both f (k ∷ a) b = ap (λ (z : List (To × Message)). to k (f k) ∷ z) (to_each-both f a b)
 
 module _ (f : ℕ → Message) (me k : ℕ) where
-  -- nothing to the node itself
+  -- nothing for the node itself
   pub sent-none : (sends : List (To × Message)) → k ≡ me → sends ≡ sends ++ to_each f (other me k)
   sent-none sends e = sym (append-nil sends) ∙ ap (λ (ks : List ℕ). sends ++ to_each f ks) (sym (other-self me k e))
 
   pub sent-one : (old new : List (To × Message)) (msg : Message) → k ≢ me → msg ≡ f k → new ≡ old ++ to k msg ∷ [] → new ≡ old ++ to_each f (other me k)
   sent-one old new msg ne m e = e ∙ ap (λ (z : Message). old ++ to k z ∷ []) m ∙ ap (λ (ks : List ℕ). old ++ to_each f ks) (sym (other-else me k ne))
 
-  -- to the first nodes, and to the next
+  -- for the first nodes, and for the next one
   pub sent-next : (start old new : List (To × Message)) → old ≡ start ++ to_each f (others me k) → new ≡ old ++ to_each f (other me k) → new ≡ start ++ to_each f (others me (k + 1))
   sent-next start old new h e =
       e ∙ ap (λ (z : List (To × Message)). z ++ to_each f (other me k)) h ∙ append_assoc start (to_each f (others me k)) (to_each f (other me k))

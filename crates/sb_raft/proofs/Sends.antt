@@ -1,4 +1,4 @@
--- What a node sends it may send.
+-- A node may send what it sends.
 use Rattle.std.proofs.Common.{◌≡◌, ℕ, zero, suc, ◌+◌, ◌-◌, ◌*◌, ◌≤◌, ◌==◌, ◌&&◌, not, Bool, true, false, cond, if◌then◌else◌, List, [], ◌∷◌, ◌++◌, length, take, refl, sym, subst, ap, ◌∙◌, inl, inr, Some, arith}
 use Rattle.std.specs.Prelude.{nat_lt, nat_le}
 use Rattle.std.proofs.lemmas.Bool.{eqb-true, leb-true, and_parts}
@@ -80,14 +80,14 @@ module _ (p : Params) (me : ℕ) (nodes : p.setup.n ≡ 2 * p.setup.f + 1) (quor
   abbrev Fine : Step → Type 0
   Fine z = AllSent (May s i z.state) z.sends
 
-  -- an Append of a state whose commit is not above that of the end
+  -- an Append of a state whose commit index is at most the final one
   append-may : (u v : State) (k prev : ℕ) → v.role ≡ Leader → v.term ≡ u.term → v.log ≡ u.log → u.commit ≤ v.commit → prev ≤ length u.log → May s i v k (append_behind u prev)
   append-may u v k prev r t l c h = (r, sym t, c, (take prev u.log, l ∙ sym (take-append-drop prev u.log), take_long prev u.log h, refl))
 
   appends-may : (u v : State) → v.role ≡ Leader → v.term ≡ u.term → v.log ≡ u.log → u.commit ≤ v.commit → Bounds u → AllSent (May s i v) (appends p me u)
   appends-may u v r t l c b = sent-each (May s i v) (append_to u) (others me p.setup.n) (λ k. append-may u v k (u.next k - 1) r t l c (b.next k))
 
-  -- what a quorum holds is committed, after what is fine whatever that is
+  -- committing after messages that are allowed whatever the final commit index
   advance-may : (made : Step) → made.state.role ≡ Leader → Bounds made.state → ((c : ℕ) → made.state.commit ≤ c → AllSent (May s i (record made.state { commit = c })) made.sends) → Fine (advanced p me made)
   advance-may made r b h =
       let g = reach p me made.state in
@@ -100,7 +100,7 @@ module _ (p : Params) (me : ℕ) (nodes : p.setup.n ≡ 2 * p.setup.f + 1) (quor
   spread-may : (u : State) → u.role ≡ Leader → Bounds u → Fine (spread p me u)
   spread-may u r b = advance-may (record { state = u; sends = appends p me u }) r b (λ c h. appends-may u (record u { commit = c }) r refl refl h b)
 
-  -- votes are counted, where what was sent before is nothing, or the end is no leader
+  -- votes are counted: nothing was sent before, or the final role is not leader
   counted-may : (u : State) (sends : List (To × Message)) → (p.setup.quorum ≤ count_below u.granted p.setup.n → sends ≡ []) → AllSent (May s i u) sends → Fine (counted p me u sends)
   counted-may u sends none h =
       let v = won p u in

@@ -1,4 +1,4 @@
--- What the code of a step owes, where its rule did what the definition does.
+-- The effects of a step of the code are the model's, if its rule did what the model says.
 use Rattle.std.proofs.Common.{◌≡◌, ℕ, Bool, true, false, if◌then◌else◌, ◌+◌, ◌^◌, ◌<◌, List, ◌∷◌, ◌++◌, length, take, drop, refl, sym, subst, ap, ◌∙◌, Option, Some, None, arith}
 use Rattle.std.specs.Prelude.{IfSome}
 use Rattle.std.proofs.Math.Seq.{drop-append_seam}
@@ -43,7 +43,7 @@ module _ (p : Params) (good : IsGoodParams raft p) (me : ℕ) (xs : List (Item M
   abbrev before : List Entry
   before = take s.commit s.log
 
-  -- what was filled before stands in front of what is filled now
+  -- the values committed before are a prefix of those committed now
   contents-now : contents (take v.commit v.log) ≡ contents before ++ contents (drop s.commit (take v.commit v.log))
   contents-now =
       let r = pre_rest before (take v.commit v.log) (grown p me xs x) in
@@ -120,7 +120,7 @@ module _ (p : Params) (good : IsGoodParams raft p) (old new : Raft) (i : Input M
     enough = omega arith;
   }
 
--- what is accepted with a cast is asked for, and of the segment
+-- the batch accepted with a cast is the one offered, at a slot of the segment
 pub cast-asked : (p : Params) (m : Raft) (me : ℕ) (xs : List (Item Message)) (slot : Slot) (batch : Batch) → Refines m p me xs → cast_of p (held m) slot batch ≡ asks p me xs (Cast slot batch)
 cast-asked p m me xs slot batch st = ap (λ (z : State). cast_of p z slot batch) st.state
 

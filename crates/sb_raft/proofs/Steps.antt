@@ -1,4 +1,4 @@
--- What a step of Raft does to the state, by cases.
+-- How a step changes the state, by cases.
 use Rattle.std.proofs.Common.{◌≡◌, ℕ, zero, suc, ◌+◌, ◌-◌, ◌<◌, ◌≤◌, Bool, true, false, ◌&&◌, ◌==◌, not, if◌then◌else◌, List, [], ◌∷◌, ◌++◌, length, refl, subst, ap, Some, None, arith}
 use Rattle.std.specs.Prelude.{nat_lt, nat_le, max, min}
 use Rattle.std.proofs.lemmas.Bool.{eqb-true, eqb-false, ltb-true, leb-true, and_parts, not-true, false≢true, lt-ltb}

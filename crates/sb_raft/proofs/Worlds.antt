@@ -1,4 +1,4 @@
--- The facts that agreement stands on, of each world that moves lead to.
+-- The facts behind agreement, for each reachable world.
 use Rattle.std.proofs.Common.{◌≡◌, ℕ, zero, suc, List, [], ◌∷◌, ◌++◌, length, take, drop, append_assoc, refl, sym, subst, ap, ◌∙◌, inl, inr, Some, arith}
 use Rattle.iss_request.specs.declared.ids.Slot.{Slot}
 use Rattle.iss_request.specs.declared.requests.Batch.{Batch}
