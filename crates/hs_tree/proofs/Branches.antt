@@ -51,7 +51,7 @@ pub filled-few : (ks : List Node) → filled (whats ks) ≤ length ks
 filled-few [] = omega arith
 filled-few (k ∷ ks) = let one = weight-few k.what in let rest = filled-few ks in omega (arith, one, rest)
 
--- ---- one node more
+-- ---- One more node
 
 more-get : (xs : List Known) (x n : Known) (i : ℕ) → slice_get xs i ≡ Some n → slice_get (xs ++ x ∷ []) i ≡ Some n
 more-get [] x n i h = absurd cc
@@ -70,7 +70,7 @@ leads-more : (nodes : List Known) (x : Known) (o : Option ℕ) (ks : List Node) 
 leads-more nodes x o [] h = h
 leads-more nodes x o (k ∷ ks) h = (h.0, more-at nodes x h.0 o h.1, h.2, leads-more nodes x h.0.above ks h.3)
 
--- ---- what is read at a place
+-- ---- The node at an index
 
 module _ (nodes : List Known) (o : Option ℕ) where
   -- the node at this index, with its branch
@@ -104,7 +104,7 @@ module _ (nodes : List Known) (o : Option ℕ) where
   pub slots-none : (ks : List Node) → Leads nodes o ks → known_at nodes o ≡ None → 0 ≡ filled (whats ks)
   slots-none ks h e = ap (λ (z : List Node). filled (whats z)) (sym (none ks h e))
 
--- ---- up from a place
+-- ---- From an index towards the root
 
 -- the rest of the walk after this many nodes
 pub record Looks (nodes : List Known) (here : Option ℕ) (count : ℕ) (e : List ℕ) (ks : List Node) : Type 0 where
@@ -146,7 +146,7 @@ module _ (nodes : List Known) (here : Option ℕ) (e : List ℕ) (ks : List Node
         let over : length h.rest ≡ 0 = omega (arith, left, le) in
         sym (h.same ∙ ap (λ (z : List Node). meets e z) (nil_from_length h.rest over))
 
--- ---- values of a branch
+-- ---- Values of a branch
 
 pub length-values : (cs : List Content) → length (values cs) ≡ filled cs
 length-values [] = refl
@@ -241,7 +241,7 @@ module _ (nodes : List Known) (here : Option ℕ) (from : ℕ) (ks : List Node) 
           low_enough : from ≤ length (values (whats a.rest))
           low_enough = let few = weight-few n.what in let l = le in omega (arith, few, l)
 
--- ---- one node more
+-- ---- One more node
 
 module _ (t u : Tree) (k : Node) (ks : List Node) (n : Known) (h : Keeps t ks) (items : u.nodes.items ≡ t.nodes.items ++ n ∷ [])
     (places : (d : List ℕ) → place u d ≡ cond (same_bytes k.digest d) (Some (length t.nodes.items)) (place t d))
@@ -288,7 +288,7 @@ module _ (t u : Tree) (k : Node) (ks : List Node) (n : Known) (h : Keeps t ks) (
     few = λ d. subst (λ (z : List Known). length (path (k ∷ ks) d) ≤ length z) (sym items) (few-add d);
   }
 
--- ---- what is asked of a branch by its digest
+-- ---- Branches by digest
 
 module _ (t : Tree) (ks : List Node) (d : List ℕ) (h : Keeps t ks) (o : Option ℕ) (at : o ≡ place t d) where
   pub from-place : Leads t.nodes.items o (path ks d)

@@ -46,7 +46,7 @@ by k = record { by = node k; sig = blank }
 abbrev shown : Certificate
 shown = Votes 65537 1 d (by 0 ∷ by 3 ∷ [])
 
--- ---- certificates
+-- ---- Certificates
 
 root_spelled : spell_certificate 3 Root ≡ 0 ∷ 0 ∷ 0 ∷ 0 ∷ []
 root_spelled = refl
@@ -83,7 +83,7 @@ two_are_not_three = refl
 not_of_the_second : is_quorum 2 2 65537 shown ≡ false
 not_of_the_second = refl
 
--- ---- messages
+-- ---- Messages
 
 vote_spelled : spell 3 1 (Vote 2 258 d blank) ≡ 6 ∷ 2 ∷ 0 ∷ 0 ∷ 1 ∷ 2 ∷ (d ++ blank)
 vote_spelled = refl
@@ -124,7 +124,7 @@ no_number : (parse 3 1 (0 ∷ blank) ≡ Bad 0) × (parse 3 1 (7 ∷ blank) ≡ 
 unfolding parse such_that byte ◌>>=◌
 no_number = (refl, refl)
 
--- ---- statements and claims
+-- ---- Statements and claims
 
 abbrev setup : Setup
 setup = record {
@@ -172,7 +172,7 @@ claims_in_order : claims basic p 2 (Commit 65537 shown blank) ≡
     record { by = node 2; statement = own_statement basic p (Commit 65537 shown blank); sig = blank } ∷ []
 claims_in_order = refl
 
--- ---- nodes and branches
+-- ---- Nodes and branches
 
 -- the same node in another view has the same string, except in the chained form
 one_string : plain_string 1 5 d Mark ≡ plain_string 1 6 d Mark

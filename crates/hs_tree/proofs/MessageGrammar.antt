@@ -23,7 +23,7 @@ use Rattle.iss_sb.proofs.Contents.{content-grammar, content-read, content-relate
 use Rattle.hs_tree.proofs.Rows.{Again, Fate, HasFate, Never, Whole, again-fate, again-whole, block-field, by-same, byte-field, byte-never, fate-again, fate-fate, fate-of, fate-same, first-never, glue, last-again, never-same, number-field, signature-field, then-again, whole-of}
 
 module _ (phases version : ℕ) where
-  -- ---- the parsers, field by field
+  -- ---- The parsers, field by field
 
   abbrev after_high : ℕ → Certificate → Parser Message
   after_high round high = parse_signature >>= λ sig. done (NewView round high sig)
@@ -78,7 +78,7 @@ module _ (phases version : ℕ) where
   unfolding parse
   parse-is = refl
 
-  -- ---- what is read is of the table
+  -- ---- What is decoded is in the relation
 
   record IsRow (msg : Message) (bytes rest : List ℕ) : Type 0 where
     front : List ℕ
@@ -174,7 +174,7 @@ module _ (phases version : ℕ) where
         parts = ap (λ (x : List ℕ). 6 ∷ x) (byte_parts bytes a.mid a.thing phase.0 ∙ ap (λ (x : List ℕ). a.thing ∷ x) inner);
       })
 
-  -- ---- which message a number is of
+  -- ---- The message with each number
 
   not-same : (n k : ℕ) → (n == k) ≡ false → n ≡ k → ⊥
   not-same n k f e = true≢false (sym ((Decides-eqb n k).1 e) ∙ f)
@@ -256,7 +256,7 @@ module _ (phases version : ℕ) where
       let t = test_parts (is_message phases) byte bytes a.mid a.thing a.first in
       subst (λ (z : List ℕ). IsRow msg z rest) (sym (byte_parts bytes a.mid a.thing t.0)) (fields-parts a.thing a.mid rest msg t.1 a.second)
 
-  -- ---- what the table gives is the spelling
+  -- ---- The relation gives the encoding
 
   shown-spelled : (kind view : ℕ) (shown : Certificate) (sig front : List ℕ) → IsSpelledShown phases kind view shown sig front → front ≡ spell_shown phases kind view shown sig
   shown-spelled kind view shown sig front h =
@@ -279,7 +279,7 @@ module _ (phases version : ℕ) where
       let fit = both _ _ (both _ _ (le-leb 1 phase h.phase_low) (le-leb phase phases h.phase_fits)) (both _ _ (lt-ltb view (2 ^ 32) h.view_fits) (both _ _ ((Decides-eqb (length d) 32).1 h.digest_fits) h.signed)) in
       rw fit h.row
 
-  -- ---- what is spelled is read
+  -- ---- An encoding is decoded
 
   number-again : (n : ℕ) (text : List ℕ) (msg : Message) → is_message phases n ≡ true → Again text (fields_of phases version n) msg → Again (n ∷ text) (parse phases version) msg
   number-again n text msg k h = by-same (n ∷ text) (parse phases version) _ msg parse-is (then-again (such_that (is_message phases) byte) (fields_of phases version) (n ∷ []) text n msg (byte-field (is_message phases) n k) h)
@@ -387,7 +387,7 @@ module _ (phases version : ℕ) where
     whole = whole;
   }
 
-  -- ---- the table
+  -- ---- The relation
 
   shown-table : (make : Makes) (kind view : ℕ) (shown : Certificate) (sig bytes : List ℕ) → (has_shows phases ≡ true → is_message phases kind ≡ true) → fields_of phases version kind ≡ parse_shown phases make →
       IsSpelledShown phases kind view shown sig bytes → Again bytes (parse phases version) (make view shown sig)
@@ -418,7 +418,7 @@ module _ (phases version : ℕ) where
     (λ h. again-whole bytes (parse phases version) msg (table-again msg bytes h)),
   )
 
-  -- ---- what is read again, the table relates to some bytes, and the other way
+  -- ---- A message can be decoded exactly if the relation gives it some bytes
 
   pub spelled-read : (msg : Message) (bytes : List ℕ) → IsSpelledMessage phases version msg bytes → IsReadAgain (spell phases version) (parse phases version) msg
   spelled-read msg bytes h = read-again (spell phases version) (parse phases version) message-grammar bytes [] msg ((message-related msg bytes).1 h)

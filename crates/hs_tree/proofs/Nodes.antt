@@ -68,7 +68,7 @@ module _ (version : ℕ) (Is : List ℕ → Type 0) where
           let rest = branch-one h.0 xs ys h.3 (subst (λ (z : List ℕ). Path version Is z root ys) (sym q.0) k.3) in
           ap (λ (z : Content). z ∷ xs) q.1 ∙ ap (λ (z : List Content). y ∷ z) rest
 
-  -- ---- the tree of a replica
+  -- ---- The tree of a replica
 
   pub branch-is : (ks : List Node) (d : List ℕ) → IsTree version Is ks → is_known ks d ≡ true → Path version Is d root (branch ks d)
   branch-is [] d t h = same_bytes-is d root h

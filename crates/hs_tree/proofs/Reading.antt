@@ -19,7 +19,7 @@ by-same p q e h = rw e h
 pub un-same : {A : Type 0} (p q : Parser A) {a : Reading} {at : ℕ} → p ≡ q → IsUnreadable q a at → IsUnreadable p a at
 un-same p q e h = rw e h
 
--- ---- certificates
+-- ---- Certificates
 
 module _ (phases : ℕ) where
   pub behind : (view : ℕ) → 0 < view → parse_votes phases view ≡ (such_that (is_phase phases) byte >>= after_phase phases view)
@@ -41,7 +41,7 @@ module _ (phases : ℕ) where
   pub votes-unread : {a b : Reading} (view : ℕ) {at : ℕ} → IsRead (number w32) a b view → IsUnreadable (parse_votes phases view) b at → IsUnreadable (parse_certificate phases) a at
   votes-unread view h k = un-same (parse_certificate phases) (number w32 >>= parse_votes phases) (parse_certificate-is phases) (unread_then (number w32) (parse_votes phases) h k)
 
--- ---- messages
+-- ---- Messages
 
 module _ (phases v : ℕ) where
   pub number-unread : {a : Reading} {at : ℕ} → IsUnreadable byte a at → IsUnreadable (parse phases v) a at

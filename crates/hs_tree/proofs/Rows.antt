@@ -28,7 +28,7 @@ by-same front p q x e h rest = rw e (h rest)
 pub never-same : {A : Type 0} (front : List ℕ) (p q : Parser A) → p ≡ q → Never front q → Never front p
 never-same front p q e h rest = let b = h rest in (b.0, rw e b.1)
 
--- ---- two pieces
+-- ---- Two fields
 
 pub then-again : {A B : Type 0} (p : Parser A) (q : A → Parser B) (a b : List ℕ) (x : A) (y : B) → Again a p x → Again b (q x) y → Again (a ++ b) (p >>= q) y
 then-again p q a b x y h g rest = rw (append_assoc a b rest) (then_good p q (a ++ (b ++ rest)) (b ++ rest) rest x y (h (b ++ rest)) (g rest))
@@ -80,7 +80,7 @@ fate-fate false behind p q a b x y h g = first-never p q a b h
 pub last-again : {A B : Type 0} (p : Parser A) (make : A → B) (a : List ℕ) (x : A) → Again a p x → Again a (p >>= λ z. done (make z)) (make x)
 last-again p make a x h rest = then_good p (λ z. done (make z)) (a ++ rest) rest rest x (make x) (h rest) (done_good (make x) rest)
 
--- ---- single fields
+-- ---- Single fields
 
 pub number-field : (w : Width) (limit : ℕ) → IsWide w limit → (n : ℕ) → n < limit → Again (to_be_bytes w n) (number w) n
 number-field w limit wide n lt rest = number_again w limit wide n rest lt
@@ -97,7 +97,7 @@ block-field width front h rest = block_again front rest width h
 pub signature-field : (sig : List ℕ) → is_signature sig ≡ true → Again sig parse_signature sig
 signature-field sig h rest = signature_again sig rest h
 
--- ---- pieces that were read
+-- ---- Fields that were decoded
 
 pub glue : (a b bytes mid rest : List ℕ) → bytes ≡ a ++ mid → mid ≡ b ++ rest → bytes ≡ (a ++ b) ++ rest
 glue a b bytes mid rest h g = h ∙ ap (λ (x : List ℕ). a ++ x) g ∙ sym (append_assoc a b rest)

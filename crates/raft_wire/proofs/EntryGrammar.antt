@@ -14,7 +14,7 @@ use Rattle.iss_sb.specs.Content.{parse_content, spell_content}
 use Rattle.raft_wire.specs.Entries.{no_entry, parse_entry, spell_entry}
 
 module _ (version : ℕ) where
-  -- ---- entries
+  -- ---- Entries
 
   abbrev made-entry : ℕ → Content → Parser Entry
   made-entry term what = done (record { term = term; what = what })

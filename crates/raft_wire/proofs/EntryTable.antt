@@ -20,7 +20,7 @@ pub front-whole : {A : Type 0} (p : Parser A) (x : A) (front : List ℕ) → Aga
 front-whole p x front h = ap p (sym (append-nil front)) ∙ h []
 
 module _ (version : ℕ) where
-  -- ---- entries
+  -- ---- Entries
 
   entry-table : (e : Entry) (bytes : List ℕ) → IsSpelledEntry version e bytes → Again (parse_entry version) e bytes
   entry-table e bytes h rest =
@@ -39,7 +39,7 @@ module _ (version : ℕ) where
         is.parts ∙ ap (λ (x : List ℕ). to_be_bytes w16 e.term ++ x) parts ∙ sym (append_assoc (to_be_bytes w16 e.term) (spell_content version e.what) rest),
       )
 
-  -- ---- entries in a row
+  -- ---- Entries in sequence
 
   pub entries-table : (es : List Entry) (bytes : List ℕ) → AreSpelledEntries version es bytes → Again (times (length es) (parse_entry version)) es bytes
   unfolding times

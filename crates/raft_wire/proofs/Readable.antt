@@ -18,7 +18,7 @@ use Rattle.raft_wire.proofs.EntryTable.{front-whole}
 use Rattle.raft_wire.proofs.MessageGrammar.{message-grammar, message-related}
 
 module _ (version : ℕ) where
-  -- ---- messages
+  -- ---- Messages
 
   pub spelled-read : (msg : Message) (bytes : List ℕ) → IsSpelledMessage version msg bytes → IsReadAgain (spell version) (parse version) msg
   spelled-read msg bytes h = read-again (spell version) (parse version) (message-grammar version) bytes [] msg ((message-related version msg bytes).1 h)
@@ -26,7 +26,7 @@ module _ (version : ℕ) where
   pub read-spelled : (msg : Message) → IsReadAgain (spell version) (parse version) msg → IsSpelledMessage version msg (spell version msg)
   read-spelled msg h = (message-related version msg (spell version msg)).0 (front-whole (parse version) msg (spell version msg) h)
 
-  -- ---- entries
+  -- ---- Entries
 
   pub record HasBytes (e : Entry) : Type 0 where
     pub bytes : List ℕ

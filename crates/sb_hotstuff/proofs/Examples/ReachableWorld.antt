@@ -62,7 +62,7 @@ good = record {
   directory = refl;
 }
 
--- ---- what is said: a node with an empty batch on the root, and votes for it by the nodes 0, 1 and 3
+-- ---- The messages: a node with an empty batch on the root, and votes of the replicas 0, 1 and 3
 
 abbrev d : List ℕ
 d = node_digest q 1 (Holds b) Root
@@ -96,7 +96,7 @@ m4 = Decide 1 (shown 3 2) (by 6 (Decide 1 (shown 3 2) []))
 abbrev told : Message → Input Message
 told msg = Receive (node 3) msg
 
--- ---- what a node takes of it, and what it votes
+-- ---- What a replica takes, and its votes
 
 abbrev list1 : ℕ → List (Item Message)
 list1 me = and_then hotstuff q me [] (told m1) 0
@@ -129,7 +129,7 @@ delivers : delivered hotstuff q 0 (list4 0) 0 ≡ Some (Value_batch b)
 unfolding sha256 digest_bytes hash_after compress rounds schedule first_words spell_batch spell_count spell_value
 delivers = refl
 
--- ---- worlds in which the nodes 0 and 1 took something
+-- ---- Worlds in which the nodes 0 and 1 took some input
 
 abbrev world : List (Item Message) → List (Item Message) → World Message
 world xs ys i = cond (eqb i 0) xs (cond (eqb i 1) ys [])
@@ -147,7 +147,7 @@ move-zero xs ys input leaf may = record { node = 0; correct = refl; input = inpu
 move-one : (xs ys : List (Item Message)) (input : Input Message) (leaf : ℕ) → MayCome hotstuff q (world xs ys) 1 input → Move hotstuff q (world xs ys) (world xs (and_then hotstuff q 1 ys input leaf))
 move-one xs ys input leaf may = record { node = 1; correct = refl; input = input; may = may; leaf = leaf; takes = refl; others = λ i ne. rw (eqb-other i 1 ne) refl }
 
--- ---- what is said is read again, and verifies
+-- ---- The messages can be decoded, and their signatures are valid
 
 abbrev IsRead : Message → Type 0
 IsRead msg = IsReadMessage hotstuff q msg
@@ -247,7 +247,7 @@ signed-by w k x phase leaf h e = record {
   is = refl;
 }
 
--- ---- the run
+-- ---- The run
 
 abbrev w1 : World Message
 w1 = world (list1 0) []
@@ -304,7 +304,7 @@ reached =
     let r6 : IsReached hotstuff q w6 = after r5 (move-one (list3 0) (list2 1) (told m3) 2 (come3 w5 signed5)) in
     after r6 (move-zero (list3 0) (list3 1) (told m4) 3 (come4 w6 signed6))
 
--- ---- its strings are separate: it hashed a value's and a node's
+-- ---- SHA-256 does not collide on its strings: a value's and a node's
 
 abbrev value : List ℕ
 value = value_string 1 (Value_batch b)
@@ -376,7 +376,7 @@ separate x y (inl e) (inr k) h = absurd (not-empty y (of-world y k) (ap digest (
 separate x y (inr k) (inl g) h = absurd (not-empty x (of-world x k) (ap digest (sym g) ∙ sym h))
 separate x y (inr k) (inr j) h = both-same x y (of-world x k) (of-world y j) h
 
--- ---- what the example shows
+-- ---- What the example shows
 
 record ArePremisesMet : Type 0 where
   params : Params

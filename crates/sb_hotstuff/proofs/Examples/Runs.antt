@@ -88,7 +88,7 @@ sends me xs input = (makes p me xs input 9).sends
 abbrev told : ℕ → Message → Input Message
 told from msg = Receive (node from) msg
 
--- ---- the leader: its cast is proposed in turn 1, with leaf 5 as its next
+-- ---- The leader proposes its cast in turn 1; its next leaf is 5
 
 abbrev cast : List (Item Message)
 cast = take_in 0 [] (Cast (slot 0) b) 5
@@ -152,7 +152,7 @@ shows_third : makes p 0 (two_of 3 (three_of 2 (three_of 1 waiting))) (told 2 (Vo
 unfolding sha256 digest_bytes hash_after compress rounds schedule first_words spell_batch spell_count spell_value
 shows_third = refl
 
--- ---- another node: four messages, three votes, and slot 0 is delivered
+-- ---- Another replica takes four messages, casts three votes, and delivers slot 0
 
 abbrev first : List (Item Message)
 first = hears 1 0 (Prepare 1 (Holds b) Root []) []
@@ -235,7 +235,7 @@ delivers_the_branch : (delivered hotstuff p 1 both 0 ≡ Some (Value_batch b)) �
 unfolding sha256 digest_bytes hash_after compress rounds schedule first_words spell_batch spell_count spell_value
 delivers_the_branch = (refl, refl)
 
--- ---- a round ends: node 1 leads round 1, and proposes nil on the best certificate of three words
+-- ---- A timeout: replica 1 leads round 1, and proposes nil on the highest certificate of three NewView messages
 
 abbrev ended : List (Item Message)
 ended = take_in 1 second Timeout 9
@@ -277,7 +277,7 @@ safe : sends 1 locked (told 1 (Prepare 65537 Nil (shown 1) [])) ≡ (To_one (nod
 unfolding sha256 digest_bytes hash_after compress rounds schedule first_words spell_batch spell_count spell_value
 safe = refl
 
--- ---- marks: where both slots of the branch are filled, a new round's leader proposes a mark, and nothing follows on
+-- ---- Marks: where both slots of the branch are filled, a new round's leader proposes a mark, and nothing follows on
 -- it
 
 abbrev full : List (Item Message)

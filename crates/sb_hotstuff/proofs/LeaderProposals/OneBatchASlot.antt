@@ -32,7 +32,7 @@ use Rattle.iss_sb.proofs.Slots.{ascending-above, slot-some}
 use Rattle.sb_hotstuff.proofs.Safety.WorldsAreBroadcasts.{leader-signed, proposed-cast, voted-reached}
 use Rattle.sb_hotstuff.proofs.Safety.VotesHaveCauses.{AreVoted, is-taken, parts, state-tree, taken-has}
 
--- ---- slots rise, so one stands at one place
+-- ---- Slots are strictly ascending, so a slot has one place
 
 above : (low : ℕ) (ss : List Slot) (n : ℕ) (s : Slot) → AreAscending low ss → nth ss n ≡ Some s → low ≤ s.0
 above low ss n s a e = ascending-above low s ss a (nth-in ss n s e)
@@ -47,7 +47,7 @@ one-place low (t ∷ ss) zero (suc n) s a e f = absurd (omega (arith, same-slot 
 one-place low (t ∷ ss) (suc m) zero s a e f = absurd (omega (arith, same-slot t s f, above (suc t.0) ss m s a.1 e))
 one-place low (t ∷ ss) (suc m) (suc n) s a e f = ap suc (one-place (suc t.0) ss m n s a.1 e f)
 
--- ---- what is offered
+-- ---- The batch of a proposal
 
 record IsOffered (o : Option Slot) (c : Batch) (s : Slot) (b : Batch) : Type 0 where
   slot : o ≡ Some s

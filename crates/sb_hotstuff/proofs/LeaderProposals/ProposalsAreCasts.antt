@@ -38,7 +38,7 @@ use Rattle.sb_hotstuff.proofs.LeaderProposals.CastsAreAppendOnly.{Same, after-ke
 use Rattle.sb_hotstuff.proofs.ModuleLaws.SentMessagesDecode.{MayTurn, digest-length, heard-is, kept-fits, proposed-new, state-fits}
 use Rattle.sb_hotstuff.proofs.Safety.VotesHaveCauses.{AreVoted, acc, hashed-has}
 
--- ---- what is not yet signed
+-- ---- Unsigned messages
 
 prepare-unsigned : (s t : List ℕ) (msg : Message) (view : ℕ) (what : Content) (just : Certificate) → Prepare view what just s ≡ with_signature t msg → (sig : List ℕ) × (msg ≡ Prepare view what just sig)
 prepare-unsigned s t (NewView round high old) view what just h = absurd cc
@@ -118,7 +118,7 @@ proposal-turn p me leaf xs i to view what just sig h =
       | inr a ↦ of-turn p to view what just r.0 (proposed p me s k i) a
     ]
 
--- ---- the turns of a legal list
+-- ---- The turns of a legal history
 
 module _ (p : Params) (w : World Message) (good : IsGoodParams hotstuff p) (legal : IsLegal hotstuff p w) (voted_so : AreVoted p w) (me : ℕ) where
   abbrev Holder : List ℕ → Content → Type 0
@@ -165,7 +165,7 @@ module _ (p : Params) (w : World Message) (good : IsGoodParams hotstuff p) (lega
     turns : AllOk s.turns
     casts : (k : ℕ) (b : Batch) → nth s.casts k ≡ Some b → IsCast k b
 
-  -- ---- the next turn
+  -- ---- The next turn
 
   cast-ok : (view : ℕ) (just : Certificate) (slots place : ℕ) (o : Option Batch) (below : List Content) → view ≡ suc place → ((b : Batch) → o ≡ Some b → IsCast place b) → Leads p w (digest_of just) root below → filled below ≡ place →
       MayOk (cast_turn p view just slots o)
@@ -234,7 +234,7 @@ module _ (p : Params) (w : World Message) (good : IsGoodParams hotstuff p) (lega
   proposed-ok s k (Receive from (Vote phase view d sig)) h = by-if MayOk _ (next_turn p k k.turns) None (next-ok k k.turns h h.turns) tt
   proposed-ok s k Timeout h = tt
 
-  -- ---- what is proposed was hashed
+  -- ---- Proposed nodes were hashed
 
   new-holds : (x : Item Message) (s k : State) (i : Input Message) → In x (w me) → x.made.strings ≡ taken_of p s i ++ turn_strings p (proposed p me s k i) → MayTurn p good (proposed p me s k i) → MayHold (proposed p me s k i)
   new-holds x s k i q made may = go (proposed p me s k i) refl may
@@ -246,7 +246,7 @@ module _ (p : Params) (w : World Message) (good : IsGoodParams hotstuff p) (lega
           hashed-has p w good legal voted_so me x t.view t.what t.just q (digest-length p good t.just h.just) (content-table p.setup.version t.what h.what.0 h.what.1).1
           (λ z m. subst (λ (y : List (List ℕ)). In z y) (sym all) (in_right z (taken_of p s i) (strings_at p t.view t.what t.just) m))
 
-  -- ---- the state
+  -- ---- The state
 
   same-ok : (s t : State) → Same s t → LeaderOk s → LeaderOk t
   same-ok s t e h = record { turns = subst AllOk (sym e.0) h.turns; casts = subst (λ (cs : List Batch). (k : ℕ) (b : Batch) → nth cs k ≡ Some b → IsCast k b) (sym e.1) h.casts }

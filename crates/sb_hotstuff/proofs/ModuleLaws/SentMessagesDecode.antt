@@ -42,7 +42,7 @@ digest-long : (p : Params) (view : ℕ) (what : Content) (just : Certificate) �
 digest-long p view what just = length-sha256 _
 
 module _ (p : Params) (good : IsGoodParams hotstuff p) where
-  -- ---- what has a spelling
+  -- ---- What has an encoding
 
   abbrev pub Spelled : Certificate → Type 0
   Spelled c = (bytes : List ℕ) × IsSpelledCertificate 3 c bytes
@@ -60,7 +60,7 @@ module _ (p : Params) (good : IsGoodParams hotstuff p) where
   digest-length Root h = refl
   digest-length (Votes view phase d votes) h = h.1.digest_fits
 
-  -- ---- what a node keeps
+  -- ---- The fields of a replica's state
 
   abbrev pub SignedAll : List Kept → Type 0
   SignedAll [] = Unit {0}
@@ -92,7 +92,7 @@ module _ (p : Params) (good : IsGoodParams hotstuff p) where
     casts : ReadAll s.casts
     few : length s.casts ≤ length p.slots
 
-  -- ---- certificates of kept votes
+  -- ---- Certificates of received votes
 
   low-view : (view : ℕ) → round_of view ≤ 65535 → view < 2 ^ 32
   low-view view h = omega (arith, h)
@@ -160,7 +160,7 @@ module _ (p : Params) (good : IsGoodParams hotstuff p) where
       let few = votes-few p.setup.n s.votes phase view d in
       (votes_row view phase d votes, record { view_low = l; view_fits = m; phase_low = a; phase_fits = b; digest_fits = long; count_fits = omega (arith, n, few); signers = votes-rise p.setup.n s.votes phase view d h; row = refl })
 
-  -- ---- the best of kept words
+  -- ---- The highest certificate of received NewView messages
 
   abbrev SpelledEach : List Certificate → Type 0
   SpelledEach [] = Unit {0}
@@ -182,7 +182,7 @@ module _ (p : Params) (good : IsGoodParams hotstuff p) where
   best-spelled c [] h g = h
   best-spelled c (d ∷ ds) h g = by-if Spelled (nat_lt (view_of c) (view_of d)) (best d ds) (best c ds) (best-spelled d ds g.0 g.1) (best-spelled c ds h g.1)
 
-  -- ---- turns
+  -- ---- Turns
 
   -- a turn that is proposed now
   pub record NewTurn (t : Turn) : Type 0 where
@@ -264,7 +264,7 @@ module _ (p : Params) (good : IsGoodParams hotstuff p) where
       turns : (r slots : ℕ) → (r * 65536 + 1) % 65536 ≤ suc slots
       turns r slots = omega arith
 
-  -- ---- the state
+  -- ---- The state
 
   vote-parts : (phase view : ℕ) (d sig : List ℕ) → SpelledAs (Vote phase view d sig) → is_signature sig ≡ true
   vote-parts phase view d sig h = h.1.signed
@@ -334,7 +334,7 @@ module _ (p : Params) (good : IsGoodParams hotstuff p) where
   state-fits me [] h = record { high = root-spelled; votes = tt; news = tt; turns = tt; casts = λ b k. absurd k; few = omega arith }
   state-fits me (x ∷ xs) h = after-fits me (state p me xs) x.input (heard-is x.input h.0) (state-fits me xs h.2)
 
-  -- ---- what is sent, once it has a signature
+  -- ---- Sent messages, with their signatures
 
   abbrev Signs : Message → Type 0
   Signs msg = (sig : List ℕ) → is_signature sig ≡ true → SpelledAs (with_signature sig msg)

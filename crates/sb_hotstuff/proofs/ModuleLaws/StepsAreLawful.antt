@@ -33,7 +33,7 @@ use Rattle.sb_hotstuff.specs.Rules.{State, Turn, is_good, is_reached, keeps_vote
 use Rattle.sb_hotstuff.proofs.Basics.{IsIf, by-if, if-in, if-not, if-some, is-same}
 use Rattle.sb_hotstuff.proofs.ModuleLaws.SentMessagesDecode.{sent-again}
 
--- ---- each claim names its instance
+-- ---- Each claim names its instance
 
 abbrev Names : Params → List ℕ → Type 0
 Names p s = (rest : List ℕ) × (s ≡ statement_head p 4 ++ rest)
@@ -65,7 +65,7 @@ named p from msg c h = elim (in_append c (certificate_claims basic p (inside msg
     own (inl e) = let n = own-names p msg in (n.0, ap (λ (z : Claim). z.statement) e ∙ n.1)
     own (inr k) = absurd k
 
--- ---- what is asked for
+-- ---- Batches that are offered
 
 module _ (p : Params) (me : ℕ) (xs : List (Item Message)) where
   cast-is : (s : Slot) (b : Batch) (x : Slot × Batch) → asks p me xs (Cast s b) ≡ Some x → IsIf (may_cast p me (state p me xs) s.0) (s, b) x
@@ -105,7 +105,7 @@ asked-In p me xs (Cast s b) x h =
 asked-In p me xs (Receive from msg) x h = heard-In p (state p me xs) (accepts xs) from.0 msg x h
 asked-In p me xs Timeout x h = absurd cc
 
--- ---- what is decided
+-- ---- Decisions
 
 value-In : (cs : List Content) (k : ℕ) (slots : List Slot) (s : Slot) (x : Value) → value_at_slot cs k slots s.0 ≡ Some x → In s slots
 value-In cs k [] s x h = absurd cc
@@ -133,7 +133,7 @@ decided-In p me (i ∷ xs) n x h = elim (first-cases (decided p me xs n.0) (deci
   | inr new ↦ decides-In p (state p me xs) i.input n x new.1
 ]
 
--- ---- what is sent: few messages, to nodes
+-- ---- At most two messages, to existing replicas
 
 record IsFine (n most : ℕ) (ds : List (To × Message)) : Type 0 where
   pub to : AreToNodes n ds

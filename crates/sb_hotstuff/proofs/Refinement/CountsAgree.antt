@@ -22,7 +22,7 @@ use Rattle.sb_hotstuff.specs.declared.turns.Turns.{Turns}
 use Rattle.sb_hotstuff.specs.Rules.{Kept, News, Turn, all_news, best, is_for, news_of, vote_of, votes_of}
 use Rattle.sb_hotstuff.specs.Tallies.{AreNews, AreTurns, AreVotes, ballot_order, best_at, better, count_at, own_of, own_order, sender_order, signed, vote_at, votes_at, word_at, words_at}
 
--- ---- keys
+-- ---- Keys of the maps
 
 pub same_own : (a b : Own) → is_eq (own_order a b) ≡ ((a.view == b.view) && same_bytes a.digest b.digest)
 same_own a b =
@@ -51,7 +51,7 @@ same_ballot a b =
     ∙ ap (λ t. is_eq (nat_cmp a.by b.by) && (is_eq (nat_cmp a.phase b.phase) && t)) (both_equal (nat_cmp a.view b.view) (slice_cmp nat_cmp a.digest b.digest))
     ∙ rw (nodes, phases, views, digests) (and-four (a.by == b.by) (a.phase == b.phase) (a.view == b.view) (same_bytes a.digest b.digest))
 
--- ---- votes
+-- ---- Votes
 
 pub votes-more : (m n : Ballots) (key : Ballot) (v : Kept) (vs : List Kept) → key.by ≡ v.by → key.phase ≡ v.phase → key.view ≡ v.view → key.digest ≡ v.digest → AreVotes m vs →
     ((k phase view : ℕ) (d : List ℕ) → vote_at n k phase view d ≡ cond (is_eq (ballot_order key (record { by = k; phase = phase; view = view; digest = d }))) (Some v.sig) (vote_at m k phase view d)) → AreVotes n (v ∷ vs)
@@ -95,7 +95,7 @@ votes-are m vs (suc k) phase view d h =
     ap (λ (z : List Signed). z ++ one_or_none (signed k (vote_at m k phase view d))) (votes-are m vs k phase view d h)
     ∙ ap (λ (o : Option Signed). votes_of k vs phase view d ++ one_or_none o) (sym (h k phase view d))
 
--- ---- words
+-- ---- NewView messages
 
 pub news-more : (m n : Words) (key : Sender) (w : News) (ws : List News) → key.by ≡ w.by → key.round ≡ w.round → AreNews m ws →
     ((k round : ℕ) → word_at n k round ≡ cond (is_eq (sender_order key (record { by = k; round = round }))) (Some w.high) (word_at m k round)) → AreNews n (w ∷ ws)
@@ -149,7 +149,7 @@ best-is m ws (suc k) round h =
     ∙ ap (λ (o : Option Certificate). better (best Root (all_news k ws round)) o) (sym (h k round))
     ∙ sym (best-more Root (all_news k ws round) (news_of ws round k))
 
--- ---- turns
+-- ---- Turns
 
 pub turns-more : (m n : Turns) (t : Turn) (turn : Last) (ts : List Turn) → own_of t ≡ turn → AreTurns m ts → n.last ≡ Some turn →
     ((view : ℕ) (d : List ℕ) → contains own_order n.all (record { view = view; digest = d }) ≡ cond (is_eq (own_order (record { view = turn.view; digest = turn.digest }) (record { view = view; digest = d }))) true (contains own_order m.all (record { view = view; digest = d }))) →

@@ -55,13 +55,13 @@ slot-inside [] k d h = absurd (omega (arith, h))
 slot-inside (s ∷ ss) zero d h = inl refl
 slot-inside (s ∷ ss) (suc k) d h = inr (slot-inside ss k d (omega (arith, h)))
 
--- ---- a pair, and the value with its slot
+-- ---- A pair of a slot and its value
 
 value-none : (n : ℕ) (ss : List Slot) → value_with n ss [] ≡ None
 value-none n [] = refl
 value-none n (s ∷ ss) = refl
 
--- ---- behind the first so many slots
+-- ---- After the first k slots
 
 -- a pair from place k on has its value, and its slot is not one of the first k
 pub fresh-value : (low : ℕ) (k : ℕ) (s : Slot) (x : Value) (ss : List Slot) (vs : List Value) → AreAscending low ss → In {A = Slot × Value} (s, x) (paired (drop k ss) (drop k vs)) →
@@ -89,7 +89,7 @@ value-fresh (suc k) s x (t ∷ ss) (v ∷ vs) h n = go (t.0 == s.0) h n (value-f
     go true h n more = absurd (true≢false n)
     go false h n more = more h n
 
--- ---- which slots have a value
+-- ---- Which slots have a value
 
 take-none : (k : ℕ) → take {A = Slot} k [] ≡ []
 take-none zero = refl
@@ -119,7 +119,7 @@ or-within true b h = refl
 or-within false true h = absurd (true≢false (sym (h refl)))
 or-within false false h = refl
 
--- ---- the values of a branch
+-- ---- The values of a branch
 
 suc-same : (k l : ℕ) → (suc k == suc l) ≡ (k == l)
 suc-same k l = elim (same_or_not k l) [

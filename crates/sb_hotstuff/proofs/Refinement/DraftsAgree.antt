@@ -59,7 +59,7 @@ shown-drafted p phase view kind c msg d stated hm hd hk h = record {
   statement = h ∙ (λ i. statement basic p (hk i) (four_bytes view ++ hd i)) ∙ sym (shows-stated p phase view c) ∙ ap (λ (z : Message). own_statement basic p z) (sym hm);
 }
 
--- ---- one message more
+-- ---- One more message
 
 to-append : (n : ℕ) (xs ys : List (To × Message)) → AreToNodes n xs → AreToNodes n ys → AreToNodes n (xs ++ ys)
 to-append n [] ys h g = g

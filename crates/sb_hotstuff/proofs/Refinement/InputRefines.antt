@@ -54,7 +54,7 @@ module _ (p : Params) (old new : Node) (s : State) (i : Input Message) (o : Outc
   pub led : (mid : Node) (k : State) (t : Option Turn) → kept p old.me.0 s i ≡ k → proposed p old.me.0 s k i ≡ t → answers p s k i ≡ [] → taken_of p s i ≡ [] → mid.me ≡ old.me → Proposes p mid new k t o → Does p old new s i o
   led mid k t ek et ea es me d = does k t [] [] ek et ea es (d.node ∙ me) d.state (none o.answer d.answer) d.proposal d.hashed
 
--- ---- what a test decides
+-- ---- The cases of a test
 
 when : {A : Type 0} (b : Bool) (x y : A) → b ≡ true → (if b then x else y) ≡ x
 when b x y h = ap (λ (z : Bool). if z then x else y) h

@@ -45,7 +45,7 @@ module _ (p : Params) (m : Node) (s : State) (h : RefinesState m s) (view : ℕ)
   safe-locked low high parent lock b c hl hh lt hp hk hb e hc =
       hc ∙ by-lock locks on above (sym (extends-is parent lock b hp hk hb) ∙ e) (sym (view-above low high hl hh) ∙ lt)
 
-  -- ---- the whole test
+  -- ---- The whole test
 
   all-but : (t f s a : Bool) → t ≡ true → f ≡ true → a ≡ true → s ≡ ((t && f) && (s && a))
   all-but true true true true e g h = refl

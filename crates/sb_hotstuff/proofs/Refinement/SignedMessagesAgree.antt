@@ -18,7 +18,7 @@ use Rattle.sb_hotstuff.specs.Drafts.{AreDrafts, count_of}
 use Rattle.sb_hotstuff.specs.HotStuff.{sign_all}
 use Rattle.sb_hotstuff.specs.Instances.{IsSigned}
 
--- ---- how many
+-- ---- The number of messages
 
 pub drafts-long : (p : Params) (d : Option Draft) (xs : List (To × Message)) → AreDrafts p d xs → count_of d ≡ length xs
 drafts-long p None xs h = ap (λ (z : List (To × Message)). length z) (sym h)
@@ -37,7 +37,7 @@ left-enough k l d h e =
     let left : left_of l ≡ 2 ^ k.height - (k.used + count_of d) = ap (λ (z : KeyState). left_of z) e in
     omega (arith, few, left)
 
--- ---- one signature after another
+-- ---- Signatures in sequence
 
 sign-both : (p : Params) (me leaf : ℕ) (xs ys : List (To × Message)) → sign_all p me leaf (xs ++ ys) ≡ sign_all p me leaf xs ++ sign_all p me (leaf + length xs) ys
 sign-both p me leaf [] ys = ap (λ (n : ℕ). sign_all p me n ys) (none leaf)

@@ -43,7 +43,7 @@ use Rattle.iss_sb.proofs.Paired.{fresh-ascending, fresh-within}
 use Rattle.sb_hotstuff.proofs.Refinement.DeliveredSlotsAgree.{branch-value, fresh-value, or-within, slots-more, value-fresh, value-some}
 use Rattle.sb_hotstuff.proofs.Refinement.SignedMessagesAgree.{count-few, drafts-long}
 
--- ---- what is decided stays, so what is delivered is what is decided
+-- ---- Decisions are stable, so a slot is delivered if it is decided
 
 first-stays : (a b : Option Value) (x : Value) → a ≡ Some x → first_of a b ≡ Some x
 first-stays None b x h = absurd cc
@@ -52,7 +52,7 @@ first-stays (Some y) b x h = h
 pub delivered-is : (p : Params) (me : ℕ) (xs : List (Item Message)) (n : ℕ) → delivered hotstuff p me xs n ≡ decided p me xs n
 delivered-is p me xs n = delivered-decided hotstuff p me (λ s. refl) (λ xs y s x h. first-stays (decided p me xs s) (decides p (state p me xs) y.input s) x h) xs n
 
--- ---- a step whose rule makes an outcome, which is signed
+-- ---- A step whose rule has an outcome, which is signed
 
 module _ (p : Params) (m n : HotStuff) (i : Input Message) (o : Outcome) (a : Option (Slot × Batch)) (before later : KeyState) (e : Effects Message)
     (enough : 2 ≤ left_of before) (does : (s : State) → RefinesState m.node s → Does p m.node n.node s i o) (signed : IsSigned p o a before later e)
@@ -126,7 +126,7 @@ module _ (p : Params) (m n : HotStuff) (i : Input Message) (o : Outcome) (a : Op
         enough = enough;
       }
 
--- ---- a step that only delivers, or does nothing
+-- ---- A step that only delivers, or does nothing
 
 pub record IsIdle (p : Params) (me : ℕ) (s : State) (i : Input Message) : Type 0 where
   pub drafts_none : drafts p me s i ≡ []
@@ -233,7 +233,7 @@ module _ (p : Params) (good : IsGoodParams hotstuff p) (m : HotStuff) (i : Input
           let was = sym (delivered-is p me xs t.0) ∙ none in
           value-fresh m.delivered t x p.slots (values cs) (first-new (old t.0) _ x was (sym (now-is t.0) ∙ h)) (sym (st.reached t.0) ∙ ap (λ (r : Option Value). is_some r) was)
 
--- ---- the steps
+-- ---- The steps
 
 -- nothing is accepted
 pub plain-step : (p : Params) (m : HotStuff) (node : Node) (i : Input Message) (o : Outcome) (before later : KeyState) (e : Effects Message) → 2 ≤ left_of before →
@@ -345,7 +345,7 @@ module _ (p : Params) (good : IsGoodParams hotstuff p) (m : HotStuff) (keys : Ke
         (λ me xs st k. high-reached p good m said e me xs st (branch (state p me xs).tree (digest_of shown)) (yes-said me xs st) (given me xs st) (let f = many me xs st in omega (arith, lt, f)) k
         ∙ ap (λ (z : ℕ). has_slot k (take z p.slots)) (sym (many me xs st))) now-given
 
--- ---- whether a cast would be taken
+-- ---- Whether a cast is valid
 
 no-some : (x : Slot × Batch) → ◌≡◌ {A = Option (Slot × Batch)} None (Some x) → ⊥
 no-some x h = cc

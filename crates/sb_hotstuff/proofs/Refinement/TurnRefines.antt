@@ -79,7 +79,7 @@ module _ (p : Params) (m : Node) (k : State) (view slots : ℕ) (just : Certific
         ∙ ap (λ (z : Turn). strings_at p z.view z.what z.just) (sym is);
   }
 
--- ---- casts
+-- ---- Casts
 
 module _ (p : Params) (m n : Node) (k : State) (o : Outcome) (view slots place : ℕ) (just : Certificate) (h : RefinesState m k) where
   pub cast-none : nth m.casts place ≡ None → IsQuiet o → Proposes p m m k (cast_turn p view just slots (nth k.casts place)) o
@@ -94,7 +94,7 @@ module _ (p : Params) (m n : Node) (k : State) (o : Outcome) (view slots place :
       subst (λ (z : Option Batch). Proposes p m n k (cast_turn p view just slots z) o) (sym some)
       (d (turn p view just (Holds c) slots) refl small (record { turn = omega (arith, low); first = λ q. omega (arith, first) }) h)
 
--- ---- the turn behind the last one
+-- ---- The turn after the last one
 
 abbrev after_last : Params → State → Last → Option Turn
 after_last p k l =
@@ -138,7 +138,7 @@ module _ (p : Params) (m n : Node) (k : State) (o : Outcome) (t : Turn) (last : 
       other : (r : ℕ) → 1 ≤ r → (r == 0) ≡ false
       other r le = grind (arith, le)
 
--- ---- the newest turn
+-- ---- The newest turn
 
 none-last : (ts : List Turn) → last_of ts ≡ None → ts ≡ []
 none-last [] e = refl
@@ -181,7 +181,7 @@ module _ (p : Params) (m n : Node) (k : State) (o : Outcome) (h : RefinesState m
         (subst (λ (z : Bool). Proposes p m n k (if z then turn_after p k new.turn else None) o) (sym (ready-is b hb ∙ yet))
         (d new.turn new.own (h.low last (h.turns.last ∙ sym found_is ∙ e)) h))
 
--- ---- the first turn of a round
+-- ---- The first turn of a round
 
 pub first-one : (p : Params) (m n : Node) (k : State) (o : Outcome) (round count here slots : ℕ) (just : Certificate) (d : List ℕ) (known : Bool) (what : Content) → RefinesState m k → count ≡ length (all_news p.setup.n k.news round) → count ≡ p.setup.quorum →
     here ≡ m.view / 65536 → here ≤ round → 1 ≤ round → just ≡ best Root (all_news p.setup.n k.news round) → d ≡ digest_of just → known ≡ is_known k.tree d → known ≡ true → slots ≡ filled (branch k.tree d) → what ≡ nil_or_mark p slots →

@@ -23,7 +23,7 @@ use Rattle.sb_hotstuff.specs.HotStuff.{hotstuff}
 pub quorums-meet : (p : Params) → IsGoodParams hotstuff p → (t u : ℕ → Bool) → p.setup.quorum ≤ count_below t p.setup.n → p.setup.quorum ≤ count_below u p.setup.n → Meets p t u
 quorums-meet p good t u tq uq = let nodes = good.nodes in let majority = good.majority in meets p p.setup.f t u (few-faulty hotstuff p good refl) (omega arith) tq uq
 
--- ---- what single nodes show
+-- ---- The facts on single replicas
 
 module _ (p : Params) (w : World Message) (acc : ℕ → ℕ → Batch → Type 0) where
   abbrev Holder : List ℕ → Content → Type 0

@@ -182,7 +182,7 @@ module _ (p : Params) (w : World Message) (good : IsGoodParams hotstuff p) (lega
             ]);
       }
 
-  -- ---- what is delivered
+  -- ---- Deliveries
 
   pub record Shown (n : ℕ) (x : Value) : Type 0 where
     pub view : ℕ

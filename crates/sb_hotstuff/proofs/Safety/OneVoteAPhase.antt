@@ -55,7 +55,7 @@ pub data Cause (p : Params) (s : State) (i : Input Message) (view : ℕ) (d : Li
   by_second : IsSecond p s i view d → Cause p s i view d 2
   by_third : IsThird p s i view d → Cause p s i view d 3
 
--- ---- what is not yet signed
+-- ---- Unsigned messages
 
 record IsUnsigned (ds : List (To × Message)) (to : To) (phase view : ℕ) (d : List ℕ) : Type 0 where
   pub sig : List ℕ
@@ -158,7 +158,7 @@ cause p me leaf xs i to phase view d sig h =
     let r = unsigned p me leaf (drafts p me (state p me xs) i) to phase view d sig h in
     why p to phase view d r.sig me (state p me xs) i r.sent
 
--- ---- views only rise
+-- ---- Views never decrease
 
 abbrev Rises : ℕ → State → Type 0
 Rises v s = v ≤ s.view
@@ -200,7 +200,7 @@ after-view p me s i =
     let e = turn-view (kept p me s i) (proposed p me s (kept p me s i) i) in
     omega (arith, a, e)
 
--- ---- what a vote tells of the view
+-- ---- A vote is of the view that the step enters or is in
 
 pub first-view : (p : Params) (me : ℕ) (s : State) (i : Input Message) (view : ℕ) (d : List ℕ) → IsFirst p s i view d → (s.view < view) × ((after p me s i).view ≡ view)
 first-view p me s i view d f =
@@ -223,7 +223,7 @@ third-view p me s i view d f =
     let is : after p me s i ≡ record s { lock = f.shown; third = true } = ap (λ (z : Input Message). after p me s z) f.is ∙ new in
     (own, not-true s.third open-now, ap (λ (z : State). z.view) is ∙ sym own, ap (λ (z : State). z.third) is)
 
--- ---- in one list
+-- ---- In one history
 
 pub cause-new : (p : Params) (me : ℕ) (x : Item Message) (xs : List (Item Message)) (phase view : ℕ) (d : List ℕ) → AreMade hotstuff p me (x ∷ xs) → VotedIn x phase view d → Cause p (state p me xs) x.input view d phase
 cause-new p me x xs phase view d made v = cause p me x.leaf xs x.input v.to phase view d v.sig (subst (λ (z : Made Message). In {A = To × Message} (v.to, Vote phase view d v.sig) z.sends) made.0 v.sent)
@@ -253,7 +253,7 @@ cause-one p s i phase view q v d e (by_third f) (by_third g) =
     let c : f.shown ≡ g.shown = cc in
     (refl, a, f.digest_is ∙ ap digest_of c ∙ sym g.digest_is)
 
--- ---- what a node's state remembers of its votes
+-- ---- What a replica's state records of its votes
 
 -- The state records a vote of this phase and view: the view is lower than its own, or equal with the phase marked.
 abbrev pub Marked : State → ℕ → ℕ → Type 0

@@ -48,7 +48,7 @@ use Rattle.sb_hotstuff.proofs.Safety.OneVoteAPhase.{Cause, IsFirst, by_first, by
 use Rattle.sb_hotstuff.proofs.Safety.BranchesAgree.{First}
 use Rattle.sb_hotstuff.proofs.ModuleLaws.SentMessagesDecode.{digest-length}
 
--- ---- batches that are the same
+-- ---- Equal batches
 
 same_request-is : (a b : Request) → same_request a b ≡ true → a ≡ b
 same_request-is a b h =
@@ -83,7 +83,7 @@ was-In s b (a ∷ old) h = go ((a.0.0 == s.0) && same_batch a.1 b) refl h (was-I
         inl (λ i. (record { 0 = sym n i }, sym c i))
     go false q e more = inr (more e)
 
--- ---- a place in a list
+-- ---- An entry of a history
 
 pub record Spot (p : Params) (me : ℕ) (xs : List (Item Message)) (x : Item Message) : Type 0 where
   pub older : List (Item Message)
@@ -101,7 +101,7 @@ spot p me xs x made k =
       accepts_in = λ e h. accepts-front (x ∷ a.before) xs e a.front h;
     }
 
--- ---- accepted batches, at their places
+-- ---- Accepted batches and their places
 
 abbrev pub acc : Params → World Message → ℕ → ℕ → Batch → Type 0
 acc p w j k b = (s : Slot) × (nth p.slots k ≡ Some s) × In {A = Slot × Batch} (s, b) (accepts (w j))
@@ -115,7 +115,7 @@ abbrev pub Came : Params → World Message → ℕ → Message → Type 0
 Came p w from msg = IsCredible hotstuff p (Verifies p) (IsSigned hotstuff p w) from msg
 
 module _ (p : Params) (w : World Message) (good : IsGoodParams hotstuff p) (legal : IsLegal hotstuff p w) (voted : AreVoted p w) where
-  -- ---- certificates that came
+  -- ---- Certificates that were received
 
   nodes-below : (s : List ℕ) (vs : List Signed) → ((c : Claim) → In c (vote_claims s vs) → c.by.0 < p.setup.n) → all_below p.setup.n (signers vs) ≡ true
   nodes-below s [] h = refl
@@ -168,7 +168,7 @@ module _ (p : Params) (w : World Message) (good : IsGoodParams hotstuff p) (lega
   pub came : (me : ℕ) (x : Item Message) (from : NodeId) (msg : Message) → In x (w me) → x.input ≡ Receive from msg → Came p w from.0 msg
   came me x from msg k e = subst (λ (z : Input Message). MayCome hotstuff p w me z) e (legal.came me x k)
 
-  -- ---- votes of the second and the third phase
+  -- ---- Pre-commit and commit votes
 
   abbrev Here : (k : ℕ) (x : Item Message) → In x (w k) → Spot p k (w k) x
   Here k x h = spot p k (w k) x (legal.made k) h
@@ -200,7 +200,7 @@ module _ (p : Params) (w : World Message) (good : IsGoodParams hotstuff p) (lega
   pub one-why : (k v : ℕ) (d e : List ℕ) → IsVoted w k 1 v d → IsVoted w k 1 v e → d ≡ e
   one-why k v d e h g = one-first p k (w k) h.item g.item v d e (legal.made k) h.taken g.taken h.vote g.vote
 
-  -- ---- nodes that were taken or proposed were hashed
+  -- ---- Nodes that were taken or proposed were hashed
 
   abbrev pub Holder : List ℕ → Content → Type 0
   Holder a c = Has p.setup.version (IsString w) a c
@@ -241,7 +241,7 @@ module _ (p : Params) (w : World Message) (good : IsGoodParams hotstuff p) (lega
         read = (content-table p.setup.version what row.behind row.what_is).1;
       }
 
-  -- ---- the tree of a list
+  -- ---- The tree of a history
 
   abbrev pub AllHere : ℕ → List (Item Message) → Type 0
   AllHere me xs = (x : Item Message) → In x xs → In x (w me)
@@ -288,7 +288,7 @@ module _ (p : Params) (w : World Message) (good : IsGoodParams hotstuff p) (lega
       let t = tree-kept me x xs x.input (here x (inl refl)) made refl (state-tree me xs made.1 (λ y k. here y (inr k))) in
       tree-turn (kept p me s x.input) (proposed p me s (kept p me s x.input) x.input) t
 
-  -- ---- first votes
+  -- ---- Prepare votes
 
   pub spot-here : (k : ℕ) (x : Item Message) (q : In x (w k)) → AllHere k (Here k x q).older
   spot-here k x q y h = (Here k x q).inside_it y (inr h)

@@ -56,7 +56,7 @@ module _ (p : Params) (G : Claim → Type 0) where
     votes : VotesSaid s.votes
     news : NewsSaid s.news
 
-  -- ---- from claims, and to claims
+  -- ---- From votes to claims and back
 
   abbrev Comes : ℕ → Message → Type 0
   Comes from msg = (c : Claim) → In c (claims basic p from msg) → G c
@@ -86,7 +86,7 @@ module _ (p : Params) (G : Claim → Type 0) where
       let c = claim from (own_statement basic p msg) (signature_of msg) in
       h c (in_right c (certificate_claims basic p (inside msg)) (c ∷ []) (inl refl))
 
-  -- ---- certificates of kept votes, and of kept words
+  -- ---- Certificates of received votes and of received NewView messages
 
   for-said : (phase view : ℕ) (d : List ℕ) (k : ℕ) (v : Kept) → is_for phase view d k v ≡ true → G (claim v.by (vote_statement basic p v.phase v.view v.digest) v.sig) → G (claim k (vote_statement basic p phase view d) v.sig)
   for-said phase view d k v h g =
@@ -138,7 +138,7 @@ module _ (p : Params) (G : Claim → Type 0) where
   best-said c [] h g = h
   best-said c (d ∷ ds) h g = by-if Said (nat_lt (view_of c) (view_of d)) (best d ds) (best c ds) (best-said d ds g.0 g.1) (best-said c ds h g.1)
 
-  -- ---- turns
+  -- ---- Turns
 
   cast-said : (view : ℕ) (just : Certificate) (slots : ℕ) (o : Option Batch) → Said just → TurnSaid (cast_turn p view just slots o)
   cast-said view just slots None h = tt
@@ -160,7 +160,7 @@ module _ (p : Params) (G : Claim → Type 0) where
       (by-if TurnSaid (is_known s.tree (digest_of high)) (Some (turn p (round * 65536 + 1) high (nil_or_mark p (slots_below s high)) (slots_below s high))) None
       (best-said Root cs tt (news-said p.setup.n s.news round h.news)) tt) tt
 
-  -- ---- the state
+  -- ---- The state
 
   heard-said : (me : ℕ) (s : State) (from : ℕ) (msg : Message) → Comes from msg → IsSaid s → IsSaid (heard p me s from msg)
   heard-said me s from (NewView round high sig) m h = by-if IsSaid (keeps_news p me s from round high) (with_news s from round high) s
@@ -193,7 +193,7 @@ module _ (p : Params) (G : Claim → Type 0) where
       let k = kept-said me (state p me xs) x.input (m x (inl refl)) (state-said me xs (λ y q. m y (inr q))) in
       turn-said (kept p me (state p me xs) x.input) (proposed p me (state p me xs) (kept p me (state p me xs) x.input) x.input) k
 
-  -- ---- what is sent
+  -- ---- Sent messages
 
   abbrev SendsSaid : List (To × Message) → Type 0
   SendsSaid [] = Unit {0}
@@ -254,12 +254,12 @@ module _ (p : Params) (G : Claim → Type 0) where
       subst Said (sym same) h.0
   sent-said me leaf (x ∷ ds) h to msg (inr k) = sent-said me (suc leaf) ds h.1 to msg k
 
--- ---- what a message states of its own
+-- ---- The statement of a message's sender
 
 abbrev pub States : Params → ℕ → Message → List ℕ → Type 0
 States p i msg statement = own_statement basic p msg ≡ statement
 
--- ---- what is passed on
+-- ---- What is passed on was received
 
 module _ (p : Params) where
   abbrev Seen : ℕ → List (Item Message) → Input Message → Claim → Type 0
@@ -320,7 +320,7 @@ module _ (p : Params) where
       mine (inl e) = sym (ap (λ (z : Claim). z.statement) e) ∙ said.is
       mine (inr none) = absurd none
 
--- ---- what is signed by the leaves of a step
+-- ---- The statements that the leaves of a step sign
 
 module _ (p : Params) (me : ℕ) where
   abbrev stated : List (To × Message) → List (List ℕ)

@@ -42,7 +42,7 @@ use Rattle.sb_hotstuff.proofs.LeaderProposals.ProposalsAreCasts.{IsCast, IsPart,
 use Rattle.sb_hotstuff.proofs.Safety.LockCoversCommitVotes.{Shown, delivered-shown, locked-why}
 use Rattle.sb_hotstuff.proofs.Safety.VotesHaveCauses.{AreVoted, acc, allowed-low, came, first-cause, first-why, is-taken, one-why, parts, second-why, spot, taken-has, third-why}
 
--- ---- the value at a slot stands at its place
+-- ---- The value at a slot is that at its place
 
 slot-agree : (cs es : List Content) (slots : List Slot) (k s : ℕ) (x y : Value) → ((n : ℕ) → value_at cs n ≡ Some x → value_at es n ≡ Some y → x ≡ y) → value_at_slot cs k slots s ≡ Some x → value_at_slot es k slots s ≡ Some y → x ≡ y
 slot-agree cs es [] k s x y h a b = absurd cc
@@ -82,7 +82,7 @@ from-zero n = omega arith
 plus-none : (n : ℕ) → n + 0 ≡ n
 plus-none n = omega arith
 
--- ---- what was signed was sent
+-- ---- What was signed was sent
 
 pub voted-reached : (p : Params) (w : World Message) → IsReached hotstuff p w → AreVoted p w
 voted-reached p w reached i phase view d correct signed =
@@ -97,7 +97,7 @@ module _ (p : Params) (w : World Message) (good : IsGoodParams hotstuff p) (reac
   pub voted : AreVoted p w
   voted = voted-reached p w reached
 
-  -- ---- one vote a phase and view
+  -- ---- At most one vote for a phase of a view
 
   pub vote-once : VoteOnce w
   vote-once = record {
@@ -131,7 +131,7 @@ module _ (p : Params) (w : World Message) (good : IsGoodParams hotstuff p) (reac
     first : (k v : ℕ) (d : List ℕ) → IsVoted w k 1 v d → First p w (acc p w) k v d
     first = first-why p w good legal voted sep
 
-    -- ---- what is delivered
+    -- ---- Deliveries
 
     see : (i n : ℕ) (x : Value) → delivered hotstuff p i (w i) n ≡ Some x → Shown p w good legal voted n x
     see i n x h = delivered-shown p w good legal voted i (w i) n x (legal.made i) (λ y q. q) h
@@ -178,7 +178,7 @@ module _ (p : Params) (w : World Message) (good : IsGoodParams hotstuff p) (reac
         let k = share p w (acc p w) good facts sep first x.place y.place b c x.accepted y.accepted in
         record { node = k.0; correct = k.1; first = acc-at k.0 x.place s b x.slot k.2; second = acc-at k.0 y.place t c y.slot k.3 }
 
-    -- ---- what is delivered from a correct leader's segment
+    -- ---- Deliveries in a correct leader's segment
 
     first-leader : (n l : ℕ) → l < n → (l + 0) % n ≡ l
     first-leader n l h = ap (λ (z : ℕ). z % n) (plus-none l) ∙ mod-eq_of_lt h

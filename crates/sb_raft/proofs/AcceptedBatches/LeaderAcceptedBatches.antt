@@ -25,7 +25,7 @@ use Rattle.iss_sb.proofs.Legal.{front_self, front_trans}
 use Rattle.sb_raft.proofs.Safety.Invariant.{Inv}
 use Rattle.sb_raft.proofs.Safety.ElectionSafety.{LeadOf, histories, mom, older, front_tail, facts}
 
--- ---- the place of a value
+-- ---- The place of a value
 
 pub record Stands (s : ℕ) (slots : List Slot) (b : Batch) (log : List Entry) : Type 0 where
   pub front : List Entry
@@ -69,7 +69,7 @@ stands s slots b (e ∷ es) h = go e.what refl slots (λ ts k. stands s ts b es 
             let r = rec ts h in
             record { front = e ∷ r.front; entry = r.entry; rest = r.rest; is = ap (λ (z : List Entry). e ∷ z) r.is; holds = r.holds; slot = r.slot; place = subst (λ (z : Content). nth (t ∷ ts) (length (content z ++ contents r.front)) ≡ Some r.slot) (sym q) r.place; same = r.same }
 
--- ---- what a new leader adds holds no batch
+-- ---- The entries that a new leader adds have no batch
 
 no-batch : (w : Content) (b : Batch) (A : Type 0) → (w ≡ Nil) ⊎ (w ≡ Mark) → w ≡ Holds b → A
 no-batch w b A (inl e) h = absurd cc

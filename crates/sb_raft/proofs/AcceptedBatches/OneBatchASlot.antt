@@ -29,7 +29,7 @@ use Rattle.sb_raft.proofs.Safety.NodeHistories.{term_one}
 use Rattle.sb_raft.proofs.ModuleLaws.StepsAreLawful.{some-only}
 use Rattle.sb_raft.proofs.StateChanges.StepCases.{advanced-state, with_cast}
 
--- ---- slots rise, so one stands at one place
+-- ---- Slots are strictly ascending, so a slot has one place
 
 above : (low k : ℕ) (ss : List Slot) (n : ℕ) → AreAscending low ss → is_slot k (nth ss n) ≡ true → low ≤ k
 above low k [] n h e = absurd (true≢false (sym e))
@@ -43,7 +43,7 @@ one-place low k (t ∷ ss) zero (suc n) h e f = absurd (omega (arith, is-eq t.0 
 one-place low k (t ∷ ss) (suc m) zero h e f = absurd (omega (arith, is-eq t.0 k f, above (suc t.0) k ss m h.1 e))
 one-place low k (t ∷ ss) (suc m) (suc n) h e f = ap suc (one-place (suc t.0) k ss m n h.1 e f)
 
--- ---- what is asked for
+-- ---- Batches that are offered
 
 asked : (p : Params) (me : ℕ) (l : List (Item Message)) (i : Input Message) (s : Slot) (b : Batch) → asks p me l i ≡ Some (s, b) → (i ≡ Cast s b) × (may_cast p (state p me l) s.0 ≡ true)
 asked p me l (Cast c d) s b h =
@@ -61,7 +61,7 @@ cast-log p me s slot b h =
 cast-fills : (p : Params) (me : ℕ) (s : State) (slot : ℕ) (b : Batch) → may_cast p s slot ≡ true → filled (on_cast p me s slot b).state.log ≡ filled s.log + 1
 cast-fills p me s slot b h = ap filled (cast-log p me s slot b h) ∙ filled-both s.log (entry s.term (Holds b) ∷ [])
 
--- ---- who leads term 1 never stood for it
+-- ---- The leader of term 1 was never a candidate
 
 fc : Follower ≡ Candidate → ⊥
 fc h = cc
@@ -85,7 +85,7 @@ stood-later p me (y ∷ l) r = go (turn p me (state p me l) y.input) (stood-late
     go (wins a b t j e g n own lg o) ih = no-role (state p me (y ∷ l)).role Leader Candidate _ a r lc
     go (wins_alone a lt g v n own lg o) ih = no-role (state p me (y ∷ l)).role Leader Candidate _ a r lc
 
--- ---- what was accepted is filled, as long as the node leads term 1
+-- ---- While the node leads term 1, each accepted slot is filled
 
 abbrev IsFilled : Params → ℕ → List (Item Message) → ℕ → Type 0
 IsFilled p me l slot = (n : ℕ) × ((n < filled (state p me l).log) × (is_slot slot (nth p.slots n) ≡ true))

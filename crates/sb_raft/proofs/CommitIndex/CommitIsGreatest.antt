@@ -24,7 +24,7 @@ use Rattle.sb_raft.proofs.CommitIndex.MatchesWereReplied.{answered-matched, matc
 use Rattle.sb_raft.proofs.StateChanges.CommitAndMatchIndices.{Commit, same, counted, copied, commit}
 use Rattle.sb_raft.proofs.StateChanges.StepCases.{greatest-above, with_reach, Raise, level, higher, Handled, none, down, copy, reply, back, grant, voted, win, casts, times, alone, Next, next_cases}
 
--- ---- it never falls
+-- ---- The commit index never decreases
 
 rises : (p : Params) (me : ℕ) (s : State) (i : Input Message) (v : State) → Commit p me s i v → s.commit ≤ v.commit
 rises p me s i v (same e f) = omega (arith, e)
@@ -39,7 +39,7 @@ front-rises p me a (x ∷ l) (inr f) =
     let u = rises p me (state p me l) x.input (state p me (x ∷ l)) (commit p me (state p me l) x.input) in
     omega (arith, r, u)
 
--- ---- a leader has committed all that it may
+-- ---- A leader has committed all that it may
 
 greatest-most : (test : ℕ → Bool) (low k i : ℕ) → test i ≡ true → i ≤ k → i ≤ greatest test low k
 greatest-most test low zero i h l = omega (arith, l)
@@ -87,7 +87,7 @@ module _ (p : Params) (me : ℕ) where
           mid u (level e) q = subst (λ (z : State). Full z) (sym e) (ih (sym (ap (λ (z : State). z.role) e) ∙ q))
           mid u (higher c l e) q = no-role u.role Follower Leader (Full u) (ap (λ (z : State). z.role) e) q refl refl
 
-  -- ---- f others, and a quorum with the node itself
+  -- ---- f others make a quorum with the node itself
 
   abbrev other : List (Item Message) → ℕ → ℕ → Bool
   other xs i = another_answered p me (state p me xs).term i xs
@@ -167,7 +167,7 @@ module _ (u : State) (j t prev pt c : ℕ) (es : List Entry) where
       Kinds : Step → Type 0
       Kinds z = (z.state.commit ≡ u.commit) ⊎ (IsOk z × (z.state.commit ≡ max u.commit (min c (prev + length es))))
 
--- ---- the greatest
+-- ---- The greatest
 
 module _ (p : Params) (me : ℕ) (good : IsGoodParams raft p) (below : me < p.setup.n) where
   may-more : (x : Item Message) (xs : List (Item Message)) (i : ℕ) → MayBeCommitted p me xs i → MayBeCommitted p me (x ∷ xs) i

@@ -67,7 +67,7 @@ answer-is t i k long input a =
     let e = both (a.from.0 == k) ((t == t) && (nat_le i a.index && nat_le a.index long)) (same-is a.from.0 k a.who) (both (t == t) (nat_le i a.index && nat_le a.index long) (same-is t t refl) (both (nat_le i a.index) (nat_le a.index long) (le-leb i a.index a.above) (le-leb a.index long a.within))) in
     subst (λ (z : Input Message). is_answer t i k long z ≡ true) (sym a.came) e
 
--- ---- one step
+-- ---- One step
 
 raised-same : (s : State) → raised s s.term ≡ s
 raised-same s = go (nat_lt s.term s.term) refl
@@ -185,7 +185,7 @@ module _ (p : Params) (me : ℕ) (s : State) (i : Input Message) where
               old u e (stays r t m) = no-role u.role Follower Leader _ (ap (λ (z : State). z.role) e) r refl refl
               old u e (now j x ei r t w ne lx m) = no-role u.role Follower Leader _ (ap (λ (z : State). z.role) e) r refl refl
 
--- ---- all items
+-- ---- All entries of a history
 
 module _ (p : Params) (me : ℕ) where
   -- the Reply was received by the leader of the term

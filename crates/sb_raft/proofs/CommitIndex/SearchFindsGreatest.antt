@@ -10,7 +10,7 @@ use Rattle.sb_raft.specs.Logs.{term_at}
 use Rattle.sb_raft.specs.Rules.{State, greatest, holds, may_commit}
 use Rattle.sb_raft.specs.Refines.{IsHeld, IsMost, far}
 
--- ---- the greatest number of a range that passes a test, if any
+-- ---- The greatest number of a range that passes a test, if any
 
 pub greatest-of : (test : ℕ → Bool) (low k x : ℕ) → low ≤ x → (x ≤ k) ⊎ (x ≡ low) → (low < x → test x ≡ true) → ((i : ℕ) → x < i → i ≤ k → test i ≡ true → ⊥) → greatest test low k ≡ x
 greatest-of test low zero x above within passes most = elim within [
@@ -43,7 +43,7 @@ greatest-of test low (suc k) x above within passes most =
       | inr e ↦ nothing (nat_lt low (suc k) && test (suc k)) refl (omega (arith, le, e)) e (before (inr e))
     ]
 
--- ---- of the numbers that pass a test, one of the least measure
+-- ---- Of the numbers that pass a test, one of least measure
 
 pub record IsLeast (test : ℕ → Bool) (high : ℕ → ℕ) (n : ℕ) : Type 0 where
   pub at : ℕ
@@ -85,7 +85,7 @@ least-of test high (suc n) h = go (test n) refl (cases_lt 0 (count_below test n)
         let old = r (omega (arith, h)) in
         record { at = old.at; below = let b = old.below in omega (arith, b); passes = old.passes; least = λ k l q. elim (below k l) [ inl b ↦ old.least k b q | inr e ↦ absurd (true≢false (sym q ∙ ap test e ∙ t)) ] }
 
--- ---- the greatest index of the log that a quorum holds
+-- ---- The greatest index of the log that a quorum holds
 
 module _ (p : Params) (me : ℕ) (s : State) where
   abbrev last : ℕ
@@ -137,7 +137,7 @@ module _ (p : Params) (me : ℕ) (s : State) where
           let low = holds-far i r.at le r.passes in
           omega (arith, more, low)
 
-  -- ---- and of the own term
+  -- ---- The greatest of the leader's term
 
   pub reaches : (most index : ℕ) → IsMost p me s most → index ≤ most → (s.commit < index → term_at s.log index ≡ s.term) →
       ((i : ℕ) → index < i → i ≤ most → s.commit < i → term_at s.log i ≡ s.term → ⊥) →

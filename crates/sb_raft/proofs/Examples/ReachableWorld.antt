@@ -38,7 +38,7 @@ good = record {
   directory = refl;
 }
 
--- ---- worlds in which the nodes 0 and 1 took something
+-- ---- Worlds in which the nodes 0 and 1 took some input
 
 -- nothing was hashed
 abbrev AreBare : List (Item Message) → Type 0
@@ -93,7 +93,7 @@ separate a b h k e = empty a h ∙ sym (empty b k)
     empty s (inl q) = q
     empty s (inr h) = hashed h.node h.item s (eqb h.node 0) (eqb h.node 1) h.taken h.hashed
 
--- ---- what the example shows
+-- ---- What the example shows
 
 record ArePremisesMet : Type 0 where
   params : Params

@@ -63,7 +63,7 @@ sends me xs input = (makes p me xs input 0).sends
 abbrev pub tell : ℕ → Message → Input Message
 tell k msg = Receive (node k) msg
 
--- ---- a cast, replies, and the commit
+-- ---- A cast, replies, and the commit
 
 abbrev pub cast : List (Item Message)
 cast = take_in 0 [] (Cast (slot 0) b)
@@ -122,7 +122,7 @@ delivers_at_a_follower = refl
 commits_what_it_has : (state p 1 (take_in 1 copied (tell 0 (Append 1 0 0 7 [])))).commit ≡ 0
 commits_what_it_has = refl
 
--- ---- a gap, and the leader who sends one entry more after each refusal
+-- ---- A gap: the leader sends one more entry after each refusal
 
 gap : sends 2 [] (tell 0 (Append 1 1 1 1 [])) ≡ to 0 (Reply 1 false 1) ∷ []
 gap = refl
@@ -136,7 +136,7 @@ steps_back = refl
 no_step_elsewhere : sends 0 committed (tell 2 (Reply 1 false 1)) ≡ []
 no_step_elsewhere = refl
 
--- ---- an election: node 1 has the entry, and stands up
+-- ---- An election: node 1 has the entry and becomes a candidate
 
 abbrev pub stood : List (Item Message)
 stood = take_in 1 copied Timeout
@@ -196,7 +196,7 @@ no_cast_later = refl
 of_the_past : sends 2 (take_in 2 [] (tell 1 (AskVote 2 1 1))) (tell 0 (Append 1 4 1 0 [])) ≡ to 0 (Reply 2 false 4) ∷ []
 of_the_past = refl
 
--- ---- an Append by which a committed entry would go: no answer, and the term is taken
+-- ---- An Append that would remove a committed entry: no reply, but the term is taken over
 
 abbrev pub silent : List (Item Message)
 silent = take_in 0 committed (tell 2 (Append 3 0 0 0 (entry 3 Mark ∷ [])))
@@ -224,7 +224,7 @@ removes = refl
 stays : (state p 1 (take_in 1 led (tell 2 (Append 3 0 0 0 (e1 ∷ []))))).log ≡ log2
 stays = refl
 
--- ---- a log is repaired: node 2 has nothing, and refuses; it is sent one entry more, takes all, and the leader commits
+-- ---- Log repair: node 2 has nothing and refuses; it gets one more entry, takes all, and the leader commits
 
 abbrev pub refused : List (Item Message)
 refused = take_in 1 led (tell 2 (Reply 2 false 1))
@@ -261,7 +261,7 @@ conflict = refl
 removed : (state p 0 (take_in 0 cast_twice (tell 1 (Append 2 1 1 0 (entry 2 Mark ∷ entry 2 Nil ∷ []))))).log ≡ log2
 removed = refl
 
--- ---- the last term: in it a timeout changes nothing, and in the one before it leads there
+-- ---- The last term: a timeout changes nothing in it, and leads to it from the term before
 
 abbrev pub at_term : ℕ → List (Item Message)
 at_term t = take_in 2 [] (tell 1 (AskVote t 0 0))
@@ -272,7 +272,7 @@ last_term_stays = (refl, refl)
 last_term_comes : sends 2 (at_term 65534) Timeout ≡ to 0 (AskVote 65535 0 0) ∷ to 1 (AskVote 65535 0 0) ∷ []
 last_term_comes = refl
 
--- ---- one node alone commits what it casts, and wins at once
+-- ---- A single node commits its casts and wins elections at once
 
 abbrev pub alone : Params
 alone = record p { setup = record setup { f = 0; n = 1; quorum = 1 } }
@@ -280,7 +280,7 @@ alone = record p { setup = record setup { f = 0; n = 1; quorum = 1 } }
 commits_at_once : delivered raft alone 0 (and_then raft alone 0 [] (Cast (slot 0) b) 0) 0 ≡ Some (Value_batch b)
 commits_at_once = refl
 
--- ---- a log has at most 65,600 entries: an Append of so many is taken, one of one entry more is not answered
+-- ---- The limit of 65,600 entries: an Append of that many is taken, one more has no reply
 
 abbrev pub many : Entry → List Entry → Input Message
 many e es = tell 0 (Append 1 0 0 0 (e ∷ es))

@@ -32,7 +32,7 @@ use Rattle.sb_raft.proofs.Safety.Invariant.{May, node}
 use Rattle.sb_raft.proofs.Safety.MessagesHaveCauses.{AllSent, IsOne, sends-may}
 use Rattle.sb_raft.proofs.StateChanges.StepCases.{append_cases, ask_cases, cast_cases, raise, reply_cases, time_cases, up, vote_cases, Raise, level, higher, Handled, none, down, copy, reply, back, grant, voted, win, casts, times, alone, next, with_granted}
 
--- ---- logs
+-- ---- Logs
 
 take-in : (n : ℕ) (x : Entry) (xs : List Entry) → In x (take n xs) → In x xs
 take-in zero x xs h = absurd h
@@ -67,7 +67,7 @@ last-low bound [] some h = some
 last-low bound (e ∷ []) some h = h e (inl refl)
 last-low bound (e ∷ (d ∷ log)) some h = last-low bound (d ∷ log) some (λ x i. h x (inr i))
 
--- ---- states in their ranges
+-- ---- States within the bounds
 
 module _ (p : Params) where
   abbrev version : ℕ
@@ -189,7 +189,7 @@ module _ (p : Params) where
     ranged [] h = ranged-start me
     ranged (x ∷ xs) h = ranged-next (state p me xs) x.input h.0 (ranged xs h.2)
 
-    -- ---- what is sent
+    -- ---- Sent messages
 
     entries-low : (log : List Entry) → HaveBytes version log → (e : Entry) → In e log → e.term < 2 ^ 16
     entries-low log h e i = (h e i).spelled.term

@@ -32,7 +32,7 @@ pub by_if : {A : Type 0} (P : A → Type 0) (t : Bool) (x y : A) → P x → P y
 by_if P true x y h k = h
 by_if P false x y h k = k
 
--- ---- what is sent goes to nodes
+-- ---- Messages go to existing nodes
 
 abbrev IsAddressed : ℕ → Step → Type 0
 IsAddressed n made = AreToNodes n made.sends
@@ -127,7 +127,7 @@ module _ (p : Params) (me : ℕ) where
   on-input s (Receive from msg) h = on-message s from.0 msg h
   on-input s Timeout h = on-timeout s
 
--- ---- casts and slots
+-- ---- Casts and slots
 
 pub some-only : {A : Type 0} (t : Bool) (x y : A) → (if t then Some x else None) ≡ Some y → (t ≡ true) × (y ≡ x)
 some-only true x y h = (refl, cc)

@@ -44,7 +44,7 @@ module _ (es : List Entry) (d : Entry) (at : ℕ) (lt : at < length es) where
   fresh-some slots place v one is =
       ap (λ (n : ℕ). paired (drop n slots) (v ∷ [])) is ∙ ap (λ (z : List Value). paired (drop (filled (take at es)) slots) z) (sym (one-content ∙ one))
 
--- ---- one more behind those since an index
+-- ---- One more entry after those since an index
 
 module _ (es : List Entry) (slots : List Slot) (from at : ℕ) (le : from ≤ at) (lt : at < length es) where
   abbrev a : List Entry
@@ -86,7 +86,7 @@ module _ (es : List Entry) (slots : List Slot) (from at : ℕ) (le : from ≤ at
       ∙ ap (λ (z : List Slot). paired ss (contents b) ++ paired z (contents c)) places in
       e ∙ ap (λ (z : List (Slot × Value)). z ++ paired (drop (filled (take at es)) slots) (contents c)) old ∙ sym all
 
--- ---- from the committed index on
+-- ---- From the committed index on
 
 pub since-none : (es : List Entry) (slots : List Slot) (from : ℕ) → paired (drop (filled (take from es)) slots) (contents (drop from (take from es))) ≡ []
 since-none es slots from =

@@ -11,7 +11,7 @@ use Rattle.iss_sb.specs.Paired.{paired, value_with}
 use Rattle.iss_sb.proofs.Paired.{pair-value, paired-none, paired-slot, value-pair}
 use Rattle.iss_sb.proofs.Slots.{another, drop-slot}
 
--- ---- slots and values, one with the other
+-- ---- Slots paired with values
 
 pub paired-both : (ss : List Slot) (vs ws : List Value) → paired ss (vs ++ ws) ≡ paired ss vs ++ paired (drop (length vs) ss) ws
 paired-both [] [] ws = refl
@@ -25,7 +25,7 @@ paired-at ss place s v lt is =
     ap (λ (z : List Slot). paired z (v ∷ [])) (drop-cons ss place s lt) ∙ ap (λ (z : List (Slot × Value)). (get_or ss place s, v) ∷ z) (paired-none (drop (suc place) ss))
     ∙ ap (λ (z : Slot). (z, v) ∷ []) (sym is)
 
--- ---- behind the values that there were
+-- ---- After the earlier values
 
 -- the slot has a value now, and had none
 pub fresh-decided : (low : ℕ) (s : Slot) (x : Value) (ss : List Slot) (vs ws : List Value) → AreAscending low ss → In {A = Slot × Value} (s, x) (paired (drop (length vs) ss) ws) →

@@ -24,7 +24,7 @@ use Rattle.sb_raft.proofs.Safety.CommittedLogsAgree.{take_kept}
 use Rattle.sb_raft.proofs.Refinement.RulesCompose.{does-nothing, does-reply, rebased}
 use Rattle.sb_raft.proofs.Refinement.MergeAgrees.{merged-reach}
 
--- ---- what a test decides
+-- ---- The cases of a test
 
 module _ (p : Params) (can : Type 0) where
   pub goes : (me : NodeId) (from : State) (new : Raft) (b : Bool) (x y : Step) (accepted : Option (Slot × Batch)) (e : Effects Message) → b ≡ true → Does p me can from new x accepted e → Does p me can from new (if b then x else y) accepted e
@@ -37,7 +37,7 @@ module _ (p : Params) (can : Type 0) where
   pub idle : (m : Raft) (b : Bool) (x : Step) (e : Effects Message) → b ≡ false → IsNothing e → Does p m.me can (held m) m (if b then x else quiet (held m)) None e
   idle m b x e h n = goes_not m.me (held m) m b x (quiet (held m)) None e h (does-nothing p can m m (quiet (held m)) e refl (λ _. refl) refl refl n)
 
--- ---- an Append that is answered not ok
+-- ---- An Append that is refused
 
 low-follower : (s : State) → IsLow s → IsLow (record s { role = Follower })
 low-follower s low = record { room = low.room; next = λ r. absurd (clash r); matched = λ r. absurd (clash r) }
@@ -78,7 +78,7 @@ module _ (p : Params) (m : Raft) (from term previous previous_term commit : ℕ)
       (rebased p can IsLow (λ k s. merges s from previous commit es) m mid new follower None e d me (λ _. state) (λ low. low-follower (held m) low)
       (ap (λ (z : LogState). z.commit) log) (ap (λ (z : LogState). take m.log.commit z.entries) log)))
 
--- ---- entries that are put behind an index
+-- ---- Entries that are merged after an index
 
 -- the committed prefix stays
 kept-front : (log es : List Entry) (front commit : ℕ) → front ≤ length log → commit ≤ front + stay (drop front log) es → take commit (merged log front es) ≡ take commit log

@@ -38,7 +38,7 @@ bounds-of s low r = record { matched = low.matched r; next = low.next r }
 pub fits-of : (s : State) → IsLow s → s.role ≡ Leader → Fits s
 fits-of s low r = let room = low.room in record { log = omega (arith, room); next = low.next r }
 
--- ---- committing by counting
+-- ---- Committing by counting
 
 greatest-within : (test : ℕ → Bool) (least k : ℕ) → least ≤ k → greatest test least k ≤ k
 greatest-within test least k le = elim (greatest_is test least k) [
@@ -88,7 +88,7 @@ module _ (p : Params) (m : Raft) where
       now : held new ≡ record (held m) { commit = top }
       now = state ∙ (λ i. record (held m) { log = entries i; commit = (commit ∙ is) i })
 
--- ---- the rules
+-- ---- The rules
 
 module _ (p : Params) (m : Raft) where
   abbrev low : Type 0
@@ -106,7 +106,7 @@ module _ (p : Params) (m : Raft) where
       (rebased p can Fits (λ k s. advanced p k (record { state = s; sends = sends })) m mid new u None e d node is fits stays front)
       (λ c. ap (λ (z : List (To × Message)). advanced p me (record { state = u; sends = z })) (same c))
 
-  -- ---- replies
+  -- ---- Replies
 
   module _ (from index : ℕ) (leads : is_leader (held m).role ≡ true) where
     abbrev held_to : ℕ
@@ -159,7 +159,7 @@ module _ (p : Params) (m : Raft) where
             let high = c.next (leader_is (held m).role leads) from in
             ap (λ (z : Message). to from z ∷ []) (is (omega (arith, room)) (omega (arith, last, high)))
 
-  -- ---- votes that are counted
+  -- ---- Counting votes
 
   pub votes-few : (sends : List (To × Message)) (e : Effects Message) → AreToNodes p.setup.n sends → count_below (kept m.granted) p.setup.n < p.setup.quorum → OnlySends sends e →
       Does p m.me (HasRoom (held m)) (held m) m (counted p me (held m) sends) None e
@@ -204,7 +204,7 @@ module _ (p : Params) (m : Raft) where
       goes p low m.me (held m) new ((is_candidate (held m).role && granted) && (term == m.term)) (counted p me (with_granted (held m) from) []) (quiet (held m)) None e test
       (votes-further low mid new (with_granted (held m) from) sends [] e d node (state ∙ (λ i. record (held m) { granted = everywhere (kept mid.granted) (set_at (kept m.granted) from true) is i })) (λ c. c.room) (λ _. none) log)
 
-  -- ---- timeouts
+  -- ---- Timeouts
 
   pub stand-done : (mid new : Raft) (sends : List (To × Message)) (e : Effects Message) → Does p mid.me (HasRoom (held mid)) (held mid) new (counted p mid.me.0 (held mid) sends) None e → mid.me ≡ m.me →
       held mid ≡ record (held m) { term = m.term + 1; vote = Some me; role = Candidate; granted = kept mid.granted } → ((k : ℕ) → kept mid.granted k ≡ (k == me)) → mid.log ≡ m.log →
@@ -237,7 +237,7 @@ module _ (p : Params) (m : Raft) where
       goes_not p low m.me (held m) new (is_leader (held m).role) (record { state = held m; sends = appends p me (held m) }) (if nat_lt m.term 65535 then stands_up p me (candidate me (held m)) else quiet (held m)) None e other
       (goes p low m.me (held m) new (nat_lt m.term 65535) (stands_up p me (candidate me (held m))) (quiet (held m)) None e (lt-ltb m.term 65535 lt) d)
 
-  -- ---- casts
+  -- ---- Casts
 
   module _ (slot : Slot) (batch : Batch) where
     abbrev Casts : Raft → Effects Message → Bool → Type 0
@@ -266,7 +266,7 @@ module _ (p : Params) (m : Raft) where
         same c =
             sent (subst (λ (z : State). Fits z) (sym is) (fits c)) ∙ ap (λ (k : NodeId). appends p k.0 (held mid)) node ∙ ap (λ (z : State). appends p me z) is
 
--- ---- what a new leader holds
+-- ---- A new leader's state
 
 pub lead-state : (p : Params) (m new : Raft) (mid : LogState) (missing last : ℕ) → held new ≡ record (held m) { role = Leader; log = new.log.entries; commit = new.log.commit; next = kept new.next; matched = kept new.matched } →
     missing ≡ length p.slots - filled m.log.entries → last ≡ length m.log.entries + 1 → ((k : ℕ) → kept new.next k ≡ last) → ((k : ℕ) → kept new.matched k ≡ 0) →
@@ -296,7 +296,7 @@ own-vote mine all one none set k = set k ∙ go (k == mine) (none k)
     go true h = refl
     go false h = h
 
--- ---- votes that are given
+-- ---- Granting votes
 
 pub grant-done : (p : Params) (m new : Raft) (from term last last_term : ℕ) (e : Effects Message) → from < p.setup.n → new.me ≡ m.me → held new ≡ record (held m) { vote = Some from } → new.log.commit ≡ m.log.commit →
     grants (held m) from term last last_term ≡ true → OnlySends (to from (Vote m.term true) ∷ []) e → Does p m.me (IsLow (held m)) (held m) new (on_ask (held m) from term last last_term) None e

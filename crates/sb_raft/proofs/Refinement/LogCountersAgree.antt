@@ -13,7 +13,7 @@ use Rattle.sb_raft.proofs.ModuleLaws.LogLengthIsBounded.{filled-both}
 filled-one : (e : Entry) → filled (e ∷ []) ≡ length (content e.what)
 filled-one e = ap (λ (z : List Value). length z) (append-nil (content e.what))
 
--- ---- counts
+-- ---- Counters
 
 pub counted-push : (es : List Entry) (e : Entry) (slots commit passed more : ℕ) → more ≡ length (content e.what) → AreCounted es slots commit passed → AreCounted (es ++ e ∷ []) (slots + more) commit passed
 counted-push es e slots commit passed more m h =
@@ -52,7 +52,7 @@ counted-pass es d slots commit passed lt h =
     let s : filled (take (commit + 1) es) ≡ filled (take (suc commit) es) = ap (λ (k : ℕ). filled (take k es)) more in
     (h.0, omega (arith, lt), omega (arith, n, b, s))
 
--- ---- terms
+-- ---- Terms
 
 pub term-at : (log : List Entry) (k : ℕ) (d : Entry) → k < length log → term_at log (suc k) ≡ (get_or log k d).term
 term-at [] k d lt = absurd (omega (arith, lt))
@@ -73,7 +73,7 @@ term-last log i last d m one =
 pub term-all : (log : List Entry) → term_at log (length log) ≡ last_term log
 term-all log = ap last_term (take-length log)
 
--- ---- runs of equal terms
+-- ---- Equal terms in sequence
 
 run-more : (xs es : List Entry) (e : Entry) (es' : List Entry) → es ≡ e ∷ es' → starts_with xs e.term ≡ true → same xs es ≡ suc (same (drop 1 xs) es')
 run-more [] es e es' h t = absurd (true≢false (sym t))
@@ -133,7 +133,7 @@ run-all log es index at e r =
     let s = r.so_far in
     omega (arith, none, s)
 
--- ---- nils
+-- ---- Nils
 
 pub nils-more : (t k : ℕ) → nils t k ++ entry t Nil ∷ [] ≡ nils t (suc k)
 nils-more t zero = refl

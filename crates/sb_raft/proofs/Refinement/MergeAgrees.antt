@@ -28,7 +28,7 @@ same-short (x ∷ xs) (e ∷ es) = go (x.term == e.term) (same-short xs es)
     go true h = omega (arith, h)
     go false h = omega arith
 
--- ---- all that was sent stands there
+-- ---- The log has all that was sent
 
 pub stay-all : (xs es : List Entry) → same xs es ≡ length es → stay xs es ≡ length xs
 stay-all xs [] h = refl
@@ -48,7 +48,7 @@ merge-all (x ∷ xs) (e ∷ es) h = go (x.term == e.term) (merge-all xs es) h
     go true r h = ap (λ (z : List Entry). x ∷ z) (r (omega (arith, h)))
     go false r h = absurd (omega (arith, h))
 
--- ---- some of it does not
+-- ---- The log lacks some of it
 
 pub stay-part : (xs es : List Entry) → same xs es < length es → stay xs es ≡ same xs es
 stay-part xs [] h = absurd (omega (arith, h))
@@ -69,7 +69,7 @@ merge-part (x ∷ xs) (e ∷ es) h = go (x.term == e.term) (merge-part xs es) h
     go true r h = ap (λ (z : List Entry). x ∷ z) (r (omega (arith, h)))
     go false r h = refl
 
--- ---- behind an index of the log
+-- ---- After an index of the log
 
 pub take-both : (n k : ℕ) (xs : List Entry) → take n xs ++ take k (drop n xs) ≡ take (n + k) xs
 take-both zero k xs = ap (λ (n : ℕ). take n xs) (omega arith)
@@ -117,7 +117,7 @@ module _ (log : List Entry) (front : ℕ) (es : List Entry) (within : front ≤ 
       let w = part-within in
       omega (arith, l, t, d, w, h)
 
-  -- ---- what may be put there
+  -- ---- What may be merged
 
   abbrev log_of : ℕ → LogState
   log_of commit = record { entries = log; commit = commit }
@@ -146,7 +146,7 @@ module _ (log : List Entry) (front : ℕ) (es : List Entry) (within : front ≤ 
       let m = merge-longer (drop front log) es in
       omega (arith, l, t, m, within)
 
--- ---- the same, where the count of what stands there has another name
+-- ---- The same, with an equal count
 
 pub same-of : (log : List Entry) (front : ℕ) (es sent : List Entry) (count : ℕ) → sent ≡ es → count ≡ same (drop front log) sent → count ≡ same (drop front log) es
 same-of log front es sent count e h = h ∙ ap (λ (z : List Entry). same (drop front log) z) e

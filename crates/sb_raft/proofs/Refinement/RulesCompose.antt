@@ -23,7 +23,7 @@ use Rattle.sb_raft.proofs.StateChanges.StepCases.{Raise, level, higher, raise}
 pub everywhere : {A : Type 0} (f g : ℕ → A) → ((k : ℕ) → f k ≡ g k) → f ≡ g
 everywhere f g h = λ i k. h k i
 
--- ---- what is newly filled
+-- ---- Newly filled slots
 
 drop-taken : (n : ℕ) (es : List Entry) → drop n (take n es) ≡ []
 drop-taken n es =
@@ -43,7 +43,7 @@ newly-front p s u v e f =
     ap (λ (k : ℕ). paired (drop (filled (take k u.log)) p.slots) (contents (drop k (take v.commit v.log)))) e
     ∙ ap (λ (z : List Entry). paired (drop (filled z) p.slots) (contents (drop s.commit (take v.commit v.log)))) f
 
--- ---- a rule that ends at once
+-- ---- A rule that ends at once
 
 module _ (p : Params) (can : Type 0) (old new : Raft) (step : Step) (e : Effects Message) (me : new.me ≡ old.me) (state : can → held new ≡ step.state) (stays : new.log.commit ≡ old.log.commit) where
   pub does-nothing : step.sends ≡ [] → IsNothing e → Does p old.me can (held old) new step None e
@@ -79,7 +79,7 @@ module _ (p : Params) (can : Type 0) (old new : Raft) (step : Step) (e : Effects
     addressed = subst (λ (z : List (To × Message)). AreToNodes p.setup.n z) (sym h.sends_is) addressed;
   }
 
--- ---- a rule that goes on
+-- ---- A rule that goes on
 
 -- what was done from a later state with the same committed prefix was done from the first one
 pub rebased : (p : Params) (can : Type 0) (P : State → Type 0) (f : ℕ → State → Step) (old mid new : Raft) (u : State) (accepted : Option (Slot × Batch)) (e : Effects Message) →
@@ -114,7 +114,7 @@ restep p can me from new step other accepted e d is = record {
 pub step-path : (s t : State) (a b : List (To × Message)) → s ≡ t → a ≡ b → (let x : Step = record { state = s; sends = a } in x) ≡ (let y : Step = record { state = t; sends = b } in y)
 step-path s t a b e f = λ i. record { state = e i; sends = f i }
 
--- ---- a higher term
+-- ---- A higher term
 
 after-raise : (s u : State) → Raise s u → IsLow s → IsLow u
 after-raise s u (level e) low = subst (λ (z : State). IsLow z) (sym e) low

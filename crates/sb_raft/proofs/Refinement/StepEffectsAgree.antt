@@ -31,7 +31,7 @@ use Rattle.iss_sb.proofs.Paired.{fresh-ascending, fresh-within}
 use Rattle.sb_raft.proofs.Refinement.DeliveredSlotsAgree.{decided-fresh, fresh-decided}
 use Rattle.sb_raft.proofs.Safety.ListPrefixes.{pre_rest}
 
--- ---- what becomes delivered
+-- ---- Newly delivered slots
 
 module _ (p : Params) (good : IsGoodParams raft p) (me : ℕ) (xs : List (Item Message)) (x : Item Message) where
   abbrev s : State
@@ -65,7 +65,7 @@ module _ (p : Params) (good : IsGoodParams raft p) (me : ℕ) (xs : List (Item M
           decided-fresh t y p.slots (contents before) (contents (drop s.commit (take v.commit v.log)))
           (subst (λ (z : List Value). value_with t.0 p.slots z ≡ Some y) contents-now (sym (delivered-is p me (x ∷ xs) t.0) ∙ h)) (sym (delivered-is p me xs t.0) ∙ n)
 
--- ---- indices
+-- ---- Bounds of indices
 
 pub refines-low : (p : Params) → IsGoodParams raft p → (m : Raft) (me : ℕ) (xs : List (Item Message)) → Refines m p me xs → m.term < 2 ^ 16 → IsLow (held m)
 refines-low p good m me xs st low =
@@ -78,7 +78,7 @@ refines-low p good m me xs st low =
     let all : IsLow s = record { room = omega (arith, marks, full, term, low); next = λ r. (b r).next; matched = λ r. (b r).matched } in
     subst (λ (z : State). IsLow z) (sym st.state) all
 
--- ---- a step
+-- ---- A step
 
 module _ (p : Params) (good : IsGoodParams raft p) (old new : Raft) (i : Input Message) (accepted : Option (Slot × Batch)) (e : Effects Message) (low : old.term < 2 ^ 16)
     (d : Does p old.me (IsLow (held old)) (held old) new (step p old.me.0 (held old) i) accepted e) where

@@ -47,7 +47,7 @@ module _ (p : Params) (w : World Message) (good : IsGoodParams raft p) (reached 
   pub one-leader : HaveOneLeader p w
   one-leader i j t a b h g = one_lead p w inv t i j (state p i a).log (state p j b).log (led-in i t a h) (led-in j t b g)
 
-  -- ---- logs
+  -- ---- Logs
 
   split-at : (k : ℕ) (log P : List Entry) (x : Entry) → take k log ≡ P ++ (x ∷ []) → log ≡ P ++ (x ∷ drop k log)
   split-at k log P x e = sym (take-drop k log) ∙ (ap (λ (z : List Entry). z ++ drop k log) e ∙ append_assoc P (x ∷ []) (drop k log))
@@ -83,7 +83,7 @@ module _ (p : Params) (w : World Message) (good : IsGoodParams raft p) (reached 
       cut c (x ∷ C) [] e k = absurd k
       cut c (x ∷ C) (y ∷ m) e k = subst (λ (z : ℕ). x ∷ C ≡ take z (y ∷ m)) e (let r = cut (length C) C m refl k.1 in let q = k.0 in cc)
 
-  -- ---- batches
+  -- ---- Batches
 
   pub by-first : AreByFirst p w
   by-first = record {
@@ -107,7 +107,7 @@ module _ (p : Params) (w : World Message) (good : IsGoodParams raft p) (reached 
       asker i (Receive from msg) before a f h = absurd cc
       asker i Timeout before a f h = absurd cc
 
-  -- ---- what is delivered
+  -- ---- Deliveries
 
   pub agreed : AreAgreed p w
   agreed i j s x y d e = agree p w good legal ballots i j s x y d e

@@ -51,7 +51,7 @@ sent-each : (P : ℕ → Message → Type 0) (msg : ℕ → Message) (ks : List 
 sent-each P msg [] h = tt
 sent-each P msg (k ∷ ks) h = (h k, sent-each P msg ks h)
 
--- ---- a node alone
+-- ---- A single node
 
 none-below : (me n : ℕ) → n ≤ me → count_below (λ k. k == me) n ≡ 0
 none-below me zero h = refl
@@ -187,7 +187,7 @@ append-fine s j t prev pt c es =
     (λ g. ((t, pt, c, es, refl, refl), tt)))
     (λ h. ((t, pt, c, es, refl, refl), tt))
 
--- ---- all of them
+-- ---- All nodes
 
 pub sends-may : (p : Params) (me : ℕ) → p.setup.n ≡ 2 * p.setup.f + 1 → p.setup.quorum ≡ p.setup.f + 1 → (s : State) (i : Input Message) → Bound s → IsFine s i (step p me s i)
 sends-may p me nodes quorum s (Cast slot batch) b = cast-may p me nodes quorum s (Cast slot batch) s slot.0 batch b

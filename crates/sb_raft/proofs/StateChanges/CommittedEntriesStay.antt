@@ -60,7 +60,7 @@ pub room : (p : Params) (me : ℕ) (xs : List (Item Message)) → (state p me xs
 room p me [] = omega arith
 room p me (x ∷ xs) = (on p me (state p me xs) x.input (state p me (x ∷ xs)) (room p me xs) (commit p me (state p me xs) x.input)).room
 
--- ---- slots
+-- ---- Slots
 
 pub contents-both : (a b : List Entry) → contents (a ++ b) ≡ contents a ++ contents b
 contents-both [] b = refl

@@ -28,7 +28,7 @@ candidate_is Follower h = absurd (false≢true h)
 candidate_is Leader h = absurd (false≢true h)
 candidate_is Candidate h = refl
 
--- ---- what a quorum holds is committed
+-- ---- What a quorum holds is committed
 
 pub greatest-above : (test : ℕ → Bool) (low k : ℕ) → low ≤ greatest test low k
 greatest-above test low zero = omega arith
@@ -53,7 +53,7 @@ advanced-state p me made =
     by-both (λ (z : Step). z.state ≡ with_reach p me made.state) (nat_lt made.state.commit i) (risen p me (record made.state { commit = i }) made.sends) made
     (λ h. refl) (λ h. same_commit made.state i (not-above made.state.commit i h (greatest-above (may_commit p me made.state) made.state.commit (length made.state.log))))
 
--- ---- a higher term is taken
+-- ---- A higher term is taken over
 
 abbrev pub up : State → ℕ → State
 up s t = record s { term = t; vote = None; role = Follower }
@@ -65,7 +65,7 @@ pub data Raise (s u : State) : Type 0 where
 pub raise : (s : State) (t : ℕ) → Raise s (raised s t)
 raise s t = by-both (λ (z : State). Raise s z) (nat_lt s.term t) (up s t) s (λ h. higher t (ltb-true s.term t h) refl) (λ h. level refl)
 
--- ---- the rest
+-- ---- The rest
 
 abbrev pub with_copy : State → ℕ → ℕ → List Entry → State
 with_copy u prev c es = record u { role = Follower; log = merged u.log prev es; commit = max u.commit (min c (prev + length es)) }
