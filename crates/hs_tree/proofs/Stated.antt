@@ -6,9 +6,6 @@ use Rattle.iss_sb.specs.declared.content.Content.{Content}
 use Rattle.hs_tree.specs.Hashed.{IsHashed}
 use Rattle.std.specs.Int.{to_be_bytes, w16, w32}
 use Rattle.iss_request.specs.Fields.{Written, and_bytes}
-use Rattle.iss_request.specs.Formats.{spell_batch, spell_value, value_string, version_byte}
-use Rattle.iss_request.specs.declared.requests.Batch.{Batch}
-use Rattle.iss_request.specs.declared.requests.Value.TheVariants.{Nil as Value_nil, Batch as Value_batch}
 use Rattle.iss_sb.specs.declared.effects.Params.{Params}
 use Rattle.iss_sb.specs.Statements.{claim, four_bytes, statement_head, two_bytes}
 use Rattle.iss_sb.proofs.Statements.{four-is, two-is}

@@ -1,6 +1,8 @@
--- How certificates are spelled in bytes, and how they are read.
+-- How certificates of HotStuff are encoded and decoded. A certificate is the root's, or votes of strictly ascending
+-- nodes for a digest in a view and a phase. A good one has exactly a quorum of votes.
 --
---   certificate   view (4 bytes); 0 is the root's, and ends here; else phase (1), digest (32), count (1), and that many signers
+--   certificate   view (4 bytes); 0 is the root's, and ends here; else phase (1), digest (32), count (1), and that
+--                 many signers, strictly ascending
 use Rattle.std.specs.Prelude.{◌≡◌, ◌≤◌, ◌<◌, ℕ, zero, suc, ◌^◌, ◌==◌, ◌&&◌, Bool, true, false, nat_lt, nat_le, List, [], ◌∷◌, ◌++◌, length, if◌then◌else◌}
 use Rattle.std.specs.Int.{to_be_bytes, w32}
 use Rattle.std.specs.List.{flat_map}

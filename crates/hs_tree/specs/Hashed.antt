@@ -1,4 +1,4 @@
--- What the code hashes of a node.
+-- The strings that the code hashes for nodes of the tree.
 use Rattle.std.specs.Prelude.{◌≡◌, ℕ, List, [], ◌∷◌, ◌++◌}
 use Rattle.iss_request.specs.Digest.{digest}
 use Rattle.iss_sb.specs.declared.content.Content.{Content}

@@ -1,4 +1,6 @@
--- How the messages of HotStuff are spelled in bytes, and how they are read. Numbers have their highest byte first.
+-- How the six messages of HotStuff are encoded and decoded, for any number of phases and version of the formats. The
+-- table is also stated as a relation, so each message has exactly one encoding. A bad field is named where it stands:
+-- among votes it is the first node that does not ascend. Numbers have their highest byte first.
 --
 --   message       its number (1 byte), its fields, and its signature
 --   NewView       1: round (2), certificate

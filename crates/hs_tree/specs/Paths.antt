@@ -1,4 +1,5 @@
--- Branches of the tree as paths, whatever replica knows them, where the strings of their nodes are among given ones.
+-- Branches of the tree as paths, whichever replica knows them. A path is made of nodes whose strings are among given
+-- hashed ones, so two replicas can speak of the same branch.
 use Rattle.std.specs.Prelude.{◌≡◌, ℕ, true, List, [], ◌∷◌, length, Some}
 use Rattle.iss_request.specs.Digest.{digest}
 use Rattle.iss_request.specs.Fields.{IsReadAgain}

@@ -1,4 +1,5 @@
--- What the sender of a message signs, and what a message claims that nodes signed.
+-- What the sender of a message signs, and the claims of a message: the votes of its certificate, and then its own
+-- signature. A claim says that a node signed a statement.
 use Rattle.std.specs.Prelude.{ℕ, List, [], ◌∷◌, ◌++◌}
 use Rattle.iss_request.specs.Digest.{digest}
 use Rattle.iss_sb.specs.declared.effects.Claim.{Claim}

@@ -1,7 +1,7 @@
--- The tree: the string of a node, the nodes that a replica knows, and their branches.
---
--- A node stands on its parent and holds nil, a batch, or a mark, which holds no slot. The root has no content; its digest is
--- that of the empty string.
+-- The tree of HotStuff (Yin and others, 2019): the string of a node, the nodes that a replica knows, and their
+-- branches. A node has a parent and holds nil, a batch, or a mark, which fills no slot. The k-th node of a branch that
+-- is no mark holds the k-th slot of the segment. The root has no content; its digest is that of the empty string.
+-- HotStuff and its chained form differ in the module's tag, the number of phases, and a node's string.
 use Rattle.std.specs.Prelude.{ℕ, suc, ◌+◌, ◌==◌, ◌&&◌, ◌||◌, Bool, List, [], ◌∷◌, ◌++◌, replicate, Option, Some, None, if◌then◌else◌}
 use Rattle.iss_base.specs.Lists.{same_bytes}
 use Rattle.iss_request.specs.Digest.{digest}

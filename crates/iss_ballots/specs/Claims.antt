@@ -1,4 +1,4 @@
--- What a vote claims, by the tag of its cluster.
+-- What a vote claims: that its node signed the statement of the vote, under the tag of the cluster.
 use Rattle.std.specs.Prelude.{ℕ, List}
 use Rattle.iss_checkpoint.specs.Votes.{vote_statement}
 use Rattle.iss_checkpoint.specs.declared.votes.Vote.{Vote}

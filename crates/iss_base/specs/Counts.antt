@@ -1,4 +1,4 @@
--- Counts of faults.
+-- Counts of failed device calls, which never fall and stop at their last value.
 use Rattle.std.specs.Prelude.{◌≡◌, ◌⊎◌, ◌-◌, ◌^◌, ◌<◌, ℕ}
 
 -- a count rose, or stands at its last value

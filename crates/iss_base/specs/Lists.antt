@@ -1,4 +1,6 @@
--- Lists that forget nothing are kept newest first: 'before' is a tail, and each definition has one case.
+-- Lists that forget nothing are kept newest first. An earlier moment is then a tail of the list, and each definition
+-- by recursion has one case. Here are membership, lists without duplicates, extension by newer elements, and look-up
+-- by place.
 use Rattle.std.specs.Prelude.{ℕ, zero, suc, List, [], ◌∷◌, ◌++◌, Bool, true, false, cond, Option, length, ◌≡◌, ◌⊎◌, leb, eqb, ◌&&◌, ◌==◌}
 use Rattle.std.specs.declared.option.Option.TheVariants.{Some, None}
 

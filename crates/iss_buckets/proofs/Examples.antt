@@ -1,4 +1,4 @@
--- Three nodes, three buckets, epoch 0, all lead: node 0 owns bucket 0, in which the numbers 0, 3, 6 of client 0 are.
+-- Three nodes, three buckets, epoch 0, all lead: node 0 owns bucket 0, which has the numbers 0, 3, 6 of client 0.
 use Rattle.std.proofs.Common.{◌≡◌, ℕ, List, [], ◌∷◌, refl}
 use Rattle.iss_request.specs.declared.ids.ReqId.{ReqId}
 use Rattle.iss_request.specs.declared.requests.Request.{Request}

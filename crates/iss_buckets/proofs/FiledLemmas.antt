@@ -1,4 +1,4 @@
--- Requests under their numbers: where an identity's number is, and what a request more or less changes.
+-- Requests by arrival number: where an identity's number is, and what adding or removing a request changes.
 use Rattle.std.proofs.Common.{◌≡◌, ◌≢◌, ◌⊎◌, inl, inr, ⊎_elim, ℕ, suc, ◌+◌, ◌<◌, ◌≤◌, Bool, true, false, cond, ◌||◌, eqb, List, [], ◌∷◌, ◌++◌, refl, sym, ap, ◌∙◌, subst, arith, Option, Some, None, is_some, Greater}
 use Rattle.std.specs.Map.{remove_entry, values_of}
 use Rattle.std.specs.BTreeMap.{insert_entry}
@@ -72,7 +72,7 @@ number_known from (e ∷ es) k q h is = go (eqb k e.0) refl (number_known (suc e
         let kept : kept_at es k ≡ Some q = sym (kept_later e es k ne) ∙ is in
         later (same_id q.id e.1.id) refl (rest kept)
 
--- the request that has a known number
+-- the request with a known number
 pub record Found (es : List (ℕ × Request)) (id : ReqId) (k : ℕ) : Type 0 where
   pub request : Request
   pub kept : kept_at es k ≡ Some request

@@ -1,4 +1,4 @@
--- The next request that passes a test, from a number on, and what a cut has taken when it comes to it.
+-- The next request that passes a test, from a number on, and what a cut has taken when it reaches it.
 use Rattle.std.proofs.Common.{◌≡◌, ◌≢◌, ◌⊎◌, ⊎_elim, ℕ, zero, suc, ◌+◌, ◌-◌, ◌%◌, ◌<◌, ◌≤◌, min, Bool, true, false, cond, ◌&&◌, ◌||◌, not, eqb, nat_lt, List, [], ◌∷◌, ◌++◌, length, refl, sym, ap, ◌∙◌, subst, arith, Option, Some, None, append_assoc, length-append}
 use Rattle.std.proofs.lemmas.Bool.Decides.{nat_tests}
 use Rattle.std.proofs.lemmas.List.{append-nil}
@@ -197,7 +197,7 @@ next_both p t es from (Some m) (Some n) x y = ⊎_elim
 
 -- ---- bucket by bucket
 
--- what the owner may cast of the buckets below a given one
+-- what the owner may propose from the buckets below a given one
 abbrev pub castable_below : Plan → ℕ → List ReqId → ℕ → Request → Bool
 castable_below p owner marked i q = nat_lt (bucket_of p q.id) i && may_cast p owner marked q
 

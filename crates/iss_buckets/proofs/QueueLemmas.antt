@@ -1,4 +1,4 @@
--- The queues have the numbers of their buckets' requests, when one comes and when one goes.
+-- The queues hold the numbers of their buckets' requests when a request is added or removed.
 use Rattle.std.proofs.Common.{◌≡◌, ◌⊎◌, ⊎_elim, ℕ, zero, suc, ◌+◌, ◌<◌, ◌≤◌, Bool, true, false, cond, ◌&&◌, eqb, ◌==◌, List, [], ◌∷◌, ◌++◌, length, refl, sym, ap, ◌∙◌, arith, Option, Some, None, is_some, get_or, replicate, slice_set}
 use Rattle.std.proofs.lemmas.List.{get_or-set_same, get_or-set_other, length-set}
 use Rattle.std.specs.List.{list_any}
@@ -17,7 +17,7 @@ queued_none es = λ b k lt. absurd (omega (arith, lt))
 flip : (a b : ℕ) → eqb a b ≡ eqb b a
 flip a b = grind arith
 
--- one number more
+-- one number is added
 
 more_at : (here at : Bool) (was : Bool) (o : Option Request) (mine : Bool) (n b : ℕ) (q : Request) → (at ≡ true → o ≡ None) → mine ≡ (bucket_of_id n q.id == b) → here ≡ mine
     → was ≡ is_in_bucket n b o → cond (here && at) true was ≡ is_in_bucket n b (first_of o (cond at (Some q) None))
@@ -48,7 +48,7 @@ queued_more es old new n q h none set = λ b k lt.
     (λ at. ap (λ (j : ℕ). kept_at es j) (is-eq k n at) ∙ none) refl (flip b (bucket_of_id (length old) q.id)) (h b k low)
     ∙ ap (λ (o : Option Request). is_in_bucket (length old) b o) (sym (kept_more es n q k)) ∙ size (kept_at (es ++ (n, q) ∷ []) k)
 
--- one number less
+-- one number is removed
 
 less_at : (here at : Bool) (was : Bool) (o : Option Request) (n b : ℕ) (q : Request) → (at ≡ true → o ≡ Some q) → here ≡ (bucket_of_id n q.id == b)
     → was ≡ is_in_bucket n b o → cond (here && at) false was ≡ is_in_bucket n b (cond at None o)
@@ -85,7 +85,7 @@ passes-numbered es queues b k marked q h lt is no-number =
 pub numbered-bucket : (es : List (ℕ × Request)) (queues : List (List ℕ)) (b k : ℕ) (q : Request) → AreQueued es queues → b < length queues → kept_at es k ≡ Some q → has_number queues b k ≡ true → (bucket_of_id (length queues) q.id == b) ≡ true
 numbered-bucket es queues b k q h lt is number = ap (λ (o : Option Request). is_in_bucket (length queues) b o) (sym is) ∙ sym (h b k lt) ∙ number
 
--- which numbers of a queue there are from one on
+-- the numbers of a queue from one on
 pub record NextNumber (queues : List (List ℕ)) (b from n : ℕ) : Type 0 where
   pub on : from ≤ n
   pub there : has_number queues b n ≡ true
@@ -149,13 +149,13 @@ none-next es queues b from at marked h lt fail none = λ k q on is. ⊎_elim
     order : (a b : ℕ) → (a < b) ⊎ (b ≤ a)
     order a b = grind arith
 
--- empty queues have no number
+-- empty queues hold no number
 pub empty-has : (count b k : ℕ) → has_number (replicate count []) b k ≡ false
 empty-has zero b k = refl
 empty-has (suc n) zero k = refl
 empty-has (suc n) (suc b) k = empty-has n b k
 
--- where there is no such request, taking it out changes nothing
+-- if there is no such request, removing it changes nothing
 pub queued-absent : (es : List (ℕ × Request)) (queues : List (List ℕ)) (n : ℕ) → AreFiled 0 es → AreQueued es queues → kept_at es n ≡ None → AreQueued (without n es) queues
 queued-absent es queues n filed h none = λ b k lt. h b k lt ∙ ap (λ (o : Option Request). is_in_bucket (length queues) b o) (same k)
   where

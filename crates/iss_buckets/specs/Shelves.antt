@@ -1,4 +1,4 @@
--- What a shelf keeps beside its requests.
+-- What the code keeps beside the waiting requests: a number above all of theirs, and the number of each identity.
 use Rattle.std.specs.Prelude.{◌≡◌, ℕ, ◌<◌, ◌^◌, List, Some}
 use Rattle.std.specs.Map.{lookup}
 use Rattle.iss_request.specs.Log.{same_id}
@@ -6,7 +6,7 @@ use Rattle.iss_request.specs.declared.ids.ReqId.{ReqId}
 use Rattle.iss_request.specs.declared.requests.Request.{Request}
 use Rattle.iss_buckets.specs.Filed.{AreFiled, kept_at, number_of}
 
--- the numbers of all requests are below the next, and each identity's number is known
+-- all arrival numbers are below the next one, and each identity's number is known
 pub record IsShelf (next : ℕ) (es : List (ℕ × Request)) (numbers : List (ReqId × ℕ)) : Type 0 where
   pub filed : AreFiled 0 es
   pub small : next < 2 ^ 64

@@ -1,5 +1,5 @@
-//! The requests that wait at a node until they are cast (ISS, "State Machine Replication Scalability Made Simple":
-//! bucket queues, from which a leader takes what its buckets hold).
+//! The requests that wait at a node to be proposed (ISS, "State Machine Replication Scalability Made Simple": bucket
+//! queues, of which a leader takes from its own buckets).
 #![tactic(auto)]
 
 pub mod pending;

@@ -16,18 +16,18 @@ use std::alloc::Global;
 use std::collections::HashSet;
 use std::marker::Model;
 
-/// What became of a request: it waits now, or one with its identity waited already.
+/// The result of adding a request: it waits now, or one with its identity waited already.
 #[derive(Clone, Copy, Debug, PartialEq, Eq)]
 pub enum Added {
     Added,
     Known,
 }
 
-/// The waiting requests in the order of arrival, no identity twice.
+/// The waiting requests in order of arrival. No identity occurs twice.
 #[derive(Drop)]
 pub struct Pending {
     shelf: Shelf,
-    // made when a batch is first cut, for as many buckets as the layout has then
+    // Built when a batch is first cut, one for each bucket of the layout then.
     queues: Queues,
 }
 
@@ -45,7 +45,7 @@ impl Model for Pending {
 }
 
 impl Pending {
-    /// None wait.
+    /// No request waits.
     pub fn new(alloc: Global) -> Pending
         ensures { result ≡ [] }
     {
@@ -62,7 +62,8 @@ impl Pending {
         self.shelf.number_of(id).is_some()
     }
 
-    /// Puts a request at the end, unless its identity waits already.
+    /// Adds a request at the end, unless its identity waits already. The only error is out of memory, and then nothing
+    /// changes.
     // rule: Buckets: A request waits at most once, in order of arrival
     pub fn add(&mut self, request: Request) -> Result<Added, NoMemory>
         ensures known { (result ≡ Ok Added.Known) ↔ (waits request.id self.old ≡ true) }
@@ -77,8 +78,8 @@ impl Pending {
         Ok(Added::Added)
     }
 
-    /// Takes out the first `max` requests, in the order of arrival, whose bucket the owner owns and whose identity is
-    /// not marked.
+    /// Takes out the first `max` requests, in order of arrival, whose bucket `owner` owns and whose identity is not
+    /// marked. The only error is out of memory.
     // rule: Buckets: A batch takes the first waiting requests of the leader's buckets that are not marked
     pub fn cut(
         &mut self,
@@ -112,7 +113,7 @@ impl Pending {
         Ok(Batch::of(out))
     }
 
-    /// Puts requests at the end, whose identities are all different and of which none waits.
+    /// Adds requests at the end. Their identities must be different, and none of them may wait.
     // rule: Buckets: Requests that return wait behind all others
     pub fn put_back(&mut self, batch: &Batch) -> Result<(), NoMemory>
         requires { AreNew self.old batch.now }
@@ -121,7 +122,7 @@ impl Pending {
         file_all(&mut self.shelf, &mut self.queues, batch.as_slice())
     }
 
-    /// Takes out the requests that have an identity of the batch.
+    /// Removes the requests whose identity is in the batch.
     // rule: Buckets: A request that enters the log waits no more
     pub fn drop_ordered(&mut self, batch: &Batch)
         ensures { self.new ≡ absent (ids batch.now) self.old }
@@ -129,7 +130,7 @@ impl Pending {
         drop_all(&mut self.shelf, &mut self.queues, batch.as_slice());
     }
 
-    /// The identities that wait, in the order of arrival.
+    /// The identities of the waiting requests in order of arrival.
     pub fn waiting(&self, alloc: Global) -> Result<Seq<ReqId>, NoMemory>
         ensures waiting { IfOk result (λ is. is ≡ ids self.now) }
         ensures different { Different (ids self.now) }
@@ -138,8 +139,8 @@ impl Pending {
     }
 }
 
-// Puts a request that does not wait at the end. Where its queue wants memory, the queues are given up: the next cut
-// makes them anew.
+// Adds a request that does not wait at the end. If its queue runs out of memory, all queues are discarded; the next cut
+// builds them again.
 fn file(shelf: &mut Shelf, queues: &mut Queues, request: Request) -> Result<(), NoMemory>
     requires filed { AreFiled 0 shelf.old }
     requires queued { AreQueued shelf.old queues.old }
@@ -155,7 +156,7 @@ fn file(shelf: &mut Shelf, queues: &mut Queues, request: Request) -> Result<(), 
     Ok(())
 }
 
-// Puts a number in the queue of its bucket, or gives up all queues.
+// Adds a number to its bucket's queue, or discards all queues when out of memory.
 fn note(queues: &mut Queues, id: ReqId, number: u64)
     ensures { (queues.new ≡ []) ⊎ IsSetAt queues.old queues.new (bucket_of_id (length queues.old) id) number true }
 {
@@ -170,10 +171,11 @@ fn note(queues: &mut Queues, id: ReqId, number: u64)
     }
 }
 
-// Takes a number out of the queue of its bucket.
+// Removes a number from its bucket's queue.
 fn forget(queues: &mut Queues, id: ReqId, number: u64)
     ensures count { length queues.new ≡ length queues.old }
-    ensures set { 1 ≤ length queues.old → IsSetAt queues.old queues.new (bucket_of_id (length queues.old) id) number false }
+    ensures set { 1 ≤ length queues.old →
+        IsSetAt queues.old queues.new (bucket_of_id (length queues.old) id) number false }
 {
     let count = queues.count();
     if count == 0 {
@@ -182,7 +184,7 @@ fn forget(queues: &mut Queues, id: ReqId, number: u64)
     queues.remove(bucket_of(id, count), number);
 }
 
-// There are queues for so many buckets from now on.
+// Builds queues for this number of buckets, if they are not there.
 fn prepare(
     alloc: Global,
     shelf: &Shelf,
@@ -201,7 +203,7 @@ fn prepare(
     Ok(())
 }
 
-// The queues of so many buckets.
+// Queues for this number of buckets, filled.
 fn queued(alloc: Global, shelf: &Shelf, buckets: usize) -> Result<Queues, NoMemory>
     requires { 1 ≤ buckets }
     ensures count { IfOk result (λ queues. length queues ≡ buckets) }
@@ -250,7 +252,7 @@ fn drop_one(shelf: &mut Shelf, queues: &mut Queues, id: ReqId)
     }
 }
 
-// Takes out the request under a number.
+// Takes out the request with this arrival number.
 fn take_out(shelf: &mut Shelf, queues: &mut Queues, number: u64) -> Option<Request>
     requires filed { AreFiled 0 shelf.old }
     requires queued { AreQueued shelf.old queues.old }
@@ -309,7 +311,7 @@ fn cut_from(
     }
 }
 
-// The next request, from a number on, that the owner may cast.
+// The next request, from a number on, that the owner may propose.
 fn next_castable(
     shelf: &Shelf,
     queues: &Queues,
@@ -345,7 +347,7 @@ fn least(a: Option<u64>, b: Option<u64>) -> Option<u64>
     }
 }
 
-// The next request of a bucket, from a number on, that is not marked.
+// The next unmarked request of a bucket, from a number on.
 fn next_unmarked(
     shelf: &Shelf,
     queues: &Queues,

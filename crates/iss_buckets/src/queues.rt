@@ -1,4 +1,4 @@
-//! For each bucket the numbers of its requests.
+//! For each bucket the arrival numbers of its requests.
 ghost use Rattle.std.specs.Prelude.{◌≡◌, ◌<◌, ◌≤◌, [], length, replicate, true, false, ℕ, None, IfOk, IfSome, IfNone, OnOk, OnErr};
 ghost use Rattle.std.specs.BTreeSet.{contains};
 ghost use Rattle.std.specs.Ordering.{nat_cmp};
@@ -9,7 +9,7 @@ use std::alloc::Global;
 use std::collections::BTreeSet;
 use std::marker::Model;
 
-/// As many queues as there are buckets, each with the numbers of the bucket's requests, ascending.
+/// One queue for each bucket, with the arrival numbers of its requests, ascending.
 #[derive(Drop)]
 pub(crate) struct Queues {
     all: Vec<BTreeSet<u64>>,
@@ -33,7 +33,7 @@ impl Queues {
         }
     }
 
-    /// So many empty queues.
+    /// Empty queues for this number of buckets.
     pub(crate) fn empty(alloc: Global, count: usize) -> Result<Queues, NoMemory>
         ensures { IfOk result (λ q. q ≡ replicate count []) }
     {
@@ -44,14 +44,14 @@ impl Queues {
         Ok(Queues { all })
     }
 
-    /// How many there are.
+    /// The number of queues.
     pub(crate) fn count(&self) -> usize
         ensures { result ≡ length self.now }
     {
         self.all.len()
     }
 
-    /// Puts a number in a queue.
+    /// Adds a number to a queue.
     pub(crate) fn add(&mut self, bucket: usize, number: u64) -> Result<(), NoMemory>
         requires { bucket < length self.old }
         ensures ok { OnOk result (IsSetAt self.old self.new bucket number true) }
@@ -61,7 +61,7 @@ impl Queues {
         Ok(())
     }
 
-    /// Takes a number out of a queue.
+    /// Removes a number from a queue.
     pub(crate) fn remove(&mut self, bucket: usize, number: u64)
         requires { bucket < length self.old }
         ensures { IsSetAt self.old self.new bucket number false }
@@ -69,14 +69,14 @@ impl Queues {
         self.all[bucket].remove(&number);
     }
 
-    /// Gives up all queues.
+    /// Discards all queues.
     pub(crate) fn clear(&mut self)
         ensures { self.new ≡ [] }
     {
         self.all.clear();
     }
 
-    /// The first number of a queue from a given one on.
+    /// The first number in a queue that is at least `from`.
     pub(crate) fn next_from(&self, bucket: usize, from: u64) -> Option<u64>
         requires { bucket < length self.now }
         ensures some { IfSome result (λ k. (from ≤ k) × (has_number self.now bucket k ≡ true) ×
@@ -87,7 +87,7 @@ impl Queues {
     }
 }
 
-// The first number of a set from a given one on.
+// The first number in a set that is at least `from`.
 fn first_from(set: &BTreeSet<u64>, from: u64) -> Option<u64>
     ensures some { IfSome result (λ k. (from ≤ k) × (contains nat_cmp set.now k ≡ true) ×
         ((j : ℕ) → from ≤ j → contains nat_cmp set.now j ≡ true → k ≤ j)) }
@@ -99,7 +99,7 @@ fn first_from(set: &BTreeSet<u64>, from: u64) -> Option<u64>
     }
 }
 
-/// The bucket of an identity, of so many.
+/// The bucket of an identity, given the number of buckets.
 pub(crate) fn bucket_of(id: ReqId, buckets: usize) -> usize
     requires { 1 ≤ buckets }
     ensures value { result ≡ bucket_of_id buckets id }

@@ -1,4 +1,4 @@
-//! Requests under the numbers by which they came.
+//! Requests by arrival number.
 ghost use Rattle.std.specs.Prelude.{◌≡◌, ◌++◌, ◌∷◌, [], ◌<◌, ◌≤◌, ◌+◌, ◌^◌, None, length, replicate, is_some, if◌then◌else◌, IfOk, IfSome, OnOk, OnErr};
 ghost use Rattle.std.specs.Map.{remove_entry, values_of};
 ghost use Rattle.std.specs.Option.{option_copied};
@@ -13,10 +13,10 @@ use std::alloc::Global;
 use std::collections::{BTreeMap, HashMap};
 use std::marker::Model;
 
-/// Requests in the order in which they came, each under a number, no identity twice.
+/// Requests in order of arrival, each with an arrival number. No identity occurs twice.
 #[derive(Drop)]
 pub(crate) struct Shelf {
-    // the number of the next one
+    // the next arrival number
     next: u64,
     requests: BTreeMap<u64, Request>,
     numbers: HashMap<ReqId, u64>,
@@ -46,7 +46,7 @@ impl Shelf {
         }
     }
 
-    /// The number of an identity.
+    /// The arrival number of an identity.
     pub(crate) fn number_of(&self, id: ReqId) -> Option<u64>
         ensures value { result ≡ number_of self.now id }
         ensures filed { AreFiled 0 self.now }
@@ -54,7 +54,7 @@ impl Shelf {
         self.numbers.get(&id).copied()
     }
 
-    /// The request under a number.
+    /// The request with this arrival number.
     pub(crate) fn get(&self, number: u64) -> Option<&Request>
         ensures value { option_copied result ≡ kept_at self.now number }
         ensures not_last { IfSome result (λ _. number + 1 < 2 ^ 64) }
@@ -65,8 +65,8 @@ impl Shelf {
         }
     }
 
-    /// Puts a request whose identity is not there at the end, and gives its number. Want of memory comes also where
-    /// there are no more numbers.
+    /// Adds a request, whose identity must not be there, and returns its arrival number. The error is out of memory,
+    /// also if the numbers are used up.
     pub(crate) fn push(&mut self, request: Request) -> Result<u64, NoMemory>
         requires { number_of self.old request.id ≡ None }
         ensures ok { IfOk result (λ k. self.new ≡ self.old ++ (k, request) ∷ []) }
@@ -85,7 +85,7 @@ impl Shelf {
         Ok(number)
     }
 
-    /// Takes out the request under a number.
+    /// Takes out the request with this arrival number.
     pub(crate) fn remove(&mut self, number: u64) -> Option<Request>
         ensures value { result ≡ kept_at self.old number }
         ensures left { self.new ≡ remove_entry (λ j. is_eq (nat_cmp number j)) self.old }
@@ -98,7 +98,7 @@ impl Shelf {
         Some(request)
     }
 
-    /// Puts the number of each request in the queue of its bucket. The queues are empty.
+    /// Adds each arrival number to the queue of its bucket. The queues must be empty.
     pub(crate) fn file_in(&self, queues: &mut Queues) -> Result<(), NoMemory>
         requires some { 1 ≤ length queues.old }
         requires empty { queues.old ≡ replicate (length queues.old) [] }
@@ -112,7 +112,7 @@ impl Shelf {
         Ok(())
     }
 
-    /// The identities, in the order in which they came.
+    /// The identities in order of arrival.
     pub(crate) fn identities(&self, alloc: Global) -> Result<Vec<ReqId>, NoMemory>
         ensures { IfOk result (λ is. is.items ≡ ids (values_of self.now)) }
     {

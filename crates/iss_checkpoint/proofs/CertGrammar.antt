@@ -1,4 +1,4 @@
--- A certificate has one spelling, and what is read is what the table relates to the bytes.
+-- A certificate has at most one encoding, and bytes decode to a certificate exactly if the table relates them.
 use Rattle.std.proofs.Common.{◌≡◌, ◌↔◌, inl, inr, ℕ, ◌<◌, ◌^◌, ◌==◌, ◌&&◌, Bool, true, false, List, [], ◌∷◌, ◌++◌, length, replicate, append_assoc, append-nil, refl, sym, ap, ◌∙◌, subst, ◌⊎◌, arith}
 use Rattle.std.specs.Prelude.{nat_le, nat_lt}
 use Rattle.std.specs.Int.{to_be_bytes, w64}
@@ -38,7 +38,7 @@ pub parse_cert-is : (e : ℕ) → parse_cert e ≡ (block 32 >>= after_chain e)
 unfolding parse_cert
 parse_cert-is e = refl
 
--- of two parsers that are the same
+-- two equal parsers give equal results
 same-parser : {A : Type 0} (p q : Parser A) (bytes : List ℕ) → p ≡ q → p bytes ≡ q bytes
 same-parser p q bytes e = ap (λ f. f bytes) e
 
@@ -142,7 +142,7 @@ cert-only e bytes rest c h =
     let r = was-read e bytes rest c h in
     r.parts ∙ ap (λ (z : List ℕ). z ++ rest) (cert-spelled e c (cert_row c) r.spelled)
 
--- the certificate that was read is one of the epoch, as the table gives it
+-- the decoded certificate is of the epoch, as the table has it
 pub cert-related : (e : ℕ) (bytes rest : List ℕ) (c : Cert) → parse_cert e bytes ≡ Good c rest → IsSpelledCert e c (spell_cert c)
 cert-related e bytes rest c h =
     let r = was-read e bytes rest c h in
@@ -155,7 +155,7 @@ cert-whole c = go (cert_fits c) refl
     go true q = inl (λ rest. rw q (row-again c.epoch.0 c (cert_row c) rest (fits-of c q)))
     go false q = inr (λ rest. rw q (never c.epoch.0 rest))
 
--- what the table gives is read again, whatever stands behind
+-- what the table relates decodes again, whatever follows
 pub cert-again : (e : ℕ) (c : Cert) (bytes rest : List ℕ) → IsSpelledCert e c bytes → parse_cert e (bytes ++ rest) ≡ Good c rest
 cert-again e c bytes rest h =
     ap (λ (z : List ℕ). parse_cert e (z ++ rest)) h.row ∙ subst (λ (k : ℕ). parse_cert k (cert_row c ++ rest) ≡ Good c rest) h.epoch (row-again e c bytes rest h)

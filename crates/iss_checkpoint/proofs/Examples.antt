@@ -1,4 +1,4 @@
--- What the definitions say of four votes, of which three say the same.
+-- What the definitions give for four votes, three of them equal.
 use Rattle.std.proofs.Common.{◌≡◌, ℕ, [], ◌∷◌, length, refl, Some, replicate}
 use Rattle.iss_keys.specs.VerifiedBy.{is_true_under, is_verified_by}
 use Rattle.iss_sb.specs.Statements.{wide_bytes}
@@ -14,7 +14,7 @@ vote by chain = record { epoch = record { 0 = 5 }; chain = replicate 32 chain; r
 abbrev signed : ℕ → Signed
 signed by = record { by = record { 0 = by }; sig = by ∷ [] }
 
--- node 1 says another chain
+-- node 1 votes for another chain
 abbrev tally : TallyState
 tally = record {
   voters = record { tag = []; n = 4; quorum = 3; keys = [] };

@@ -1,4 +1,4 @@
--- Signatures that are checked one after the other, and what follows of a certificate.
+-- Signatures that are checked one after another, and what follows for a certificate.
 use Rattle.std.proofs.Common.{◌≡◌, ◌↔◌, inl, inr, ℕ, suc, ◌<◌, ◌≤◌, ◌^◌, Bool, true, false, IsTrue, ◌&&◌, ◌||◌, ◌==◌, not, eqb, List, [], ◌∷◌, ◌++◌, length, take, drop, zero, refl, sym, ap, ◌∙◌, arith, append_assoc, true≢false}
 use Rattle.std.specs.Prelude.{nat_le, nat_lt}
 use Rattle.std.specs.Int.{to_be_bytes, w64}
@@ -57,7 +57,7 @@ gone [] (suc k) h = refl
 gone (x ∷ xs) zero h = absurd (omega (arith, h))
 gone (x ∷ xs) (suc k) h = let le : length xs ≤ k = omega (arith, h) in gone xs k le
 
--- a buffer of two parts, each copied into its place
+-- an array of two parts, each copied into its place
 pub two-parts : (k n : ℕ) (a b x y zs : List ℕ) → length x ≡ k → length zs ≡ n → a ≡ x → b ≡ y → put_mid k n (a ++ zs) b ≡ x ++ y
 two-parts k n a b x y zs lx lz ea eb =
     let begins = front x zs k lx in
@@ -147,7 +147,7 @@ unfolding numbers
 below-all w st from [] h = refl
 below-all w st from (x ∷ xs) h = both (nat_lt x.by.0 w.n) (all_below w.n (numbers xs)) (lt-ltb x.by.0 w.n h.1.0) (below-all w st (suc x.by.0) xs h.2)
 
--- nothing below the bound stands among nodes that rise from it
+-- strictly ascending signers have none below the bound
 not-below : (w : Voters) (st : List ℕ) (from k : ℕ) (xs : List Signed) → k < from → HaveSigned w st from xs → mem k (numbers xs) ≡ false
 unfolding numbers
 not-below w st from k [] low h = refl
@@ -194,7 +194,7 @@ unfolding faulty-numbers
 has-mem i [] = refl
 has-mem i (k ∷ ks) = ap (λ (b : Bool). eqb i k.0 || b) (has-mem i ks)
 
--- the faulty are fewer than decide
+-- there are fewer faulty nodes than a quorum has
 few : (kind : Kind) (f : ℕ) (faulty : List NodeId) → IsFewFaulty kind f faulty → length faulty < quorum_of_kind kind f
 few Byzantine f faulty h = omega (arith, h)
 few Stopping f faulty h = rw h (omega arith)

@@ -1,4 +1,4 @@
--- Votes that are counted, and the certificate of those that say the same.
+-- Counted votes, and the certificate of equal ones.
 use Rattle.std.proofs.Common.{◌≡◌, inl, inr, ℕ, zero, suc, ◌+◌, ◌<◌, ◌≤◌, Bool, true, false, cond, ◌&&◌, ◌==◌, List, [], ◌∷◌, ◌++◌, length, append-nil, refl, sym, ap, ◌∙◌, subst, arith, Option, Some, None}
 use Rattle.std.specs.Prelude.{nat_le}
 use Rattle.std.specs.Ordering.{is_eq, nat_cmp}
@@ -27,7 +27,7 @@ put-at old new v h k = h k ∙ ap (λ (b : Bool). cond b (Some v) (vote_at old k
 some-same : (v u : Vote) → Some v ≡ Some u → v ≡ u
 some-same v u h = cc
 
--- a vote that nothing refuses stands for its node
+-- a vote that is not refused is its node's
 record IsSound (t : TallyState) (v : Vote) : Type 0 where
   pub epoch : v.epoch.0 ≡ t.epoch
   pub signed : is_signed t.voters (statement_of t.voters v) v.by.0 v.sig ≡ true
@@ -77,14 +77,14 @@ own-said v = both (v.requests == v.requests) (same_bytes v.chain v.chain) (eqb-s
 pub one-if : (v u : Vote) → say_same v u ≡ true → signed_if v (Some u) ≡ record { by = u.by; sig = u.sig } ∷ []
 one-if v u h = rw h refl
 
--- a vote is among those that say the same as it
+-- a vote is among those equal to it
 pub own-one : (votes : List (ℕ × Vote)) (v : Vote) (k : ℕ) → v.by.0 ≡ k → signed_if v (with_vote votes v k) ≡ record { by = v.by; sig = v.sig } ∷ []
 own-one votes v k e = ap (λ (o : Option Vote). signed_if v o) (with-here votes v k e) ∙ one-if v v (own-said v)
 
 pub none-if : (v u : Vote) → say_same v u ≡ false → signed_if v (Some u) ≡ []
 none-if v u h = rw h refl
 
--- the length of what a test puts
+-- the length of what a test adds
 pub many-if : (v u : Vote) (r : Bool) → r ≡ say_same v u → cond r 1 0 ≡ length (signed_if v (Some u))
 many-if v u true h = ap length (sym (one-if v u (sym h)))
 many-if v u false h = ap length (sym (none-if v u (sym h)))
@@ -124,7 +124,7 @@ signed-more w st from k (y ∷ ys) x h low le lk s =
     (both (is_signed w st y.by.0 y.sig) (are_signed w st (suc y.by.0) (ys ++ x ∷ [])) b.0
     (signed-more w st (suc y.by.0) k ys x b.1 (λ z i. low z (inr i)) (omega (arith, first, lk)) lk s))
 
--- votes on one epoch that say the same sign one statement
+-- equal votes for an epoch sign the same statement
 one-statement : (w : Voters) (v u : Vote) → u.epoch.0 ≡ v.epoch.0 → say_same v u ≡ true → statement_of w u ≡ statement_of w v
 one-statement w v u e h =
     let a = and-true (u.requests == v.requests) (same_bytes u.chain v.chain) h in

@@ -1,4 +1,4 @@
--- A vote has one spelling, and what is read is what the table relates to the bytes.
+-- A vote has at most one encoding, and bytes decode to a vote exactly if the table relates them.
 use Rattle.std.proofs.Common.{◌≡◌, ◌↔◌, inl, inr, ℕ, ◌<◌, ◌^◌, ◌==◌, ◌&&◌, Bool, true, false, List, [], ◌∷◌, ◌++◌, length, replicate, append_assoc, append-nil, refl, sym, ap, ◌∙◌, subst, ◌⊎◌, arith}
 use Rattle.std.specs.Prelude.{nat_lt}
 use Rattle.std.specs.Int.{to_be_bytes, w64}

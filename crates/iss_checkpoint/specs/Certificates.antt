@@ -1,4 +1,5 @@
--- How a certificate is spelled in the body of a packet whose head names the epoch.
+-- How a certificate is encoded in the body of a packet whose head names the epoch. The signers are strictly ascending,
+-- and at least one of a quorum's signers is correct.
 --
 --   certificate   chain (32 bytes), number of requests (8), count (1), and that many signers
 use Rattle.std.specs.Prelude.{◌≡◌, ℕ, ◌<◌, ◌^◌, nat_lt, ◌==◌, ◌&&◌, Bool, List, ◌∷◌, ◌++◌, length, if◌then◌else◌, replicate}
@@ -8,16 +9,21 @@ use Rattle.iss_request.specs.Parsing.{Parser, ◌>>=◌, block, byte, done, numb
 use Rattle.iss_sb.specs.Signers.{AreSigners, are_signers, parse_signers, spell_signed}
 use Rattle.iss_checkpoint.specs.declared.votes.Cert.{Cert}
 
+-- whether the certificate has an encoding
 abbrev pub cert_fits : Cert → Bool
-cert_fits c = (length c.chain == 32) && (nat_lt c.requests (2 ^ 64) && (nat_lt (length c.signers) 256 && are_signers 0 c.signers))
+cert_fits c = (length c.chain == 32) &&
+    (nat_lt c.requests (2 ^ 64) && (nat_lt (length c.signers) 256 && are_signers 0 c.signers))
 
+-- the encoding
 abbrev pub cert_row : Cert → List ℕ
 cert_row c = c.chain ++ (to_be_bytes w64 c.requests ++ (length c.signers ∷ flat_map spell_signed c.signers))
 
--- one that has no spelling is written as one with a signature of height 1
+-- A certificate without an encoding is written as these bytes, whose signature has height 1: they decode to no
+-- certificate.
 abbrev pub no_cert : List ℕ
 no_cert = replicate 43 1
 
+-- what is written for a certificate
 abbrev pub spell_cert : Cert → List ℕ
 spell_cert c = if cert_fits c then cert_row c else no_cert
 

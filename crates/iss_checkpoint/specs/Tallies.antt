@@ -1,4 +1,6 @@
--- The votes on one epoch that were counted, one of each node, and what becomes of a further one.
+-- The votes on one epoch that were counted, one for each node, and what becomes of a further one. A vote is refused
+-- for the first test that fails. Votes are compared by what they say, and a certificate is made of all those that
+-- agree, as soon as they are a quorum.
 use Rattle.std.specs.Prelude.{◌≡◌, ◌≢◌, ℕ, zero, suc, ◌==◌, ◌&&◌, not, Bool, true, if◌then◌else◌, List, [], ◌∷◌, ◌++◌, length, Option, Some, None, is_some, Result, Ok, Err}
 use Rattle.std.specs.Map.{lookup}
 use Rattle.std.specs.Ordering.{is_eq, nat_cmp}
@@ -16,7 +18,7 @@ use Rattle.iss_checkpoint.specs.Votes.{Voters, is_cert, is_signed, statement_of}
 pub record TallyState : Type 0 where
   pub voters : Voters
   pub epoch : ℕ
-  -- by the node that signed
+  -- the votes by signer
   pub votes : List (ℕ × Vote)
 
 -- the vote of a node, if it was counted
@@ -43,39 +45,46 @@ refusal t v =
 abbrev pub say_same : Vote → Vote → Bool
 say_same v w = (w.requests == v.requests) && same_bytes w.chain v.chain
 
--- the signature of a vote that says the same as v
+-- a node's signature, if its vote equals v
 abbrev pub signed_if : Vote → Option Vote → List Signed
 signed_if v None = []
 signed_if v (Some w) = if say_same v w then record { by = w.by; sig = w.sig } ∷ [] else []
 
--- those of the nodes below a number, ascending
+-- the signatures of nodes below a number whose votes equal v, ascending
 abbrev pub signed_below : (ℕ → Option Vote) → Vote → ℕ → List Signed
 signed_below vote_of v zero = []
 signed_below vote_of v (suc k) = signed_below vote_of v k ++ signed_if v (vote_of k)
 
 abbrev pub certificate_by : (ℕ → Option Vote) → Vote → ℕ → Cert
-certificate_by vote_of v n = record { epoch = v.epoch; chain = v.chain; requests = v.requests; signers = signed_below vote_of v n }
+certificate_by vote_of v n = record {
+  epoch = v.epoch;
+  chain = v.chain;
+  requests = v.requests;
+  signers = signed_below vote_of v n;
+}
 
--- the certificate of all votes that say the same as v
+-- the certificate of all votes equal to v
 abbrev pub certificate : TallyState → Vote → Cert
 certificate t v = certificate_by (vote_at t.votes) v t.voters.n
 
 -- ---- what becomes of a vote
 
--- one vote more, and nothing else has changed
+-- the vote was counted, and nothing else changed
 pub record IsCounted (old : TallyState) (v : Vote) (new : TallyState) : Type 0 where
   pub sound : refusal old v ≡ None
   pub votes : (k : ℕ) → vote_at new.votes k ≡ with_vote old.votes v k
   pub others : new ≡ record old { votes = new.votes }
 
--- the vote that makes its like a quorum gives their certificate; one that comes later gives none
+-- The vote that completes a quorum of equal votes gives their certificate. A later vote gives none.
 -- rule: Checkpoints: The vote that completes a quorum gives the epoch's certificate; no later one does
 abbrev pub IsAdded : TallyState → Vote → TallyState → Result Added NoMemory → Type 0
 IsAdded old v new (Ok Counted) = IsCounted old v new × (length (certificate new v).signers ≢ old.voters.quorum)
-IsAdded old v new (Ok (Stable c)) = IsCounted old v new × (length (certificate new v).signers ≡ old.voters.quorum) × (c ≡ certificate new v)
+IsAdded old v new (Ok (Stable c)) = IsCounted old v new × (length (certificate new v).signers ≡ old.voters.quorum)
+    × (c ≡ certificate new v)
 IsAdded old v new (Ok (Refused cause)) = (refusal old v ≡ Some cause) × (new ≡ old)
 IsAdded old v new (Err e) = new ≡ old
 
+-- a certificate that a tally gives is valid
 abbrev pub IsChecked : Voters → Result Added NoMemory → Type 0
 IsChecked w (Ok Counted) = Unit {0}
 IsChecked w (Ok (Stable c)) = is_cert w c ≡ true
@@ -84,6 +93,7 @@ IsChecked w (Err e) = Unit {0}
 
 -- ---- what a tally holds is true: each vote stands at its node, which signed it on this epoch
 
+-- the vote is node k's for epoch e, and its signature is valid
 pub record IsVoteOf (w : Voters) (e k : ℕ) (v : Vote) : Type 0 where
   pub own : v.by.0 ≡ k
   pub epoch : v.epoch.0 ≡ e

@@ -1,4 +1,5 @@
-//! Votes as bytes: the body of a packet that names the node and the epoch. They are the same by every version.
+//! Checkpoint votes in bytes: the body of a packet that names the node and the epoch. All format versions are the same
+//! here.
 ghost use Rattle.std.specs.Prelude.{◌≡◌, ℕ, [], IfOk, OnOk, Err};
 ghost use Rattle.iss_request.specs.Fields.{Bad, Good, IsRead, IsUnreadable, and_bytes};
 ghost use Rattle.iss_request.specs.Parsing.{all_of};
@@ -10,16 +11,16 @@ use iss_request::{
 };
 use std::alloc::Global;
 
-// By which version a vote is read and written: any.
+// The format version used to encode and decode votes: any, since all are the same.
 const VERSION: u8 = 1;
 
-// What stands for a vote without a spelling: a signature of height 0.
+// Written for a vote without an encoding: its signature has height 0, so it decodes to no vote.
 const NO_VOTE: [u8; 41] = [0; 41];
 
 fn has_spelling(vote: &Vote) -> bool
     ensures { result ≡ fits vote.now }
 {
-    // Its range is part of the answer.
+    // Names the value, so that the proof sees its range.
     let _requests = vote.requests;
     has_shape(vote.sig.as_slice())
 }
@@ -32,7 +33,7 @@ fn put_row(vote: &Vote, out: &mut Writer) -> Result<(), NoMemory>
     out.put_bytes(vote.sig.as_slice())
 }
 
-/// Writes a vote. One that has no spelling is written as bytes that no reader takes.
+/// Appends a vote's encoding. A vote without one is written as bytes that no reader accepts.
 // rule: Checkpoints: A vote has one encoding in a packet's body: chain, count, signature
 pub fn write_vote(vote: &Vote, out: &mut Writer) -> Result<(), NoMemory>
     ensures { OnOk result (out.new ≡ and_bytes out.old (spell_vote vote.now)) }
@@ -43,7 +44,7 @@ pub fn write_vote(vote: &Vote, out: &mut Writer) -> Result<(), NoMemory>
     put_row(vote, out)
 }
 
-/// Reads the vote of a node on an epoch. `BadField` names the first field that does not fit.
+/// Decodes a node's vote for an epoch. `BadField` names the first field that does not fit.
 pub fn read_vote(
     alloc: Global,
     by: NodeId,
@@ -65,7 +66,7 @@ pub fn read_vote(
     })
 }
 
-/// The bytes of a vote. One that has no spelling gives bytes that are no vote's.
+/// The encoding of a vote. A vote without one gives bytes that decode to no vote. The only error is out of memory.
 pub fn encode_vote(alloc: Global, vote: &Vote) -> Result<Bytes, NoMemory>
     ensures { IfOk result (λ bytes. bytes ≡ spell_vote vote.now) }
 {
@@ -74,8 +75,8 @@ pub fn encode_vote(alloc: Global, vote: &Vote) -> Result<Bytes, NoMemory>
     Ok(out.into_bytes())
 }
 
-/// The vote of a node on an epoch that the bytes spell, all of them. `BadField` names the offset of the first field that does not
-/// fit; behind a vote that is followed by more bytes that is the first of them.
+/// Decodes a node's vote for an epoch, which must take up all of the bytes. `BadField` gives the offset of the first
+/// field that does not fit, or of the first byte after the vote.
 pub fn decode_vote(
     alloc: Global,
     by: NodeId,
@@ -83,7 +84,8 @@ pub fn decode_vote(
     bytes: &[u8],
 ) -> Result<Vote, DecodeError>
     ensures ok { IfOk result (λ v. parse_vote by.0 epoch.0 bytes.now ≡ Good v []) }
-    ensures bad { (at : ℕ) → result ≡ Err (DecodeError.BadField at) → all_of (parse_vote by.0 epoch.0) bytes.now ≡ Bad at }
+    ensures bad { (at : ℕ) → result ≡ Err (DecodeError.BadField at) →
+        all_of (parse_vote by.0 epoch.0) bytes.now ≡ Bad at }
 {
     let mut f = Fields::over(VERSION, bytes);
     let vote = read_vote(alloc, by, epoch, &mut f)?;

@@ -1,4 +1,4 @@
-//! Certificates as bytes: the body of a packet that names the epoch, and the end of a longer one.
+//! Stable checkpoint certificates in bytes: the body of a packet that names the epoch, or the end of a longer one.
 ghost use Rattle.std.specs.Prelude.{◌≡◌, ◌<◌, ℕ, length, IfOk, OnOk, Err};
 ghost use Rattle.iss_request.specs.Fields.{IsRead, IsUnreadable, and_bytes};
 ghost use Rattle.iss_checkpoint.specs.Certificates.{cert_fits, cert_row, parse_cert, spell_cert};
@@ -8,7 +8,7 @@ use iss_request::{DecodeError, Epoch, Fields, NoMemory, Writer};
 use iss_sb::{are_signers, put_signers, read_signers};
 use std::alloc::Global;
 
-// What stands for a certificate without a spelling: one signer, whose signature has height 1.
+// Written for a certificate without an encoding: its one signature has height 1, so it decodes to no certificate.
 const NO_CERT: [u8; 43] = [1; 43];
 
 // ---- writing
@@ -16,7 +16,7 @@ const NO_CERT: [u8; 43] = [1; 43];
 fn has_spelling(cert: &Cert) -> bool
     ensures { result ≡ cert_fits cert.now }
 {
-    // Its range is part of the answer.
+    // Names the value, so that the proof sees its range.
     let _requests = cert.requests;
     cert.signers.len() < 256 && are_signers(0, cert.signers.as_slice())
 }
@@ -31,7 +31,7 @@ fn put_row(cert: &Cert, out: &mut Writer) -> Result<(), NoMemory>
     put_signers(cert.signers.as_slice(), out)
 }
 
-/// Writes a certificate. One that has no spelling is written as bytes that no reader takes.
+/// Appends a certificate's encoding. One without an encoding is written as bytes that no reader accepts.
 // rule: Checkpoints: A certificate has one encoding: chain, count, signers with their signatures
 pub fn write_cert(cert: &Cert, out: &mut Writer) -> Result<(), NoMemory>
     ensures { OnOk result (out.new ≡ and_bytes out.old (spell_cert cert.now)) }
@@ -42,7 +42,7 @@ pub fn write_cert(cert: &Cert, out: &mut Writer) -> Result<(), NoMemory>
     put_row(cert, out)
 }
 
-// ---- reading
+// Decodes a certificate of an epoch. `BadField` names the first field that does not fit.
 
 /// Reads a certificate of an epoch. `BadField` names the first field that does not fit.
 pub fn read_cert(alloc: Global, epoch: Epoch, f: &mut Fields) -> Result<Cert, DecodeError>

@@ -1,4 +1,4 @@
-//! Whether signatures and certificates are true. Nothing here takes memory.
+//! The validity of signatures and certificates. Nothing here allocates memory.
 ghost use Rattle.std.specs.Prelude.{◌≡◌, ◌≤◌, ℕ};
 ghost use Rattle.iss_checkpoint.specs.Votes.{Voters, are_signed, is_cert, is_signed, voters_of};
 
@@ -7,7 +7,7 @@ use iss_keys::Directory;
 use iss_request::Setup;
 use iss_sb::Signed;
 
-/// Whether a node below `n` signed a statement so.
+/// Whether node `by`, below `n`, validly signed the statement.
 pub fn is_signed(directory: &Directory, n: u32, statement: &[u8], by: u8, sig: &[u8]) -> bool
     ensures { (w : Voters) → w.n ≡ n → w.keys ≡ directory.now.nodes → result ≡ is_signed w statement.now by sig.now }
 {
@@ -17,7 +17,7 @@ pub fn is_signed(directory: &Directory, n: u32, statement: &[u8], by: u8, sig: &
     directory.verify_node(by, statement, sig)
 }
 
-// Whether nodes that rise, none below the first number that is allowed, signed a statement.
+// Whether signers are strictly ascending, none below `from`, each with a valid signature of the statement.
 fn are_signed(
     directory: &Directory,
     n: u32,
@@ -26,7 +26,8 @@ fn are_signed(
     signers: &[Signed],
 ) -> bool
     requires { from ≤ 256 }
-    ensures { (w : Voters) → w.n ≡ n → w.keys ≡ directory.now.nodes → result ≡ are_signed w statement.now from signers.now }
+    ensures { (w : Voters) → w.n ≡ n → w.keys ≡ directory.now.nodes →
+        result ≡ are_signed w statement.now from signers.now }
 {
     match signers {
         [] => true,
@@ -43,7 +44,7 @@ fn are_signed(
     }
 }
 
-/// Whether a certificate has exactly a quorum of signers, ascending, each of whom signed what it says.
+/// Whether a certificate is valid: exactly a quorum of signers, strictly ascending, each signature valid.
 // rule: Checkpoints: A certificate has exactly a quorum of strictly ascending signers who all signed it
 // rule: Checkpoints: A certificate has a correct signer
 pub fn check(setup: &Setup, directory: &Directory, cert: &Cert) -> bool

@@ -1,4 +1,5 @@
-//! Votes on the log at an epoch's end, and the certificates that a quorum of equal votes makes (PBFT and ISS: checkpoints).
+//! Checkpoint votes on the log at the end of an epoch, and the certificates that a quorum of equal votes makes (PBFT
+//! and ISS: stable checkpoints).
 #![tactic(auto)]
 
 pub mod bodies;

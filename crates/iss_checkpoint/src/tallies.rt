@@ -1,4 +1,4 @@
-//! Counting votes: one of each node, until a quorum of them says the same.
+//! Counting checkpoint votes, one for each node, until a quorum of them is equal.
 ghost use Rattle.std.specs.Prelude.{◌≡◌, ◌≤◌, ◌++◌, ◌∷◌, [], length, if◌then◌else◌, IfOk, OnOk, OnErr, None};
 ghost use Rattle.iss_checkpoint.specs.Tallies.{IsAdded, IsChecked, IsCounted, certificate_by, refusal, say_same, signed_below, signed_if, with_vote};
 ghost use Rattle.iss_checkpoint.specs.Votes.{is_signed, statement_of, voters_of};
@@ -12,23 +12,29 @@ use std::alloc::Global;
 use std::collections::BTreeMap;
 use std::marker::Model;
 
-/// Why a vote is not counted: it is on another epoch, its signature is not true, or its signer has a vote already.
+/// Why a vote is not counted.
 #[derive(Clone, Copy, Debug, PartialEq, Eq)]
 pub enum Refusal {
+    /// The vote is for another epoch.
     OtherEpoch,
+    /// The signer does not exist, or its signature is invalid.
     BadSignature,
+    /// The signer's vote was counted before.
     Twice,
 }
 
-/// What became of a vote: it was counted, it made its like a quorum, or it was refused.
+/// The result of adding a vote.
 #[derive(Drop)]
 pub enum Added {
+    /// The vote was counted.
     Counted,
+    /// The vote completed a quorum of equal votes: this is their certificate.
     Stable(Cert),
+    /// The vote was not counted.
     Refused(Refusal),
 }
 
-/// The votes on one epoch, one of each node.
+/// The votes for one epoch, one for each node.
 #[derive(Drop)]
 pub struct Tally {
     alloc: Global,
@@ -37,7 +43,7 @@ pub struct Tally {
     n: u32,
     quorum: u32,
     directory: SharedDirectory,
-    // by the node that signed
+    // by signer
     votes: BTreeMap<u8, Vote>,
 }
 
@@ -48,13 +54,18 @@ impl Model for Tally {
 
     ghost Value = { TallyState };
 
-    ghost view = { λ t. record { voters = voters_in t.tag t.n t.quorum t.directory; epoch = t.epoch.0; votes = t.votes.entries } };
+    ghost view = { λ t. record {
+      voters = voters_in t.tag t.n t.quorum t.directory;
+      epoch = t.epoch.0;
+      votes = t.votes.entries;
+    } };
 
-    ghost invariant = { λ t. (t.n ≤ 256) × AreVotes (voters_in t.tag t.n t.quorum t.directory) t.epoch.0 t.votes.entries };
+    ghost invariant = { λ t. (t.n ≤ 256)
+        × AreVotes (voters_in t.tag t.n t.quorum t.directory) t.epoch.0 t.votes.entries };
 }
 
 impl Tally {
-    /// No vote on this epoch yet.
+    /// No vote for this epoch yet.
     pub fn new(alloc: Global, setup: &Setup, directory: SharedDirectory, epoch: Epoch) -> Tally
         requires { setup.now.n ≤ 256 }
         ensures { result ≡ record { voters = voters_of setup.now directory; epoch = epoch.0; votes = [] } }
@@ -70,7 +81,8 @@ impl Tally {
         }
     }
 
-    /// Counts a vote, unless a cause refuses it. The vote that makes its like a quorum gives their certificate.
+    /// Counts a vote, unless it is refused. The vote that completes a quorum of equal votes gives their certificate.
+    /// The only error is out of memory, and then nothing changes.
     // rule: Checkpoints: The vote that completes a quorum gives the epoch's certificate; no later one does
     pub fn add(&mut self, vote: Vote) -> Result<Added, NoMemory>
         ensures added { IsAdded self.old vote self.new result }
@@ -88,7 +100,7 @@ impl Tally {
         Ok(Added::Stable(cert))
     }
 
-    // The first cause that refuses a vote.
+    // The first reason to refuse a vote.
     // rule: Checkpoints: A tally refuses a vote for its first fault: other epoch, bad signature, repeated
     fn refusal(&self, vote: &Vote) -> Option<Refusal>
         ensures { result ≡ refusal self.now vote.now }
@@ -105,9 +117,10 @@ impl Tally {
         None
     }
 
-    // Whether the node signed the vote.
+    // Whether the vote's signature is valid.
     fn is_true(&self, vote: &Vote) -> bool
-        ensures { result ≡ is_signed self.now.voters (statement_of self.now.voters vote.now) vote.now.by.0 vote.now.sig }
+        ensures { result ≡ is_signed self.now.voters (statement_of self.now.voters vote.now) vote.now.by.0
+            vote.now.sig }
     {
         let statement = vote_statement(&self.tag, vote.epoch.0, &vote.chain, vote.requests);
         let directory = self.directory.directory();
@@ -120,7 +133,7 @@ impl Tally {
         )
     }
 
-    // How many votes say the same as this one, which is among them.
+    // The number of votes equal to this one, which counts too.
     fn count(&self, vote: &Vote) -> u32
         ensures { result ≡ length (signed_below (with_vote self.now.votes vote.now) vote.now self.now.voters.n) }
     {
@@ -133,7 +146,7 @@ impl Tally {
         count
     }
 
-    // Whether a node's vote says the same.
+    // Whether a node's vote equals this one.
     fn agrees(&self, vote: &Vote, node: u8) -> bool
         ensures { (if result then 1 else 0) ≡ length (signed_if vote.now (with_vote self.now.votes vote.now node)) }
     {
@@ -146,7 +159,7 @@ impl Tally {
         }
     }
 
-    // The certificate of the votes that say the same as this one, which is among them.
+    // The certificate of the votes equal to this one, which counts too.
     fn certificate(&self, vote: &Vote) -> Result<Cert, NoMemory>
         ensures { IfOk result (λ c. c ≡ certificate_by (with_vote self.now.votes vote.now) vote.now self.now.voters.n) }
     {
@@ -162,11 +175,13 @@ impl Tally {
         })
     }
 
-    // Puts a node's signature behind the others, if its vote says the same.
+    // Appends a node's signature if its vote equals this one.
     fn put_signed(&self, vote: &Vote, node: u8, signers: &mut Seq<Signed>) -> Result<(), NoMemory>
-        ensures { OnOk result (signers.new ≡ signers.old ++ signed_if vote.now (with_vote self.now.votes vote.now node)) }
+        ensures { OnOk result (signers.new ≡ signers.old ++ signed_if vote.now
+            (with_vote self.now.votes vote.now node)) }
     {
         if vote.by.0 == node {
+            /// Appends the vote's signature.
             return push_signed(vote, signers);
         }
         if let Some(other) = self.votes.get(&node)
@@ -177,7 +192,7 @@ impl Tally {
         Ok(())
     }
 
-    // One vote more, of a node that has none.
+    // Adds the vote of a node that has none.
     fn put(&mut self, vote: Vote) -> Result<(), NoMemory>
         requires { refusal self.old vote ≡ None }
         ensures ok { OnOk result (IsCounted self.old vote self.new) }
@@ -189,7 +204,7 @@ impl Tally {
     }
 }
 
-// Whether two votes say the same.
+// Whether two votes certify the same log.
 // rule: Checkpoints: Two votes agree if their chains and counts are equal
 fn say_same(vote: &Vote, other: &Vote) -> bool
     ensures { result ≡ say_same vote.now other.now }

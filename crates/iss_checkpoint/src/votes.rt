@@ -1,4 +1,4 @@
-//! Votes, certificates, and what is signed.
+//! Checkpoint votes, certificates, and what a vote signs.
 ghost use Rattle.std.specs.Prelude.{◌≡◌, ◌∷◌, ◌++◌, []};
 ghost use Rattle.std.specs.Int.{to_be_bytes, w64};
 ghost use Rattle.iss_checkpoint.specs.Votes.{vote_statement};
@@ -6,8 +6,8 @@ ghost use Rattle.iss_checkpoint.specs.Votes.{vote_statement};
 use iss_request::{Bytes, Epoch, NodeId, Seq};
 use iss_sb::Signed;
 
-/// What a node says of its log at the end of an epoch, under its signature: the digest of the log's chain, and how many requests
-/// the log holds.
+/// A node's signed vote on its log at the end of an epoch: the chain digest of the log, and the number of requests in
+/// it.
 #[derive(Drop)]
 pub struct Vote {
     pub epoch: Epoch,
@@ -17,7 +17,7 @@ pub struct Vote {
     pub sig: Bytes,
 }
 
-/// What a quorum of nodes says alike of the log at the end of an epoch, with their signatures.
+/// A checkpoint certificate: a quorum of signatures of the same vote.
 #[derive(Drop)]
 pub struct Cert {
     pub epoch: Epoch,
@@ -26,7 +26,7 @@ pub struct Cert {
     pub signers: Seq<Signed>,
 }
 
-// The cluster, the epoch, and neither a leader nor a module.
+// The head of a vote's statement: cluster, epoch, and a leader and module that do not exist.
 fn head(tag: &[u8; 32], epoch: u64) -> [u8; 43]
     ensures { result ≡ tag.now ++ to_be_bytes w64 epoch ++ 255 ∷ 0 ∷ 0 ∷ [] }
 {
@@ -37,7 +37,7 @@ fn head(tag: &[u8; 32], epoch: u64) -> [u8; 43]
     head
 }
 
-// What is said of the log.
+// The part of a vote's statement that is about the log.
 fn word(chain: &[u8; 32], requests: u64) -> [u8; 40]
     ensures { result ≡ chain.now ++ to_be_bytes w64 requests }
 {
@@ -47,7 +47,8 @@ fn word(chain: &[u8; 32], requests: u64) -> [u8; 40]
     word
 }
 
-/// What a vote signs: the cluster, the epoch, no leader and no module, the chain and the count. It takes no memory.
+/// What a checkpoint vote signs: cluster, epoch, no leader, no module, chain digest, number of requests. It needs no
+/// memory.
 // rule: Checkpoints: A vote signs the cluster, the epoch, the log's chain and its request count
 pub fn vote_statement(tag: &[u8; 32], epoch: u64, chain: &[u8; 32], requests: u64) -> [u8; 83]
     ensures { result ≡ vote_statement tag.now epoch chain.now requests }

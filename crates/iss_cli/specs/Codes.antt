@@ -1,4 +1,4 @@
--- The exit status of the program.
+-- The exit status of the program: one number for each way in which a call ends.
 use Rattle.std.specs.Prelude.{ℕ}
 use Rattle.iss_cli.specs.declared.status.Status.{Status}
 use Rattle.iss_cli.specs.declared.status.Status.TheVariants.{Done, NoMemory, RefusedWords, RefusedSchedule, SourceFailed, SinkFailed, Forged, Collision}

@@ -1,4 +1,4 @@
--- A piece under a certificate is the log of a correct signer.
+-- A certified piece is part of the log of a correct signer.
 use Rattle.std.proofs.Common.{◌≡◌, inl, inr, ℕ, suc, ◌≤◌, ◌<◌, Bool, true, false, cond, eqb, List, [], ◌∷◌, ◌++◌, length, Some, None, refl, sym, ◌∙◌, arith}
 use Rattle.iss_base.specs.Lists.{Chain, In, nth, push_all}
 use Rattle.iss_base.proofs.Lists.{chain-part, first-cases, is-eq, nth-below, over-at}
@@ -49,7 +49,7 @@ module _ {Msg : Type 0} (s : Setup) (S : Scheme) (R : Rules) (M : Module Msg) (s
   in_book : In vote v.book
   in_book = ad.votes signer.0 signer.1 signer.2
 
-  -- it stands for the piece
+  -- its vote certifies the piece
   voted : Voted s R M v S piece.epoch cert.chain cert.number
   voted = g.voted vote piece.epoch cert.chain cert.number in_book signer.2 refl
 

@@ -1,4 +1,4 @@
--- What follows from the invariant at one moment: true logs are of one log, and each node's log is one.
+-- What the invariant implies at one moment: true logs are prefixes of one log, and each node's log is a true log.
 use Rattle.std.proofs.Common.{◌≡◌, inl, inr, ℕ, ◌+◌, ◌-◌, ◌≤◌, true, List, [], ◌∷◌, length, Some, refl, sym, ap, subst, ◌∙◌, arith, le_trans}
 use Rattle.std.proofs.lemmas.Bool.Decides.{leb_tells}
 use Rattle.iss_base.specs.Lists.{Extends}
@@ -23,7 +23,7 @@ use Rattle.iss_composition.proofs.Kept.{settled-of}
 pub separate-part : (Big Small : List ℕ → Type 0) → ((x : List ℕ) → Small x → Big x) → Separate Big → Separate Small
 separate-part Big Small sub sep a b ia ib = sep a b (sub a ia) (sub b ib)
 
--- at a correct node the world has its evidence
+-- at a correct node the world is the node's history
 pub world-at : {Msg : Type 0} (s : Setup) (w : Cluster Msg) (e l i : ℕ) → is_correct s i ≡ true → world_of s w.pasts e l i ≡ (w.pasts i).evidence e l
 world-at s w e l i ok = rw ok refl
 
@@ -37,7 +37,7 @@ pub correct-there : {Msg : Type 0} (s : Setup) (M : Module Msg) (R : Rules) → 
     is_correct (R.params log e l).setup i ≡ true
 correct-there s M R sound log e l i ok = subst (λ (t : Setup). is_correct t i ≡ true) (sym (sound.setup log e l)) ok
 
--- what verifies by the rules verifies under them
+-- a signature that is valid by the rules is valid under them
 pub verifies-there : {Msg : Type 0} (s : Setup) (M : Module Msg) (R : Rules) → IsSoundRules s M R → (log : List Value) (e l : ℕ) → R.leads log e l ≡ true →
     (c : Claim) → IsVerified R c → Verifies (R.params log e l) c
 verifies-there s M R sound log e l leads c v =
@@ -78,7 +78,7 @@ module _ {Msg : Type 0} (s : Setup) (S : Scheme) (R : Rules) (M : Module Msg) (s
   pub true-same : (a b : List Value) → IsTrueLog s R M w.pasts a → IsTrueLog s R M w.pasts b → length a ≡ length b → a ≡ b
   true-same a b = same_length (Backed s R M w.pasts) (Backed s R M w.pasts) (λ older v u _ _. backed-meet older v u) a b
 
-  -- true logs are cut alike
+  -- true logs agree before an epoch
   pub true-cut : (a b : List Value) → IsTrueLog s R M w.pasts a → IsTrueLog s R M w.pasts b → (e : ℕ) → start_of R a e ≤ length a →
       start_of R b e ≤ length b → cut_at R a e ≡ cut_at R b e
   true-cut a b la lb e na nb =
@@ -87,7 +87,7 @@ module _ {Msg : Type 0} (s : Setup) (S : Scheme) (R : Rules) (M : Module Msg) (s
         | inr t ↦ cut-extends R b a e (true-meet b a lb la (omega (arith, t.1))) nb
       ]
 
-  -- true logs with one place in one epoch are one
+  -- true logs of the same length in the same epoch are equal
   pub true-place : (a b : List Value) → IsTrueLog s R M w.pasts a → IsTrueLog s R M w.pasts b → (e k : ℕ) → start_of R a e ≤ length a →
       start_of R b e ≤ length b → length a ≡ start_of R a e + k → length b ≡ start_of R b e + k → a ≡ b
   true-place a b la lb e k na nb pa pb =
@@ -97,12 +97,12 @@ module _ {Msg : Type 0} (s : Setup) (S : Scheme) (R : Rules) (M : Module Msg) (s
       ] in
       true-same a b la lb (omega (arith, same, pa, pb))
 
-  -- the starts that a node has reached
+  -- the starts of epochs that a node has reached
   pub far-start : (i : ℕ) → is_correct s i ≡ true → (e : ℕ) → e ≤ (w.pasts i).epoch →
       start_of R (log_of R M i (w.pasts i)) e ≤ length (log_of R M i (w.pasts i))
   far-start i ok e le = le_trans (start-mono R (log_of R M i (w.pasts i)) e (w.pasts i).epoch le) (g.reached i ok)
 
-  -- an epoch that has begun starts with what any log of the node holds before it, then or later
+  -- an epoch that has begun starts with what any log of the node holds before it, now or later
   pub before-is : (i : ℕ) → is_correct s i ≡ true → (d : Past Msg) → Later R (w.pasts i) d → (xs : List Value) → IsLog R M i d xs → (e : ℕ) →
       e ≤ (w.pasts i).epoch → start_of R xs e ≤ length xs → before R M i (w.pasts i) e ≡ cut_at R xs e
   before-is i ok d lt xs h e le len =
@@ -114,7 +114,7 @@ module _ {Msg : Type 0} (s : Setup) (S : Scheme) (R : Rules) (M : Module Msg) (s
         | inr t ↦ sym (cut-extends R log xs e (logs-meet R M i d log xs logd h (omega (arith, t.1))) (far-start i ok e le))
       ]
 
-  -- an epoch in which a node delivered has begun
+  -- an epoch in which a node delivered a value has begun
   pub begun : (i : ℕ) → is_correct s i ≡ true → (older : List Value) (v : Value) →
       delivered M (params_at R older) i ((w.pasts i).evidence (epoch_at R older) (leader_at R older)) (length older) ≡ Some v →
       epoch_at R older ≤ (w.pasts i).epoch
@@ -127,7 +127,7 @@ module _ {Msg : Type 0} (s : Setup) (S : Scheme) (R : Rules) (M : Module Msg) (s
             absurd (cc)
       ]
 
-  -- a node's log is true, also with more pieces that are
+  -- a node's log is true, also with more true pieces
   pub log-true : (i : ℕ) → is_correct s i ≡ true → (d : Past Msg) → Later R (w.pasts i) d → ((e l : ℕ) → d.evidence e l ≡ (w.pasts i).evidence e l) →
       ((e k : ℕ) (x : Value) → adopted_at d.adopted e k ≡ Some x → IsTrue s R M w e k x) → (xs : List Value) → IsLog R M i d xs → IsTrueLog s R M w.pasts xs
   log-true i ok d lt same ad [] h = tt

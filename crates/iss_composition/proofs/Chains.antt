@@ -1,4 +1,4 @@
--- Chains of digests: where strings are separate, chains of one digest are of one log.
+-- Chains of digests: if no strings collide, equal chain digests are of equal logs.
 use Rattle.std.proofs.Common.{◌≡◌, inl, inr, ℕ, List, [], ◌∷◌, ◌++◌, length, refl, sym, ap, ap₂, ◌∙◌, subst}
 use Rattle.std.proofs.lemmas.Bool.Decides.{leb_tells}
 use Rattle.iss_base.specs.Lists.{Extends, In, oldest}
@@ -36,7 +36,7 @@ chain-injective S exact all sep root (v ∷ a) (u ∷ b) sa sb ia ib h =
     let heads : v ≡ u = exact.values v u (sa v (inl refl)) (sb u (inl refl)) (sep _ _ (ia _ (inl refl)) (ib _ (inl refl)) apart.1) in
     ap₂ (λ x xs. x ∷ xs) heads tails
 
--- what is so of a log is so of its older part
+-- what holds of a log holds of its prefixes
 strings-older : (S : Scheme) (newer log : List Value) (x : List ℕ) → In x (chain_strings S log) → In x (chain_strings S (newer ++ log))
 strings-older S [] log x h = h
 strings-older S (v ∷ newer) log x h = inr (inr (strings-older S newer log x h))

@@ -1,4 +1,4 @@
--- The scheme of a set-up is exact: values and links have one spelling each, and each quorum has a correct node.
+-- The scheme of a set-up is exact: values and links are encoded injectively, and each quorum has a correct node.
 use Rattle.std.proofs.Common.{◌≡◌, inl, inr, ℕ, suc, ◌≤◌, Bool, true, false, ◌&&◌, ◌||◌, not, eqb, leb, List, [], ◌∷◌, ◌++◌, length, append-nil, refl, sym, ap, ◌∙◌, subst, arith, true≢false}
 use Rattle.std.specs.Prelude.{nat_lt}
 use Rattle.std.proofs.lemmas.Bool.Decides.{leb_tells}
@@ -30,7 +30,7 @@ use Rattle.iss_transfer.proofs.AdoptionLemmas.{good-same, tail-same}
 bad-good : (r : Parsed Value) → IsBad r → is_good r ≡ true → ⊥
 bad-good r b h = absurd (true≢false (sym h ∙ ap (λ (t : Parsed Value). is_good t) b.1))
 
--- a value that is spelled is read back
+-- a value that is encoded decodes again
 read-back : (version : ℕ) (v : Value) → is_good (parse_value version (spell_value version v)) ≡ true → parse_value version (spell_value version v) ≡ Good v []
 read-back version v h =
     let bytes = spell_value version v in
@@ -91,11 +91,11 @@ quorums s good ks h =
     let not_bad : has_node r.0 s.faulty ≡ false = has-mem r.0 s.faulty ∙ not-true (mem r.0 bad) t.1 in
     (r.0, mem-in r.0 ks t.0, both (nat_lt r.0 s.n) (not (has_node r.0 s.faulty)) low (rw not_bad refl))
 
--- of every book
+-- for every book
 pub exact-of : {Msg : Type 0} (s : Setup) → IsGoodSetup s → (w : Cluster Msg) → IsExact s (scheme_of s) w
 exact-of s good w = record { chained = λ x e a q h is. are-chained s; quorums = quorums s good }
 
--- so of a cluster that chains and votes so nothing is asked but that its strings are separate
+-- so of a cluster with this chaining and these votes nothing is assumed but that its strings do not collide
 pub composition-whole : {Msg : Type 0} (s : Setup) (R : Rules) (M : Module Msg) → IsSafe M → IsLawful M → IsSoundRules s M R → (w : Cluster Msg) →
     Separate (Among w.strings) → Reach s (scheme_of s) R M w → Ordered s R M w.pasts
 composition-whole s R M safe law sound w sep r =

@@ -33,7 +33,7 @@ turned c pieces = record { epoch = suc c.epoch; evidence = c.evidence; adopted =
 pub turned-later : (R : Rules) {Msg : Type 0} (c : Past Msg) (pieces : List Piece) → Settled R c → Later R c (turned c pieces)
 turned-later R c pieces h = record { epoch = omega arith; here = λ l. ([], refl); there = λ e l ne. refl; adopted = (pieces, refl); settled = h.all }
 
--- messages, claims and strings where evidence stays
+-- messages, claims and strings, if histories stay
 module _ {Msg : Type 0} (s : Setup) (S : Scheme) (R : Rules) (M : Module Msg) (v w : Cluster Msg) (g : Good s R M v S)
     (later : (j : ℕ) → is_correct s j ≡ true → Later R (v.pasts j) (w.pasts j)) (quiet : Quiet M v w)
     (named : (x : Signed) (e l : ℕ) → l ≢ 255 → In x w.book → Names s M e l x.statement → In x v.book)
@@ -68,7 +68,7 @@ good-rested s S R M v w g rs =
       root = rs.quiet.strings [] g.root;
     }
 
--- a world in which no correct node has evidence
+-- a world in which each correct node has an empty history
 pub empty-world : {Msg : Type 0} (s : Setup) (w : Cluster Msg) (e l : ℕ) → ((j : ℕ) → is_correct s j ≡ true → (w.pasts j).evidence e l ≡ []) →
     world_of s w.pasts e l ≡ empty_world
 empty-world s w e l h = fun_ext (λ j. go j (is_correct s j) refl)
@@ -113,7 +113,7 @@ in_epoch s v d = elim (some_or_none (λ j. is_correct s j && leb d (v.pasts j).e
       elim (leb_tells d (v.pasts j).epoch) [ inl t ↦ absurd (true≢false (sym (ap₂ (λ a b. a && b) ok t.0) ∙ x j (correct-below s j ok))) | inr t ↦ t.1 ])
 ]
 
--- node i goes into the next epoch, perhaps with more pieces
+-- node i enters the next epoch, perhaps with more pieces
 module _ {Msg : Type 0} (s : Setup) (S : Scheme) (R : Rules) (M : Module Msg) (safe : IsSafe M) (sound : IsSoundRules s M R) (v w : Cluster Msg)
     (sep : Separate (Among w.strings)) (g : Good s R M v S) (i : ℕ) (ok : is_correct s i ≡ true) (pieces : List Piece)
     (here : w.pasts i ≡ turned (v.pasts i) pieces) (other : (j : ℕ) → j ≢ i → w.pasts j ≡ v.pasts j) (quiet : Quiet M v w)
@@ -199,7 +199,7 @@ module _ {Msg : Type 0} (s : Setup) (S : Scheme) (R : Rules) (M : Module Msg) (s
     root = quiet.strings [] g.root;
   }
 
--- an epoch ends by itself
+-- an epoch ends without a piece
 pub good-ended : {Msg : Type 0} (s : Setup) (S : Scheme) (R : Rules) (M : Module Msg) → IsSafe M → IsSoundRules s M R → (v w : Cluster Msg) →
     Separate (Among w.strings) → Good s R M v S → (i : ℕ) → Ended s S R M v w i → Good s R M w S
 good-ended s S R M safe sound v w sep g i en =

@@ -13,7 +13,7 @@ use Rattle.iss_rules.specs.Past.{adopted_at, before, epoch_at, log_of, start_of}
 use Rattle.iss_rules.specs.Rules.{Rules}
 
 module _ {Msg : Type 0} (s : Setup) (R : Rules) (M : Module Msg) (w : Cluster Msg) where
-  -- a value of an epoch at an index, in a true log
+  -- a value at an index of an epoch, in a true log
   pub record IsTrue (e k : ℕ) (v : Value) : Type 0 where
     pub older : List Value
     pub epoch : epoch_at R older ≡ e
@@ -21,7 +21,7 @@ module _ {Msg : Type 0} (s : Setup) (R : Rules) (M : Module Msg) (w : Cluster Ms
     pub log : IsTrueLog s R M w.pasts older
     pub is : Backed s R M w.pasts older v
 
-  -- a claim of an instance, under the parameters of a node that is in its epoch or past it
+  -- a claim of an instance, under the parameters of a node that is in its epoch or later
   pub record IsClaimed (x : Signed) (e l : ℕ) : Type 0 where
     pub node : ℕ
     pub correct : is_correct s node ≡ true
@@ -29,7 +29,7 @@ module _ {Msg : Type 0} (s : Setup) (R : Rules) (M : Module Msg) (w : Cluster Ms
     pub signed : IsSigned M (R.params (before R M node (w.pasts node) e) e l) (world_of s w.pasts e l) x.by x.statement
 
   module _ (S : Scheme) where
-    -- the log that a vote stands for
+    -- the log that a vote certifies
     pub record Voted (e : ℕ) (d : List ℕ) (q : ℕ) : Type 0 where
       pub log : List Value
       pub whole : start_of R log (suc e) ≡ length log

@@ -1,4 +1,4 @@
--- A claim is of one instance, and a vote of none.
+-- A claim is of one instance, and no claim of an instance is a vote.
 use Rattle.std.proofs.Common.{◌≡◌, ℕ, List, ◌∷◌, ◌++◌, length, sym, ◌∙◌, arith}
 use Rattle.iss_base.specs.Lists.{In}
 use Rattle.iss_sb.specs.declared.effects.Claim.{Claim}
@@ -14,7 +14,7 @@ use Rattle.iss_composition.specs.Cluster.{vote_statement}
 use Rattle.iss_composition.specs.Instances.{IsInstance, IsSameVote}
 
 module _ {Msg : Type 0} (M : Module Msg) (law : IsLawful M) where
-  -- what begins with a head is of the instance that the head names
+  -- a statement that begins with a head is of the instance that the head names
   pub claim-head : (p : Params) (from : ℕ) (msg : Msg) (c : Claim) → In c (M.claims p from msg) → (cluster : List ℕ) (e l tag : ℕ) (rest : List ℕ) →
       length cluster ≡ length p.setup.tag → c.statement ≡ head_of cluster e l tag ++ rest → IsInstance p M.tag cluster e l tag
   claim-head p from msg c held cluster e l tag rest long is =
@@ -22,14 +22,14 @@ module _ {Msg : Type 0} (M : Module Msg) (law : IsLawful M) where
       let r = head-same cluster p.setup.tag e l tag p.epoch.0 p.leader.0 M.tag rest n.0 long (sym is ∙ n.1) in
       record { cluster = r.one_cluster; epoch = r.epoch; leader = r.leader; module_tag = r.module_tag }
 
-  -- claims of one statement are of one instance
+  -- equal statements are of one instance
   pub claims-same : (p q : Params) (i j : ℕ) (a b : Msg) (c d : Claim) → In c (M.claims p i a) → In d (M.claims q j b) →
       length p.setup.tag ≡ length q.setup.tag → c.statement ≡ d.statement → IsInstance q M.tag p.setup.tag p.epoch.0 p.leader.0 M.tag
   claims-same p q i j a b c d held_c held_d long same =
       let n = law.names p i a c held_c in
       claim-head q j b d held_d p.setup.tag p.epoch.0 p.leader.0 M.tag n.0 long (sym same ∙ n.1)
 
-  -- and of none is a vote
+  -- and none is a vote
   pub claim-vote : (s : Setup) (p : Params) (from : ℕ) (msg : Msg) (c : Claim) → IsGoodParams M p → In c (M.claims p from msg) → length s.tag ≡ length p.setup.tag →
       (e number : ℕ) (chain : List ℕ) → c.statement ≡ vote_statement s e chain number → ⊥
   claim-vote s p from msg c good held long e number chain is =
@@ -39,7 +39,7 @@ module _ {Msg : Type 0} (M : Module Msg) (law : IsLawful M) where
       let low = good.leader in
       omega (arith, few.1, here, low)
 
--- votes of one statement say the same
+-- equal votes certify the same log
 pub votes-same : (s t : Setup) → length s.tag ≡ length t.tag → (e d : ℕ) (a b : List ℕ) (q r : ℕ) → vote_statement s e a q ≡ vote_statement t d b r →
     IsSameVote s.tag t.tag e d a b q r
 votes-same s t long e d a b q r h =

@@ -1,4 +1,4 @@
--- What is true of a cluster stays true as its nodes go on.
+-- What stays true of a cluster as its nodes continue.
 use Rattle.std.proofs.Common.{◌≡◌, ℕ, ◌≤◌, ◌<◌, Bool, true, false, cond, List, [], length, Some, refl, ◌∙◌, le_trans, lt_of_lt_of_le}
 use mathlib.Core.Path.{fun_ext}
 use Rattle.iss_base.specs.Lists.{In}
@@ -14,7 +14,7 @@ use Rattle.iss_rules.proofs.Epochs.{start-extends, start-mono}
 use Rattle.iss_composition.proofs.Good.{Good, IsClaimed, IsTrue, Voted}
 use Rattle.iss_rules.proofs.Logs.{Later, Settled, before-later, delivered-later, evidence-later, log-later}
 
--- worlds with the same evidence are the same
+-- worlds with the same histories are the same
 pub world-same : {Msg : Type 0} (s : Setup) (v w : Cluster Msg) (e l : ℕ) →
     ((j : ℕ) → is_correct s j ≡ true → (w.pasts j).evidence e l ≡ (v.pasts j).evidence e l) → world_of s w.pasts e l ≡ world_of s v.pasts e l
 world-same s v w e l h = fun_ext (λ j. go j (is_correct s j) refl)
@@ -32,7 +32,7 @@ module _ {Msg : Type 0} (s : Setup) (S : Scheme) (R : Rules) (M : Module Msg) (v
   pub reached-far : (j d : ℕ) → is_correct s j ≡ true → d ≤ (v.pasts j).epoch → start_of R (log_of R M j (v.pasts j)) d ≤ length (log_of R M j (v.pasts j))
   reached-far j d ok le = le_trans (start-mono R (log_of R M j (v.pasts j)) d (v.pasts j).epoch le) (g.reached j ok)
 
-  -- where an epoch starts that a node has reached, stays
+  -- the start of an epoch that a node has reached stays
   pub starts : (j d : ℕ) → is_correct s j ≡ true → d ≤ (v.pasts j).epoch → start_of R (log_of R M j (w.pasts j)) d ≡ start_of R (log_of R M j (v.pasts j)) d
   starts j d ok le = start-extends R (log_of R M j (v.pasts j)) (log_of R M j (w.pasts j)) d (log-later R M j (v.pasts j) (w.pasts j) (later j ok))
       (reached-far j d ok le)
@@ -44,7 +44,7 @@ module _ {Msg : Type 0} (s : Setup) (S : Scheme) (R : Rules) (M : Module Msg) (v
   length-later j n ok h =
       le_trans h (extends-length (log_of R M j (v.pasts j)) (log_of R M j (w.pasts j)) (log-later R M j (v.pasts j) (w.pasts j) (later j ok)))
 
-  -- an epoch that a node has reached is reached
+  -- an epoch that a node has reached stays reached
   pub reached-later : (j d : ℕ) → is_correct s j ≡ true → d ≤ (v.pasts j).epoch → start_of R (log_of R M j (w.pasts j)) d ≤ length (log_of R M j (w.pasts j))
   reached-later j d ok le = rw (starts j d ok le) (length-later j (start_of R (log_of R M j (v.pasts j)) d) ok (reached-far j d ok le))
 

@@ -61,7 +61,7 @@ module _ {Msg : Type 0} (s : Setup) (S : Scheme) (R : Rules) (M : Module Msg) (s
   befores_are : (j d : ℕ) → is_correct s j ≡ true → d ≤ (v.pasts j).epoch → before R M j (w.pasts j) d ≡ before R M j (v.pasts j) d
   befores_are = befores s S R M v w g later mv.strings
 
-  -- the evidence of the move, and of the rest
+  -- the histories after the move: the mover's and the others'
   evidence_i : (w.pasts i).evidence e l ≡ item ∷ (v.pasts i).evidence e l
   evidence_i = ap (λ (c : Past Msg). c.evidence e l) mv.here ∙ set_at2-same (v.pasts i).evidence e l (item ∷ (v.pasts i).evidence e l)
 
@@ -70,7 +70,7 @@ module _ {Msg : Type 0} (s : Setup) (S : Scheme) (R : Rules) (M : Module Msg) (s
       by_node (λ j c. c.evidence d k ≡ (v.pasts j).evidence d k) (set_at2-other (v.pasts i).evidence e l (item ∷ (v.pasts i).evidence e l) d k ne)
       (λ j nej. refl) j
 
-  -- what the instance's claims begin with
+  -- the heads of the instance's claims
   claim_names : (from : ℕ) (msg : Msg) (c : Claim) → In c (M.claims p from msg) → Names s M e l c.statement
   claim_names from msg c inside =
       let n = law.names p from msg c inside in
@@ -118,7 +118,7 @@ module _ {Msg : Type 0} (s : Setup) (S : Scheme) (R : Rules) (M : Module Msg) (s
   reached' j ok = subst (λ (n : ℕ). start_of R (log_of R M j (w.pasts j)) n ≤ length (log_of R M j (w.pasts j))) (sym (epochs j))
       (reached-later s S R M v w g later mv.strings j (v.pasts j).epoch ok (omega arith))
 
-  -- what a world has is old, or the item of the move
+  -- an entry of a world is old, or that of the move
   new_or_old : (d k j : ℕ) (x : Item Msg) → In x (world_of s w.pasts d k j) → In x (world_of s v.pasts d k j) ⊎ (x ≡ item)
   new_or_old d k j x = go (is_correct s j)
     where

@@ -1,4 +1,4 @@
--- No identity stands twice in the log of a correct node, and each batch in it was accepted.
+-- No request occurs twice in the log of a correct node, and each batch in it was accepted.
 use Rattle.std.proofs.Common.{◌≡◌, inl, inr, ℕ, suc, ◌≤◌, ◌<◌, true, List, [], ◌∷◌, ◌++◌, length, Some, None, sym, ◌∙◌, subst, arith, append_assoc}
 use Rattle.std.proofs.lemmas.Bool.Decides.{leb_tells}
 use Rattle.iss_base.specs.Lists.{Extends, In, oldest}
@@ -50,7 +50,7 @@ module _ {Msg : Type 0} (s : Setup) (S : Scheme) (R : Rules) (M : Module Msg) (s
     pub first : In {A = Slot × Batch} (m, b) (accepts ((w.pasts node).evidence (epoch_at R older) (leader_at R older)))
     pub second : In {A = Slot × Batch} (n, c) (accepts ((w.pasts node).evidence (epoch_at R older) (leader_at R older)))
 
-  -- a node that is correct for an instance is so for the cluster
+  -- a node that is correct for an instance is correct for the cluster
   left_over : (older : List Value) (i : ℕ) → is_correct (params_at R older).setup i ≡ true → is_correct s i ≡ true
   left_over older i ok = subst (λ (t : Setup). is_correct t i ≡ true) (sound.setup (before_at R older) (epoch_at R older) (leader_at R older)) ok
 
@@ -74,7 +74,7 @@ module _ {Msg : Type 0} (s : Setup) (S : Scheme) (R : Rules) (M : Module Msg) (s
       before-true s S R M safe sound w sep g sh.node ok e ek older st.log (epoch-low R older) in
       record { node = sh.node; correct = ok; begun = ek; start = start; judged = rw start at (g.judged sh.node e l ok ek); first = first; second = second }
 
-  -- a batch of the log was accepted by a correct node, over what stands before its epoch
+  -- a correct node accepted the batch of the log, given the log before its epoch
   pub record Valid (older : List Value) (b : Batch) : Type 0 where
     pub node : ℕ
     pub correct : is_correct s node ≡ true
@@ -104,7 +104,7 @@ module _ {Msg : Type 0} (s : Setup) (S : Scheme) (R : Rules) (M : Module Msg) (s
   owned : (older : List Value) (b : Batch) → Valid older b → (z : ReqId) → In z (ids b) → R.owner (before_at R older) (epoch_at R older) z ≡ leader_at R older
   owned older b v = owner-of R (before_at R older) (epoch_at R older) (leader_at R older) (marks v.earlier) b v.is
 
-  -- where an identity of the log stands
+  -- where the log holds an identity
   pub record Found (z : ReqId) (log : List Value) : Type 0 where
     pub older : List Value
     pub batch : Batch
@@ -124,7 +124,7 @@ module _ {Msg : Type 0} (s : Setup) (S : Scheme) (R : Rules) (M : Module Msg) (s
         record { older = f.older; batch = f.batch; stands = f.stands; within = f.within; part = extends-cons _ _ (Value_batch b) f.part }
   ]
 
-  -- the value over `low`, in the same epoch, has another batch
+  -- the value above `low`, in the same epoch, has another batch
   same-epoch : (older low : List Value) (b c : Batch) (z : ReqId) → Stands older (Value_batch b) → Stands low (Value_batch c) → length low < length older →
       Extends low older → epoch_at R low ≡ epoch_at R older → In z (ids b) → In z (ids c) → ⊥
   same-epoch older low b c z st sl lt x ee zb zc =

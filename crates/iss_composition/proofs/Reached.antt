@@ -1,4 +1,4 @@
--- Over every run of a cluster.
+-- The composition theorem over every run of a cluster.
 use Rattle.std.proofs.Common.{inl, inr, ℕ, ◌≤◌, ◌∷◌, ◌++◌, length, ap, ◌∙◌, arith}
 use Rattle.std.proofs.lemmas.Bool.Decides.{leb_tells}
 use Rattle.iss_base.specs.Lists.{Chain, In}
@@ -20,7 +20,7 @@ use Rattle.iss_composition.proofs.Good.{Good}
 use Rattle.iss_composition.proofs.Moves.{good-moved}
 use Rattle.iss_composition.proofs.Once.{once, valid}
 
--- what is exact of a whole book is so of a part of it
+-- a scheme that is exact for a book is so for a part of it
 exact-part : {Msg : Type 0} (s : Setup) (S : Scheme) (v w : Cluster Msg) → ((x : Signed) → In x v.book → In x w.book) → IsExact s S w → IsExact s S v
 exact-part s S v w sub exact = record {
   chained = λ x e a q i. exact.chained x e a q (sub x i);

@@ -1,5 +1,5 @@
--- A cluster that signs: one node that leads, casts, and votes at the end of its epoch. Each claim and the vote are in the
--- book, every premise of the composition holds, and so what it says of this cluster is had by applying it.
+-- A witness: a cluster of one node that leads, proposes, and votes at the end of its epoch. Its claim and its vote are
+-- in the book. Every premise of the composition theorem holds, so applying it gives what it states of this cluster.
 use Rattle.std.proofs.Common.{◌≡◌, ◌≢◌, inl, inr, ℕ, suc, ◌==◌, ◌&&◌, ◌+◌, ◌*◌, ◌≤◌, ◌<◌, Bool, true, false, cond, eqb, List, [], ◌∷◌, ◌++◌, Option, Some, None, refl, sym, ap, ap₂, ◌∙◌, subst, arith, true≢false, replicate}
 use Rattle.sha2.specs.Sha256.{compress, digest_bytes, first_words, hash_after, rounds, schedule, sha256}
 use Rattle.iss_base.specs.Lists.{In, set_at}
@@ -45,7 +45,7 @@ use Rattle.iss_rules.proofs.Nodes.{correct-below}
 abbrev pub Word : Type 0
 Word = Slot × Batch
 
--- the module: the leader accepts what it casts, tells all with its signature, and delivers it at once
+-- the module: the leader accepts what it proposes, sends it to all with its signature, and delivers it at once
 
 abbrev pub is_slot : ℕ → List Slot → Bool
 is_slot n [] = false
@@ -63,7 +63,7 @@ made_of (Some w) = record { sends = (To_all, w) ∷ []; accepted = Some w; strin
 abbrev pub statement_of : Params → Word → List ℕ
 statement_of p w = statement_head p 9 ++ (1 ∷ (eight_bytes w.0.0 ++ spell_value p.setup.version (Value_batch w.1)))
 
--- its bytes have no signature, since that by a node's first leaf is known to all here
+-- the encoding has no signature, since all know here the one by a node's first leaf
 abbrev pub claim_of : Params → ℕ → Word → Claim
 claim_of p from w =
     let statement = statement_of p w in
@@ -73,7 +73,7 @@ abbrev pub found : ℕ → List Word → Option Value
 found s [] = None
 found s (x ∷ xs) = cond (x.0.0 == s) (Some (Value_batch x.1)) (found s xs)
 
--- a word's bytes: the slot's number, and the value that holds the batch
+-- a message's encoding: the slot's number, and the value that holds the batch
 abbrev pub word_in : ℕ → Parsed Value → Parsed Word
 word_in n (Good Nil rest) = Bad 1
 word_in n (Good (Value_batch batch) rest) = Good (record { 0 = n }, batch) rest
@@ -143,7 +143,7 @@ to_all (Some w) k msg n (inl q) = absurd (to_one (ap (λ (x : To × Word). x.0) 
     to_one e = cc
 to_all (Some w) k msg n (inr h) = absurd h
 
--- a word whose batch is read again is
+-- a message whose batch has an encoding has one
 pub word-again : (version : ℕ) (s : Slot) (b : Batch) → IsReadAgain (spell_value version) (parse_value version) (Value_batch b) →
     IsReadAgain (signing.spell version) (signing.parse version) (s, b)
 word-again version s b h rest = ap (word_in s.0) (h rest)
@@ -191,7 +191,7 @@ found-in s (x ∷ xs) b h = go (eqb x.0.0 s.0) refl h (found-in s xs b)
     go true q k ih = inl (ap₂ (λ (n : ℕ) (c : Batch). (record { 0 = n }, c)) (sym (is-eq x.0.0 s.0 q)) (sym (same x.1 k)))
     go false q k ih = inr (ih k)
 
--- who delivers is the leader, and it accepted the batch
+-- only the leader delivers, and it accepted the batch
 delivers-leader : (p : Params) (me : ℕ) (xs : List (Item Word)) (s : ℕ) (v : Value) → delivered signing p me xs s ≡ Some v → me ≡ p.leader.0
 delivers-leader p me [] s v h = absurd (cc)
 delivers-leader p me (x ∷ xs) s v h = elim (first-cases (delivered signing p me xs s) (signing.decided p me (x ∷ xs) s) v h) [
@@ -273,7 +273,7 @@ batch = record { id = record { client = 0; number = 0 }; payload = 170 ∷ []; s
 abbrev casts : Input Word
 casts = Cast slot batch
 
--- what the node holds: at first, after its cast, and at the end of its epoch
+-- the node's history: at first, after its proposal, and at the end of its epoch
 abbrev after_cast : Past Word
 after_cast = takes R signing 0 initial_history 0 casts 0
 
@@ -356,7 +356,7 @@ the-end = record {
 pub reached : Reach alone S R signing third_net
 reached = ends 0 (move 0 0 casts 0 begun the-cast) the-end
 
--- the three strings have three digests
+-- the three strings have three different digests
 
 abbrev value_string : List ℕ
 value_string = S.spelled (Value_batch batch)
@@ -400,14 +400,14 @@ separate a b (inr (inl p)) (inr (inr (inr none))) h = absurd none
 separate a b (inr (inr (inl p))) (inr (inr (inr none))) h = absurd none
 separate a b (inr (inr (inr none))) q h = absurd none
 
--- a claim of the instance of leader 0 in epoch 0 is in the book, and the vote at the end of that epoch
+-- the book has the claim of the instance of leader 0 in epoch 0, and the vote at the end of that epoch
 pub claim-booked : In claimed third_net.book × Names alone signing 0 0 claimed.statement
 claim-booked = (inr (inl refl), (1 ∷ (eight_bytes 0 ++ spell_value 1 (Value_batch batch)), refl))
 
 pub vote-booked : In voted third_net.book × (voted.statement ≡ vote_statement alone 0 (digest link_string) 1)
 vote-booked = (inl refl, refl)
 
--- what holds of every cluster that moves lead to holds of this one, whose log is one batch
+-- what holds of every reached cluster holds of this one, whose log is one batch
 pub alone-ordered : Ordered alone R signing third_net.pasts × (log_of R signing 0 (third_net.pasts 0) ≡ Value_batch batch ∷ [])
 alone-ordered = (
   composition alone S R signing safe lawful

@@ -1,8 +1,9 @@
--- Which instance a statement names.
+-- Which instance a statement names: cluster, epoch, leader and the module's tag. Claims of different instances are
+-- never the same statement, and a vote is no instance's claim.
 use Rattle.std.specs.Prelude.{◌≡◌, ℕ, List}
 use Rattle.iss_sb.specs.declared.effects.Params.{Params}
 
--- the instance of a module with these parameters is the one in that cluster (by its digest), epoch and leader, of that tag
+-- the parameters are of this cluster (by its digest), epoch, leader and module tag
 -- rule: Signatures: A statement belongs to one instance: one cluster, epoch, leader and module
 pub record IsInstance (p : Params) (mark : ℕ) (domain : List ℕ) (e l tag : ℕ) : Type 0 where
   pub cluster : domain ≡ p.setup.tag
@@ -10,7 +11,7 @@ pub record IsInstance (p : Params) (mark : ℕ) (domain : List ℕ) (e l tag : �
   pub leader : l ≡ p.leader.0
   pub module_tag : tag ≡ mark
 
--- two votes are of one cluster, on one epoch, and say the same of its log
+-- two votes are of one cluster and epoch, and certify the same log
 pub record IsSameVote (one other : List ℕ) (e d : ℕ) (a b : List ℕ) (q r : ℕ) : Type 0 where
   pub cluster : one ≡ other
   pub epoch : e ≡ d

@@ -1,5 +1,5 @@
-//! All nodes over all epochs, as far as logs depend on them, and the composition theorem: whatever moves a cluster makes, the
-//! logs of its correct nodes are of one log (ISS, whole protocol).
+//! The composition theorem. It models all nodes over all epochs, as far as logs depend on them. Whatever moves a
+//! cluster makes, the logs of its correct nodes are prefixes of one log (ISS, whole protocol).
 #![tactic(auto)]
 
 pub mod one_instance;

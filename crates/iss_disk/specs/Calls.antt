@@ -1,4 +1,6 @@
--- What the calls of a disk have in common.
+-- The calls of a disk. A call that passes adds the one state that its function gives. A call that fails adds any
+-- number of states on the way: what was synced stays, and each crash image is one of the state before or after. How
+-- many calls pass is unknown, a number, or a list. `Failed` is answered only where the count of faults rose.
 use Rattle.std.specs.Prelude.{◌≡◌, ◌≢◌, ◌⊎◌, ℕ, zero, suc, ◌+◌, ◌≤◌, Bool, true, false, Option, None, Some, List, [], ◌∷◌, ◌++◌}
 pub use Rattle.iss_base.specs.Counts.{Rose}
 use Rattle.iss_disk.specs.File.{File, Image, restarted}

@@ -1,4 +1,5 @@
--- What holds of a new file, and goes on to hold with each call, holds of the states of a file of a memory disk.
+-- Induction over the calls of a disk in memory: what holds for a new file and is kept by each call holds for all
+-- states of a file.
 use Rattle.std.proofs.Common.{◌≡◌, ℕ, ◌-◌, List, [], ◌∷◌, ◌++◌, length, take, drop, refl, ap}
 use Rattle.iss_disk.specs.Calls.{IfTold}
 use Rattle.iss_disk.specs.File.{File, settled, wrote, shortened, synced, restarted}

@@ -1,4 +1,4 @@
--- What is known of the calls to come.
+-- What is known about the calls to come: which of them pass.
 use Rattle.std.specs.Prelude.{[], drop}
 use Rattle.iss_disk.specs.Calls.{Passes, up_to, script}
 use Rattle.iss_disk.specs.declared.fate.Fate.{Fate}

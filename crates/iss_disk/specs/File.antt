@@ -1,4 +1,7 @@
--- One file of a disk: what a read of it gives, and what a crash may leave of it.
+-- The disk model: one file, what a read of it gives, and which crash images it has. A state has the content at the
+-- last sync, and the later writes with the least and greatest length between them. A crash leaves any length between
+-- these. Bytes stay as synced where no later write covers them and before the old end; all others may hold anything.
+-- Trusted is that real disks keep to this.
 use Rattle.std.specs.Prelude.{◌≡◌, ℕ, ◌+◌, ◌<◌, ◌≤◌, min, max, Bool, false, ◌&&◌, ◌||◌, nat_le, nat_lt, List, [], ◌∷◌, ◌++◌, length, take, drop, slice_index}
 
 -- A file, since the last sync that succeeded.

@@ -1,4 +1,5 @@
--- The laws of a disk in memory.
+-- The laws of a disk in memory: each call adds the state that the model gives for it, and a restart leaves what was
+-- synced.
 use Rattle.std.proofs.Common.{◌≡◌, inl, inr, ℕ, true, List, [], ◌∷◌, ◌++◌, refl, sym, ◌∙◌}
 use Rattle.std.specs.Prelude.{bytes_eq}
 use Rattle.std.proofs.lemmas.Bool.{cases_Bool, cond-true, cond-false}

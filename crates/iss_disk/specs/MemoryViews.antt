@@ -1,4 +1,4 @@
--- What a disk in memory shows.
+-- What a disk in memory shows: its files with their states, and which calls will pass.
 use Rattle.std.specs.Prelude.{ℕ, List, [], ◌∷◌, bytes_eq, if◌then◌else◌}
 use Rattle.iss_disk.specs.File.{File, settled}
 use Rattle.iss_disk.specs.Calls.{Passes}

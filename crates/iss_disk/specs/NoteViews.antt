@@ -1,4 +1,5 @@
--- What the notes of a file's calls show.
+-- What the notes of a file's calls show. It stands apart from the notes' definitions, which the ghost fields of their
+-- type cite.
 use Rattle.std.specs.Prelude.{ℕ, ◌-◌, min, List, reverse, vec_len, vec_capacity}
 use Rattle.iss_disk.specs.Notes.{merged}
 use Rattle.iss_disk.specs.declared.call.Call.{Call}

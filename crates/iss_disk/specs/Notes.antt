@@ -1,4 +1,5 @@
--- What the notes of a file's calls stand for.
+-- Which calls the notes of a file represent. Each gate that was opened is one note for four calls; any other call is
+-- noted with the number of gates before it.
 use Rattle.std.specs.Prelude.{◌≡◌, ℕ, List, [], ◌∷◌, ◌++◌, take, drop, map, reverse, refl}
 use Rattle.iss_disk.specs.declared.call.Call.{Call}
 use Rattle.iss_disk.specs.declared.call.Call.TheVariants.{Opened, Synced}

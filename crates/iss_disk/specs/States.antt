@@ -1,4 +1,5 @@
--- The states that a file of a memory disk went through. They are read off its content by undoing its calls, the last one first.
+-- The states that a file of a disk in memory went through. They are read off the present content by undoing its calls,
+-- the last one first: a note says where bytes stood, and what was taken away is kept.
 use Rattle.std.specs.Prelude.{◌≡◌, ℕ, ◌+◌, ◌-◌, ◌≤◌, Bool, true, false, List, [], ◌∷◌, ◌++◌, length, take, drop, refl}
 use Rattle.iss_disk.specs.File.{File, settled, wrote, shortened, synced, restarted}
 use Rattle.iss_disk.specs.declared.call.Call.{Call}

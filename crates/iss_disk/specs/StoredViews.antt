@@ -1,4 +1,4 @@
--- What a stored file shows.
+-- What a stored file shows: its content, what was synced of it, and its states.
 use Rattle.std.specs.Prelude.{ℕ, ◌+◌, ◌-◌, min, nat_le, if◌then◌else◌, List, ◌++◌, length, vec_len, vec_capacity}
 use Rattle.iss_disk.specs.File.{File}
 use Rattle.iss_disk.specs.Calls.{Room}

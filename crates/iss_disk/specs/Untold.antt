@@ -1,4 +1,4 @@
--- Of a file of which nothing is told there is no state.
+-- A disk over real files tells no states of its files, so clauses about their bytes promise nothing.
 use Rattle.std.proofs.Common.{◌≡◌, List, [], ◌∷◌}
 use Rattle.iss_disk.specs.File.{File, Image}
 

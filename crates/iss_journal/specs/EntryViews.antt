@@ -1,4 +1,4 @@
--- What a list of entries shows.
+-- What the entries of a journal show: a list of byte strings, oldest first.
 use Rattle.std.specs.Prelude.{ℕ, List}
 use Rattle.iss_journal.specs.Views.{entries_at}
 use Rattle.iss_journal.specs.declared.entries.Entries.{Entries}

@@ -1,4 +1,7 @@
--- The bytes of a journal's file: any number of entries, each behind an open gate and its length, and then one closed gate.
+-- The bytes of a journal's file. A frame is an open gate (byte 1), the entry's length in four bytes and the entry. A
+-- file holds entries if it is their frames and then a byte other than 1; a file of at most one byte holds none. It is
+-- damaged at an offset if frames lead up to it, and there is an open gate without a whole entry behind it. Each list
+-- of bytes has exactly one such reading.
 use Rattle.std.specs.Prelude.{◌≡◌, ◌≢◌, ◌⊎◌, ℕ, ◌+◌, ◌<◌, ◌≤◌, List, [], ◌∷◌, ◌++◌, length, take, refl}
 use Rattle.std.specs.Int.{w32, to_be_bytes, from_be_bytes}
 use Rattle.std.specs.Coded.{×_prop, Unit-prop, le_prop}

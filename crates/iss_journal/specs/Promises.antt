@@ -1,4 +1,6 @@
--- What a journal promises of a file, whatever a crash makes of it.
+-- What a journal promises for every crash. At each moment of an append a crash leaves these entries, or these and the
+-- new one. Attaching loses no entry that every crash before it would have left. At rest the file is the frames of the
+-- entries and one closed gate, all of it synced.
 use Rattle.std.specs.Prelude.{◌≡◌, ◌≢◌, ◌⊎◌, ℕ, ◌+◌, ◌<◌, ◌≤◌, List, [], ◌∷◌, ◌++◌, length, take}
 use Rattle.iss_disk.specs.File.{File, Image, settled}
 use Rattle.iss_disk.specs.Calls.{EachState, Passes, script}

@@ -1,4 +1,4 @@
--- What the scan of a file finds.
+-- What the scan of a file finds: the entries up to the first gate that is not open, or where the file is damaged.
 use Rattle.std.specs.Prelude.{◌≡◌, ℕ, List}
 use Rattle.iss_journal.specs.Frames.{ClosesAfter, BreaksAt}
 use Rattle.iss_journal.specs.EntryViews.{entries_in}

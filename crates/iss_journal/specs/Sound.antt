@@ -1,4 +1,5 @@
--- What a journal shows, and what is true of each.
+-- What a journal shows, and its invariant: while it is attached, its file rests on its entries, and the room that it
+-- reserved is there.
 use Rattle.std.specs.Prelude.{◌≡◌, ℕ, zero, suc, ◌+◌, ◌*◌, ◌≤◌, ◌<◌, Bool, true, Option, None, Some, List, length, vec_len, vec_capacity}
 use Rattle.iss_disk.specs.File.{File}
 use Rattle.iss_disk.specs.Calls.{IfTold, Room, Passes}

@@ -1,4 +1,4 @@
--- Where entries lie in the bytes of a file.
+-- Where entries lie in the bytes of a file: offsets of gates, and the bytes between them.
 use Rattle.std.specs.Prelude.{◌≡◌, ℕ, zero, suc, ◌+◌, ◌*◌, ◌<◌, ◌≤◌, List, [], ◌∷◌, length, take, drop, get_or}
 use Rattle.std.specs.Int.{w32, from_be_bytes}
 use Rattle.iss_journal.specs.Frames.{frames, AreShort}

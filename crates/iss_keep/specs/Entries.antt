@@ -1,17 +1,16 @@
--- The events of a node as the entries of its journal.
+-- The events of a node as the entries of its journal. An event has one entry, and an entry is at most one event. A
+-- leader or a peer is a node; nothing else is an event.
 --
 --   01 and a packet's bytes      the packet came
 --   02                           the node was to propose
---   03, leader (1 byte)          the time for the leader's segment ran out
+--   03, leader (1 byte)          the timer of the leader's segment fired
 --   04, peer (1 byte)            the node asked a peer for its epoch
---
--- A leader and a peer are nodes. Nothing else is an event.
 use Rattle.std.specs.Prelude.{◌≡◌, ℕ, ◌<◌, ◌==◌, nat_lt, cond, List, [], ◌∷◌, Option, Some, None, refl}
 use Rattle.iss_rules.specs.declared.events.NodeEvent.{NodeEvent}
 use Rattle.iss_rules.specs.declared.events.NodeEvent.TheVariants.{AskFrom, Packet, Propose, Timeout}
 use Rattle.iss_request.specs.declared.ids.NodeId.{NodeId}
 
--- ---- spelling
+-- ---- encoding
 
 abbrev pub packet_entry : List ℕ → List ℕ
 packet_entry bytes = 1 ∷ bytes
@@ -22,7 +21,7 @@ spell_event Propose = 2 ∷ []
 spell_event (Timeout leader) = 3 ∷ leader.0 ∷ []
 spell_event (AskFrom peer) = 4 ∷ peer.0 ∷ []
 
--- ---- the table: which entry is which event of a cluster of n nodes
+-- ---- the table: which entry encodes which event, in a cluster of n nodes
 
 abbrev pub NamesNode : ℕ → NodeEvent → Type 0
 NamesNode n (Packet bytes) = Unit {0}
@@ -34,7 +33,7 @@ NamesNode n (AskFrom peer) = peer.0 < n
 abbrev pub IsEntryOf : ℕ → List ℕ → NodeEvent → Type 0
 IsEntryOf n entry event = (entry ≡ spell_event event) × NamesNode n event
 
--- ---- reading
+-- ---- decoding
 
 abbrev pub propose_in : List ℕ → Option NodeEvent
 propose_in [] = Some Propose
@@ -64,7 +63,7 @@ abbrev pub event_in : ℕ → List ℕ → Option NodeEvent
 event_in n [] = None
 event_in n (kind ∷ rest) = event_of_kind n kind rest
 
--- Of four nodes, node 3 leads or is asked, and node 4 is none.
+-- In a cluster of four, node 3 may lead or be asked. Node 4 does not exist.
 timeout : event_in 4 (3 ∷ 3 ∷ []) ≡ Some (Timeout (record { 0 = 3 }))
 timeout = refl
 

@@ -1,8 +1,9 @@
--- The hash chains of one leaf, and the digits of a statement that say how far along them a signature is.
--- A leaf has 67 chains: one for each of the 64 hexadecimal digits of a digest, and three for the sum that
--- checks them. A chain is a start and the 15 hashes behind it. To sign digit d is to show what stands
--- d steps behind the start; whoever verifies takes the 15 - d steps that are left.
--- The first byte of each hashed string says what it is: 0x10 a start, 0x11 a step, 0x12 a leaf, 0x14 a statement.
+-- The hash chains of one leaf (a Winternitz one-time signature, w = 16), and the digits of a statement that say how
+-- far along them a signature is. A leaf has 67 chains: one for each of the 64 hexadecimal digits of a digest, and
+-- three for their checksum. A chain is a start and the 15 hashes behind it. To sign digit d is to show what stands d
+-- steps behind the start; whoever verifies takes the other 15 - d steps. A greater digit lowers the checksum, so a
+-- signature cannot be walked on to another statement. The first byte of each hashed string says what it is: 0x10 a
+-- start, 0x11 a step, 0x12 a leaf, 0x14 a statement.
 use Rattle.std.specs.Prelude.{ℕ, zero, suc, ◌+◌, ◌-◌, ◌/◌, ◌%◌, ◌==◌, List, [], ◌∷◌, ◌++◌, slice_index, nat_lt, if◌then◌else◌}
 use Rattle.std.specs.Int.{w16, w32, to_be_bytes}
 use Rattle.sha2.specs.Sha256.{sha256}

@@ -1,4 +1,5 @@
--- The keys of all nodes and clients. Their secrets follow from their numbers alone, for demonstration.
+-- The public keys of all nodes and clients. Their secrets follow from their numbers alone, for demonstration: anyone
+-- can compute them. A signature under a number without a key is false.
 use Rattle.std.specs.Prelude.{◌≡◌, ℕ, List, [], ◌∷◌, IsSomeAnd, Some, slice_get}
 use Rattle.sha2.specs.Sha256.{sha256}
 use Rattle.iss_keys.specs.Pieces.{listed}

@@ -1,4 +1,4 @@
--- The tree that a key has, of its own or shared.
+-- The tree that a key has, of its own or shared with others.
 use Rattle.iss_keys.specs.Trees.{KeyTree}
 use Rattle.iss_keys.specs.declared.late.Held.{Held}
 use Rattle.iss_keys.specs.declared.late.Held.TheVariants.{Own, Shared}

@@ -1,4 +1,4 @@
--- The directory that one of several owners has.
+-- The directory that one of several owners shares.
 use Rattle.std.specs.Prelude.{◌≡◌, ◌≤◌, ℕ}
 use Rattle.iss_keys.specs.Directories.{DirectoryView, directory_of}
 use Rattle.iss_keys.specs.declared.shared.Home.{Home}

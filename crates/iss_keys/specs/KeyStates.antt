@@ -1,4 +1,5 @@
--- What contracts see of a key and of its public key.
+-- What contracts see of a key: its secret, its height, and how many leaves are used, which are those below that
+-- number. Of a public key they see root and height.
 use Rattle.std.specs.Prelude.{ℕ, ◌-◌, ◌^◌, ◌≤◌, List}
 use Rattle.iss_keys.specs.Trees.{root_of}
 

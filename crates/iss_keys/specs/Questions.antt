@@ -1,4 +1,4 @@
--- What is asked of a directory.
+-- A question to a directory that remembers answers: whether a signature is one of a statement under a key.
 use Rattle.std.specs.Prelude.{ℕ, List}
 use Rattle.iss_keys.specs.KeyStates.{PublicKeyView}
 

@@ -1,4 +1,4 @@
--- The keys whose secrets follow from numbers, and their trees.
+-- The keys whose secrets follow from numbers, and their trees, each made at its first use.
 use Rattle.std.specs.Prelude.{◌≡◌, ℕ, ◌≤◌, List, [], ◌∷◌, length}
 use Rattle.sha2.specs.Sha256.{sha256}
 use Rattle.iss_keys.specs.Pieces.{listed}

@@ -1,7 +1,8 @@
--- Signatures. One is a head, of the tree's height (one byte) and the leaf's number (four), and a part of
--- 32 bytes for each of the 67 chains and for each level of the tree:
---     height, leaf, value 0, .., value 66, sibling 0, .., sibling (height - 1)
--- The numbers are written with the high byte first.
+-- Signatures and their verification. A signature is true if its length fits, its height is the key's, and its leaf
+-- number is below 2^height. Its chains and siblings must lead to the key's root. Numbers have their highest byte
+-- first.
+--
+--   signature     height (1 byte), leaf (4), value 0, .., value 66, sibling 0, .., sibling (height - 1), 32 bytes each
 use Rattle.std.specs.Prelude.{◌≡◌, ℕ, zero, suc, ◌+◌, ◌-◌, ◌*◌, ◌/◌, ◌^◌, ◌<◌, List, ◌∷◌, ◌++◌, length, take, drop, slice_index}
 use Rattle.std.specs.Int.{w32, to_be_bytes, from_be_bytes}
 use Rattle.iss_keys.specs.Pieces.{join_below}

@@ -1,4 +1,4 @@
--- The public keys that a keyring has, wherever they come from.
+-- The public keys of a keyring, wherever they come from.
 use Rattle.std.specs.Prelude.{List}
 use Rattle.iss_keys.specs.KeyStates.{PublicKeyView}
 use Rattle.iss_keys.specs.Rings.{keys_of_ring}

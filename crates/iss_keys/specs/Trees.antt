@@ -1,4 +1,5 @@
--- The tree over the leaves of a secret. Its first byte 0x13 marks an inner node's hash.
+-- The Merkle tree over the leaves of a secret. Node p of level k is a leaf at level 0, else the hash of the two nodes
+-- below, behind the byte 0x13. In memory the root is at place 1, and the nodes under place i are at 2i and 2i + 1.
 use Rattle.std.specs.Prelude.{◌≡◌, ℕ, zero, suc, ◌+◌, ◌-◌, ◌*◌, ◌/◌, ◌%◌, ◌^◌, ◌<◌, ◌≤◌, ◌==◌, List, [], ◌∷◌, ◌++◌, length, slice_index_or, if◌then◌else◌}
 use Rattle.sha2.specs.Sha256.{sha256}
 use Rattle.iss_keys.specs.Chains.{leaf_value}

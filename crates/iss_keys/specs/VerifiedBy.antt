@@ -1,4 +1,4 @@
--- Whether a signature is true, as a test that computes.
+-- Whether a signature is true, as a test that computes. A lemma ties it to the definition in words.
 use Rattle.std.specs.Prelude.{ℕ, ◌+◌, ◌*◌, ◌^◌, ◌==◌, ◌&&◌, Bool, false, List, Option, Some, None, length, slice_get, slice_index, nat_lt}
 use Rattle.std.specs.Str.{bytes_eq}
 use Rattle.iss_keys.specs.Signatures.{leaf_number, root_from}

@@ -1,5 +1,5 @@
--- Four nodes and four buckets under the simple policy, in epoch 1: all lead, each bucket's home has moved on by one
--- node, and the slots 4 to 7 go round. Where node 1 does not lead, its bucket and its slots go to others.
+-- Four nodes and four buckets under the simple policy, in epoch 1. All lead, each bucket's home has rotated by one
+-- node, and slots 4 to 7 are dealt round-robin. If node 1 does not lead, its bucket and its slots go to others.
 use Rattle.std.proofs.Common.{◌≡◌, [], ◌∷◌, refl, Some}
 use Rattle.iss_layout.specs.Layout.{Plan, node, nodes_below, slot_leader, bucket_owner, bucket_of, segment}
 

@@ -65,7 +65,7 @@ rising_filter p from n (x ∷ xs) h = go (p x) (rising_filter p (suc x.0) n xs h
     go true rest = (h.0, h.1, rest)
     go false rest = let first = h.0 in let le : from ≤ suc x.0 = omega arith in rising_lower (suc x.0) from n (filter p xs) le rest
 
--- some lead, and no more than there are
+-- some nodes lead, and no more than exist
 pub record AreLeaders (n : ℕ) (xs : List NodeId) : Type 0 where
   pub rising : AreRising 0 n xs
   pub some : 1 ≤ length xs
@@ -178,7 +178,7 @@ of_slots first (suc k) s h = ⊎_elim
     (λ (back : In s (record { 0 = first + k } ∷ [])). ⊎_elim (λ (e : s ≡ record { 0 = first + k }). let at = ap (λ (x : Slot). x.0) e in (omega arith, omega arith)) (λ (no : ⊥). absurd no) back)
     (in_either (slots_from first k) (record { 0 = first + k } ∷ []) s h)
 
--- rising slots from the first number to below the second
+-- strictly ascending slots from the first number to below the second
 unfoldable Rises : ℕ → ℕ → List Slot → Type 0
 Rises from to [] = from ≤ to
 Rises from to (s ∷ ss) = (from ≤ s.0) × Rises (suc s.0) to ss

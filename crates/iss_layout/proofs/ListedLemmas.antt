@@ -1,4 +1,5 @@
--- The blacklist leaves out at most f nodes: of those that it lists, one has the least slot, and all of them have one as great.
+-- The blacklist excludes at most f nodes: of the listed nodes one has the least worst slot, and all of them have one as
+-- late.
 use Rattle.std.proofs.Common.{◌≡◌, ◌⊎◌, inl, inr, ⊎_elim, ℕ, ◌+◌, ◌≤◌, Bool, true, false, cond, not, nat_lt, nat_le, List, [], ◌∷◌, length, refl, sym, ap, ◌∙◌, subst, arith}
 use Rattle.std.proofs.lemmas.Bool.{cases_Bool}
 use Rattle.std.proofs.lemmas.Bool.Decides.{nat_tests}
@@ -27,7 +28,7 @@ none_filtered : (t : NodeId → Bool) (xs : List NodeId) → ((x : NodeId) → I
 none_filtered t [] h = refl
 none_filtered t (x ∷ xs) h = rw (h x (inl refl)) (none_filtered t xs (λ y i. h y (inr i)))
 
--- one that passes, before which in greatness none stands that passes
+-- one that passes, with no lesser one that passes
 pub record Least (t : NodeId → Bool) (w : NodeId → ℕ) (xs : List NodeId) : Type 0 where
   pub least : NodeId
   pub passes : t least ≡ true

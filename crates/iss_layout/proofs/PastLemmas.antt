@@ -1,4 +1,4 @@
--- Who leads an epoch hangs on the log before it alone.
+-- Who leads an epoch is a function of the log before it.
 use Rattle.std.proofs.Common.{◌≡◌, ℕ, zero, suc, ◌+◌, ◌*◌, ◌<◌, ◌≤◌, Bool, false, List, [], ◌∷◌, ◌++◌, length, refl, sym, ap, ◌∙◌, arith, eqb, length-append, reverse, slice_get, Some, cond, not}
 use Rattle.std.proofs.lemmas.Grind.{reverse_onto}
 use Rattle.std.proofs.lemmas.List.Elements.{filter-append}
@@ -10,7 +10,7 @@ use Rattle.iss_request.specs.declared.requests.Value.{Value}
 use Rattle.iss_request.specs.declared.setups.Setup.{Setup}
 use Rattle.iss_layout.specs.Layout.{Ended, IsOfThePast, Plan, conduct_of, epochs, is_nil_at, nils_in, plan_by, slots_from, slots_in, with_next}
 
--- a slot that a log holds keeps its value in a longer one
+-- a slot of a log keeps its value in a longer one
 pub nil-kept : (newer log : List Value) (k : ℕ) → k < length log → is_nil_at (newer ++ log) k ≡ is_nil_at log k
 nil-kept [] log k within = refl
 nil-kept (v ∷ newer) log k within =

@@ -1,5 +1,5 @@
--- The policies over logs of four nodes with epochs of four slots, one for each node in the first: nil at slot 1 lies with
--- node 1.
+-- The policies over logs of four nodes with epochs of four slots, one for each node in the first: a nil at slot 1 is
+-- node 1's.
 use Rattle.std.proofs.Common.{◌≡◌, List, [], ◌∷◌, refl, Some}
 use Rattle.iss_request.specs.declared.ids.NodeId.{NodeId}
 use Rattle.iss_request.specs.declared.requests.Value.{Value}
@@ -38,7 +38,7 @@ but_1 = node 0 ∷ node 2 ∷ node 3 ∷ []
 abbrev empty : Value
 empty = Value_batch []
 
--- the values of an epoch, in the order of its slots, put before an older log
+-- the values of an epoch, in the order of its slots, after an older log
 abbrev then : List Value → Value → Value → Value → Value → List Value
 then log a b c d = d ∷ c ∷ b ∷ a ∷ log
 
@@ -111,15 +111,15 @@ bucket_2 = refl
 bucket_3 : bucket_owner (plan_of (by Blacklist) 1 4 one) 3 ≡ Some (node 0)
 bucket_3 = refl
 
--- slot 6 belongs to node 3: it fails last, so it takes the one place on the list
+-- slot 6 belongs to node 3: it failed last, so it takes the one place on the list
 blacklist_2 : leaders_of (by Blacklist) 2 (then one empty empty Nil empty) ≡ node 0 ∷ node 1 ∷ node 2 ∷ []
 blacklist_2 = refl
 
--- what an epoch holds itself does not count for its own leaders
+-- nil slots of an epoch have no effect on its own leaders
 not_its_own : leaders_of (by Blacklist) 1 (then one empty empty Nil empty) ≡ but_1
 not_its_own = refl
 
--- where all fail, all are banned, and all lead
+-- if all fail, all are banned, and then all lead
 abbrev all_fail : List Value
 all_fail = then [] Nil Nil Nil Nil
 

@@ -1,4 +1,4 @@
--- How the conduct of a node changes with an epoch, and that nodes of one conduct lead alike.
+-- How a node's conduct changes with an epoch, and that equal conducts give equal leaders.
 use Rattle.std.proofs.Common.{◌≡◌, ℕ, zero, suc, ◌+◌, ◌<◌, max, Bool, true, false, cond, not, ◌&&◌, ◌||◌, nat_lt, nat_le, List, [], ◌∷◌, ◌++◌, length, take, map, get_or, slice_set, ◌≢◌, eqb, refl, sym, ap, ◌∙◌, subst, arith, add-one, Option, Some, None}
 use Rattle.std.proofs.Math.ListN.{get_or-map}
 use Rattle.std.proofs.lemmas.List.Elements.{filter-append}

@@ -1,4 +1,8 @@
--- Which node leads which slots of an epoch, and which node owns which bucket of requests.
+-- Which node leads which slots of an epoch, and which node owns which bucket of requests. Leaders follow from set-up,
+-- epoch and the log before it, by one of three policies (simple, backoff, blacklist). The slots of an epoch go round
+-- among its leaders. A bucket's owner is its home node, which moves on by one each epoch, if that leads; else the
+-- leaders take turns. For this the log is cut into the epochs that have ended, each with its slots that hold nil.
+-- There is always a leader: where the policy admits none, all nodes lead.
 use Rattle.std.specs.Prelude.{◌≡◌, ℕ, zero, suc, ◌+◌, ◌-◌, ◌*◌, ◌%◌, ◌^◌, ◌<◌, ◌≤◌, ◌==◌, min, max, nat_lt, nat_le}
 use Rattle.std.specs.Prelude.{Bool, true, false, not, ◌&&◌, List, [], ◌∷◌, ◌++◌, length, Option, Some, None, get_or, slice_get, if◌then◌else◌, ◌↔◌}
 use Rattle.std.specs.List.{count_by, filter, list_any}
@@ -14,16 +18,16 @@ use Rattle.iss_request.specs.declared.setups.Policy.{Policy}
 use Rattle.iss_request.specs.declared.setups.Policy.TheVariants.{Simple, Backoff, Blacklist}
 use Rattle.iss_request.specs.declared.setups.Setup.{Setup}
 
--- what the division of an epoch depends on
+-- what the division of an epoch is a function of
 pub record Plan : Type 0 where
   pub epoch : ℕ
-  -- the epoch's first slot: the sum of the lengths of those before it
+  -- the epoch's first slot: the sum of the lengths of earlier epochs
   pub start : ℕ
   pub nodes : ℕ
-  -- how many slots an epoch has
+  -- the number of slots of an epoch
   pub slots : ℕ
   pub buckets : ℕ
-  -- the nodes that lead, ascending
+  -- the leaders, ascending
   pub leaders : List NodeId
 
 abbrev pub node : ℕ → NodeId
@@ -34,18 +38,18 @@ abbrev pub nodes_below : ℕ → List NodeId
 nodes_below zero = []
 nodes_below (suc n) = nodes_below n ++ node n ∷ []
 
--- the leader at turn k, where the leaders take turns in ascending order, round and round
+-- the leader at turn k, round-robin in ascending order
 abbrev pub at_turn : List NodeId → ℕ → Option NodeId
 at_turn leaders k = slice_get leaders (k % length leaders)
 
 abbrev pub first_slot : Plan → ℕ
 first_slot p = p.start
 
--- the slot is of the epoch
+-- the slot is in the epoch
 abbrev pub IsSlotOf : Plan → ℕ → Type 0
 IsSlotOf p s = (first_slot p ≤ s) × (s < first_slot p + p.slots)
 
--- the slots of an epoch go round among its leaders
+-- the slots of an epoch are dealt to its leaders round-robin
 -- rule: Layout: The leaders of an epoch take its slots in turn
 abbrev pub slot_leader : Plan → ℕ → Option NodeId
 slot_leader p s = at_turn p.leaders (s - first_slot p)
@@ -53,20 +57,21 @@ slot_leader p s = at_turn p.leaders (s - first_slot p)
 abbrev pub leads : Plan → ℕ → Bool
 leads p i = list_any (λ l. l.0 == i) p.leaders
 
--- a bucket's home moves on by one node each epoch
+-- a bucket's home rotates by one node each epoch
 abbrev pub home : Plan → ℕ → ℕ
 home p b = (b + p.epoch) % p.nodes
 
--- the home owns the bucket if it leads; else the leaders take turns
+-- The home owns the bucket if it leads. Otherwise the leaders share such buckets round-robin.
 -- rule: Layout: A bucket's home moves by one node an epoch and owns it if it leads; else leaders take turns
 abbrev pub bucket_owner : Plan → ℕ → Option NodeId
 bucket_owner p b = if leads p (home p b) then Some (node (home p b)) else at_turn p.leaders (b + p.epoch)
 
+-- the bucket of a request
 -- rule: Layout: A request's bucket is a function of its client and number alone
 abbrev pub bucket_of : Plan → ReqId → ℕ
 bucket_of p q = (q.client + q.number) % p.buckets
 
--- so many slots from the first on, ascending
+-- n slots from the first on, ascending
 abbrev pub slots_from : ℕ → ℕ → List Slot
 slots_from first zero = []
 slots_from first (suc k) = slots_from first k ++ record { 0 = first + k } ∷ []
@@ -84,55 +89,58 @@ segment p i = filter (is_slot_of_leader p i) (slots_from (first_slot p) p.slots)
 
 -- ---- who leads
 
--- an epoch that has ended: how it was divided, and which of its slots became nil
+-- an epoch that has ended: its plan, and its slots that became nil
 pub record Ended : Type 0 where
   pub plan : Plan
   pub nils : List Slot
 
--- whether a slot of the epoch became nil under the node
+-- whether a slot of the epoch became nil under this leader
 abbrev pub has_failed : Ended → ℕ → Bool
 has_failed x i = list_any (is_slot_of_leader x.plan i) x.nils
 
--- what follows reads the epochs that have ended, newest first
+-- What follows is a function of the ended epochs, newest first.
 
--- a leader's weight doubles with an epoch in which it fails, and goes down by one with any other that it leads
+-- Backoff: a leader's weight doubles (from 1, to at most 64) in an epoch in which it fails, and falls by one in any
+-- other that it leads.
 abbrev pub doubled : ℕ → ℕ
 doubled w = if w == 0 then 1 else min (2 * w) 64
 
 -- rule: Layout: A leader with a nil slot is banned for its weight, which doubles up to 64; else it loses one
 abbrev pub weight : List Ended → ℕ → ℕ
 weight [] i = 0
-weight (x ∷ past) i = if leads x.plan i then (if has_failed x i then doubled (weight past i) else weight past i - 1) else weight past i
+weight (x ∷ past) i = if leads x.plan i then (if has_failed x i then doubled (weight past i) else weight past i - 1)
+    else weight past i
 
--- for how many epochs the node does not lead: as many as it weighs, after one in which it failed
+-- For how many more epochs the node does not lead: its weight, after an epoch in which it failed.
 abbrev pub ban : List Ended → ℕ → ℕ
 ban [] i = 0
 ban (x ∷ past) i = if leads x.plan i then (if has_failed x i then doubled (weight past i) else 0) else ban past i - 1
 
--- the slots that ever became nil under the node
+-- all slots that became nil under the node
 abbrev pub nils_under : List Ended → ℕ → List Slot
 nils_under [] i = []
 nils_under (x ∷ past) i = filter (is_slot_of_leader x.plan i) x.nils ++ nils_under past i
 
--- one more than the greatest of these slots, 0 where there is none
+-- one more than the greatest of these slots, 0 if there is none
 abbrev pub past_all : List Slot → ℕ
 past_all [] = 0
 past_all (s ∷ ss) = max (suc s.0) (past_all ss)
 
--- what the epochs say of a node
+-- what the leader policies know of a node
 pub record Conduct : Type 0 where
   pub weight : ℕ
   pub ban : ℕ
-  -- one more than the greatest slot that became nil under it, 0 where there is none
+  -- one more than the greatest slot that became nil under the node, 0 if there is none
   pub worst : ℕ
 
 abbrev pub conduct_of : List Ended → ℕ → Conduct
 conduct_of past i = record { weight = weight past i; ban = ban past i; worst = past_all (nils_under past i) }
 
--- a node is on the list of the worst if a slot became nil under it, and at most f nodes, itself among them, have one as great
+-- Blacklist: a node is listed if a slot became nil under it, and at most f nodes (itself included) have one as late.
 -- rule: Layout: The blacklist leaves out the at most f nodes with the greatest nil slots
 abbrev pub is_listed : Setup → (ℕ → Conduct) → NodeId → Bool
-is_listed s c i = nat_lt 0 (c i.0).worst && nat_le (count_by (λ j. nat_le (c i.0).worst (c j.0).worst) (nodes_below s.n)) s.f
+is_listed s c i = nat_lt 0 (c i.0).worst &&
+    nat_le (count_by (λ j. nat_le (c i.0).worst (c j.0).worst) (nodes_below s.n)) s.f
 
 abbrev pub may_lead : Policy → Setup → (ℕ → Conduct) → NodeId → Bool
 may_lead Simple s c i = true
@@ -143,7 +151,7 @@ abbrev pub or_else : List NodeId → List NodeId → List NodeId
 or_else [] all = all
 or_else (l ∷ ls) all = l ∷ ls
 
--- those lead that may; where none may, all do (under backoff alone can that be)
+-- The nodes that the policy allows. If it allows none, all lead (only backoff can allow none).
 abbrev pub leaders_by : Setup → (ℕ → Conduct) → List NodeId
 leaders_by s c = or_else (filter (may_lead s.policy s c) (nodes_below s.n)) (nodes_below s.n)
 
@@ -161,12 +169,12 @@ is_nil_at (v ∷ older) slot = if slot == length older then not (is_batch v) els
 abbrev pub nils_in : Plan → List Value → List Slot
 nils_in p log = filter (λ s. is_nil_at log s.0) (slots_from p.start p.slots)
 
--- how many slots these epochs have
+-- the number of slots of these epochs
 abbrev pub slots_in : List Ended → ℕ
 slots_in [] = 0
 slots_in (x ∷ past) = slots_in past + x.plan.slots
 
--- the epoch that follows these, by a log that holds it
+-- the epoch after these, in a log that holds it
 abbrev pub next_ended : Setup → ℕ → List Value → List Ended → Ended
 next_ended s e log past =
     let p = plan_by s e (slots_in past) (conduct_of past) in
@@ -182,21 +190,21 @@ abbrev pub epochs : Setup → ℕ → List Value → List Ended
 epochs s zero log = []
 epochs s (suc e) log = with_next s e log (epochs s e log)
 
--- who leads an epoch, given the log before it
+-- the leaders of epoch e, given the log before it
 abbrev pub leaders_of : Setup → ℕ → List Value → List NodeId
 leaders_of s e log = leaders_by s (conduct_of (epochs s e log))
 
--- how an epoch that starts at a given slot is divided, given the log before it
+-- the plan of epoch e with this first slot, given the log before it
 abbrev pub plan_of : Setup → ℕ → ℕ → List Value → Plan
 plan_of s e start log = plan_by s e start (conduct_of (epochs s e log))
 
--- an epoch's division hangs on the log before it alone, and it begins where those before it end
+-- An epoch's plan is a function of the log before it, and earlier epochs fill all slots before it.
 pub record IsOfThePast (s : Setup) (e : ℕ) (log newer : List Value) : Type 0 where
   pub same : epochs s e (newer ++ log) ≡ epochs s e log
   pub plan : (start : ℕ) → plan_of s e start (newer ++ log) ≡ plan_of s e start log
   pub starts : slots_in (epochs s e log) ≡ e * s.epoch
 
--- what is carried from epoch to epoch in place of the log: the conduct of each node in turn
+-- the conduct of each node, which is carried from epoch to epoch in place of the log
 abbrev pub carried : List Conduct → ℕ → Conduct
 carried cs i = get_or cs i (record { weight = 0; ban = 0; worst = 0 })
 
@@ -205,7 +213,7 @@ IsStanding s past cs = (i : ℕ) → i < s.n → carried cs i ≡ conduct_of pas
 
 -- ---- what holds of every epoch
 
--- what holds of the plan of each epoch under a good set-up
+-- the bounds of each epoch's plan under a good set-up
 pub record IsGoodPlan (p : Plan) : Type 0 where
   pub rising : AreRising 0 p.nodes p.leaders
   pub some : 1 ≤ length p.leaders
@@ -217,7 +225,7 @@ pub record IsGoodPlan (p : Plan) : Type 0 where
   pub few_buckets : p.buckets ≤ 256
   pub fits : first_slot p + p.slots ≤ 2 ^ 64
 
--- a slot of the epoch is in the segment of one leader and of no other node
+-- the slot is in the segment of exactly one node, which leads
 pub record HasOneLeader (p : Plan) (s : Slot) : Type 0 where
   pub leader : NodeId
   pub leads : In leader p.leaders
@@ -225,13 +233,13 @@ pub record HasOneLeader (p : Plan) (s : Slot) : Type 0 where
   pub within : In s (segment p leader.0)
   pub only : (i : ℕ) → In s (segment p i) → i ≡ leader.0
 
--- a bucket is owned by a leader; that it is one only lies in its being a function of the bucket
+-- A leader owns the bucket. It is the only owner, since ownership is a function of the bucket.
 pub record HasOwner (p : Plan) (b : ℕ) : Type 0 where
   pub owner : NodeId
   pub leads : In owner p.leaders
   pub is : bucket_owner p b ≡ Some owner
 
--- a segment can be the segment of an instance
+-- what an instance requires of its segment
 pub record IsSegment (p : Plan) (i : ℕ) : Type 0 where
   pub slots : (s : Slot) → In s (segment p i) ↔ (IsSlotOf p s.0 × (slot_leader p s.0 ≡ Some (node i)))
   pub ascending : AreAscending 0 (segment p i)
@@ -240,7 +248,7 @@ pub record IsSegment (p : Plan) (i : ℕ) : Type 0 where
 
 pub record IsFair (p : Plan) : Type 0 where
   pub some : 1 ≤ length p.leaders
-  -- nodes, ascending and different
+  -- existing nodes, strictly ascending
   pub nodes : AreRising 0 p.nodes p.leaders
   pub led : (s : Slot) → IsSlotOf p s.0 → HasOneLeader p s
   pub owned : (b : ℕ) → HasOwner p b

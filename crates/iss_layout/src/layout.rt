@@ -9,7 +9,7 @@ use iss_request::{Epoch, NoMemory, NodeId, ReqId, Seq, Setup, Slot};
 use std::alloc::Global;
 use std::marker::Model;
 
-/// Who leads an epoch, and what each leader has of it.
+/// The leaders of an epoch, their segments, and their buckets.
 #[derive(Drop, Debug)]
 pub struct Layout {
     epoch: u64,
@@ -17,7 +17,7 @@ pub struct Layout {
     nodes: u32,
     slots: u64,
     buckets: u32,
-    // the first `count` lead
+    // the first `count` are leaders
     leaders: [NodeId; MOST_NODES],
     count: usize,
 }
@@ -48,8 +48,8 @@ impl Model for Layout {
 }
 
 impl Layout {
-    /// The division of an epoch that starts at a given slot and all of whose slots are below 2^64, by the standing
-    /// that the epochs before it left.
+    /// The division of an epoch, given its first slot and the standing after all earlier epochs. All of its slots must
+    /// be below 2^64.
     // rule: Layout: Who leads an epoch is a function of the log before it
     // rule: Layout: An epoch begins where the one before it ends
     pub fn of(setup: &Setup, epoch: Epoch, start: u64, standing: &Standing) -> Layout
@@ -85,14 +85,14 @@ impl Layout {
         &self.leaders[..self.count]
     }
 
-    /// Whether a node leads.
+    /// Whether the node leads.
     pub fn leads(&self, node: NodeId) -> bool
         ensures { result ≡ leads self.now node.0 }
     {
         self.leaders().contains(&node)
     }
 
-    /// The leader of a slot of the epoch: the slots go round among the leaders.
+    /// The leader of a slot of the epoch. Slots are dealt to the leaders round-robin.
     // rule: Layout: The leaders of an epoch take its slots in turn
     pub fn segment_of(&self, slot: Slot) -> NodeId
         requires { IsSlotOf self.now slot.0 }
@@ -101,7 +101,7 @@ impl Layout {
         self.at_turn((slot.0 - self.start) % self.count as u64)
     }
 
-    /// The slots of the epoch that a node leads, ascending.
+    /// The node's segment: the slots of the epoch that it leads, ascending. The only error is out of memory.
     pub fn slots_of(&self, alloc: Global, node: NodeId) -> Result<Seq<Slot>, NoMemory>
         ensures { IfOk result (λ slots. slots ≡ segment self.now node.0) }
     {
@@ -115,7 +115,7 @@ impl Layout {
         Ok(slots)
     }
 
-    /// The leader that owns a bucket, which is one of the set-up's.
+    /// The leader that owns a bucket. The bucket must be below `buckets`.
     // rule: Layout: A bucket's home moves by one node an epoch and owns it if it leads; else leaders take turns
     pub fn owner_of(&self, bucket: u32) -> NodeId
         requires { bucket < self.now.buckets }
@@ -129,7 +129,7 @@ impl Layout {
         }
     }
 
-    /// How many buckets there are.
+    /// The number of buckets.
     pub fn buckets(&self) -> u32
         ensures value { result ≡ self.now.buckets }
         ensures some { 1 ≤ result }
@@ -146,7 +146,7 @@ impl Layout {
         ((id.client as u64 + id.number as u64) % self.buckets as u64) as u32
     }
 
-    /// The leader that owns a request's bucket.
+    /// The leader that owns the request's bucket.
     pub fn owner_of_request(&self, id: ReqId) -> NodeId
         ensures { bucket_owner self.now (bucket_of self.now id) ≡ Some result }
     {
@@ -162,7 +162,7 @@ impl Layout {
     }
 }
 
-// `(bucket + epoch) % count`, whose sum can pass 2^64.
+// `(bucket + epoch) % count`, without overflow of the sum.
 fn rotated(bucket: u32, epoch: u64, count: u64) -> u64
     requires some { 1 ≤ count }
     requires few { count ≤ 10 }
@@ -172,7 +172,7 @@ fn rotated(bucket: u32, epoch: u64, count: u64) -> u64
     (bucket as u64 % count + epoch % count) % count
 }
 
-// The leaders by the policy, ascending, and how many they are.
+// The leaders by the policy, ascending, and their number.
 fn leaders_by(setup: &Setup, standing: &Standing) -> ([NodeId; MOST_NODES], usize)
     requires good { IsGoodSetup setup.now }
     ensures leaders { take result.1 result.0 ≡ leaders_by setup.now (carried standing.now) }
@@ -185,11 +185,13 @@ fn leaders_by(setup: &Setup, standing: &Standing) -> ([NodeId; MOST_NODES], usiz
     (leaders, count)
 }
 
-// The nodes that may lead, ascending, and how many they are.
+// The nodes that the policy allows to lead, ascending, and their number.
 fn allowed(setup: &Setup, standing: &Standing) -> ([NodeId; MOST_NODES], usize)
     requires good { IsGoodSetup setup.now }
-    ensures leaders { take result.1 result.0 ≡ filter (may_lead setup.now.policy setup.now (carried standing.now)) (nodes_below setup.now.n) }
-    ensures count { result.1 ≡ length (filter (may_lead setup.now.policy setup.now (carried standing.now)) (nodes_below setup.now.n)) }
+    ensures leaders { take result.1 result.0 ≡ filter (may_lead setup.now.policy setup.now (carried standing.now))
+        (nodes_below setup.now.n) }
+    ensures count { result.1 ≡ length (filter (may_lead setup.now.policy setup.now (carried standing.now))
+        (nodes_below setup.now.n)) }
 {
     let mut leaders = [NodeId(0); MOST_NODES];
     let mut count = 0;

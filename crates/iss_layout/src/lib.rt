@@ -1,6 +1,6 @@
-//! The division of an epoch: who leads, which slots a leader has, and which buckets of requests it owns (ISS, "State
-//! Machine Replication Scalability Made Simple": interleaved segments, and buckets that rotate so that no leader can
-//! hold back the same requests for ever).
+//! The division of an epoch: its leaders, their segments of slots, and their buckets of requests (ISS, "State Machine
+//! Replication Scalability Made Simple": interleaved segments, and buckets that rotate so that no leader can censor the
+//! same requests for ever).
 #![tactic(auto)]
 
 pub mod laws;

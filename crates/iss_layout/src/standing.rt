@@ -1,4 +1,4 @@
-//! What the policies carry from epoch to epoch, in place of the log.
+//! What the leader policies carry from epoch to epoch in place of the log.
 ghost use Rattle.std.specs.Prelude.{◌≡◌, ◌<◌, ◌≤◌, ◌∷◌, ◌-◌, [], ℕ, suc, List, length, map, max, nat_le};
 ghost use Rattle.std.specs.List.{All, count_by, filter};
 ghost use Rattle.iss_request.specs.Setup.{IsGoodSetup};
@@ -10,10 +10,10 @@ use crate::layout::Layout;
 use iss_request::{NodeId, Policy, Setup, Slot};
 use std::marker::Model;
 
-/// The most nodes that a good set-up has: of 3f+1 nodes at most three are faulty.
+/// The most nodes of a good set-up: 3f+1 with f at most 3.
 pub const MOST_NODES: usize = 10;
 
-// What is known of a node: its weight, its ban, and the greatest slot that became nil under it.
+// What is known of a node: its weight, its ban (in epochs), and the greatest slot that became nil under it.
 #[derive(Clone, Copy, Debug)]
 pub(crate) struct Record {
     weight: u32,
@@ -21,7 +21,7 @@ pub(crate) struct Record {
     worst: Option<Slot>,
 }
 
-/// What the epochs that have ended say of each node. Contracts see it as the conduct of each node in turn.
+/// What the ended epochs show of each node. Contracts see it as the list of the nodes' conducts.
 #[derive(Drop, Debug)]
 pub struct Standing {
     nodes: [Record; MOST_NODES],
@@ -40,7 +40,7 @@ impl Model for Standing {
 }
 
 impl Standing {
-    /// Before the first epoch's end nothing is known of any node.
+    /// Before the end of the first epoch nothing is known of any node.
     pub fn new() -> Standing
         ensures { (s : Setup) → IsStanding s [] result }
     {
@@ -53,7 +53,7 @@ impl Standing {
         }
     }
 
-    /// An epoch has ended: what it was divided into, and its slots that became nil.
+    /// Takes into account an epoch that has ended: its division, and its slots that became nil.
     pub fn advance(&mut self, setup: &Setup, layout: &Layout, nil_slots: &[Slot])
         requires good { IsGoodSetup setup.now }
         requires nil_slots { All (λ s. IsSlotOf layout.now s.0) nil_slots.now }
@@ -63,7 +63,7 @@ impl Standing {
         change_all(&mut self.nodes, setup.n, layout, nil_slots);
     }
 
-    // Whether a node leads by the policy alone.
+    // Whether the policy allows the node to lead.
     pub(crate) fn may_lead(&self, setup: &Setup, node: NodeId) -> bool
         requires good { IsGoodSetup setup.now }
         requires node { node.0 < setup.now.n }
@@ -76,7 +76,7 @@ impl Standing {
         }
     }
 
-    // Whether a node is among the at most f whose greatest slots that became nil are the greatest.
+    // Whether the blacklist excludes the node: a slot became nil under it, and at most f nodes have one as late.
     // rule: Layout: The blacklist leaves out the at most f nodes with the greatest nil slots
     fn is_listed(&self, setup: &Setup, node: NodeId) -> bool
         requires good { IsGoodSetup setup.now }
@@ -90,11 +90,12 @@ impl Standing {
     }
 }
 
-// How many of the nodes have a slot that became nil under them and is not before this one.
+// The number of nodes that have a nil slot at `worst` or later.
 fn as_bad(nodes: &[Record; MOST_NODES], count: u32, worst: Slot) -> u32
     requires size { length nodes.now ≡ 10 }
     requires few { count ≤ 10 }
-    ensures { result ≡ count_by (λ j. nat_le (suc worst.0) (carried (map shown nodes.now) j.0).worst) (nodes_below count) }
+    ensures { result ≡ count_by (λ j. nat_le (suc worst.0) (carried (map shown nodes.now) j.0).worst)
+        (nodes_below count) }
 {
     let mut found = 0;
     for i in 0..count {
@@ -105,7 +106,7 @@ fn as_bad(nodes: &[Record; MOST_NODES], count: u32, worst: Slot) -> u32
     found
 }
 
-// Whether there is a slot that is not before a given one.
+// Whether there is a slot `worst`, and it is not before `slot`.
 fn is_past(worst: Option<Slot>, slot: Slot) -> bool
     ensures { result ≡ nat_le (suc slot.0) (behind worst) }
 {
@@ -115,7 +116,7 @@ fn is_past(worst: Option<Slot>, slot: Slot) -> bool
     }
 }
 
-// The later of two slots, of which the first may not be there.
+// The later of two slots, of which the first may be missing.
 fn later(worst: Option<Slot>, slot: Slot) -> Option<Slot>
     ensures { behind result ≡ max (suc slot.0) (behind worst) }
 {
@@ -126,7 +127,7 @@ fn later(worst: Option<Slot>, slot: Slot) -> Option<Slot>
     }
 }
 
-// The greatest of the slots that became nil under a node.
+// The greatest nil slot under the node in this epoch.
 fn worst_under(layout: &Layout, node: NodeId, nil_slots: &[Slot]) -> Option<Slot>
     requires { All (λ s. IsSlotOf layout.now s.0) nil_slots.now }
     ensures { behind result ≡ past_all (filter (is_slot_of_leader layout.now node.0) nil_slots.now) }
@@ -152,7 +153,7 @@ fn doubled(weight: u32) -> u32
     }
 }
 
-// What is known of a node after an epoch, by whether it led and by the greatest slot that became nil under it there.
+// What is known of a node after an epoch. `worst` is the greatest slot that became nil under it there.
 // rule: Layout: A leader with a nil slot is banned for its weight, which doubles up to 64; else it loses one
 fn changed(known: Record, led: bool, worst: Option<Slot>) -> Record
     ensures { shown result ≡ changed (shown known) led (behind worst) }
@@ -195,7 +196,8 @@ fn change_all(nodes: &mut [Record; MOST_NODES], count: u32, layout: &Layout, nil
     requires nil_slots { All (λ s. IsSlotOf layout.now s.0) nil_slots.now }
     ensures size { length nodes.new ≡ 10 }
     ensures changed { (i : ℕ) → i < count → carried (map shown nodes.new) i ≡
-        changed (carried (map shown nodes.old) i) (leads layout.now i) (past_all (filter (is_slot_of_leader layout.now i) nil_slots.now)) }
+        changed (carried (map shown nodes.old) i) (leads layout.now i)
+        (past_all (filter (is_slot_of_leader layout.now i) nil_slots.now)) }
 {
     for i in 0..count {
         let node = NodeId(i as u8);

@@ -1,4 +1,4 @@
--- The chain of a log with one value more, and what is kept of it.
+-- The chain of a log with one more value, and what is kept of it.
 use Rattle.std.proofs.Common.{◌≡◌, ℕ, zero, suc, ◌<◌, ◌≤◌, List, [], ◌∷◌, ◌++◌, length, take, refl, sym, ap, ◌∙◌, subst, arith, append_assoc, length-append, Some, slice_get, ⊎_elim}
 use Rattle.std.proofs.lemmas.List.{append-nil}
 use Rattle.std.proofs.lemmas.Bool.{cases_lt}
@@ -28,7 +28,7 @@ pub end-append : (version : ℕ) (before : End) (a : List Value) (v : Value) →
 end-append version before [] v = refl
 end-append version before (u ∷ a) v = end-append version (next_end version before u) a v
 
--- the chain of an end that values lead to
+-- the chain digest after these values
 pub end-chain : (version : ℕ) (before : End) (a : List Value) → (end_from version before a).chain ≡ chain_from version before.chain a
 end-chain version before [] = refl
 end-chain version before (u ∷ a) = end-chain version (next_end version before u) a

@@ -1,5 +1,5 @@
--- What the definitions say of a small log: two requests in slot 0, nil in slot 1, one request in slot 2, and an empty
--- batch in slot 4, for which slot 3 is missing.
+-- What the definitions give for a small log: two requests in slot 0, nil in slot 1, one request in slot 2, and an empty
+-- batch in slot 4, which cannot join because slot 3 is missing.
 use Rattle.std.proofs.Common.{◌≡◌, ℕ, [], ◌∷◌, refl, Some, None}
 use Rattle.iss_request.specs.Log.{requests}
 use Rattle.iss_request.specs.declared.requests.Request.{Request}

@@ -8,7 +8,7 @@ use Rattle.iss_request.specs.Log.{requests, size_of}
 use Rattle.iss_request.specs.declared.requests.Value.{Value}
 use Rattle.iss_log.specs.LogState.{LogState, value_at, ahead_at, IsWithout, IsAdvanced, AreNumbered}
 
--- what holds whatever the answer is
+-- what holds whatever the result is
 pub on_err : {X E P : Type 0} (r : Result X E) → P → OnErr r P
 on_err (Ok x) p = tt
 on_err (Err e) p = p
@@ -96,7 +96,7 @@ pub requests_more : (es : List Value) (v : Value) → requests (es ++ v ∷ []) 
 requests_more [] v = omega arith
 requests_more (x ∷ es) v = let more = requests_more es v in omega arith
 
--- how many requests there are does not change where the newest value comes first
+-- the number of requests is the same in reverse order
 pub requests-turned : (log : List Value) → requests (reverse log) ≡ requests log
 requests-turned [] = refl
 requests-turned (v ∷ older) =

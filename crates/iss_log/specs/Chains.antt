@@ -1,5 +1,6 @@
--- The digests that stand for a log. A value is hashed behind the number 64, and a link behind 66: the digest of the log before,
--- and that of the value. The chain of no value is the digest of no byte.
+-- The digest chain that identifies a log. A value is hashed behind the byte 64, and a link behind 66: the digest of
+-- the log before, and that of the value. The chain of no value is the digest of no byte. An end is a chain and the
+-- number of requests up to it.
 use Rattle.std.specs.Prelude.{◌≡◌, ℕ, suc, ◌+◌, ◌≤◌, List, [], ◌∷◌, ◌++◌, length, take, Some, slice_get}
 use Rattle.iss_request.specs.Digest.{digest}
 use Rattle.iss_request.specs.Formats.{value_string}
@@ -10,10 +11,11 @@ use Rattle.iss_log.specs.declared.chains.End.{End}
 abbrev pub link_string : List ℕ → List ℕ → List ℕ
 link_string before value = 0x42 ∷ (before ++ value)
 
--- the string of the link of a value
+-- the string hashed to link a value to the chain
 abbrev pub value_link : ℕ → List ℕ → Value → List ℕ
 value_link version before v = link_string before (digest (value_string version v))
 
+-- the chain digest with one more value
 abbrev pub linked : ℕ → List ℕ → Value → List ℕ
 linked version before v = digest (value_link version before v)
 
@@ -21,7 +23,7 @@ linked version before v = digest (value_link version before v)
 abbrev pub strings_of : ℕ → List ℕ → Value → List (List ℕ)
 strings_of version before v = value_string version v ∷ value_link version before v ∷ []
 
--- values in the order of their slots behind a chain, and all that is hashed for them
+-- the chain digest with these values added, and all that is hashed for them
 -- rule: Log: The chain of a log links the digest of each value, also of nil, to the chain before it
 abbrev pub chain_from : ℕ → List ℕ → List Value → List ℕ
 chain_from version before [] = before
@@ -31,10 +33,11 @@ abbrev pub strings_from : ℕ → List ℕ → List Value → List (List ℕ)
 strings_from version before [] = []
 strings_from version before (v ∷ vs) = strings_of version before v ++ strings_from version (linked version before v) vs
 
+-- the chain digest of a log
 abbrev pub chain_of : ℕ → List Value → List ℕ
 chain_of version log = chain_from version (digest []) log
 
--- what stands for a log, and for one value more
+-- what identifies a log, and the same with one more value
 -- rule: Log: The end of a log counts requests, not slots
 abbrev pub end_of : ℕ → List Value → End
 end_of version log = record { chain = chain_of version log; requests = requests log }

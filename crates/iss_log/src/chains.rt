@@ -1,4 +1,4 @@
-//! The digests that stand for a log: each value's digest is linked to that of the log before it.
+//! The chain of digests that identifies a log. Each value's digest is linked to the digest of the log before it.
 ghost use Rattle.std.specs.Prelude.{◌≡◌, ◌≢◌, ◌+◌, length, ◌++◌, ◌∷◌, [], List, IfOk, OnErr, OnOk, slice_get};
 ghost use Rattle.iss_request.specs.Digest.{digest};
 ghost use Rattle.iss_request.specs.Formats.{value_string};
@@ -11,17 +11,17 @@ use iss_request::{Bytes, NoMemory, Seq, Value, value_string};
 use std::alloc::Global;
 use std::marker::Model;
 
-// The byte before a link that is hashed.
+// The first byte of a link's string.
 const LINK: u8 = 0x42;
 
-/// What stands for a log: the digest of its chain, and how many requests it holds.
+/// What identifies a log: its chain digest, and the number of requests in it.
 #[derive(Clone, Copy, Debug, PartialEq, Eq)]
 pub struct End {
     pub chain: [u8; 32],
     pub requests: u64,
 }
 
-/// The end that each front of a log has, from the empty one on, by a version of the formats.
+/// The chain digest and request count of each prefix of a log, from the empty one on, in one format version.
 #[derive(Drop)]
 pub struct Chains {
     alloc: Global,
@@ -41,7 +41,7 @@ impl Model for Chains {
 }
 
 impl Chains {
-    /// The chain of no value.
+    /// The chain of the empty log. The only error is out of memory.
     pub fn new(alloc: Global, version: u8) -> Result<Chains, NoMemory>
         ensures version { IfOk result (λ c. c.version ≡ version) }
         ensures none { IfOk result (λ c. IsChainOf c []) }
@@ -58,21 +58,23 @@ impl Chains {
         })
     }
 
-    /// The version by which values are spelled.
+    /// The format version in which values are encoded.
     pub fn version(&self) -> u8
         ensures { result ≡ self.now.version }
     {
         self.version
     }
 
-    /// One value more, behind the others. The strings that are hashed for it are put behind others.
+    /// Adds one value to the log. The strings hashed for it are appended to `hashed`. The only error is out of memory,
+    /// also if the requests pass 2^64 - 1.
     pub fn join(
         &mut self,
         directory: &Directory,
         value: &Value,
         hashed: &mut Seq<Bytes>,
     ) -> Result<(), NoMemory>
-        ensures joined { OnOk result ((log : List Value) → IsChainOf self.old log → IsChainOf self.new (log ++ value.now ∷ [])) }
+        ensures joined { OnOk result ((log : List Value) → IsChainOf self.old log →
+            IsChainOf self.new (log ++ value.now ∷ [])) }
         ensures hashed { OnOk result ((log : List Value) → IsChainOf self.old log
             → hashed.new ≡ hashed.old ++ strings_of self.old.version (chain_of self.old.version log) value.now) }
         ensures version { self.new.version ≡ self.old.version }
@@ -84,14 +86,14 @@ impl Chains {
         Ok(())
     }
 
-    /// How many values the log has.
+    /// The number of values in the log.
     pub fn slots(&self) -> usize
         ensures { result + 1 ≡ length self.now.ends }
     {
         self.ends.len() - 1
     }
 
-    /// What stands for the first so many values, `None` past the log.
+    /// What identifies the prefix with this number of values, or `None` past the log.
     pub fn end_at(&self, slots: usize) -> Option<End>
         ensures { result ≡ slice_get self.now.ends slots }
     {
@@ -102,7 +104,7 @@ impl Chains {
     }
 }
 
-// The string of a link: the digest of the log before, and that of the value.
+// The string of a link: the digest of the log before, and the digest of the value.
 fn link_of(alloc: Global, before: &[u8; 32], value: &[u8; 32]) -> Result<Bytes, NoMemory>
     ensures { IfOk result (λ s. s ≡ link_string before.now value.now) }
 {
@@ -113,15 +115,16 @@ fn link_of(alloc: Global, before: &[u8; 32], value: &[u8; 32]) -> Result<Bytes, 
     Ok(Bytes::of(all))
 }
 
-// The digest of a string, which is not empty. The directory remembers it where a module took the value lately.
+// The digest of a string, which must not be empty. The directory remembers recent digests, for example of a value that
+// a module hashed.
 fn digest_of(directory: &Directory, string: &Bytes) -> [u8; 32]
     ensures { string.now ≢ [] → result ≡ digest string.now }
 {
     directory.digest(string.as_slice())
 }
 
-/// What stands for a log and one value more. The strings that are hashed for it are put behind others: the value's and the link's.
-/// Want of memory comes also where the number of requests would pass 2^64 - 1.
+/// What identifies a log with one more value. The strings hashed for it are appended: the value's and the link's. The
+/// error is out of memory, also if the requests pass 2^64 - 1.
 // rule: Log: The chain of a log links the digest of each value, also of nil, to the chain before it
 // rule: Log: The end of a log counts requests, not slots
 pub fn link(

@@ -1,6 +1,6 @@
-//! The log of a node: slots that are filled in any order, the longest run of them from slot 0, and the numbers of its
-//! requests (ISS, "State Machine Replication Scalability Made Simple": the numbers of delivered requests are the sums
-//! of the sizes of earlier batches).
+//! The log of a node: slots are filled in any order, and the log is the longest sequence of filled slots from 0, with
+//! numbered requests (ISS, "State Machine Replication Scalability Made Simple": a request's number is the sum of the
+//! sizes of earlier batches).
 #![tactic(auto)]
 
 pub mod chains;

@@ -1,4 +1,4 @@
-//! The log, and what its calls answer.
+//! The log, and the results of its calls.
 ghost use Rattle.std.specs.Prelude.{◌≡◌, ◌≤◌, ◌+◌, take, ◌++◌, ◌∷◌, [], length, IfOk, IfNone, OnOk, OnErr, IsTrue, IsSome, is_some, ◌↔◌, if◌then◌else◌};
 ghost use Rattle.iss_request.specs.Log.{requests, size_of};
 ghost use Rattle.iss_log.specs.LogState.{empty_log, value_at, ahead_at, first_number_of, IsFill, IsAdvanced, GoesOn, IsWithout};
@@ -8,11 +8,14 @@ use std::alloc::Global;
 use std::collections::BTreeMap;
 use std::marker::Model;
 
-/// What became of a value for a slot: the slot holds it now, it held one already, or it stands in the log.
+/// The result of filling a slot.
 #[derive(Clone, Copy, Debug, PartialEq, Eq)]
 pub enum Fill {
+    /// The slot holds the value now.
     Filled,
+    /// The slot held a value already, ahead of the log.
     Already,
+    /// The slot is in the log already.
     Past,
 }
 
@@ -22,11 +25,11 @@ pub struct Joined {
     pub slots: usize,
 }
 
-/// The longest run of filled slots from slot 0, and the slots that are filled behind it.
+/// The longest sequence of filled slots from 0, and the slots that are filled ahead of it.
 #[derive(Drop, Debug)]
 pub struct Log {
     values: Vec<Value>,
-    // the number of the first request of each value
+    // the number of each value's first request
     firsts: Vec<u64>,
     count: u64,
     ahead: BTreeMap<u64, Value>,
@@ -55,7 +58,8 @@ impl Log {
         }
     }
 
-    /// Puts a value in an empty slot. It joins the log at the next `advance` that reaches it.
+    /// Puts a value in an empty slot. It joins the log at the next `advance` that reaches it. On out of memory nothing
+    /// changes.
     // rule: Log: A slot is filled once
     pub fn fill(&mut self, slot: Slot, value: Value) -> Result<Fill, NoMemory>
         ensures { IsFill self.old slot.0 value self.new result }
@@ -70,8 +74,8 @@ impl Log {
         Ok(Fill::Filled)
     }
 
-    /// Takes into the log all that follows it without a gap. Want of memory comes also where the number of requests
-    /// would pass 2^64 - 1. What stood in the log before still does then, in front.
+    /// Adds to the log all values that follow it without a gap. The error is out of memory, also if the requests pass
+    /// 2^64 - 1. The old log stays a prefix then.
     // rule: Log: The log is the longest run of filled slots from slot 0
     pub fn advance(&mut self) -> Result<Joined, NoMemory>
         ensures ok { IfOk result (λ joined. IsAdvanced self.old self.new joined.slots) }
@@ -86,7 +90,7 @@ impl Log {
         })
     }
 
-    /// The values in the order of the slots.
+    /// The values of the log in the order of slots.
     pub fn entries(&self) -> &[Value]
         ensures { result.now ≡ self.now.entries }
     {
@@ -100,7 +104,7 @@ impl Log {
         slot.0 < self.values.len() as u64 || self.ahead.contains_key(&slot.0)
     }
 
-    /// The number of the first request of a slot's value, `None` past the log.
+    /// The number of a slot's first request, or `None` past the log.
     // rule: Log: A request's number is the sum of earlier batch sizes plus its place; nil counts 0
     pub fn first_number(&self, slot: Slot) -> Option<u64>
         ensures { result ≡ first_number_of self.now.entries slot.0 }
@@ -112,14 +116,14 @@ impl Log {
         }
     }
 
-    /// How many requests the log holds.
+    /// The number of requests in the log.
     pub fn requests(&self) -> u64
         ensures { result ≡ requests self.now.entries }
     {
         self.count
     }
 
-    /// The log is its first slots from now on, and all slots behind them are empty.
+    /// Cuts the log to its first slots. All later slots become empty.
     pub fn cut(&mut self, slots: usize)
         requires { slots ≤ length self.old.entries }
         ensures { self.new ≡ record { entries = take slots self.old.entries; ahead = [] } }
@@ -132,7 +136,7 @@ impl Log {
         self.ahead.clear();
     }
 
-    // The value of the slot behind the log, taken out.
+    // Takes out the value ahead of the log at the next slot.
     fn take_next(&mut self) -> Option<Value>
         ensures value { result ≡ ahead_at self.old.ahead (length self.old.entries) }
         ensures entries { self.new.entries ≡ self.old.entries }
@@ -144,7 +148,7 @@ impl Log {
         self.ahead.remove(&next)
     }
 
-    // Puts a value at the end of the log.
+    // Adds a value at the end of the log.
     fn join(&mut self, value: Value) -> Result<(), NoMemory>
         ensures ok { OnOk result (self.new ≡ record self.old { entries = self.old.entries ++ value ∷ [] }) }
         ensures err { OnErr result (self.new ≡ self.old) }
@@ -160,7 +164,7 @@ impl Log {
     }
 }
 
-// How many requests a value holds.
+// The number of requests in a value.
 pub(crate) fn size(value: &Value) -> u64
     ensures { result ≡ size_of value.now }
 {

@@ -1,4 +1,4 @@
--- Every core of a run is sound, and the judge accepts what a sound core casts.
+-- Every core of a run is sound, and the judge accepts what a sound core proposes.
 use Rattle.std.proofs.Common.{◌&&◌, nat_lt, ◌≡◌, ◌⊎◌, inl, inr, ℕ, suc, ◌-◌, ◌≤◌, ◌<◌, Bool, true, false, cond, eqb, not, List, [], ◌∷◌, ◌++◌, length, length-append, take, is_some, Option, Some, None, refl, sym, ap, ◌∙◌, subst, arith, true≢false}
 use Rattle.std.proofs.Math.Seq.{take-append_seam}
 use Rattle.iss_base.specs.Lists.{Extends, In, oldest}
@@ -66,11 +66,11 @@ module _ {Msg : Type 0} (F : Formats Msg) (R : Rules) (M : Module Msg) (me : ℕ
   pub settled-core : (c : Core Msg) → IsSoundCore R M me c → Settled R c.past
   settled-core c h = record { all = h.settled }
 
-  -- no cell past the node's epoch is filled
+  -- no slot after the node's epoch is filled
   pub bounded-core : (c : Core Msg) → IsSoundCore R M me c → Bounded c.past
   bounded-core c h = record { evidence = h.unborn; adopted = h.settled }
 
-  -- what joins the log keeps it, where windows and starts do
+  -- a core stays sound as its log grows, if windows and epoch starts stay
   pub refiled-sound : (c : Core Msg) (past : Past Msg) (leaf : ℕ) → IsSoundCore R M me c → Later R c.past past →
       ((x : ReqId) → In x (ids (held c)) → (In x (log_ids (log_of R M me past)) → ⊥) → (In x (log_ids (log_of R M me c.past)) → ⊥) →
       R.inside (before_own R M me past) past.epoch x ≡ true) →
@@ -99,7 +99,7 @@ module _ {Msg : Type 0} (F : Formats Msg) (R : Rules) (M : Module Msg) (me : ℕ
         unborn = unborn;
       }
 
-  -- an input keeps it
+  -- a core stays sound after an input
   pub inputs-sound : (c : Core Msg) (l : ℕ) (input : Input Msg) → IsSoundCore R M me c → IsSoundCore R M me (step_unjudged F R M me c l input).core
   inputs-sound c l input h =
       let past = takes R M me c.past l input c.leaf in
@@ -173,7 +173,7 @@ module _ {Msg : Type 0} (F : Formats Msg) (R : Rules) (M : Module Msg) (me : ℕ
   casting-ready c s h =
       record { sound = casting-sound c s h.sound; spelled = λ q i. h.spelled q (casting-in R.batch (is_mine R M me c) s c.waiting c.flight q i) }
 
-  -- what came early, votes, certificates and the leaf say nothing of it
+  -- soundness is not about early messages, votes, certificates and the leaf
   pub kept-sound : (c : Core Msg) (early : List (Early Msg)) (votes : List Vote) (certs : List Cert) (leaf : ℕ) → IsSoundCore R M me c →
       IsSoundCore R M me (record c { early = early; votes = votes; certs = certs; leaf = leaf })
   kept-sound c early votes certs leaf h = record {
@@ -210,7 +210,7 @@ module _ {Msg : Type 0} (F : Formats Msg) (R : Rules) (M : Module Msg) (me : ℕ
   }
 
   module _ (slots : HasSlots R) (windows : AreWindows R) where
-    -- the end of an epoch keeps it
+    -- a core stays sound at the end of an epoch
     pub ends-sound : (c : Core Msg) → IsSoundCore R M me c → is_complete R M me c.past ≡ true → IsSoundCore R M me (in_next_epoch c)
     ends-sound c h complete =
         let old = log_of R M me c.past in
@@ -233,12 +233,12 @@ module _ {Msg : Type 0} (F : Formats Msg) (R : Rules) (M : Module Msg) (me : ℕ
           unborn = λ e l lt. h.unborn e l (omega (arith, lt));
         }
 
-    -- with the vote
+    -- also with the vote
     pub ends-ready : (c : Core Msg) → IsReadyCore R M me c → is_complete R M me c.past ≡ true → IsReadyCore R M me (ends F R M me c).core
     ends-ready c h complete =
         kept-ready (in_next_epoch c) [] c.votes c.certs (suc c.leaf) (record { sound = ends-sound c h.sound complete; spelled = h.spelled })
 
-    -- a piece of the epoch that has a value for each slot keeps it
+    -- a core stays sound after adopting a piece with one value for each slot of its epoch
     pub adopts-sound : (c : Core Msg) (p : Sent_piece) (t : Turn Msg) → IsSoundCore R M me c → IsAdopted F R M me c p t →
         IsSoundCore R M me (adopts_piece R M me c p).core
     adopts-sound c p t h a =
@@ -296,7 +296,7 @@ module _ {Msg : Type 0} (F : Formats Msg) (R : Rules) (M : Module Msg) (me : ℕ
     took-ready c event t h (adopted k p u b a) read = rw a.is (each-ready (suc c.past.epoch) c.early (adopts_piece R M me c p) (adopts-ready c p t h a))
     took-ready c event t h (sought peer q) read = rw q h
 
-    -- each step keeps it, where each request that is read has a spelling
+    -- a core stays sound after each step, if each received request has an encoding
     pub step-ready : ((bytes : List ℕ) (k : Parcel Msg) (q : Request) → F.unwrap bytes ≡ Some k → k.body ≡ OfRequest q → HasSpelling q) →
         (c : Core Msg) (event : NodeEvent) (t : Turn Msg) → IsReadyCore R M me c → step F R M me c event ≡ Taken t → IsReadyCore R M me t.core
     step-ready read c event t h q = took-ready c event t h (took F R M me c event t q) read
@@ -360,7 +360,7 @@ module _ {Msg : Type 0} (F : Formats Msg) (R : Rules) (M : Module Msg) (me : ℕ
         Extends (log_of R M me c.past) (log_of R M me t.core.past)
     step-grown c event t h q = took-grown c event t h (took F R M me c event t q)
 
--- a core that has taken nothing is sound
+-- a core that took nothing is sound
 pub idle-sound : {Msg : Type 0} (R : Rules) (M : Module Msg) (me : ℕ) → IsSoundCore R M me initial_core
 idle-sound R M me = record {
   different = tt;
@@ -376,7 +376,7 @@ idle-sound R M me = record {
 pub idle-ready : {Msg : Type 0} (R : Rules) (M : Module Msg) (me : ℕ) → IsReadyCore R M me initial_core
 idle-ready R M me = record { sound = idle-sound R M me; spelled = λ q i. absurd i }
 
--- what a core casts
+-- what a core proposes
 
 pub slot-passes : (p : Slot → Bool) (ss : List Slot) (s : Slot) → first_slot p ss ≡ Some s → In s ss × (p s ≡ true)
 slot-passes p [] s h = absurd (cc)
@@ -391,7 +391,7 @@ some-there None h = absurd (true≢false (sym h))
 some-there (Some x) h = (x, refl)
 
 module _ {Msg : Type 0} (R : Rules) (M : Module Msg) (me : ℕ) (c : Core Msg) where
-  -- the slot of the next cast is of the segment, and not in flight
+  -- the next slot to propose at is in the segment, with nothing in flight
   pub slot-free : (s : Slot) → next_slot R M me c ≡ Some s →
       In s (params_of R M me c.past me).slots × (is_castable M (params_of R M me c.past me) me (c.past.evidence c.past.epoch me) c.flight s ≡ true)
   slot-free s h =
@@ -399,7 +399,7 @@ module _ {Msg : Type 0} (R : Rules) (M : Module Msg) (me : ℕ) (c : Core Msg) w
       (c.past.evidence c.past.epoch me) c.flight t) (params_of R M me c.past me).slots s h in
       (k.0, (and-true (not (nat_lt s.0 (length (log_of R M me c.past)))) _ k.1).1)
 
-  -- the module takes any batch there
+  -- the module accepts any batch there
   pub cast-asked : IsLawful M → (s : Slot) → next_slot R M me c ≡ Some s → (b : Batch) → asked_in R M me c.past me (Cast s b) ≡ Some (s, b)
   cast-asked law s h b =
       let p = params_of R M me c.past me in
@@ -410,7 +410,7 @@ module _ {Msg : Type 0} (R : Rules) (M : Module Msg) (me : ℕ) (c : Core Msg) w
       let q : r.0 ≡ (s, []) = law.casts p me xs s [] r.0 r.1 in
       law.castable p me xs s [] b (r.1 ∙ ap (λ (z : Slot × Batch). Some z) q)
 
-  -- a batch of requests that have spellings has one
+  -- a batch of encodable requests is encodable
   pub cast-read : (F : Formats Msg) (s : Setup) (p : Params) → p.setup ≡ s → R.batch ≤ requests_most s.version →
       ((q : Request) → In q c.waiting → HasSpelling q) →
       IsReadBatch p (next_batch F R M me c)
@@ -436,7 +436,7 @@ module _ {Msg : Type 0} (R : Rules) (M : Module Msg) (me : ℕ) (c : Core Msg) w
     unmarked : (q : Request) → mine q ≡ true → In q.id marked → ⊥
     unmarked q k = not-has q.id marked (not-true (has_id q.id marked) (and-true (eqb (R.owner bf c.past.epoch q.id) me) (not (has_id q.id marked)) k).1)
 
-    -- what stands before the epoch stands in the log
+    -- the log before the epoch is part of the log
     earlier : (x : ReqId) → In x (log_ids bf) → In x (log_ids (log_of R M me c.past))
     earlier x i =
         let e = oldest-part (start_of R (log_of R M me c.past) c.past.epoch) (log_of R M me c.past) in
@@ -450,7 +450,7 @@ module _ {Msg : Type 0} (R : Rules) (M : Module Msg) (me : ℕ) (c : Core Msg) w
     waits : (q : Request) → In q (cut R.batch mine c.waiting) → In q c.waiting
     waits q i = (cut-in R.batch mine c.waiting q i).0
 
-    -- the judge accepts the batch that the core casts next
+    -- the judge accepts the batch that the core proposes next
     pub cast-accepted : (F : Formats Msg) → judge R bf c.past.epoch me marked (next_batch F R M me c) ≡ None
     cast-accepted F = accepts-it R bf c.past.epoch me marked (next_batch F R M me c) (record {
       few = cut-few R.batch mine c.waiting;
@@ -463,14 +463,14 @@ module _ {Msg : Type 0} (R : Rules) (M : Module Msg) (me : ℕ) (c : Core Msg) w
       different = cut-once R.batch mine c.waiting (parts-of c.waiting (carried c.flight) h.different).left;
     })
 
-    -- so the step's own question to the judge is answered with yes
+    -- so the verdict on the step is to accept
     pub cast-judged : (F : Formats Msg) → IsLawful M → (s : Slot) → next_slot R M me c ≡ Some s →
         verdict R bf c.past.epoch me (accepts (c.past.evidence c.past.epoch me)) (asked_in R M me c.past me (Cast s (next_batch F R M me c))) ≡ None
     cast-judged F law s k =
         let q = cast-asked law s k (next_batch F R M me c) in
         ap (λ (o : Option (Slot × Batch)). verdict R bf c.past.epoch me (accepts (c.past.evidence c.past.epoch me)) o) q ∙ cast-accepted F
 
-    -- and the cast is one that the core may take
+    -- and the core may take the proposal as an input
     pub cast-fit : (F : Formats Msg) → IsLawful M → (s : Slot) (t : Turn Msg) → IsCast F R M me c s t →
         IsFit F R M me (casting F R M me c s) me (Cast s (next_batch F R M me c))
     cast-fit F law s t k = record { leads = k.leads; claims = refl; leaves = k.leaves; judged = cast-judged F law s k.free }

@@ -1,4 +1,5 @@
--- Runs with crashes and restarts that are computed: the three nodes of the runs without, whose leaders tell all what they cast.
+-- Computed runs with crashes and restarts: the three nodes of the failure-free examples, whose leaders send all what
+-- they propose.
 use Rattle.std.proofs.Common.{◌≡◌, ℕ, List, [], ◌∷◌, length, reverse, refl}
 use Rattle.iss_network.specs.Network.{due}
 use Rattle.iss_request.specs.declared.requests.Request.{Request}
@@ -20,7 +21,7 @@ after events i = reverse (log_of easy telling i ((course_of events).machines.hel
 abbrev q : Request
 q = plain_request 0 0 (170 ∷ [])
 
--- the disk fails in the midst of the first proposal, which is lost; after the restart the node casts in the same slot
+-- the disk fails during the first proposal, which is lost; after the restart the node proposes at the same slot
 abbrev stops_once : List Event
 stops_once = Crash 0 2 ∷ Propose 0 ∷ Restart 0 ∷ Deliver 0 ∷ Propose 0 ∷ Calm 10 ∷ []
 
@@ -31,11 +32,11 @@ one_slot : after stops_once 0 ≡ Value_batch [] ∷ []
 unfolding after
 one_slot = refl
 
--- a disk that fails after so many calls, a request and its cast, and all that waits delivered once the node is there again
+-- a disk that fails after n calls, a request and its proposal, and all waiting packets delivered after the restart
 abbrev failing_after : ℕ → List Event
 failing_after calls = Crash 0 calls ∷ Event_request 0 0 0 (170 ∷ []) ∷ Propose 0 ∷ Restart 0 ∷ Calm 10 ∷ []
 
--- in the first call of the request's entry, and in the last: neither event is kept
+-- the first or the last call of the request's entry fails: neither event is journaled
 first_call : (course_of (failing_after 0)).drops ≡ (2, Stopped) ∷ (1, Stopped) ∷ []
 first_call = refl
 
@@ -46,7 +47,7 @@ nothing_kept : after (failing_after 3) 1 ≡ []
 unfolding after
 nothing_kept = refl
 
--- the request is kept, and its cast is not: the request waits
+-- the request is journaled and its proposal is not: the request waits
 fifth_call : (course_of (failing_after 4)).drops ≡ (2, Stopped) ∷ []
 fifth_call = refl
 
@@ -56,7 +57,7 @@ eighth_call = refl
 waits : ((course_of (failing_after 7)).machines.held.net.cores 0).waiting ≡ q ∷ []
 waits = refl
 
--- both are kept
+-- both are journaled
 ninth_call : (course_of (failing_after 8)).drops ≡ []
 ninth_call = refl
 
@@ -64,7 +65,7 @@ ordered : after (failing_after 8) 2 ≡ Value_batch (q ∷ []) ∷ []
 unfolding after
 ordered = refl
 
--- what a restart finds is all that was taken, and it makes no packet again
+-- a restart recovers all that was taken, and sends no packet again
 abbrev twice_told : List Event
 twice_told = Event_request 0 0 0 (170 ∷ []) ∷ Propose 0 ∷ Deliver 2 ∷ Restart 2 ∷ Deliver 2 ∷ Restart 0 ∷ []
 
@@ -81,14 +82,14 @@ events_kept = refl
 still_flies : length ((course_of twice_told).machines.held.net.cores 0).flight ≡ 1
 still_flies = refl
 
--- what waits for a node waits on, and pumps that passed over it still do
+-- packets for a node still wait after its restart, and a hold on it stays
 waits_on : due (course_of (Propose 0 ∷ Restart 1 ∷ [])).machines.held.net.network ≡ 0 ∷ 1 ∷ 2 ∷ []
 waits_on = refl
 
 passed_over : due (course_of (Hold 1 ∷ Propose 0 ∷ Restart 1 ∷ [])).machines.held.net.network ≡ 0 ∷ 2 ∷ []
 passed_over = refl
 
--- what is delivered to a node whose disk has failed waits no more
+-- a packet that is delivered to a node whose disk has failed stops waiting
 gone : due (course_of (Propose 0 ∷ Crash 1 0 ∷ Pump ∷ Restart 1 ∷ [])).machines.held.net.network ≡ []
 gone = refl
 
@@ -96,18 +97,19 @@ missed : after (Propose 0 ∷ Crash 1 0 ∷ Pump ∷ Restart 1 ∷ []) 1 ≡ []
 unfolding after
 missed = refl
 
--- the node's own cause comes before that of its disk, and makes no call; a packet that is not there before both
+-- A reason of the node itself comes before a failed disk, and makes no call. A packet that does not exist comes before
+-- both.
 own_cause : (course_of (Propose 0 ∷ Crash 0 0 ∷ Propose 0 ∷ Timeout 0 (record { 0 = 1 }) ∷ Propose 0 ∷ Deliver 9 ∷ [])).drops ≡
     (5, NoPacket) ∷ (4, Stopped) ∷ (3, Stopped) ∷ (2, NothingToCast) ∷ []
 own_cause = refl
 
--- a further crash counts anew where the disk has not failed, and not where it has
+-- a further crash event counts its calls from the start if the disk has not failed, and has no effect if it has
 counts_anew : (course_of (Crash 0 0 ∷ Crash 0 4 ∷ Propose 0 ∷ [])).drops ≡ []
 counts_anew = refl
 
 too_late : (course_of (Crash 0 0 ∷ Event_request 0 0 0 (170 ∷ []) ∷ Crash 0 8 ∷ Propose 0 ∷ [])).drops ≡ (3, Stopped) ∷ (1, Stopped) ∷ []
 too_late = refl
 
--- a restart ends the crash that was to come
+-- a restart cancels a planned crash
 ends_crash : (course_of (Crash 0 4 ∷ Propose 0 ∷ Restart 0 ∷ Event_request 0 0 0 (170 ∷ []) ∷ [])).drops ≡ []
 ends_crash = refl

@@ -1,4 +1,4 @@
--- What is cut from the waiting requests, what is left, and what a log took away.
+-- What a cut takes from the waiting requests, what it leaves, and what a log removes.
 use Rattle.std.proofs.Common.{◌≡◌, inl, inr, ℕ, zero, suc, ◌≤◌, Bool, true, false, cond, List, [], ◌∷◌, length, refl, sym, ap, ◌∙◌, arith, true≢false}
 use Rattle.iss_base.specs.Lists.{Different, In}
 use Rattle.iss_request.specs.Log.{has_id, ids}
@@ -7,7 +7,7 @@ use Rattle.iss_request.specs.declared.requests.Request.{Request}
 use Rattle.iss_buckets.specs.Waiting.{absent, cut, uncut}
 use Rattle.iss_rules.proofs.Ids.{has-in, in-ids, ids-in}
 
--- absent: what is not among the identities that are gone
+-- absent: the requests whose identities are not among the removed ones
 
 pub absent-in : (gone : List ReqId) (qs : List Request) (q : Request) → In q (absent gone qs) → In q qs × (In q.id gone → ⊥)
 absent-in gone [] q h = absurd h
@@ -98,7 +98,7 @@ uncut-once (suc n) mine (q ∷ qs) d = go (uncut-once n mine qs d.1) (uncut-once
     go ih1 ih2 true = ih1
     go ih1 ih2 false = (λ k. d.0 (uncut-ids (suc n) mine qs q.id k), ih2)
 
--- and the two have no identity in common
+-- the two have no identity in common
 pub cut-uncut-apart : (n : ℕ) (mine : Request → Bool) (qs : List Request) → Different (ids qs) → (x : ReqId) → In x (ids (cut n mine qs)) →
     In x (ids (uncut n mine qs)) → ⊥
 cut-uncut-apart n mine [] d x a b = a

@@ -1,5 +1,5 @@
--- Runs that are computed: three nodes, epochs of three slots, and a module by which the leader tells all what it casts, and
--- its slots become nil where its time runs out. Packets are spelled as short as these runs allow.
+-- Computed runs: three nodes, epochs of three slots, and a module by which the leader sends all what it proposes. A
+-- leader's slots become nil when its timer fires. Packet encodings are as short as these runs allow.
 use Rattle.std.proofs.Common.{◌≡◌, ℕ, zero, suc, ◌==◌, ◌&&◌, cond, true, false, List, [], ◌∷◌, ◌++◌, length, Option, Some, None, reverse, refl}
 use Rattle.std.specs.Prelude.{drop, nat_lt, take}
 use Rattle.iss_checkpoint.specs.declared.votes.Cert.{Cert}
@@ -129,7 +129,7 @@ abbrev read_signers : List ℕ → List Signed
 read_signers (by ∷ node ∷ leaf ∷ bytes) = record { by = record { 0 = by }; sig = node ∷ leaf ∷ [] } ∷ read_signers bytes
 read_signers _ = []
 
--- a certificate: its chain is as long as the byte before it says
+-- a certificate: its chain is as long as the byte before it states
 abbrev read_cert : ℕ → List ℕ → Cert
 read_cert e (requests ∷ size ∷ bytes) =
     record { epoch = record { 0 = e }; chain = take size bytes; requests = requests; signers = read_signers (drop size bytes) }
@@ -166,14 +166,14 @@ read _ = None
 abbrev pub short : Formats Word
 short = record { wrap = λ k. spell k.from k.epoch k.body; unwrap = read }
 
--- what a log is, newest first, in place of a digest of it
+-- what identifies a log here (newest value first), in place of a digest
 abbrev sketch : List Value → List ℕ
 sketch [] = []
 sketch (Nil ∷ older) = 0 ∷ sketch older
 sketch (Value_batch b ∷ older) = suc (length b) ∷ sketch older
 
--- rules that compute: every request counts as signed, a signature is a node and a leaf and verifies for the first n nodes, and
--- nothing is hashed for logs
+-- Rules that compute: every request counts as signed, a signature is a node and a leaf and is valid for the first n
+-- nodes, and nothing is hashed for logs.
 abbrev pub light : Rules → ℕ → Rules
 light R n =
     record R {
@@ -197,7 +197,7 @@ after events i = reverse (log_of easy telling i ((run_of events).held.net.cores 
 abbrev q : Request
 q = plain_request 0 0 (170 ∷ [])
 
--- one request, which node 0 casts, and everything delivered
+-- one request, which node 0 proposes, and everything delivered
 abbrev first_run : List Event
 first_run = Event_request 0 0 0 (170 ∷ []) ∷ Propose 0 ∷ Calm 10 ∷ []
 
@@ -226,7 +226,7 @@ early = refl
 core_after : List Event → ℕ → Core Word
 core_after events i = (run_of events).held.net.cores i
 
--- each leader casts, with nothing to order, and epoch 0 ends in the middle of a pump
+-- each leader proposes an empty batch, and epoch 0 ends in the middle of a pump
 abbrev whole_epoch : List Event
 whole_epoch = Propose 0 ∷ Propose 1 ∷ Propose 2 ∷ Pump ∷ []
 
@@ -238,7 +238,7 @@ filled : after whole_epoch 1 ≡ Value_batch [] ∷ Value_batch [] ∷ Value_bat
 unfolding after
 filled = refl
 
--- node 0 takes what ends the epoch and casts in the next; to node 1, which is not there yet, that is early
+-- Node 0 ends the epoch and proposes in the next. For node 1, which is not there yet, that is early.
 abbrev ahead : List Event
 ahead = Propose 0 ∷ Propose 1 ∷ Propose 2 ∷ Deliver 0 ∷ Deliver 3 ∷ Deliver 6 ∷ Propose 0 ∷ Deliver 13 ∷ []
 
@@ -246,7 +246,7 @@ kept : (core_after ahead 1).early ≡ record { from = 0; leader = 0; msg = (reco
 unfolding core_after
 kept = refl
 
--- which it takes as it ends the epoch itself
+-- node 1 takes it when it ends the epoch itself
 caught_up : after (ahead ++ Deliver 1 ∷ Deliver 4 ∷ Deliver 7 ∷ []) 1 ≡ Value_batch [] ∷ Value_batch [] ∷ Value_batch [] ∷ Value_batch [] ∷ []
 unfolding after
 caught_up = refl
@@ -255,7 +255,7 @@ gone : (core_after (ahead ++ Deliver 1 ∷ Deliver 4 ∷ Deliver 7 ∷ []) 1).ea
 unfolding core_after
 gone = refl
 
--- early messages fill the next epoch: it ends too, and what is left of them is gone
+-- early messages fill the next epoch: it ends too, and the other early messages are dropped
 abbrev early_word : ℕ → ℕ → Early Word
 early_word leader slot = record { from = leader; leader = leader; msg = (record { 0 = slot }, []) }
 
@@ -282,7 +282,7 @@ none_left : early_of last_told ≡ []
 unfolding core_after
 none_left = refl
 
--- a request that was cast in a slot that became nil waits again
+-- a request that was proposed at a slot that became nil waits again
 abbrev timed_out : List Event
 timed_out = Event_request 0 0 0 (170 ∷ []) ∷ Propose 0 ∷ Event_timeout 0 (record { 0 = 0 }) ∷ []
 
@@ -298,7 +298,8 @@ landed : (core_after timed_out 0).flight ≡ []
 unfolding core_after
 landed = refl
 
--- a number is inside the window of an epoch by the log before it: number 8 once number 0 is in the log, and its epoch over
+-- A client's window in an epoch is a function of the log before it: number 8 is inside once the log holds number 0 and
+-- the epoch is over.
 outside : (core_after (Event_request 0 0 8 (170 ∷ []) ∷ []) 0).waiting ≡ []
 unfolding core_after
 outside = refl
@@ -311,7 +312,7 @@ inside : (core_after (Event_request 0 0 0 (170 ∷ []) ∷ whole_epoch ++ Event_
 unfolding core_after
 inside = refl
 
--- what a node shows: whom it waits for, whether it may cast, and what it accepted
+-- what a node shows: whose slots are missing, whether it may propose, and what it accepted
 waits_for_all : unfilled easy telling 3 0 (core_after [] 0).past ≡ 0 ∷ 1 ∷ 2 ∷ []
 unfolding core_after
 waits_for_all = refl
@@ -332,7 +333,7 @@ accepted : accepted_by (core_after (Event_request 0 0 0 (170 ∷ []) ∷ Propose
 unfolding core_after
 accepted = refl
 
--- under backoff a leader under which a slot became nil does not lead the next epoch; the log before it says so
+-- under backoff a leader with a nil slot does not lead the next epoch; the log before it shows this
 abbrev backing : Setup
 backing = record plain { policy = Backoff }
 

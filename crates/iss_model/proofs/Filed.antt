@@ -1,4 +1,4 @@
--- Lists of requests that wait, fly and return: no part of a step loses one or has it twice.
+-- Lists of requests that wait, are in flight, or return: no part of a step loses or duplicates one.
 use Rattle.std.proofs.Common.{◌≡◌, ◌⊎◌, inl, inr, ℕ, suc, zero, ◌≤◌, ◌<◌, Bool, true, false, cond, eqb, if◌then◌else◌, nat_lt, not, List, [], ◌∷◌, ◌++◌, length, refl, sym, ap, ◌∙◌, subst, arith, true≢false}
 use Rattle.std.proofs.lemmas.Bool.Decides.{leb_tells}
 use Rattle.iss_base.specs.Lists.{Different, Extends, In}
@@ -18,7 +18,7 @@ use Rattle.iss_model.proofs.Flights.{nil-below}
 use Rattle.iss_rules.proofs.Ids.{ids-append, ids-left, ids-once, ids-right, in-has, log_ids-extends}
 use Rattle.iss_layout.proofs.PastLemmas.{nil-kept}
 
--- absent: each request is gone or left
+-- absent: each request is removed or left
 
 pub absent-or : (gone : List ReqId) (qs : List Request) (x : ReqId) → In x (ids qs) → In x gone ⊎ In x (ids (absent gone qs))
 absent-or gone [] x h = absurd h
@@ -65,11 +65,11 @@ joined-in x old new e i =
 pub in-longer : (x : ReqId) (old new : List Value) → Extends old new → In x (log_ids old) → In x (log_ids new)
 in-longer x old new e i = subst (λ (t : List Value). In x (log_ids t)) (sym e.1) (log_ids-extends x e.0 old i)
 
--- what stood in a log stands in longer ones
+-- a value of a log stays in longer ones
 pub nil-stays : (a b : List Value) (s : ℕ) → Extends a b → s < length a → is_nil_at b s ≡ is_nil_at a s
 nil-stays a b s e lt = ap (λ (t : List Value). is_nil_at t s) e.1 ∙ nil-kept e.0 a s lt
 
--- a batch in a log, over the values of the slots before its own
+-- a batch in a log, after the values of earlier slots
 pub record Stood (log : List Value) (s : ℕ) : Type 0 where
   pub older : List Value
   pub batch : Batch
@@ -96,7 +96,7 @@ not-nil (v ∷ older) s lt h = go (not-nil older s) (eqb s (length older)) refl 
     go ih true q k = here v (is-eq s (length older) q) k
     go ih false q k = let f : Stood older s = ih (differs q) k in record { older = f.older; batch = f.batch; part = extends-cons _ _ v f.part; slot = f.slot }
 
--- what flies
+-- what stays in flight
 
 pub in-flying : (n : ℕ) (fs : List (Slot × Batch)) (f : Slot × Batch) → In f (flying n fs) → In f fs × (n ≤ f.0.0)
 in-flying n [] f h = absurd h
@@ -126,7 +126,7 @@ flying-once n (f ∷ fs) d = go (flying-once n fs (different-right (ids f.1) (fl
     go ih false = different-append (ids f.1) (flown (flying n fs)) (different-left (ids f.1) (flown fs) d) ih
         (λ x a b. different-apart (ids f.1) (flown fs) d x a (flown-flying n fs x b))
 
--- one more that flies
+-- one more in flight
 pub flown-append : (x : ReqId) (fs gs : List (Slot × Batch)) → In x (flown (fs ++ gs)) → In x (flown fs) ⊎ In x (flown gs)
 flown-append x [] gs h = inr h
 flown-append x (f ∷ fs) gs h = elim (in_append x (ids f.1) (flown (fs ++ gs)) h) [
@@ -176,7 +176,7 @@ returned-once log (f ∷ fs) d = go (returned-once log fs (different-right (ids 
         (λ x a b. different-apart (ids f.1) (flown fs) d x a (in-returned log fs x b))
     go ih false = ih
 
--- nothing that returns still flies
+-- nothing that returns is still in flight
 pub returned-apart : (log : List Value) (fs : List (Slot × Batch)) → Different (flown fs) → (x : ReqId) → In x (ids (returned log fs)) →
     In x (flown (flying (length log) fs)) → ⊥
 returned-apart log [] d x a b = a
@@ -201,7 +201,7 @@ returned-apart log (f ∷ fs) d x a b =
           | inr y ↦ ih k y
         ]
 
--- an identity whose batch was cast in a slot that is not nil
+-- an identity whose batch was proposed at a slot that is not nil
 pub record Landed (log : List Value) (fs : List (Slot × Batch)) (x : ReqId) : Type 0 where
   pub entry : Slot × Batch
   pub flew : In entry fs
@@ -209,7 +209,7 @@ pub record Landed (log : List Value) (fs : List (Slot × Batch)) (x : ReqId) : T
   pub low : entry.0.0 < length log
   pub is : is_nil_at log entry.0.0 ≡ false
 
--- what was in flight returns, still flies, or has landed
+-- what was in flight returns, is still in flight, or is in the log
 pub flight-splits : (log : List Value) (fs : List (Slot × Batch)) (x : ReqId) → In x (flown fs) →
     In x (ids (returned log fs)) ⊎ (In x (flown (flying (length log) fs)) ⊎ Landed log fs x)
 flight-splits log [] x h = absurd h

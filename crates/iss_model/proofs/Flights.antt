@@ -1,4 +1,4 @@
--- What is in flight: what comes back of it, and what stays.
+-- What is in flight: what returns, and what stays.
 use Rattle.std.proofs.Common.{◌≡◌, ◌⊎◌, inl, inr, ℕ, suc, ◌<◌, Bool, true, false, cond, eqb, not, List, [], ◌∷◌, ◌++◌, length, refl, sym, ap, ◌∙◌, subst, arith, append_assoc, true≢false}
 use Rattle.std.specs.Prelude.{nat_lt}
 use Rattle.std.proofs.lemmas.Bool.Decides.{leb_tells}
@@ -43,7 +43,7 @@ pub ids-carried : (fs : List (Slot × Batch)) → ids (carried fs) ≡ flown fs
 ids-carried [] = refl
 ids-carried (f ∷ fs) = ids-join f.1 (carried fs) ∙ ap (λ (xs : List ReqId). ids f.1 ++ xs) (ids-carried fs)
 
--- what comes back
+-- what returns
 
 pub returned-in : (log : List Value) (fs : List (Slot × Batch)) (q : Request) → In q (returned log fs) → In q (carried fs)
 returned-in log [] q h = absurd h
@@ -63,7 +63,7 @@ flying-in n (f ∷ fs) q h = go (flying-in n fs q) (nat_lt f.0.0 n) h
     go ih true k = in_right q f.1 (carried fs) (ih k)
     go ih false k = elim (in_append q f.1 (carried (flying n fs)) k) [ inl a ↦ in_left q f.1 (carried fs) a | inr a ↦ in_right q f.1 (carried fs) (ih a) ]
 
--- a list of requests that all stand in another
+-- a list of requests that is contained in another
 pub ids-within : (qs rs : List Request) → ((q : Request) → In q qs → In q rs) → (x : ReqId) → In x (ids qs) → In x (ids rs)
 ids-within qs rs h x i = let r = ids-in x qs i in rw r.2 (in-ids r.0 rs (h r.0 r.1))
 
@@ -102,7 +102,7 @@ nil-below (v ∷ older) s h = go (nil-below older s) (eqb s (length older)) refl
 lt-is : (a b : ℕ) → a < b → nat_lt a b ≡ true
 lt-is a b h = elim (leb_tells (suc a) b) [ inl t ↦ t.0 | inr t ↦ absurd (omega (arith, t.1, h)) ]
 
--- so what comes back flies no more
+-- so what returns is not in flight
 pub returned-apart : (log : List Value) (fs : List (Slot × Batch)) → Different (ids (carried fs)) → (x : ReqId) → In x (ids (returned log fs)) →
     In x (ids (carried (flying (length log) fs))) → ⊥
 returned-apart log [] d x a b = a
@@ -123,7 +123,7 @@ returned-apart log (f ∷ fs) d x a b =
     go p ih false e false r k m =
         elim (ids-append x f.1 (carried (flying (length log) fs)) m) [ inl y ↦ p.apart x y (returned-ids log fs x k) | inr y ↦ ih k y ]
 
--- what a core holds after its log has grown: what entered is gone, and what became nil waits again
+-- what a core holds after its log has grown: ordered requests are gone, and those at nil slots wait again
 
 module _ (gone all : List ReqId) (log : List Value) (w : List Request) (fs : List (Slot × Batch)) where
   abbrev waits_again : List Request
@@ -150,7 +150,7 @@ module _ (gone all : List ReqId) (log : List Value) (w : List Request) (fs : Lis
         | inr y ↦ returned-apart log fs p.right x (absent-ids all (returned log fs) x y).0 b
       ])
 
--- what a core holds after a cast
+-- what a core holds after a proposal
 
 module _ (n : ℕ) (mine : Request → Bool) (s : Slot) (w : List Request) (fs : List (Slot × Batch)) where
   abbrev flies : List (Slot × Batch)

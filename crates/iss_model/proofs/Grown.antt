@@ -1,4 +1,4 @@
--- What a core takes makes its log longer, or leaves it as it is.
+-- What a core takes extends its log, or leaves it unchanged.
 use Rattle.std.proofs.Common.{◌≡◌, inl, inr, ℕ, true, Option, Some, None, refl, ap, subst}
 use Rattle.iss_base.specs.Lists.{Extends}
 use Rattle.iss_base.proofs.Lists.{extends-refl, extends-trans, same_or_not, set_at-other, set_at-same}
@@ -19,7 +19,7 @@ use Rattle.iss_model.proofs.Casts.{step-grown}
 use Rattle.iss_rules.proofs.Ending.{HasSlots}
 use Rattle.iss_model.proofs.Twins.{correct-is}
 
--- what turns of a net do to the logs of correct nodes
+-- what steps of a net do to the logs of correct nodes
 pub record Grows {Msg : Type 0} (s : Setup) (R : Rules) (M : Module Msg) (w v : Net Msg) : Type 0 where
   pub logs : (j : ℕ) → is_correct s j ≡ true → Extends (log_of R M j (pasts_of w j)) (log_of R M j (pasts_of v j))
 

@@ -1,4 +1,4 @@
--- Each identity that a core took has a place, and a step gives it no second one.
+-- Each request that a core accepted has a place, and no step gives it a second one.
 use Rattle.std.proofs.Common.{◌≡◌, ◌⊎◌, inl, inr, ℕ, suc, ◌+◌, ◌≤◌, ◌<◌, Bool, true, false, cond, eqb, nat_lt, not, ◌&&◌, List, [], ◌∷◌, ◌++◌, length, Option, Some, None, refl, sym, ap, ◌∙◌, subst, arith, true≢false, le_trans}
 use Rattle.std.proofs.lemmas.Bool.Decides.{leb_tells}
 use Rattle.iss_base.specs.Lists.{Different, Extends, In}
@@ -33,8 +33,8 @@ use Rattle.iss_model.proofs.Steps.{IsAdopted, hand-taken, input-taken, kept-take
 use Rattle.iss_transfer.specs.declared.pieces.Piece.{Piece as Sent_piece}
 use Rattle.iss_rules.proofs.Logs.{Later, Settled, before-later, evidence-later, log-later, takes-later}
 
--- what epochs and segments owe: epochs have slots, a slot of a segment is led by its leader, and is of its epoch or an
--- earlier one
+-- What epochs and segments must satisfy: epochs have slots, and a slot of a segment is led by its leader and is in its
+-- epoch or an earlier one.
 pub record HasSegments (R : Rules) : Type 0 where
   pub slots : HasSlots R
   pub leader : (log : List Value) (e l : ℕ) (s : Slot) → In s (R.params log e l).slots → R.leader log e s.0 ≡ l
@@ -45,14 +45,14 @@ accepts-append [] xs f h = h
 accepts-append (y ∷ newer) xs f h = in_right f (one_or_none y.made.accepted) (accepts (newer ++ xs)) (accepts-append newer xs f h)
 
 module _ {Msg : Type 0} (R : Rules) (M : Module Msg) (i : ℕ) where
-  -- the batch that is cast next, and the core that casts it
+  -- the next batch to propose, and the core that proposes it
   abbrev next_batch : Core Msg → Batch
   next_batch c = cut R.batch (is_mine R M i c) c.waiting
 
   abbrev casting : Core Msg → Slot → Core Msg
   casting c s = record c { waiting = uncut R.batch (is_mine R M i c) c.waiting; flight = c.flight ++ (s, next_batch c) ∷ [] }
 
-  -- a batch that the node cast in epoch e, at a slot of its own segment
+  -- a batch that the node proposed in epoch e, at a slot of its own segment
   pub record WasCast (past : Past Msg) (e : ℕ) (f : Slot × Batch) : Type 0 where
     pub held : In f (accepts (past.evidence e i))
     pub inside : In f.0 (R.params (before R M i past e) e i).slots
@@ -69,7 +69,7 @@ module _ {Msg : Type 0} (R : Rules) (M : Module Msg) (i : ℕ) where
     pub cast : (f : Slot × Batch) → In f flight → WasCast past past.epoch f
     pub open_slot : (f : Slot × Batch) → In f flight → length (log_of R M i past) ≤ f.0.0
 
-  -- an identity that was cast in a slot that holds a batch by now
+  -- a request that was proposed at a slot that now holds a batch
   pub record Gone (past : Past Msg) (x : ReqId) : Type 0 where
     pub epoch : ℕ
     pub begun : epoch ≤ past.epoch
@@ -99,7 +99,7 @@ module _ {Msg : Type 0} (R : Rules) (M : Module Msg) (i : ℕ) where
   pub keeps-trans : (c d e : Core Msg) → Keeps c d → (FiledCore d → Keeps d e) → Keeps c e
   keeps-trans c d e a f = let b = f a.filed in record { filed = b.filed; kept = λ x k. b.kept x (a.kept x k) }
 
-  -- later casts and gone identities are still that
+  -- earlier proposals and ordered requests stay so
   cast-later : (c d : Past Msg) → Later R c d → start_of R (log_of R M i c) c.epoch ≤ length (log_of R M i c) → (e : ℕ) → e ≤ c.epoch → (f : Slot × Batch) →
       WasCast c e f → WasCast d e f
   cast-later c d later reached e le f h =
@@ -145,7 +145,7 @@ module _ {Msg : Type 0} (R : Rules) (M : Module Msg) (i : ℕ) where
     grown : Extends before_log log
     grown = log-later R M i old new later
 
-    -- in the same epoch, what was reached is still
+    -- within an epoch, what was reached stays reached
     still-reached : new.epoch ≡ old.epoch → start_of R log new.epoch ≤ length log
     still-reached same =
         let begins = start-extends R before_log log old.epoch grown reached in
@@ -213,7 +213,7 @@ module _ {Msg : Type 0} (R : Rules) (M : Module Msg) (i : ℕ) where
 
     -- the end of an epoch
     module _ (seg : HasSegments R) where
-      -- nothing is in flight any more
+      -- nothing is in flight
       none-flies : (c : Core Msg) → FiledCore c → is_complete R M i c.past ≡ true → (f : Slot × Batch) → In f c.flight → ⊥
       none-flies c h complete f k =
           let log = log_of R M i c.past in
@@ -334,7 +334,7 @@ module _ {Msg : Type 0} (R : Rules) (M : Module Msg) (i : ℕ) where
             kept = λ x k. elim k [ inl y ↦ inl y | inr y ↦ inr (elim y [ inl z ↦ inl (ids-left x c.waiting (q ∷ []) z) | inr z ↦ inr z ]) ];
           }
 
-      -- a request that was taken waits
+      -- a request that was accepted waits
       pub request-waits : (c : Core Msg) (q : Request) (t : Turn Msg) → takes_request R M i c q ≡ Taken t →
           (is_known R M i c q.id ≡ false) × (t.core ≡ record c { waiting = c.waiting ++ q ∷ [] })
       request-waits c q t h = let r = request-taken F R M i c q t h in (r.unknown, ap (λ (u : Turn Msg). u.core) r.is)
@@ -348,7 +348,7 @@ module _ {Msg : Type 0} (R : Rules) (M : Module Msg) (i : ℕ) where
       early-keeps : (c : Core Msg) (x : Early Msg) (t : Turn Msg) → FiledCore c → keeps_early c x ≡ Taken t → Keeps c t.core
       early-keeps c x t h k = still-keeps c t (unchanged (record c { early = c.early ++ x ∷ [] })) h (kept-taken F R M i c x t k).is refl refl refl
 
-      -- a piece: nothing of the epoch is in flight any more
+      -- a piece: nothing of the epoch is in flight after it
       adopts-keep : (c : Core Msg) (p : Sent_piece) (t : Turn Msg) → FiledCore c → IsAdopted F R M i c p t → Keeps c (adopts_piece R M i c p).core
       adopts-keep c p t h a =
           let piece : Piece = record { epoch = c.past.epoch; values = p.values } in
@@ -410,12 +410,12 @@ module _ {Msg : Type 0} (R : Rules) (M : Module Msg) (i : ℕ) where
       bytes-keep c None t h k = absurd (untaken _ t k)
       bytes-keep c (Some p) t h k = parcel-keeps c p.from p.epoch p.body t h k
 
-      -- a cast
+      -- a proposal
       module _ (law : IsLawful M) where
         abbrev open_at : Core Msg → Slot → Bool
         open_at c s = not (nat_lt s.0 (length (log_of R M i c.past))) && is_castable M (params_of R M i c.past i) i (taken_in c.past i) c.flight s
 
-        -- the slot of a cast is of the segment, not in the log, and not cast
+        -- the slot of a proposal is in the segment, not in the log, and has nothing in flight
         free-slot : (c : Core Msg) (s : Slot) → next_slot R M i c ≡ Some s →
             In s (params_of R M i c.past i).slots × (length (log_of R M i c.past) ≤ s.0) ×
             (is_castable M (params_of R M i c.past i) i (taken_in c.past i) c.flight s ≡ true)

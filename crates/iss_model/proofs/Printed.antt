@@ -1,4 +1,4 @@
--- Logs in the order of their slots.
+-- Logs in the order of their slots, oldest first.
 use Rattle.std.proofs.Common.{◌≡◌, inl, inr, List, [], ◌∷◌, ◌++◌, reverse, sym, ap, ◌∙◌, subst}
 use Rattle.std.proofs.lemmas.List.{append_assoc, reverse-append, reverse-reverse}
 use Rattle.iss_base.specs.Lists.{Extends, In}
@@ -12,7 +12,7 @@ use Rattle.iss_rules.proofs.Ids.{log_ids-append}
 pub turned : (a b : List Value) → Extends a b → IsPrefix (reverse a) (reverse b)
 turned a b x = (reverse x.0, ap (λ (t : List Value). reverse t) x.1 ∙ reverse-append x.0 a)
 
--- the identities of a log that is turned are the same
+-- reversing a log keeps its identities
 in-turned : (x : ReqId) (log : List Value) → In x (log_ids (reverse log)) → In x (log_ids log)
 in-turned x [] h = h
 in-turned x (v ∷ log) h =
@@ -31,7 +31,7 @@ once-append (v ∷ a) b oa ob apart = different-append (value_ids v) (log_ids (a
       | inr k ↦ apart x (in_left x (value_ids v) (log_ids a) i) k
     ])
 
--- and stand in it once
+-- each of which occurs once in it
 pub once-turned : (log : List Value) → Once log → Once (reverse log)
 once-turned [] h = h
 once-turned (v ∷ log) h = subst (λ (t : List Value). Once t) (sym (reverse-append (v ∷ []) log)) (once-append (reverse log) (v ∷ [])
@@ -39,7 +39,7 @@ once-turned (v ∷ log) h = subst (λ (t : List Value). Once t) (sym (reverse-ap
     (different-append (value_ids v) [] (different-left (value_ids v) (log_ids log) h) tt (λ z i j. j))
     (λ x i j. elim (in_append x (value_ids v) [] j) [ inl y ↦ different-apart (value_ids v) (log_ids log) h x y (in-turned x log i) | inr n ↦ absurd n ]))
 
--- a log that is cut behind a value, newest first
+-- a log that is cut after a value, newest first
 pub turned-cut : (log front back : List Value) (v : Value) → reverse log ≡ front ++ v ∷ back → Extends (v ∷ reverse front) log
 turned-cut log front back v is = (
   reverse back,

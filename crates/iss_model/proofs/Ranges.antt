@@ -1,4 +1,4 @@
--- Events that a cluster may meet happen at its cores.
+-- All events of a valid schedule are at existing cores.
 use Rattle.std.proofs.Common.{List, [], ◌∷◌}
 use Rattle.iss_request.specs.declared.setups.Setup.{Setup}
 use Rattle.iss_schedule.specs.Events.{AreInRange, IsInRange}

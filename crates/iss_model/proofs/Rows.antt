@@ -1,4 +1,5 @@
--- A turn is a row of small moves: inputs that are taken, and ends of epochs. What each of them keeps holds of what the event led to.
+-- A step is a sequence of small moves: inputs that are taken, and ends of epochs. What each of them keeps holds of the
+-- outcome.
 use Rattle.std.proofs.Common.{◌≡◌, inl, inr, ℕ, suc, Bool, true, false, cond, eqb, List, [], ◌∷◌, ◌++◌, None, refl, sym, ap, ◌∙◌, subst, append_assoc}
 use Rattle.std.proofs.lemmas.List.{append-nil}
 use Rattle.iss_base.specs.Lists.{In}
@@ -24,7 +25,7 @@ turn-same c a b d e x y f g p q o r =
     ∙ (ap (λ (z : List Claim). record { core = c; sends = b; own = e; early = z; strings = f }) o
     ∙ ap (λ (z : List (List ℕ)). record { core = c; sends = b; own = e; early = y; strings = z }) r))
 
--- rows may be cut anywhere
+-- a sequence may be cut anywhere
 pub onward-rests : {Msg : Type 0} (t : Turn Msg) → then_turn t unchanged ≡ t
 onward-rests t =
     turn-same t.core (t.sends ++ []) t.sends (t.own ++ []) t.own (t.early ++ []) t.early (t.strings ++ []) t.strings
@@ -47,7 +48,7 @@ module _ {Msg : Type 0} (F : Formats Msg) (R : Rules) (M : Module Msg) (me : ℕ
     pub leaves : has_leaves M (params_of R M me c.past l) c.leaf ≡ true
     pub judged : verdict_in R M me c.past l input ≡ None
 
-  -- a turn goes on with an input, or with the end of its epoch
+  -- a step continues with an input, or with the end of its epoch
   abbrev pub then_takes : Turn Msg → ℕ → Input Msg → Turn Msg
   then_takes t l input = then_turn t (λ c. step_unjudged F R M me c l input)
 
@@ -66,7 +67,7 @@ module _ {Msg : Type 0} (F : Formats Msg) (R : Rules) (M : Module Msg) (me : ℕ
   abbrev pub claims_early : Core Msg → Early Msg → List Claim
   claims_early c x = claims_in R M me c.past x.from x.leader x.msg
 
-  -- An early message may come that was tried, with all its claims among those that the turn read.
+  -- An early message that was tried may be received, and the step read all of its claims.
   module _ (P : Turn Msg → Type 0) (Comes : Turn Msg → ℕ → Input Msg → Type 0)
       (takes : (t : Turn Msg) (l : ℕ) (input : Input Msg) → P t → IsFit t.core l input → Comes t l input → P (then_takes t l input))
       (over : (t : Turn Msg) → P t → is_complete R M me t.core.past ≡ true → P (then_ends t))
@@ -95,7 +96,7 @@ module _ {Msg : Type 0} (F : Formats Msg) (R : Rules) (M : Module Msg) (me : ℕ
         let done : P (then_turn t (λ c. u)) = ended-holds t (or_unchanged t.core o) (tried-holds t x.leader (early_input x) h come o refl) in
         reads (then_turn t (λ c. u)) (t.early ++ claims_early t.core x) done
 
-    -- what came early, as long as its epoch lasts
+    -- the early messages, while their epoch lasts
     pub each-holds : (e : ℕ) (xs : List (Early Msg)) (t : Turn Msg) → P t →
         ((u : Turn Msg) (x : Early Msg) → In x xs → P u → u.core.past.epoch ≡ e →
         ((y : Claim) → In y (claims_early u.core x) → In y (takes_each F R M me e xs t.core).early) → Comes u x.leader (early_input x)) →

@@ -1,4 +1,4 @@
--- What a step did that took its event.
+-- What a step did that accepted its event.
 use Rattle.std.specs.Prelude.{nat_lt}
 use Rattle.std.proofs.Common.{◌≡◌, inl, inr, ℕ, suc, ◌<◌, ◌≤◌, Bool, true, false, cond, eqb, not, List, [], ◌∷◌, ◌++◌, length, Option, Some, None, refl, sym, ap, ◌∙◌, arith, true≢false}
 use Rattle.std.proofs.lemmas.Bool.Decides.{leb_tells}
@@ -32,12 +32,12 @@ turn-is a b h = cc
 pub untaken : {Msg : Type 0} (why : Why) (t : Turn Msg) → Dropped why ≡ Taken t → ⊥
 untaken why t h = cc
 
--- a test that dropped nothing
+-- a check that dropped nothing
 pub undropped : {Msg : Type 0} (b : Bool) (why : Why) (more : Stepped Msg) (t : Turn Msg) → cond b (Dropped why) more ≡ Taken t → (b ≡ false) × (more ≡ Taken t)
 undropped true why more t h = absurd (untaken why t h)
 undropped false why more t h = (refl, h)
 
--- a test that found no number below another
+-- a check that found no number below another
 not-below : (a b : ℕ) → nat_lt a b ≡ false → b ≤ a
 not-below a b h = elim (leb_tells (suc a) b) [ inl y ↦ absurd (true≢false (sym y.0 ∙ h)) | inr y ↦ omega (arith, y.1) ]
 
@@ -50,14 +50,14 @@ module _ {Msg : Type 0} (F : Formats Msg) (R : Rules) (M : Module Msg) (me : ℕ
     pub judged : verdict R (before R M me c.past c.past.epoch) c.past.epoch l (accepts (c.past.evidence c.past.epoch l)) (asked_in R M me c.past l input) ≡ None
     pub is : t ≡ step_unjudged F R M me c l input
 
-  -- a request was taken
+  -- a request was accepted
   pub record IsRequested (q : Request) (t : Turn Msg) : Type 0 where
     pub signed : R.signed q ≡ true
     pub unknown : is_known R M me c q.id ≡ false
     pub inside : R.inside (before R M me c.past c.past.epoch) c.past.epoch q.id ≡ true
     pub is : t ≡ unchanged (record c { waiting = c.waiting ++ q ∷ [] })
 
-  -- the batch that is cast, and the core that casts it at a slot
+  -- the next batch to propose, and the core that proposes it at a slot
   abbrev pub next_batch : Batch
   next_batch = cut R.batch (is_mine R M me c) c.waiting
 
@@ -82,13 +82,13 @@ module _ {Msg : Type 0} (F : Formats Msg) (R : Rules) (M : Module Msg) (me : ℕ
     pub uncounted : is_counted c v ≡ false
     pub is : t ≡ unchanged (counted R c v)
 
-  -- an epoch was handed out
+  -- an epoch was sent to a lagging node
   pub record IsHanded (to e : ℕ) (cert : Cert) (t : Turn Msg) : Type 0 where
     pub kept : cert_on c.certs e ≡ Some cert
     pub whole : start_of R (log_of R M me c.past) (suc e) ≤ length (log_of R M me c.past)
     pub is : t ≡ handing F R M me c to e cert
 
-  -- the values of the node's epoch were adopted, and what had come early was tried
+  -- the values of the node's epoch were adopted, and early messages were tried
   pub record IsAdopted (p : Sent_piece) (t : Turn Msg) : Type 0 where
     pub epoch : p.epoch.0 ≡ c.past.epoch
     pub of_epoch : p.cert.epoch.0 ≡ c.past.epoch
@@ -97,7 +97,7 @@ module _ {Msg : Type 0} (F : Formats Msg) (R : Rules) (M : Module Msg) (me : ℕ
     pub leads : leads_to R (before_own R M me c.past) p ≡ true
     pub is : t ≡ then_turn (adopts_piece R M me c p) (takes_each F R M me (suc c.past.epoch) c.early)
 
-  -- what a taken event did first; an epoch may end of it
+  -- what an accepted event did first; it may then end an epoch
   pub data Took : NodeEvent → Turn Msg → Type 0 where
     received : {bytes : List ℕ} {t : Turn Msg} (k : Parcel Msg) (l : ℕ) (msg : Msg) (u : Turn Msg) → F.unwrap bytes ≡ Some k → k.body ≡ OfModule l msg →
         k.epoch ≡ c.past.epoch → IsInput l (Receive (record { 0 = k.from }) msg) u → t ≡ advance_epochs F R M me u → Took (On_packet bytes) t
@@ -140,7 +140,7 @@ module _ {Msg : Type 0} (F : Formats Msg) (R : Rules) (M : Module Msg) (me : ℕ
       let a = undropped (not (has_leaves M (params_of R M me c.past me) c.leaf)) NoKeys _ t h in
       cast s (step_unjudged F R M me (casting s) me (Cast s next_batch)) (record { leads = leads; leaves = not-false _ a.0; free = q; is = refl }) (turn-is _ t a.1)
 
-  -- what is settled was taken
+  -- a finished step was accepted
   settled-taken : (o : Stepped Msg) (t : Turn Msg) → finish_step F R M me o ≡ Taken t → (u : Turn Msg) × (o ≡ Taken u) × (t ≡ advance_epochs F R M me u)
   settled-taken (Dropped why) t h = absurd (untaken why t h)
   settled-taken (Taken u) t h = (u, refl, turn-is (advance_epochs F R M me u) t h)

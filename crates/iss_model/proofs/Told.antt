@@ -1,4 +1,4 @@
--- What came early to a core was read of bytes, at any node.
+-- Every early message of a core was decoded from bytes, at every node.
 use Rattle.std.proofs.Common.{inl, inr, ℕ, suc, ◌<◌, List, [], ◌∷◌}
 use Rattle.iss_base.specs.Lists.{In}
 use Rattle.iss_base.proofs.Lists.{in_append}
@@ -13,7 +13,7 @@ use Rattle.iss_rules.proofs.Faithful.{IsFaithful}
 use Rattle.iss_model.proofs.Rows.{each-holds, settles-holds}
 use Rattle.iss_model.proofs.Steps.{Took, adopted, asked, cast, fired, handed, kept, received, sought, voted}
 
--- it came under a node's name, and is read again of its own bytes
+-- its sender exists, and it decodes from its own encoding
 abbrev pub AreTold : {Msg : Type 0} → Setup → Module Msg → Core Msg → Type 0
 AreTold {Msg} s M d = (x : Early Msg) → In x d.early → (x.from < s.n) × IsReadAgain (M.spell s.version) (M.parse s.version) x.msg
 

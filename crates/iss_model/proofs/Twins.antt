@@ -1,4 +1,4 @@
--- Cores and nodes: a correct core is a node, and where nodes only stop each core is one, and is correct.
+-- Cores and nodes: a correct core is a node. In the crash-stop model each core is a node, and is correct.
 use Rattle.std.proofs.Common.{◌≡◌, inl, inr, ℕ, zero, suc, ◌-◌, ◌<◌, Bool, true, false, cond, not, List, [], ◌∷◌, length, refl, sym, ap, ◌∙◌, subst, arith, nat_lt}
 use Rattle.std.specs.List.{filter}
 use Rattle.iss_base.specs.Lists.{In, below, nth}
@@ -41,7 +41,7 @@ in-below (suc n) j h = elim (in_append j (below n) (n ∷ []) h) [
   | inr a ↦ elim a [ inl e ↦ omega (arith, e) | inr b ↦ absurd b ]
 ]
 
--- who gets a packet is a core
+-- a recipient of a packet is a core
 pub addressee-core : (s : Setup) (to : To) (j : ℕ) → In j (addressees s to) → j < cores_of s
 addressee-core s To_all j h = in-below (cores_of s) j h
 addressee-core s (To_one k) j h = in-below (cores_of s) j (in-filter _ (below (cores_of s)) j h).0
@@ -61,7 +61,7 @@ module _ (s : Setup) (none : s.faulty ≡ []) where
       sym (is-eq (node_of s j) k.0 r.1) ∙ node-is s j (core-low j (in-below (cores_of s) j r.0))
 
 module _ {Msg : Type 0} (s : Setup) (R : Rules) (M : Module Msg) (sound : IsSoundRules s M R) where
-  -- where nodes only stop, none is faulty
+  -- in the crash-stop model no node is faulty
   pub faultless : M.stopping ≡ true → s.faulty ≡ []
   faultless stops =
       let good : IsGoodParams M (params_at R []) = sound.good (before_at R []) (epoch_at R []) (leader_at R []) (sound.leads []) in

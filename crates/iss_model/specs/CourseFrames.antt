@@ -1,4 +1,4 @@
--- What disks and restarts do in the frame of a run: `NAME_in` is what NAME is in a frame.
+-- What disks and restarts do in the frame of a run. Definitions in a frame have the suffix `_in`.
 use Rattle.std.specs.Prelude.{ℕ, List}
 use Rattle.iss_schedule.specs.declared.schedules.Event.{Event}
 use Rattle.iss_rules.specs.declared.events.NodeEvent.{NodeEvent}
@@ -6,7 +6,7 @@ use Rattle.iss_model.specs.Frames.{Frame}
 use Rattle.iss_model.specs.Node.{Core}
 use Rattle.iss_model.specs.Courses.{Course, Machines, Upshot, apply_event, at_machine, calms, core_of, course, delivers, delivers_each, injects, pumps, recover, run_event, run_event_if_open}
 
--- a core
+-- one core
 abbrev pub core_of_in : {Msg : Type 0} → Frame Msg → ℕ → List NodeEvent → Core Msg
 core_of_in W me events = core_of W.formats W.rules W.spec me events
 

@@ -1,4 +1,5 @@
--- The frame of a run: all that stays the same in it. `NAME_in` is what NAME is in a frame.
+-- The frame of a run: set-up, formats, rules and module, which stay the same throughout it. Definitions in a frame
+-- have the suffix `_in`.
 use Rattle.std.specs.Prelude.{ℕ, List}
 use Rattle.iss_request.specs.declared.setups.Setup.{Setup}
 use Rattle.iss_schedule.specs.declared.schedules.Event.{Event}
@@ -13,7 +14,7 @@ use Rattle.iss_model.specs.Node.{Core, Stepped, Turn, ends, finish_step, step}
 use Rattle.iss_model.specs.Run.{Happening, Held, Progress, apply_event, at_core, calms, claims_at, delivers, delivers_each, injects, pumps, run, run_event, run_event_if_open}
 use Rattle.iss_model.specs.Views.{claims_of_bytes}
 
--- a set-up, how its packets are written and read, its rules, and its module
+-- a set-up, the packet formats, the rules of the log, and the ordering module
 pub record Frame (Msg : Type 0) : Type 1 where
   pub setup : Setup
   pub formats : Formats Msg
@@ -23,7 +24,7 @@ pub record Frame (Msg : Type 0) : Type 1 where
 abbrev pub frame_of : {Msg : Type 0} → Setup → Module Msg → Frame Msg
 frame_of s M = record { setup = s; formats = formats_of s M; rules = rules_of s; spec = M }
 
--- a node
+-- one node
 abbrev pub step_in : {Msg : Type 0} → Frame Msg → ℕ → Core Msg → NodeEvent → Stepped Msg
 step_in W me c event = step W.formats W.rules W.spec me c event
 

@@ -1,4 +1,4 @@
--- What each core of a run took, and where events happen.
+-- What each core of a run took, and at which cores events happen.
 use Rattle.std.specs.Prelude.{◌≡◌, ℕ, ◌<◌, List, [], ◌∷◌, ◌++◌}
 use Rattle.iss_request.specs.declared.requests.Value.{Value}
 use Rattle.iss_request.specs.declared.setups.Setup.{Setup}
@@ -14,7 +14,7 @@ pasts_of w i = (w.cores i).past
 abbrev pub IsPrefix : List Value → List Value → Type 0
 IsPrefix a b = (rest : List Value) × (b ≡ a ++ rest)
 
--- the events happen at cores that are there
+-- the event is at a core that exists
 abbrev pub IsAtCore : Setup → Event → Type 0
 IsAtCore s (Event_request c client number payload) = c < cores_of s
 IsAtCore s (Propose c) = c < cores_of s

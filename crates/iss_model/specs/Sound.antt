@@ -1,4 +1,5 @@
--- What holds of every core of every run, so that its own casts are accepted.
+-- What holds of every core of every run. What waits and what is in flight is distinct, signed, and inside the windows
+-- unless the log has it. The log holds all before the epoch. So the judge accepts what such a core casts.
 use Rattle.std.specs.Prelude.{◌≡◌, ℕ, ◌≤◌, ◌<◌, List, [], ◌∷◌, ◌++◌, length, true, Some}
 use Rattle.iss_base.specs.Lists.{Different, In}
 use Rattle.iss_request.specs.Log.{ids, log_ids}
@@ -12,16 +13,18 @@ use Rattle.iss_model.specs.Node.{Core}
 use Rattle.iss_rules.specs.Past.{adopted_at, before_own, log_of, start_of}
 use Rattle.iss_rules.specs.Rules.{Rules}
 
--- the requests of what was cast, and all that a core still holds: what waits, and what is in flight
+-- the requests of these batches
 abbrev pub carried : List (Slot × Batch) → List Request
 carried [] = []
 carried (x ∷ xs) = x.1 ++ carried xs
 
+-- all requests that a core still holds: waiting or in flight
 abbrev pub held : {Msg : Type 0} → Core Msg → List Request
 held c = c.waiting ++ carried c.flight
 
--- what a core holds is all different, signed, and inside the windows of its epoch unless the log has it; what waits is not in
--- the log. The log holds all before the core's epoch; what was adopted is of earlier epochs, and nothing was taken in later ones
+-- The invariant of a core. Its requests are distinct, signed, and inside the windows of its epoch unless ordered;
+-- waiting ones are not in its log. Its log holds all earlier epochs, adopted values are of earlier epochs, and later
+-- epochs are untouched.
 pub record IsSoundCore {Msg : Type 0} (R : Rules) (M : Module Msg) (me : ℕ) (c : Core Msg) : Type 0 where
   pub different : Different (ids (held c))
   pub signed : (q : Request) → In q (held c) → R.signed q ≡ true

@@ -1,4 +1,5 @@
--- What a node shows of its core.
+-- What a node shows of its core, and the claims in bytes that it receives: those of a message of its epoch, of a vote,
+-- and of a piece's certificate.
 use Rattle.std.specs.Prelude.{ℕ, Bool, true, cond, ◌&&◌, ◌==◌, not, is_some, List, [], ◌∷◌, Option, Some, None}
 use Rattle.std.specs.List.{filter}
 use Rattle.iss_base.specs.Lists.{below}
@@ -22,22 +23,22 @@ abbrev pub are_filled : {Msg : Type 0} → Module Msg → Params → ℕ → Lis
 are_filled M p me xs [] = true
 are_filled M p me xs (s ∷ ss) = is_some (delivered M p me xs s.0) && are_filled M p me xs ss
 
--- whether a leader of the node's epoch has slots that are not filled
+-- whether l leads the node's epoch and has an undelivered slot
 abbrev pub is_unfilled : {Msg : Type 0} → Rules → Module Msg → ℕ → Past Msg → ℕ → Bool
 is_unfilled R M me c l =
     let p = params_of R M me c l in
     leads_in R M me c l && not (are_filled M p me (taken_in c l) p.slots)
 
--- these leaders, ascending
+-- the leaders below n with undelivered slots, ascending
 abbrev pub unfilled : {Msg : Type 0} → Rules → Module Msg → ℕ → ℕ → Past Msg → List ℕ
 unfilled R M n me c = filter (is_unfilled R M me c) (below n)
 
--- whether a proposal would find a slot to cast in
+-- whether the node leads its epoch and has a free slot to propose at
 abbrev pub is_castable_now : {Msg : Type 0} → Rules → Module Msg → ℕ → Core Msg → Bool
 is_castable_now R M me c = leads_in R M me c.past me && is_some (next_slot R M me c)
 
--- the claims that bytes hold which come to a node: a vote's, those of a piece's certificate, and those of a module's message of
--- the node's epoch, whose leader leads there
+-- The claims in received bytes: a vote's, those of a piece's certificate, and those of a module's message of the node's
+-- epoch whose leader leads it.
 abbrev pub claims_of_body : {Msg : Type 0} → Rules → Module Msg → ℕ → Core Msg → ℕ → ℕ → Body Msg → List Claim
 claims_of_body R M me c from e (OfRequest q) = []
 claims_of_body R M me c from e (OfVote v) = claim_of_vote R v ∷ []

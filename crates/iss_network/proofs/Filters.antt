@@ -84,7 +84,7 @@ pub filter_never : {A : Type 0} (p : A → Bool) → ((x : A) → p x ≡ false)
 filter_never p h [] = refl
 filter_never p h (x ∷ xs) = filter_no p x xs (h x) ∙ filter_never p h xs
 
--- where nothing passes, all fail
+-- if nothing passes, all fail
 pub filter_rest : {A : Type 0} (p : A → Bool) (xs : List A) → filter p xs ≡ [] → filter (λ x. not (p x)) xs ≡ xs
 filter_rest p [] h = refl
 filter_rest {A} p (x ∷ xs) h = go (cases_Bool (p x)) (filter_rest p xs)
@@ -128,7 +128,7 @@ filter_below p q (suc n) h =
     rw (front, end) refl)
     ∙ sym (filter-append q (below n) (n ∷ []))
 
--- how often k stands in a list
+-- how often k occurs in a list
 abbrev pub times : ℕ → List ℕ → ℕ
 times k [] = 0
 times k (x ∷ xs) = cond (k == x) 1 0 + times k xs

@@ -89,7 +89,7 @@ flagged_unset : (flags : List Bool) (k : ℕ) → flagged (set flags k false) �
 flagged_unset flags k =
     ap (λ n. filter (is_set (set flags k false)) (below n)) (length-set flags k false) ∙ filter_unset flags k (below (length flags))
 
--- a packet waits no more
+-- a packet stops waiting
 pub settled_waits : (flags : List Bool) (k : ℕ) → flagged (set flags k false) ≡ without k (flagged flags)
 settled_waits flags k = flagged_unset flags k ∙ sym (without_is k (flagged flags))
 
@@ -354,7 +354,7 @@ cleared_kept_at packets flags queues held c after queue h l is none =
     let Q : List ℕ → Type 0 = λ q. IsKept packets (cleared_flags (get_or queues c []) flags) (set queues c q) held in
     subst P (sym is) (subst Q (sym none) (cleared_kept packets flags queues held c h l))
 
--- numbers that wait no more are forgotten
+-- numbers of packets that stopped waiting are removed
 
 pub pruned_kept : (packets : List Sent) (flags : List Bool) (queues : List (List ℕ)) (held : List Bool) (c : ℕ) → IsKept packets flags queues held → c < length queues → IsKept packets flags (set queues c (filter (is_set flags) (get_or queues c []))) held
 pruned_kept packets flags queues held c h l =
@@ -397,7 +397,7 @@ any_default [] i d e h = absurd (omega arith)
 any_default (x ∷ xs) zero d e h = refl
 any_default (x ∷ xs) (suc i) d e h = any_default xs i d e (omega arith)
 
--- what a pump takes
+-- what a pump delivers
 
 -- the queues of the cores below n, one after another
 abbrev pub gathered_below : Network → ℕ → List ℕ

@@ -1,4 +1,5 @@
--- How a network is kept: a flag for each packet that says whether it waits, and for each core the numbers of its packets.
+-- How the code keeps a network: a flag for each packet that says whether it waits, and for each core a queue of packet
+-- numbers. Numbers that no longer wait are dropped late.
 use Rattle.std.specs.Prelude.{ℕ, ◌<◌, ◌≡◌, cond, Bool, true, false, List, [], ◌∷◌, length, filter, Some, slice_set, slice_index_or}
 use Rattle.std.specs.List.{list_all}
 use Rattle.iss_base.specs.Lists.{nth, below}
@@ -13,7 +14,7 @@ is_set flags k = flag_at (nth flags k)
 abbrev pub flagged : List Bool → List ℕ
 flagged flags = filter (is_set flags) (below (length flags))
 
--- these packets wait no more
+-- the flags, with these packets no longer waiting
 abbrev pub cleared_flags : List ℕ → List Bool → List Bool
 cleared_flags [] flags = flags
 cleared_flags (k ∷ ks) flags = cleared_flags ks (slice_set flags k false)
@@ -22,14 +23,15 @@ cleared_flags (k ∷ ks) flags = cleared_flags ks (slice_set flags k false)
 abbrev pub for_core : List Sent → ℕ → ℕ → Bool
 for_core packets c k = is_for (nth packets k) c
 
--- The queue of a core has numbers of its packets alone, and every one that waits.
+-- A core's queue holds only packets for that core, and all of those that wait.
 abbrev pub IsKept : List Sent → List Bool → List (List ℕ) → List Bool → Type 0
 IsKept packets flags queues held =
     (length flags ≡ length packets)
     × (length queues ≡ length held)
     × ((k : ℕ) (p : Sent) → nth packets k ≡ Some p → p.to < length held)
     × ((c : ℕ) → c < length queues → list_all (for_core packets c) (slice_index_or queues c []) ≡ true)
-    × ((c : ℕ) → c < length queues → filter (is_set flags) (slice_index_or queues c []) ≡ filter (for_core packets c) (flagged flags))
+    × ((c : ℕ) → c < length queues →
+    filter (is_set flags) (slice_index_or queues c []) ≡ filter (for_core packets c) (flagged flags))
 
 -- the packets that wait for core c, unless it is held
 abbrev pub gathered : Network → ℕ → List ℕ

@@ -1,4 +1,5 @@
--- The network: every packet that was sent, which of them wait, and which cores pumps pass over.
+-- The network: every packet that was sent, in order, the numbers of those that wait, and which cores are held. A pump
+-- delivers what waits for cores that are not held. A packet may be delivered again.
 use Rattle.std.specs.Prelude.{ℕ, ◌==◌, cond, Bool, false, List, [], ◌∷◌, ◌++◌, length, Option, Some, None, replicate, slice_set}
 use Rattle.iss_base.specs.Lists.{nth}
 use Rattle.iss_network.specs.declared.packets.Sent.{Sent}
@@ -22,7 +23,7 @@ abbrev pub without : ℕ → List ℕ → List ℕ
 without k [] = []
 without k (x ∷ xs) = cond (k == x) (without k xs) (x ∷ without k xs)
 
--- packet k waits no more
+-- packet k stops waiting
 abbrev pub settled : Network → ℕ → Network
 settled w k = record w { waits = without k w.waits }
 
@@ -35,12 +36,12 @@ abbrev pub not_for : List Sent → ℕ → List ℕ → List ℕ
 not_for packets c [] = []
 not_for packets c (k ∷ ks) = cond (is_for (nth packets k) c) (not_for packets c ks) (k ∷ not_for packets c ks)
 
--- no packet for core c waits any more
+-- all packets for core c stop waiting
 -- rule: Network: A drop ends the waiting of all packets for a core
 abbrev pub cleared : Network → ℕ → Network
 cleared w c = record w { waits = not_for w.packets c w.waits }
 
--- pumps pass over core c, or no longer
+-- a pump skips core c, or does not
 -- rule: Network: Pumps pass over a core that is held
 abbrev pub held_to : Network → ℕ → Bool → Network
 held_to w c b = record w { held = slice_set w.held c b }
@@ -55,9 +56,10 @@ is_held held (Some p) = flag_at (nth held p.to)
 
 abbrev pub not_held : List Sent → List Bool → List ℕ → List ℕ
 not_held packets held [] = []
-not_held packets held (k ∷ ks) = cond (is_held held (nth packets k)) (not_held packets held ks) (k ∷ not_held packets held ks)
+not_held packets held (k ∷ ks) = cond (is_held held (nth packets k)) (not_held packets held ks)
+    (k ∷ not_held packets held ks)
 
--- what a pump takes now: the packets that wait for cores that are not held, ascending
+-- what a pump delivers now: the packets that wait for cores that are not held, ascending
 -- rule: Network: A pump takes what waits for cores that are not held, in ascending order
 abbrev pub due : Network → List ℕ
 due w = not_held w.packets w.held w.waits

@@ -1,4 +1,4 @@
-//! The network between cores: which packets were sent, which of them wait, and which cores are held.
+//! The network between cores: which packets were sent, which of them wait for delivery, and which cores are held.
 #![tactic(auto)]
 
 pub mod network;

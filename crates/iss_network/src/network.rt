@@ -1,4 +1,4 @@
-//! Packets that were sent, which of them wait, and which cores are held.
+//! The packets that were sent, which of them wait for delivery, and which cores are held.
 ghost use Rattle.std.specs.Prelude.{◌≡◌, ◌<◌, length, [], ◌∷◌, vec_len, vec_capacity, true, false, ◌++◌, IfOk, OnOk, is_ok, if◌then◌else◌};
 ghost use Rattle.std.specs.Option.{option_copied};
 ghost use Rattle.iss_base.specs.Lists.{nth};
@@ -9,16 +9,14 @@ use iss_request::{Bytes, NoMemory};
 use std::alloc::Global;
 use std::marker::Model;
 
-/// Every packet that was sent, in the order of sending, which of them wait, and which cores are held.
-///
-/// A packet is numbered by its place, from 0. The packets that wait are found by core, so that what waits for a held
-/// core costs nothing.
+/// All packets that were sent, in order; a packet's number is its place, from 0. It also knows which packets wait, and
+/// which cores are held. Waiting packets are found by core, so those of a held core cost nothing.
 #[derive(Drop)]
 pub struct Network {
     packets: Vec<Sent>,
     // for each packet whether it waits
     waiting: Vec<bool>,
-    // for each core the numbers of its packets that wait, and maybe of some that wait no more
+    // for each core the numbers of its waiting packets, and perhaps of some that stopped waiting
     queues: Vec<Queue>,
     held: Vec<bool>,
 }
@@ -38,7 +36,7 @@ impl Network {
     ghost use Rattle.iss_network.specs.Network.{empty_network, posted, settled, cleared, held_to, due};
     ghost use Rattle.iss_network.specs.Kept.{gathered};
 
-    /// No packets yet, between this many cores, none of them held.
+    /// No packets yet, between this number of cores, none of them held. The only error is out of memory.
     pub fn new(alloc: Global, cores: u32) -> Result<Network, NoMemory>
         ensures { IfOk result (λ w. w ≡ empty_network cores) }
     {
@@ -54,10 +52,11 @@ impl Network {
         })
     }
 
-    /// A packet is sent, takes the next number, and waits. Where memory is wanting, nothing changes.
+    /// Sends a packet: it takes the next number, and waits. On out of memory nothing changes.
     pub fn post(&mut self, from: u32, to: u32, bytes: Bytes) -> Result<(), NoMemory>
         requires { to < length self.old.held }
-        ensures { self.new ≡ (if is_ok result then posted self.old (record { from = from; to = to; bytes = bytes }) else self.old) }
+        ensures { self.new ≡ (if is_ok result then posted self.old (record { from = from; to = to; bytes = bytes })
+            else self.old) }
     {
         let number = self.packets.len() as u64;
         self.packets.reserve(1)?;
@@ -68,7 +67,7 @@ impl Network {
         Ok(())
     }
 
-    /// How many packets were sent.
+    /// The number of packets that were sent.
     pub fn count(&self) -> u64
         ensures { result ≡ length self.now.packets }
     {
@@ -82,14 +81,14 @@ impl Network {
         self.packets.get(number as usize)
     }
 
-    /// Every packet that was sent, by its number.
+    /// All packets that were sent, by number.
     pub fn packets(&self) -> &[Sent]
         ensures { result.now ≡ self.now.packets }
     {
         self.packets.as_slice()
     }
 
-    /// Packet `number` waits no more. At any other number nothing changes.
+    /// Packet `number` stops waiting. For a number that was not sent nothing changes.
     pub fn settle(&mut self, number: u64)
         ensures { self.new ≡ settled self.old number }
     {
@@ -99,7 +98,7 @@ impl Network {
         }
     }
 
-    /// Pumps pass over this core from now on.
+    /// Pumps skip this core from now on.
     // rule: Network: Pumps pass over a core that is held
     pub fn hold(&mut self, core: u32)
         requires { core < length self.old.held }
@@ -108,7 +107,7 @@ impl Network {
         self.held[core as usize] = true;
     }
 
-    /// Pumps pass over this core no longer.
+    /// Pumps skip this core no more.
     pub fn free(&mut self, core: u32)
         requires { core < length self.old.held }
         ensures { self.new ≡ held_to self.old core false }
@@ -116,7 +115,7 @@ impl Network {
         self.held[core as usize] = false;
     }
 
-    /// No packet for this core waits any more.
+    /// All packets for this core stop waiting.
     // rule: Network: A drop ends the waiting of all packets for a core
     pub fn drop_for(&mut self, core: u32)
         requires { core < length self.old.held }
@@ -125,7 +124,8 @@ impl Network {
         self.queues[core as usize].clear(&mut self.waiting);
     }
 
-    /// The numbers of the packets that wait for cores that are not held, ascending: what a pump takes now.
+    /// What a pump delivers now: the numbers of the packets that wait for cores that are not held, ascending. The only
+    /// error is out of memory.
     // rule: Network: A pump takes what waits for cores that are not held, in ascending order
     pub fn due(&mut self, alloc: Global) -> Result<Vec<u64>, NoMemory>
         ensures same { self.new ≡ self.old }
@@ -153,7 +153,7 @@ impl Network {
     }
 }
 
-/// Puts an element at the end, where room was made for it.
+/// Appends an element, for which room was reserved.
 fn put<T: Drop>(items: &mut Vec<T>, item: T)
     requires { vec_len items.old < vec_capacity items.old }
     ensures { items.new.items ≡ items.old.items ++ item ∷ [] }

@@ -1,7 +1,7 @@
-//! Packets on their way.
+//! Packets in the network.
 use iss_request::Bytes;
 
-/// A packet that was sent from a core to a core.
+/// A packet that was sent from one core to another.
 #[derive(Drop)]
 pub struct Sent {
     pub from: u32,

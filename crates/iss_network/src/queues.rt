@@ -1,4 +1,4 @@
-//! The numbers of the packets for one core, from which those that wait no more are taken out late.
+//! The numbers of the packets for one core. Packets that stopped waiting are removed lazily.
 ghost use Rattle.std.specs.Prelude.{◌≡◌, ◌∷◌, [], ◌++◌, false, filter, is_ok, if◌then◌else◌, slice_set};
 ghost use Rattle.iss_network.specs.Kept.{is_set, cleared_flags};
 
@@ -6,7 +6,7 @@ use iss_request::NoMemory;
 use std::alloc::Global;
 use std::marker::Model;
 
-/// Numbers of packets for one core, ascending: all that wait, and maybe some that wait no more.
+/// Numbers of packets for one core, ascending: all that wait, and perhaps some that stopped waiting.
 #[derive(Drop)]
 pub struct Queue {
     numbers: Vec<u64>,
@@ -30,14 +30,14 @@ impl Queue {
         }
     }
 
-    /// The numbers, lent.
+    /// The numbers, borrowed.
     pub fn numbers(&self) -> &[u64]
         ensures { result.now ≡ self.now }
     {
         self.numbers.as_slice()
     }
 
-    /// One more number at the end. Where memory is wanting, nothing changes.
+    /// Appends a number. On out of memory nothing changes.
     pub fn push(&mut self, number: u64) -> Result<(), NoMemory>
         ensures { self.new ≡ (if is_ok result then self.old ++ number ∷ [] else self.old) }
     {
@@ -45,7 +45,7 @@ impl Queue {
         Ok(())
     }
 
-    /// Forgets the numbers of packets that wait no more.
+    /// Removes the numbers of packets that stopped waiting.
     pub fn prune(&mut self, waiting: &[bool])
         ensures { self.new ≡ filter (is_set waiting.now) self.old }
     {
@@ -56,7 +56,7 @@ impl Queue {
         );
     }
 
-    /// Forgets all numbers, and takes the flags of their packets away.
+    /// Removes all numbers, and clears the flags of their packets.
     pub fn clear(&mut self, waiting: &mut [bool])
         ensures empty { self.new ≡ [] }
         ensures flags { waiting.new ≡ cleared_flags self.old waiting.old }
@@ -68,7 +68,7 @@ impl Queue {
     }
 }
 
-/// Whether packet `number` is there and waits.
+/// Whether packet `number` was sent and waits.
 pub fn flag_of(waiting: &[bool], number: u64) -> bool
     ensures { result ≡ is_set waiting.now number }
 {
@@ -78,7 +78,7 @@ pub fn flag_of(waiting: &[bool], number: u64) -> bool
     }
 }
 
-/// Takes the flag of packet `number` away, if it is there.
+/// Clears the flag of packet `number`, if it was sent.
 pub fn lower(waiting: &mut [bool], number: u64)
     ensures { waiting.new ≡ slice_set waiting.old number false }
 {

@@ -1,4 +1,4 @@
--- Which error of a packet comes of which error of a field.
+-- Which error of a packet follows from which error of a field.
 use Rattle.iss_request.specs.declared.errors.DecodeError.{DecodeError}
 use Rattle.iss_request.specs.declared.errors.DecodeError.TheVariants as fields
 use Rattle.iss_packet.specs.declared.packets.PacketError.{PacketError}

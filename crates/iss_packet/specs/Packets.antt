@@ -1,10 +1,9 @@
--- How packets are spelled in bytes, and how they are read.
+-- How packets are encoded and decoded. Whether kind, sender, epoch and leader fit each other depends on the number of
+-- nodes. A module's message is from a node, in the instance of a leader. A vote, an ask and a piece are from a node,
+-- and have leader 0. A request is from nobody: 255, epoch 0, leader 0.
 --
---   packet    version (1 byte: 1, in version 2 that number), kind (1), from (1), epoch (8), leader (1), length of the body (4, at most
---             200,000,000), body
---
--- A module's message is from a node, in the instance of a node. A vote, an ask and a piece are from a node, and
--- have leader 0. A request is from nobody: 255, epoch 0, leader 0.
+--   packet    version (1 byte: 1, in version 2 that number), kind (1), from (1), epoch (8), leader (1), length of the
+--             body (4, at most 200,000,000), body
 use Rattle.std.specs.Prelude.{◌≡◌, ℕ, ◌^◌, ◌<◌, ◌≤◌, List, [], ◌∷◌, ◌++◌, length, Bool, true, nat_le, nat_lt, ◌==◌, ◌&&◌, if◌then◌else◌}
 use Rattle.std.specs.Int.{w32, w64, to_be_bytes}
 use Rattle.iss_request.specs.Formats.{version_byte}

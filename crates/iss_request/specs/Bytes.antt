@@ -1,4 +1,4 @@
--- What bytes are, whether they stand in one place alone or are a part of what copies share.
+-- Bytes as a list of numbers, whether they stand alone or are a part of shared memory.
 use Rattle.std.specs.Prelude.{ℕ, List, take, drop}
 use Rattle.iss_request.specs.declared.bytes.Held.{Held}
 use Rattle.iss_request.specs.declared.bytes.Held.TheVariants.{Own, Part}

@@ -1,5 +1,5 @@
--- The one digest of the protocol. Chains and trees begin at the empty string, whose digest stands as 32 zero bytes;
--- no step hashes an empty string.
+-- The one digest of the protocol, SHA-256. Chains and trees begin at the empty string, whose digest is taken to be 32
+-- zero bytes; no step hashes an empty string.
 use Rattle.std.specs.Prelude.{ℕ, List, [], ◌∷◌, replicate}
 use Rattle.sha2.specs.Sha256.{sha256}
 

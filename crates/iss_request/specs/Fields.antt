@@ -1,4 +1,6 @@
--- Bytes that are read from the front, and what a reader finds there.
+-- What a reader and a writer of fields do. A reader that succeeds gives the thing that the parser gives, goes forward
+-- by its bytes, and keeps the version. One that fails names the offset of the first field that does not fit. A format
+-- is exact if what is read is encoded just so, and each thing has one encoding, or bytes that no reader takes.
 use Rattle.std.specs.Prelude.{ℕ, ◌+◌, ◌≤◌, List, ◌++◌, length, drop, ◌≡◌, ◌⊎◌}
 
 -- where a reader stands in its bytes, and the version of the formats by which it reads

@@ -1,11 +1,10 @@
--- How requests and values are spelled in bytes, and how they are read. Numbers have their highest byte first.
+-- How requests and values are encoded and decoded. Numbers have their highest byte first. A version is any number: 2
+-- is the second, and every other number means the first.
 --
 --   request     client (1 byte), number (4), length of the payload (2, at most 256), payload, signature
 --   value       0 for nil; 1, count (1 byte, at most 32), requests
 --               in version 2: 0 for nil; 2, count (2 bytes, at most 256), requests
 --   signature   height of the key's tree (1 byte, 2 to 12), leaf (4), 67 + height digests of 32 bytes
---
--- A version is any number: 2 is the second, and by every other number things are spelled as by the first.
 use Rattle.std.specs.Prelude.{◌≡◌, ◌≤◌, ℕ, zero, suc, ◌+◌, ◌*◌, ◌^◌, List, [], ◌∷◌, ◌++◌, length}
 use Rattle.std.specs.Prelude.{Bool, true, false, nat_le, nat_lt, ◌==◌, ◌&&◌, ◌||◌, if◌then◌else◌}
 use Rattle.std.specs.List.{AllByRecursion, flat_map}

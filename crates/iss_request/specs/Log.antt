@@ -1,4 +1,5 @@
--- Identities, and logs of values. A log is kept newest first.
+-- Identities and logs of values. A request's identity is its client and number, whatever its payload. A log is kept
+-- newest first. The first number of a value counts the requests before it; nil holds none.
 use Rattle.std.specs.Prelude.{ℕ, ◌+◌, Bool, false, ◌==◌, ◌&&◌, ◌||◌, List, [], ◌∷◌, ◌++◌, length}
 use Rattle.iss_base.specs.Lists.{Different}
 use Rattle.iss_request.specs.declared.ids.ReqId.{ReqId}

@@ -1,4 +1,5 @@
--- Small parsers of bytes, and how larger ones are made of them. A format is a row of fields, read in order.
+-- Parsers: functions from bytes to a thing and the rest, or to the offset of the first field that does not fit. Larger
+-- ones are rows of small ones, read in order; a fault of a later field is counted from the front of the row.
 use Rattle.std.specs.Prelude.{ℕ, zero, suc, ◌+◌, ◌-◌, ◌*◌, ◌/◌, List, [], ◌∷◌, length, take, drop, Bool, nat_le, nat_lt, ◌&&◌, if◌then◌else◌}
 use Rattle.std.specs.List.{list_all}
 use Rattle.std.specs.Int.{Width, byte_len, from_be_bytes}

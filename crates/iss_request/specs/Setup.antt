@@ -1,4 +1,6 @@
--- Which set-ups are good: the ranges of a header, and the counts of its kind.
+-- Which set-ups are good: each number of a header in its range, and the node count and quorum of its kind. These are
+-- 3f + 1 and 2f + 1 for Byzantine nodes, 2f + 1 and f + 1 for stopping ones, and 3 and 2 for the relay. At most f
+-- nodes are named faulty, none where they only stop.
 use Rattle.std.specs.Prelude.{◌≡◌, ℕ, suc, ◌+◌, ◌*◌, ◌<◌, ◌≤◌, ◌==◌, if◌then◌else◌, List, [], ◌∷◌, length}
 use Rattle.iss_request.specs.declared.ids.NodeId.{NodeId}
 use Rattle.iss_request.specs.declared.setups.Kind.{Kind}

@@ -1,4 +1,4 @@
--- Lists of slots.
+-- Strictly ascending lists of slots, none below a first one.
 use Rattle.std.specs.Prelude.{ℕ, suc, ◌≤◌, List, [], ◌∷◌}
 use Rattle.iss_request.specs.declared.ids.Slot.{Slot}
 

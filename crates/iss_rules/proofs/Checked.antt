@@ -1,4 +1,4 @@
--- What the model says of votes, certificates and pieces is what iss_checkpoint and iss_transfer test.
+-- The model's checks of votes, certificates and pieces are those of iss_checkpoint and iss_transfer.
 use Rattle.std.proofs.Common.{◌≡◌, ℕ, suc, ◌≤◌, Bool, true, false, ◌&&◌, eqb, nat_le, List, [], ◌∷◌, ◌++◌, length, reverse, take, refl, sym, ap, ap₂, ◌∙◌, subst}
 use Rattle.std.specs.Prelude.{nat_lt}
 use Rattle.std.proofs.lemmas.Bool.{le-leb}
@@ -24,7 +24,7 @@ use Rattle.iss_rules.proofs.Layouts.{sums}
 use Rattle.iss_rules.proofs.Reversed.{over-is}
 
 module _ (s : Setup) where
-  -- who signs is a node
+  -- a signer is a node
   sign-same : (by : ℕ) (statement sig : List ℕ) → is_signed (voters_of s (keys_of s)) statement by sig ≡ (rules_of s).verifies by statement sig
   sign-same by statement sig = go (is_verified_by (keys_of s).nodes by statement sig) refl
     where
@@ -38,7 +38,7 @@ module _ (s : Setup) where
           both (nat_lt by s.n) true (le-leb (suc by) s.n lt) refl
       go false q = none (nat_lt by s.n)
 
-  -- a vote verifies
+  -- a vote's signature is valid
   pub vote-same : (v : Vote) → is_signed (voters_of s (keys_of s)) (statement_of (voters_of s (keys_of s)) v) v.by.0 v.sig ≡
       all_verify (rules_of s) (claim_of_vote (rules_of s) v ∷ [])
   vote-same v = sign-same v.by.0 ((rules_of s).voted v.epoch.0 v.chain v.requests) v.sig ∙ sym (alone ((rules_of s).verifies v.by.0 _ v.sig))
@@ -51,7 +51,7 @@ module _ (s : Setup) where
   signs-same statement from [] = refl
   signs-same statement from (x ∷ xs) = ap₂ (λ (a b : Bool). nat_le from x.by.0 && (a && b)) (sign-same x.by.0 statement x.sig) (signs-same statement (suc x.by.0) xs)
 
-  -- a certificate is true
+  -- a certificate is valid
   pub cert-same : (c : Cert) → is_cert (voters_of s (keys_of s)) c ≡ is_true_cert (rules_of s) c
   cert-same c = ap (λ (b : Bool). eqb (length c.signers) s.quorum && b) (signs-same ((rules_of s).voted c.epoch.0 c.chain c.requests) 0 c.signers)
 
@@ -66,7 +66,7 @@ module _ (s : Setup) where
       ap (λ (k : ℕ). take k (reverse log)) (sym (sums s log e)) ∙
       (ap (λ (t : List Value). take n t) turned ∙ subst (λ (k : ℕ). take k (front ++ reverse part.0) ≡ front) long (take-append_seam front (reverse part.0)))
 
-  -- and with the values of a piece behind it
+  -- and the same followed by the values of a piece
   pub adopted-same : (log : List Value) (e : ℕ) (p : Piece) → start_of (rules_of s) log e ≤ length log →
       adopted_log s (reverse log) e p ≡ reverse (push_all p.values (cut_at (rules_of s) log e))
   adopted-same log e p far =
@@ -75,7 +75,7 @@ module _ (s : Setup) where
       sym (ap (λ (t : List Value). reverse t) (over-is p.values bf) ∙
       (reverse-append (reverse p.values) bf ∙ ap (λ (t : List Value). reverse bf ++ t) (reverse-reverse p.values)))
 
-  -- so a piece leads to the same end, and is hashed alike
+  -- so a piece leads to the same end, with the same strings hashed
   pub end-same : (log : List Value) (e : ℕ) (p : Piece) → start_of (rules_of s) log e ≤ length log →
       end_of s.version (adopted_log s (reverse log) e p) ≡ (rules_of s).end (push_all p.values (cut_at (rules_of s) log e))
   end-same log e p far = ap (λ (t : List Value). end_of s.version t) (adopted-same log e p far)

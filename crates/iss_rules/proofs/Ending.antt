@@ -1,4 +1,4 @@
--- The end of an epoch: the log stays as it is, and the next epoch starts where it ends.
+-- The end of an epoch: the log is unchanged, and the next epoch starts at its end.
 use Rattle.std.proofs.Common.{◌≡◌, inl, inr, ℕ, suc, ◌+◌, ◌≤◌, ◌<◌, true, List, [], ◌∷◌, ◌++◌, length, length-append, refl, sym, ap, ◌∙◌, subst, arith, le_antisymm, true≢false}
 use Rattle.std.proofs.lemmas.Bool.Decides.{leb_tells}
 use Rattle.iss_base.specs.Lists.{Extends}
@@ -11,7 +11,7 @@ use Rattle.iss_rules.specs.Rules.{Rules}
 use Rattle.iss_rules.proofs.Epochs.{epoch-high, start-mono, start-within}
 use Rattle.iss_rules.proofs.Longest.{Bounded, cell-epoch, longest}
 
--- epochs have slots, and no more than the most
+-- epochs have slots, and no more than the bound
 pub record HasSlots (R : Rules) : Type 0 where
   pub some : (log : List Value) (e : ℕ) → 0 < R.slots log e
   pub most : (log : List Value) (e : ℕ) → R.slots log e ≤ R.most
@@ -33,7 +33,7 @@ module _ (R : Rules) (h : HasSlots R) {Msg : Type 0} (M : Module Msg) (me : ℕ)
       (log-later R M me c (advanced c) (advanced-later R c (record { all = b.adopted })))
       (longest R h.some h.most M me c b (log_of R M me (advanced c)) (log-chain R M me (advanced c)))
 
-  -- a log holds no more than its epoch
+  -- a log holds no more than the node's epoch
   pub log-within : length (log_of R M me c) ≤ start_of R (log_of R M me c) (suc c.epoch)
   log-within = go (log_of R M me c) (log-chain R M me c)
     where
@@ -52,27 +52,27 @@ module _ (R : Rules) (h : HasSlots R) {Msg : Type 0} (M : Module Msg) (me : ℕ)
           ]
 
   module _ (complete : is_complete R M me c ≡ true) where
-    -- where the epoch is over, the log holds all of it
+    -- if the epoch is over, the log holds all of it
     pub complete-far : start_of R (log_of R M me c) (suc c.epoch) ≤ length (log_of R M me c)
     complete-far = elim (leb_tells (start_of R (log_of R M me c) (suc c.epoch)) (length (log_of R M me c))) [
       | inl t ↦ t.1
       | inr t ↦ absurd (true≢false (sym complete ∙ t.0))
     ]
 
-    -- and no more: the next epoch starts at its end
+    -- and no more: the next epoch starts at the log's end
     pub ended-start : start_of R (log_of R M me c) (suc c.epoch) ≡ length (log_of R M me c)
     ended-start = le_antisymm complete-far log-within
 
     pub ended-whole : ended_log R M me c ≡ log_of R M me c
     ended-whole = oldest-all (start_of R (log_of R M me c) (suc c.epoch)) (log_of R M me c) log-within
 
-    -- so the log is what stands before the next epoch
+    -- so the log is what the next epoch has before it
     pub before-advanced : before_own R M me (advanced c) ≡ log_of R M me c
     before-advanced = ap (λ (log : List Value). cut_at R log (suc c.epoch)) advanced-log ∙ ended-whole
 
     pub reached-advanced : start_of R (log_of R M me (advanced c)) (suc c.epoch) ≤ length (log_of R M me (advanced c))
     reached-advanced = subst (λ (log : List Value). start_of R log (suc c.epoch) ≤ length log) (sym advanced-log) complete-far
 
-  -- what stands before the node's epoch stands in the log
+  -- the log before the node's epoch is part of the log
   pub before-part : Extends (before_own R M me c) (log_of R M me c)
   before-part = oldest-part (start_of R (log_of R M me c) c.epoch) (log_of R M me c)

@@ -49,7 +49,7 @@ cut-extends R a b e x h = ap (λ (n : ℕ). oldest n b) (start-extends R a b e x
 pub length-cut : (R : Rules) (log : List Value) (e : ℕ) → start_of R log e ≤ length log → length (cut_at R log e) ≡ start_of R log e
 length-cut R log e h = length-oldest (start_of R log e) log h
 
--- the log before an epoch has that start for its length
+-- the length of the log before an epoch is the epoch's start
 pub start-cut : (R : Rules) (log : List Value) (e : ℕ) → start_of R log e ≤ length log → start_of R (cut_at R log e) e ≡ length (cut_at R log e)
 start-cut R log e h =
     let len : length (cut_at R log e) ≡ start_of R log e = length-cut R log e h in
@@ -78,7 +78,7 @@ module _ (R : Rules) (some : (log : List Value) (e : ℕ) → 0 < R.slots log e)
     | inr t ↦ rw t.0 t.1
   ]
 
-  -- and the next has not
+  -- and the next one has not
   pub epoch-high : (log : List Value) → length log < start_of R log (suc (epoch_at R log))
   epoch-high log = climb-high log (length log) 0 (omega arith)
 
@@ -87,7 +87,7 @@ module _ (R : Rules) (some : (log : List Value) (e : ℕ) → 0 < R.slots log e)
       (elim (leb_tells (epoch_at R log) e) [ inl t ↦ t.1 | inr t ↦ absurd (omega (arith, start-mono R log (suc e) (epoch_at R log) t.1, epoch-low R log)) ])
       (elim (leb_tells e (epoch_at R log)) [ inl t ↦ t.1 | inr t ↦ absurd (omega (arith, start-mono R log (suc (epoch_at R log)) e t.1, epoch-high log)) ])
 
-  -- epochs do not fall
+  -- later slots are of the same or a later epoch
   pub epoch-mono : (low older : List Value) → Extends low older → epoch_at R low ≤ epoch_at R older
   epoch-mono low older x = elim (leb_tells (epoch_at R low) (epoch_at R older)) [
     | inl t ↦ t.1
@@ -99,7 +99,7 @@ module _ (R : Rules) (some : (log : List Value) (e : ℕ) → 0 < R.slots log e)
         absurd (omega (arith, epoch-high older, same, in_low, extends-length low older x))
   ]
 
-  -- a value of an earlier epoch stands before the later one
+  -- a value of an earlier epoch is before the later epoch
   pub epoch-below : (low older : List Value) → Extends low older → epoch_at R low < epoch_at R older → length low < start_of R older (epoch_at R older)
   epoch-below low older x lt = elim (leb_tells (start_of R older (epoch_at R older)) (length low)) [
     | inr t ↦ t.1
@@ -108,7 +108,7 @@ module _ (R : Rules) (some : (log : List Value) (e : ℕ) → 0 < R.slots log e)
         absurd (omega (arith, same, t.1, start-mono R low (suc (epoch_at R low)) (epoch_at R older) lt, epoch-high low))
   ]
 
-  -- in one epoch the log before it is one
+  -- values of one epoch have the same log before it
   pub before-same : (low older : List Value) → Extends low older → epoch_at R low ≡ epoch_at R older → before_at R low ≡ before_at R older
   before-same low older x q = sym (cut-extends R low older (epoch_at R low) x (epoch-low R low)) ∙ ap (λ (e : ℕ). cut_at R older e) q
 

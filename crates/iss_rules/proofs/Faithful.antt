@@ -1,4 +1,4 @@
--- What formats owe.
+-- What packet formats must satisfy.
 use Rattle.std.specs.Prelude.{◌≡◌, ◌⊎◌, ℕ, ◌<◌, Bool, true, false, List, Some, None}
 use Rattle.iss_base.specs.Lists.{In}
 use Rattle.iss_request.specs.Fields.{IsReadAgain}
@@ -10,7 +10,7 @@ use Rattle.iss_sb.specs.Evidence.{Module}
 use Rattle.iss_transfer.specs.declared.pieces.Piece.{Piece}
 use Rattle.iss_rules.specs.Parcels.{Body, Formats, OfAsk, OfModule, OfPiece, OfRequest, OfVote, Parcel}
 
--- what was written is read back, or is no packet
+-- what was encoded decodes to itself, or to nothing
 abbrev pub IsReadBack : {Msg : Type 0} → Formats Msg → Parcel Msg → Type 0
 IsReadBack F k = (F.unwrap (F.wrap k) ≡ Some k) ⊎ (F.unwrap (F.wrap k) ≡ None)
 
@@ -22,13 +22,13 @@ is_message OfAsk = false
 is_message (OfPiece p) = false
 is_message (OfRequest q) = false
 
--- a value that is read again from its spelling
+-- a value that decodes from its encoding
 abbrev pub IsReadValue : Setup → Value → Type 0
 IsReadValue s v = IsReadAgain (spell_value s.version) (parse_value s.version) v
 
--- what the formats owe: of what is written, a node's messages and requests, and that nothing else is read as a message; and of
--- what is read, that a request has a spelling, that a module's message came under a node's name and is read again of its own
--- bytes, and that the values of a piece are
+-- Formats are faithful: a node's messages and requests decode as encoded, and nothing else decodes to a message. A
+-- decoded request has an encoding. A decoded message has an existing sender, and decodes from its own encoding; so do
+-- the values of a piece.
 pub record IsFaithful {Msg : Type 0} (s : Setup) (F : Formats Msg) (M : Module Msg) : Type 0 where
   pub messages : (from e l : ℕ) (msg : Msg) → from < s.n → l < s.n →
       IsReadBack F (record { from = from; epoch = e; body = OfModule l msg })

@@ -1,5 +1,5 @@
--- What is read of packets: a module's message came under a node's name and is read again of its bytes, as the values of a piece
--- are; and a request has a spelling.
+-- What is decoded from packets: a module's message has an existing sender and decodes from its own encoding, as do the
+-- values of a piece; a request has an encoding.
 use Rattle.std.proofs.Common.{◌≡◌, inl, inr, ℕ, suc, ◌<◌, true, false, ◌&&◌, List, [], ◌∷◌, Option, Some, None, refl, sym, ap, ◌∙◌, subst, arith, true≢false}
 use Rattle.std.specs.Prelude.{nat_lt}
 use Rattle.std.proofs.lemmas.Bool.Decides.{leb_tells}
@@ -37,14 +37,14 @@ routed version n bytes p = go (parse_packet version n bytes) refl
     go (Good q (b ∷ rest)) e h = absurd (none-some p h)
     go (Bad at) e h = absurd (none-some p h)
 
--- a module's message comes under a node's name
+-- a module's message has an existing sender
 pub sender : (n : ℕ) (p : Packet) → p.kind ≡ Message → is_routed n p ≡ true → p.from < n
 unfolding is_routed
 sender n p q h =
     let k : (nat_lt p.from n && nat_lt p.leader n) ≡ true = subst (λ (z : PacketKind). is_routed_as n z p.from p.epoch.0 p.leader ≡ true) q h in
     elim (leb_tells (suc p.from) n) [ inl t ↦ t.1 | inr t ↦ absurd (true≢false (sym (and-true (nat_lt p.from n) (nat_lt p.leader n) k).0 ∙ t.0)) ]
 
--- what was read of bytes is read again, whatever stands behind it
+-- what was decoded decodes again, whatever follows it
 again : {A : Type 0} (spell : A → List ℕ) (parse : List ℕ → Parsed A) → IsGrammar spell parse → (bytes : List ℕ) (x : A) → whole (parse bytes) ≡ Some x →
     IsReadAgain spell parse x
 again {A} spell parse grammar bytes x h = go (parse bytes) refl h
@@ -54,7 +54,7 @@ again {A} spell parse grammar bytes x h = go (parse bytes) refl h
     go (Good y (b ∷ more)) e k = absurd (none-some x k)
     go (Bad at) e k = absurd (none-some x k)
 
--- which of its five kinds a body is
+-- the kind of a content
 abbrev pub sort_of : {Msg : Type 0} → Body Msg → ℕ
 sort_of (OfModule l msg) = 0
 sort_of (OfVote v) = 1
@@ -96,7 +96,7 @@ module _ {Msg : Type 0} (k : Parcel Msg) where
   other-sort : (b : Body Msg) (n m : ℕ) → k.body ≡ b → sort_of b ≡ m → sort_of k.body ≡ n → (n ≡ m → ⊥) → ⊥
   other-sort b n m q is has apart = apart (sym has ∙ (ap (λ (x : Body Msg). sort_of x) q ∙ is))
 
--- values in a row are read again
+-- values in sequence decode again
 values-read : (version : ℕ) (vs : List Value) (bytes : List ℕ) → AreSpelledValues version vs bytes → (v : Value) → In v vs →
     IsReadAgain (spell_value version) (parse_value version) v
 values-read version [] bytes h v i = absurd i
@@ -104,7 +104,7 @@ values-read version (u ∷ vs) bytes h v (inl q) = subst (λ (z : Value). IsRead
     (read-again (spell_value version) (parse_value version) (value_grammar version) h.0 [] u ((value_related version u h.0).1 h.2))
 values-read version (u ∷ vs) bytes h v (inr i) = values-read version vs h.1 h.3 v i
 
--- so are those of a piece
+-- so do those of a piece
 pub pieces-read : {Msg : Type 0} (s : Setup) (M : Module Msg) (bytes : List ℕ) (k : Parcel Msg) (x : Sent_piece) → (formats_of s M).unwrap bytes ≡ Some k →
     k.body ≡ OfPiece x → (v : Value) → In v x.values → IsReadValue s v
 pieces-read {Msg} s M bytes k x u b v i = packet (whole (parse_packet s.version s.n bytes)) u
@@ -136,7 +136,7 @@ pieces-read {Msg} s M bytes k x u b v i = packet (whole (parse_packet s.version 
     packet None h = absurd (none-some k h)
     packet (Some p) h = kind p p.kind h
 
--- a request that is read has a spelling
+-- a decoded request has an encoding
 pub requests-spelled : {Msg : Type 0} (s : Setup) (M : Module Msg) (bytes : List ℕ) (k : Parcel Msg) (q : Request) → (formats_of s M).unwrap bytes ≡ Some k →
     k.body ≡ OfRequest q → HasSpelling q
 requests-spelled {Msg} s M bytes k q u b = packet (whole (parse_packet s.version s.n bytes)) u

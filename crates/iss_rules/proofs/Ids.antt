@@ -1,4 +1,4 @@
--- Tests on identities tell what they say.
+-- What tests on identities mean.
 use Rattle.std.proofs.Common.{◌≡◌, ◌⊎◌, inl, inr, Bool, true, false, ◌||◌, List, [], ◌∷◌, ◌++◌, refl, sym, ap, ◌∙◌, true≢false}
 use Rattle.iss_base.specs.Lists.{In, Different}
 use Rattle.iss_base.proofs.Lists.{in_append, in_left, in_right}

@@ -1,4 +1,4 @@
--- What the judge says of a batch, when it accepts one, and what two batches of one list tell.
+-- What a verdict means for a batch, when the judge accepts it, and what it implies for two batches of one list.
 use Rattle.std.proofs.Common.{◌≡◌, ◌≢◌, inl, inr, ℕ, suc, ◌≤◌, Bool, true, false, cond, eqb, not, List, [], ◌∷◌, ◌++◌, length, Option, Some, None, refl, sym, ap, ◌∙◌, arith, true≢false}
 use Rattle.std.specs.Prelude.{nat_lt}
 use Rattle.std.proofs.lemmas.Bool.Decides.{leb_tells}
@@ -15,7 +15,7 @@ use Rattle.iss_rules.specs.Judge.{any, any_marked, judge, marks}
 use Rattle.iss_rules.specs.Rules.{Rules}
 use Rattle.iss_rules.proofs.Ids.{has-not, ids-in, not-has}
 
--- each entry of an accept list was accepted over the marks of the older ones
+-- each entry of an accept list was accepted given the marks of the older ones
 abbrev pub Judged : Rules → List Value → ℕ → ℕ → List (Slot × Batch) → Type 0
 Judged R before e l [] = Unit {0}
 Judged R before e l (x ∷ xs) = Judged R before e l xs × (judge R before e l (marks xs) x.1 ≡ None)
@@ -29,7 +29,7 @@ none-any : {A : Type 0} (p : A → Bool) (xs : List A) → ((x : A) → In x xs 
 none-any p [] h = refl
 none-any p (y ∷ ys) h = neither (p y) (any p ys) (h y (inl refl)) (none-any p ys (λ x i. h x (inr i)))
 
--- identities of which none is marked, and none stands twice
+-- the identities are unmarked and distinct
 unmarked-are : (marked xs : List ReqId) → any_marked marked xs ≡ false → ((x : ReqId) → In x xs → In x marked → ⊥) × Different xs
 unmarked-are marked [] h = (λ x i. absurd i, tt)
 unmarked-are marked (y ∷ ys) h =
@@ -42,7 +42,7 @@ are-unmarked marked [] apart d = refl
 are-unmarked marked (y ∷ ys) apart d = neither (has_id y marked) (any_marked (y ∷ marked) ys) (has-not y marked (apart y (inl refl)))
     (are-unmarked (y ∷ marked) ys (λ x i. elim [ inl e ↦ d.0 (rw (← e) i) | inr j ↦ apart x (inr i) j ]) d.1)
 
--- what each test of the judge says
+-- what each check of the judge means
 pub record Accepted (R : Rules) (before : List Value) (e l : ℕ) (marked : List ReqId) (batch : Batch) : Type 0 where
   pub few : length batch ≤ R.batch
   pub owner : (q : Request) → In q batch → R.owner before e q.id ≡ l
@@ -52,7 +52,7 @@ pub record Accepted (R : Rules) (before : List Value) (e l : ℕ) (marked : List
   pub unmarked : (x : ReqId) → In x (ids batch) → In x marked → ⊥
   pub different : Different (ids batch)
 
--- a refusal that is none comes from a test that failed
+-- no refusal means that each check passed
 passed : (b : Bool) (x : Refusal) (more : Option Refusal) → cond b (Some x) more ≡ None → (b ≡ false) × (more ≡ None)
 passed true x more h = absurd (cc)
 passed false x more h = (refl, h)
@@ -100,7 +100,7 @@ module _ (R : Rules) (before : List Value) (e l : ℕ) (marked : List ReqId) (ba
         different = m.1;
       }
 
-  -- a batch that passes each test is accepted
+  -- a batch that passes each check is accepted
   pub accepts-it : Accepted R before e l marked batch → judge R before e l marked batch ≡ None
   accepts-it a =
       pass _ _ _ (elim (leb_tells (suc R.batch) (length batch)) [ inl t ↦ absurd (omega (arith, t.1, a.few)) | inr t ↦ t.0 ])
@@ -118,7 +118,7 @@ pub unordered-of : (R : Rules) (before : List Value) (e l : ℕ) (marked : List 
     In x (ids batch) → In x (log_ids before) → ⊥
 unordered-of R before e l marked batch a x i = let r = ids-in x batch i in rw r.2 (a.unordered r.0 r.1)
 
--- over the marks of the older entries
+-- given the marks of the older entries
 pub entry-judged : (R : Rules) (before : List Value) (e l : ℕ) (xs : List (Slot × Batch)) → Judged R before e l xs → (x : Slot × Batch) → In x xs →
     (newer : List (Slot × Batch)) × (older : List (Slot × Batch)) × (xs ≡ newer ++ (x ∷ older)) × (judge R before e l (marks older) x.1 ≡ None)
 entry-judged R before e l [] j x i = absurd i
@@ -131,7 +131,7 @@ in-marks z x [] i h = absurd i
 in-marks z x (y ∷ ys) (inl q) h = in_left z (ids y.1) (marks ys) (rw (← q) h)
 in-marks z x (y ∷ ys) (inr i) h = in_right z (ids y.1) (marks ys) (in-marks z x ys i h)
 
--- an identity stands at one slot of a judged list
+-- an identity is at one slot of a judged list
 pub one-slot : (R : Rules) (before : List Value) (e l : ℕ) (xs : List (Slot × Batch)) → Judged R before e l xs → (x y : Slot × Batch) → In x xs → In y xs →
     x.0.0 ≢ y.0.0 → (z : ReqId) → In z (ids x.1) → In z (ids y.1) → ⊥
 one-slot R before e l [] j x y ix iy ne z zx zy = absurd ix

@@ -46,19 +46,19 @@ least-is a b h = elim (leb_tells a b) [ inl t ↦ rw t.0 refl | inr t ↦ absurd
 least-low : (a b : ℕ) → least a b ≤ b
 least-low a b = elim (leb_tells a b) [ inl t ↦ rw t.0 t.1 | inr t ↦ rw t.0 (omega arith) ]
 
--- epochs are of one length as yet
+-- all epochs have the same length
 pub sums : (s : Setup) (log : List Value) (e : ℕ) → start_by (slots_at s) log e ≡ e * s.epoch
 sums s log zero = omega arith
 sums s log (suc e) = let before = sums s log e in omega (arith, before)
 
--- so an epoch whose slots are all numbers below 2^64 starts where a multiple of that length is
+-- so an epoch whose slots are below 2^64 starts at a multiple of that length
 pub start-times : (s : Setup) (log : List Value) (e : ℕ) → e * s.epoch + s.epoch ≤ 2 ^ 64 → start_at s log e ≡ e * s.epoch
 start-times s log zero fits = omega arith
 start-times s log (suc e) fits =
     let sum = sums s log (suc e) in
     least-is (start_by (slots_at s) log (suc e)) (2 ^ 64 - s.epoch) (omega (arith, sum, fits)) ∙ sum
 
--- each epoch's slots are
+-- the slots of each epoch are below 2^64
 start-low : (s : Setup) → s.epoch ≤ 64 → (log : List Value) (e : ℕ) → start_at s log e + s.epoch ≤ 2 ^ 64
 start-low s few log zero = omega (arith, few)
 start-low s few log (suc e) =
@@ -73,7 +73,7 @@ segment-low : (p : Plan) (l bound : ℕ) → first_slot p + p.slots ≤ bound �
 segment-low p l bound fits = below-all bound (segment p l)
     (λ x i. let within = ((segment_slots p l x).0 i).0 in let high = within.1 in omega (arith, high, fits))
 
--- what a node signs verifies by the rules
+-- a node's own signature is valid by the rules
 pub own-verifies : (s : Setup) (k q : ℕ) (statement : List ℕ) → s.keys ≤ 12 → q < 2 ^ s.keys → k < s.n →
     (rules_of s).verifies k statement (signature_of (node_secret k) s.keys q statement) ≡ true
 own-verifies s k q statement high leaf number =
@@ -125,7 +125,7 @@ module _ {Msg : Type 0} (M : Module Msg) (s : Setup) (h : IsSetupOf M s) where
     signers = λ k statement sig v. (verified-by (keys_of s).nodes k statement sig).0 v;
   }
 
--- rules are as sound under another judgement of requests' signatures
+-- rules stay sound with another check of requests' signatures
 pub however-signed : {Msg : Type 0} (M : Module Msg) (s : Setup) (R : Rules) (signed : Request → Bool) → IsSoundRules s M R →
     IsSoundRules s M (record R { signed = signed })
 however-signed M s R signed h = record {
@@ -140,7 +140,7 @@ however-signed M s R signed h = record {
   signers = h.signers;
 }
 
--- what a client signs by the leaf of the request's number is signed
+-- a request that a client signs with the leaf of its number is validly signed
 pub request-signed : (s : Setup) (client number : ℕ) (payload : List ℕ) → s.keys ≤ 12 → client < s.clients → number < 2 ^ s.keys → length payload ≤ 256 →
     (rules_of s).signed (request_of s client number payload) ≡ true
 request-signed s client number payload high below leaf few =
@@ -161,7 +161,7 @@ sized h (x ∷ rest) low high e q =
     both (is_height x) _ (both (nat_le 2 x) (nat_le x 12) (le-leb 2 x (rw first low)) (le-leb x 12 (rw first high)))
     (subst (λ (n : ℕ). eqb (length rest) n ≡ true) long (eqb-same (length rest)))
 
--- what is signed has a spelling
+-- a signed request has an encoding
 pub signed-spelled : (s : Setup) → 2 ≤ s.keys → s.keys ≤ 12 → (q : Request) → (rules_of s).signed q ≡ true → HasSpelling q
 signed-spelled s low high q h =
     let statement : List ℕ = request_statement q.id q.payload in

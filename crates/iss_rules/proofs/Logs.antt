@@ -1,4 +1,4 @@
--- The log of one core: each value stands in its cell, and it grows with the evidence.
+-- The log of one core: each value is in its cell, and the log grows with the histories.
 use Rattle.std.proofs.Common.{◌≡◌, ◌≢◌, inl, inr, ℕ, suc, zero, ◌+◌, ◌-◌, ◌*◌, ◌≤◌, ◌<◌, List, [], ◌∷◌, ◌++◌, length, Option, Some, None, refl, sym, ◌∙◌, arith, append_assoc, mul-le-mul_right}
 use Rattle.std.proofs.lemmas.Bool.Decides.{leb_tells}
 use Rattle.iss_base.specs.Lists.{Extends, Chain}
@@ -14,7 +14,7 @@ use Rattle.iss_rules.proofs.Epochs.{cut-extends}
 abbrev pub IsLog : {Msg : Type 0} → Rules → Module Msg → ℕ → Past Msg → List Value → Type 0
 IsLog R M me c = Chain (λ older v. cell R M me c older ≡ Some v)
 
--- more evidence delivers what less did
+-- a longer history delivers what a shorter one did
 pub delivered-append : {Msg : Type 0} (M : Module Msg) (p : Params) (me : ℕ) (newer xs : List (Item Msg)) (s : ℕ) (v : Value) →
     delivered M p me xs s ≡ Some v → delivered M p me (newer ++ xs) s ≡ Some v
 delivered-append M p me [] xs s v h = h
@@ -26,7 +26,7 @@ pub adopted-append : (newer ps : List Piece) (e k : ℕ) (v : Value) → adopted
 adopted-append [] ps e k v h = h
 adopted-append (p ∷ newer) ps e k v h = let q : adopted_at (newer ++ ps) e k ≡ Some v = adopted-append newer ps e k v h in rw q refl
 
--- d comes after c: evidence grows in the current epoch alone, and what was adopted is of earlier epochs
+-- d is later than c: histories grew in the current epoch only, and newly adopted values are of earlier epochs
 pub record Later (R : Rules) {Msg : Type 0} (c d : Past Msg) : Type 0 where
   pub epoch : c.epoch ≤ d.epoch
   pub here : (l : ℕ) → (newer : List (Item Msg)) × (d.evidence c.epoch l ≡ newer ++ c.evidence c.epoch l)
@@ -107,7 +107,7 @@ pub logs-meet : (R : Rules) {Msg : Type 0} (M : Module Msg) (me : ℕ) (c : Past
     length a ≤ length b → Extends a b
 logs-meet R M me c a b = let P : List Value → Value → Type 0 = λ older v. cell R M me c older ≡ Some v in chains-meet P P (λ older v u _ _ p q. cc) a b
 
--- what the laters of moves share
+-- what later moves share
 pub record Settled (R : Rules) {Msg : Type 0} (c : Past Msg) : Type 0 where
   pub all : (e k : ℕ) (v : Value) → adopted_at c.adopted e k ≡ Some v → e < c.epoch
 
@@ -124,7 +124,7 @@ takes-later R M me c l input leaf h = record {
   settled = h.all;
 }
 
--- a log in which no cell below n is empty reaches n
+-- a log without an empty cell below n reaches n
 pub grow-far : (R : Rules) {Msg : Type 0} (M : Module Msg) (me : ℕ) (d : Past Msg) (n : ℕ) →
     ((xs : List Value) → IsLog R M me d xs → length xs < n → cell R M me d xs ≡ None → ⊥) → (fuel : ℕ) (log : List Value) → IsLog R M me d log →
     n ≤ length log + fuel → n ≤ length (grow R M me d fuel log)

@@ -1,4 +1,4 @@
--- The log of a node is the longest of its logs, and goes on from any of them.
+-- A node's log is the longest of its logs, and continues each of them.
 use Rattle.std.proofs.Common.{◌≡◌, inl, inr, ℕ, suc, zero, ◌+◌, ◌-◌, ◌*◌, ◌≤◌, ◌<◌, List, [], ◌∷◌, ◌++◌, length, Option, Some, None, refl, sym, ap, ◌∙◌, arith}
 use Rattle.std.proofs.lemmas.Bool.Decides.{leb_tells}
 use Rattle.iss_base.specs.Lists.{Chain, Extends}
@@ -10,7 +10,7 @@ use Rattle.iss_rules.proofs.Logs.{IsLog, log-chain, logs-meet}
 use Rattle.iss_rules.specs.Rules.{Rules}
 use Rattle.iss_rules.proofs.Epochs.{epoch-high, start-most, start-mono}
 
--- a log grows from any of its beginnings
+-- a log continues each of its prefixes
 pub grow-resume : (R : Rules) {Msg : Type 0} (M : Module Msg) (me : ℕ) (c : Past Msg) (log : List Value) → IsLog R M me c log → (m : ℕ) →
     grow R M me c (length log + m) [] ≡ grow R M me c m log
 grow-resume R M me c [] h m = ap (λ (n : ℕ). grow R M me c n []) (let q : 0 + m ≡ m = omega arith in q)
@@ -18,7 +18,7 @@ grow-resume R M me c (v ∷ older) h m =
     let more : length (v ∷ older) + m ≡ length older + suc m = omega arith in
     ap (λ (n : ℕ). grow R M me c n []) more ∙ (grow-resume R M me c older h.0 (suc m) ∙ ap (λ (o : Option Value). grown o older (grow R M me c m)) h.1)
 
--- no cell is filled past the node's epoch
+-- no cell after the node's epoch is filled
 pub record Bounded {Msg : Type 0} (c : Past Msg) : Type 0 where
   pub evidence : (e l : ℕ) → c.epoch < e → c.evidence e l ≡ []
   pub adopted : (e k : ℕ) (v : Value) → adopted_at c.adopted e k ≡ Some v → e < c.epoch

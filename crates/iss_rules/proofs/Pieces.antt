@@ -1,4 +1,4 @@
--- A piece that has a value for each slot of a node's epoch fills the epoch.
+-- A piece with one value for each slot of a node's epoch fills the epoch.
 use Rattle.std.proofs.Common.{◌≡◌, inl, inr, ℕ, suc, ◌+◌, ◌-◌, ◌*◌, ◌≤◌, ◌<◌, Bool, true, false, cond, eqb, List, [], ◌∷◌, ◌++◌, length, Some, None, refl, sym, ap, ap₂, ◌∙◌, subst, arith, suc-mul}
 use Rattle.std.proofs.lemmas.Bool.Decides.{leb_tells}
 use Rattle.iss_base.specs.Lists.{Chain, Extends, nth, oldest}

@@ -1,4 +1,4 @@
--- Lists of values that are turned round.
+-- Lists of values in reverse order.
 use Rattle.std.proofs.Common.{◌≡◌, List, [], ◌∷◌, ◌++◌, reverse, refl, sym, ap, ◌∙◌, append_assoc}
 use Rattle.std.proofs.lemmas.List.{reverse-append, reverse-reverse}
 use Rattle.iss_base.specs.Lists.{push_all}

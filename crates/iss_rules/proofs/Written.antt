@@ -1,4 +1,4 @@
--- What is written as a packet is read back, or is no packet.
+-- What is encoded as a packet decodes to itself, or to nothing.
 use Rattle.std.proofs.Common.{◌≡◌, ◌⊎◌, inl, inr, ℕ, false, List, [], Some, None, refl, sym, ap, ◌∙◌, append-nil, subst, true≢false}
 use Rattle.iss_base.proofs.Lists.{none-some}
 use Rattle.iss_packet.specs.Packets.{parse_packet, spell_packet}
@@ -15,7 +15,7 @@ use Rattle.iss_rules.specs.Parcels.{Body, OfAsk, OfModule, OfPiece, OfRequest, O
 use Rattle.iss_rules.proofs.Faithful.{IsFaithful, IsReadBack, is_message}
 use Rattle.iss_rules.proofs.FromNodes.{are-read, ask-sort, no-message, piece-sort, pieces-read, request-sort, requests-spelled, vote-sort}
 
--- a thing that is spelled is read as itself, or not at all
+-- an encoding decodes to its own value, or to nothing
 whole-spelled : {A : Type 0} (spell : A → List ℕ) (parse : List ℕ → Parsed A) → IsGrammar spell parse → (x : A) →
     (whole (parse (spell x)) ≡ Some x) ⊎ (whole (parse (spell x)) ≡ None)
 whole-spelled spell parse grammar x = elim (grammar.whole x) [
@@ -46,7 +46,7 @@ module _ {Msg : Type 0} (s : Setup) (M : Module Msg) (grammar : (version : ℕ) 
     ]
   ]
 
-  -- a packet that is no message's is read as none
+  -- a packet of another kind decodes to no message
   of-kind : (p : Packet) (j : Parcel Msg) → parcel_in M s.version (whole (parse_packet s.version s.n (spell_packet s.version p))) ≡ Some j →
       parcel_of_kind M s.version p p.kind ≡ Some j
   of-kind p j h = elim (read-again p) [

@@ -1,4 +1,4 @@
--- What stands in the book of signed statements.
+-- An entry of the book of signed statements: who signed, and what.
 use Rattle.std.specs.Prelude.{ℕ, List}
 
 pub record Signed : Type 0 where

@@ -1,4 +1,7 @@
--- The rules of a cluster under its set-up.
+-- The rules of a cluster, taken from its set-up: the layout gives leaders and buckets, the windows the admitted
+-- numbers, and keys that follow from the numbers of nodes and clients give signatures. An epoch starts at the sum of
+-- the lengths before it, and never so late that a slot would pass 2^64. A request is signed by its client over
+-- identity and payload; a client that does not exist has no key.
 use Rattle.std.specs.Prelude.{ℕ, zero, suc, ◌-◌, ◌^◌, ◌&&◌, Bool, List, ◌∷◌, ◌++◌, length, reverse, cond, nat_le, nat_lt, Option, Some, None}
 use Rattle.std.specs.Int.{to_be_bytes, w16, w32}
 use Rattle.iss_checkpoint.specs.Votes.{vote_statement}
@@ -21,40 +24,43 @@ abbrev pub number_of : Option NodeId → ℕ
 number_of None = 0
 number_of (Some l) = l.0
 
--- every epoch has K slots
+-- every epoch has the set-up's number of slots
 abbrev pub slots_at : Setup → List Value → ℕ → ℕ
 slots_at s log e = s.epoch
 
 abbrev pub least : ℕ → ℕ → ℕ
 least a b = cond (nat_le a b) a b
 
--- where an epoch starts, by the log before it: the sum of the lengths of those before it. Slots are numbers below 2^64, so
--- that no epoch is given a start from which it would pass them
+-- Where an epoch starts: the sum of the lengths of the epochs before it. Slots are below 2^64, so a start is capped
+-- such that its epoch stays below that.
 -- rule: Layout: An epoch begins where the one before it ends
 abbrev pub start_at : Setup → List Value → ℕ → ℕ
 start_at s log zero = 0
 start_at s log (suc e) = least (start_by (slots_at s) log (suc e)) (2 ^ 64 - slots_at s log (suc e))
 
--- its division
+-- how the layout divides the epoch among its leaders
 abbrev pub plan_at : Setup → List Value → ℕ → Plan
 plan_at s log e = plan_of s e (start_at s log e) log
 
--- the keys of all nodes and clients
+-- the public keys of all nodes and clients
 abbrev pub keys_of : Setup → DirectoryView
 keys_of s = directory_of s.n s.clients s.keys
 
--- what a client signs: a byte that no other statement begins with, who it is, the request's number, and the payload behind its length
+-- What a client signs: a first byte that no other statement has, the client, the request's number, and the payload
+-- after its length.
 -- rule: Signatures: A client signs its number, the request's number, and the payload after its length
 abbrev pub request_statement : ReqId → List ℕ → List ℕ
-request_statement id payload = 0x30 ∷ id.client ∷ to_be_bytes w32 id.number ++ to_be_bytes w16 (length payload) ++ payload
+request_statement id payload = 0x30 ∷ id.client ∷ to_be_bytes w32 id.number ++ to_be_bytes w16 (length payload)
+    ++ payload
 
--- whether a request is signed by its client. No statement has a number of more than four bytes, nor a payload of more than 256
+-- Whether the client signed the request. Its number must fit four bytes, and its payload is at most 256 bytes.
 -- rule: Signatures: A request is signed if its signature verifies under its client's key
 abbrev pub is_signed_by : DirectoryView → Request → Bool
 is_signed_by d q =
-    nat_lt q.id.number (2 ^ 32) && (nat_le (length q.payload) 256 && is_verified_by d.clients q.id.client (request_statement q.id q.payload) q.sig)
+    nat_lt q.id.number (2 ^ 32) && (nat_le (length q.payload) 256 &&
+    is_verified_by d.clients q.id.client (request_statement q.id q.payload) q.sig)
 
--- epochs are divided by the layout, and nodes and clients sign by their keys
+-- the rules of a set-up: the layout divides epochs, and signatures are of the nodes' and clients' keys
 abbrev pub rules_of : Setup → Rules
 rules_of s =
     record {
@@ -82,9 +88,13 @@ rules_of s =
       signature = λ me leaf statement. signature_of (node_secret me) s.keys leaf statement;
     }
 
--- a request that its client signed, by the leaf of the request's number
+-- a request signed by its client, with the leaf of the request's number
 -- rule: Signatures: A request of a schedule is signed by its client, with the leaf of its number
 abbrev pub request_of : Setup → ℕ → ℕ → List ℕ → Request
 request_of s client number payload =
     let id : ReqId = record { client = client; number = number } in
-    record { id = id; payload = payload; sig = signature_of (client_secret client) s.keys number (request_statement id payload) }
+    record {
+      id = id;
+      payload = payload;
+      sig = signature_of (client_secret client) s.keys number (request_statement id payload);
+    }

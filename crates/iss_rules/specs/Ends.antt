@@ -1,8 +1,10 @@
--- Why a run ends.
+-- Why a run ends early: a claim of a correct node that it never made, or two different strings with one digest. Either
+-- is evidence that a cryptographic assumption failed.
 use Rattle.std.specs.Prelude.{ℕ, List}
 use Rattle.iss_sb.specs.declared.effects.Claim.{Claim}
 
--- why a run ended: a claim that its node never made, or different strings of one digest, of which the first was hashed before
+-- The evidence that stops a run: a valid signature of a correct node that the node never made, or two different strings
+-- with one digest (`first` was hashed earlier).
 pub data End : Type 0 where
   Forged : (claim : Claim) → End
   Collision : (first second : List ℕ) → End

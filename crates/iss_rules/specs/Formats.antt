@@ -1,4 +1,5 @@
--- How a node's packets are written in bytes, and read.
+-- How packets are encoded and decoded under a set-up. A module's message uses the module's own encoding in the
+-- packet's body. Node and epoch of a vote and of a piece are the packet's. Bytes must be used up.
 use Rattle.std.specs.Prelude.{ℕ, [], ◌∷◌, Option, Some, None}
 use Rattle.iss_checkpoint.specs.Bodies.{parse_vote, spell_vote}
 use Rattle.iss_checkpoint.specs.declared.votes.Vote.{Vote as Voted}
@@ -16,23 +17,47 @@ use Rattle.iss_transfer.specs.declared.pieces.Ask.{Ask as Asked_for}
 use Rattle.iss_transfer.specs.declared.pieces.Piece.{Piece as Sent_piece}
 use Rattle.iss_rules.specs.Parcels.{Body, Formats, OfAsk, OfModule, OfPiece, OfRequest, OfVote, Parcel}
 
--- the thing that takes up all of the bytes
+-- what was parsed, if it takes up all of the bytes
 abbrev pub whole : {A : Type 0} → Parsed A → Option A
 whole (Good thing []) = Some thing
 whole (Good thing (b ∷ rest)) = None
 whole (Bad at) = None
 
--- a parcel as a packet: only a module's message is in the name of a leader
+-- a parcel as a packet; only a module's message names a leader
 abbrev pub packet_as : {Msg : Type 0} → Module Msg → ℕ → ℕ → ℕ → Body Msg → Packet
 packet_as M version from e (OfModule l msg) =
     record { kind = Message; from = from; epoch = record { 0 = e }; leader = l; body = M.spell version msg }
-packet_as M version from e (OfVote v) = record { kind = Vote; from = from; epoch = record { 0 = e }; leader = 0; body = spell_vote v }
+packet_as M version from e (OfVote v) = record {
+  kind = Vote;
+  from = from;
+  epoch = record { 0 = e };
+  leader = 0;
+  body = spell_vote v;
+}
 packet_as M version from e OfAsk =
-    record { kind = Ask; from = from; epoch = record { 0 = e }; leader = 0; body = spell_ask (record { epoch = record { 0 = e } }) }
-packet_as M version from e (OfPiece p) = record { kind = Piece; from = from; epoch = record { 0 = e }; leader = 0; body = spell_piece version p }
-packet_as M version from e (OfRequest q) = record { kind = Kind_request; from = from; epoch = record { 0 = e }; leader = 0; body = spell_request q }
+    record {
+      kind = Ask;
+      from = from;
+      epoch = record { 0 = e };
+      leader = 0;
+      body = spell_ask (record { epoch = record { 0 = e } });
+    }
+packet_as M version from e (OfPiece p) = record {
+  kind = Piece;
+  from = from;
+  epoch = record { 0 = e };
+  leader = 0;
+  body = spell_piece version p;
+}
+packet_as M version from e (OfRequest q) = record {
+  kind = Kind_request;
+  from = from;
+  epoch = record { 0 = e };
+  leader = 0;
+  body = spell_request q;
+}
 
--- what a body of each kind holds; votes, asks and pieces are of the packet's epoch, and a vote of its sender
+-- The content of a packet by its kind. Votes, asks and pieces are of the packet's epoch, and a vote is its sender's.
 abbrev pub message_in : {Msg : Type 0} → Packet → Option Msg → Option (Parcel Msg)
 message_in p None = None
 message_in p (Some msg) = Some (record { from = p.from; epoch = p.epoch.0; body = OfModule p.leader msg })
@@ -64,7 +89,7 @@ abbrev pub parcel_in : {Msg : Type 0} → Module Msg → ℕ → Option Packet �
 parcel_in M version None = None
 parcel_in M version (Some p) = parcel_of_kind M version p p.kind
 
--- the packets of a cluster of this set-up, in its version
+-- the packet formats of this set-up, in its version
 abbrev pub formats_of : {Msg : Type 0} → Setup → Module Msg → Formats Msg
 formats_of s M =
     record {

@@ -1,4 +1,6 @@
--- Whether a batch is accepted in a segment: the first refusal that holds of any of its requests.
+-- Whether a batch is accepted in a segment: the first refusal that holds for it or for any of its requests. In order:
+-- too many requests; a bucket that the leader does not own; no such client, or a bad signature; a number outside its
+-- window; a request that the log before the epoch holds; one accepted before in this segment, or twice in the batch.
 use Rattle.std.specs.Prelude.{ℕ, Bool, false, not, ◌||◌, ◌==◌, nat_lt, cond, List, [], ◌∷◌, ◌++◌, length, Option, Some, None}
 use Rattle.std.specs.List.{list_any}
 use Rattle.iss_request.specs.Log.{has_id, ids, log_ids}
@@ -11,16 +13,17 @@ use Rattle.iss_rules.specs.declared.events.Refusal.{Refusal}
 use Rattle.iss_rules.specs.declared.events.Refusal.TheVariants.{TooLarge, ForeignBucket, BadSignature, OutOfWindow, Ordered, Marked}
 use Rattle.iss_rules.specs.Rules.{Rules}
 
--- one of them passes the test
+-- some element passes the test
 abbrev pub any : {A : Type 0} → (A → Bool) → List A → Bool
 any p xs = list_any p xs
 
--- an identity of the list stands among those that are marked, or twice in it
+-- an identity is already marked, or occurs twice
 abbrev pub any_marked : List ReqId → List ReqId → Bool
 any_marked marked [] = false
 any_marked marked (x ∷ xs) = has_id x marked || any_marked (x ∷ marked) xs
 
--- none where the batch is accepted in epoch e by the leader l, over the log before e and the marks so far
+-- The judge: the first reason to refuse a batch of leader l in epoch e, or none. It sees the log before the epoch and
+-- the requests already accepted in this instance (`marked`).
 -- rule: Acceptance: A batch is refused for its first fault: size, bucket, signature, window, ordered, marked
 -- rule: Acceptance: A batch with a request that its client did not sign is refused
 -- rule: Acceptance: A batch is refused where its leader does not own the bucket of each request
@@ -33,7 +36,7 @@ judge R before e l marked batch =
     (cond (any (λ (q : Request). has_id q.id (log_ids before)) batch) (Some Ordered)
     (cond (any_marked marked (ids batch)) (Some Marked) None)))))
 
--- the identities of an accept list
+-- the identities of all accepted requests
 -- rule: Acceptance: An accepted request is marked to the end of its epoch, also where its slot becomes nil
 abbrev pub marks : List (Slot × Batch) → List ReqId
 marks [] = []

@@ -1,11 +1,11 @@
--- A set-up that is a module's.
+-- When a set-up is one of a module: it is good, and its number, kind, node count and quorum are the module's.
 use Rattle.std.specs.Prelude.{◌≡◌}
 use Rattle.iss_request.specs.Setup.{IsGoodSetup}
 use Rattle.iss_request.specs.declared.setups.Setup.{Setup}
 use Rattle.iss_sb.specs.Calls.{kind_of}
 use Rattle.iss_sb.specs.Evidence.{Module}
 
--- a good set-up of the module
+-- a good set-up for the module: its tag, fault model, number of nodes, and quorum
 pub record IsSetupOf {Msg : Type 0} (M : Module Msg) (s : Setup) : Type 0 where
   pub good : IsGoodSetup s
   pub tag : s.module ≡ M.tag

@@ -1,4 +1,5 @@
--- What rules owe.
+-- What the theory asks of rules. Epochs have slots, a slot's leader leads its epoch, instances start with good
+-- parameters, batches have encodings, and what verifies was signed by a node's key.
 use Rattle.std.specs.Prelude.{◌≡◌, ℕ, ◌<◌, ◌≤◌, true, List}
 use Rattle.iss_keys.specs.Directories.{VerifiesBy, directory_of}
 use Rattle.iss_request.specs.Formats.{requests_most}
@@ -9,9 +10,8 @@ use Rattle.iss_sb.specs.Evidence.{Module}
 use Rattle.iss_rules.specs.Past.{before_at, epoch_at, leader_at}
 use Rattle.iss_rules.specs.Rules.{Rules}
 
--- what the rules of the log owe: epochs have slots, each slot's leader leads its epoch, and a leader's instance is
--- started with good parameters that name it; a batch is no larger than one that has a spelling; what verifies is signed by a
--- node's key
+-- What rules must satisfy. Epochs have slots, and each slot's leader leads its epoch. A leader's instance has good
+-- parameters that name it. A batch within the limit has an encoding, and a valid signature is by a node's key.
 pub record IsSoundRules {Msg : Type 0} (s : Setup) (M : Module Msg) (R : Rules) : Type 0 where
   pub some_slots : (log : List Value) (e : ℕ) → 0 < R.slots log e
   pub most : (log : List Value) (e : ℕ) → R.slots log e ≤ R.most

@@ -1,66 +1,71 @@
-//! What can happen to a node, and why it is dropped.
+//! The events of a node, and why an event or a batch is refused.
 use iss_request::{Bytes, NodeId};
 
-/// An event of one node: bytes that came, its own wish to broadcast, or that the time for a leader's segment ran out.
+/// An event of one node. There are four kinds.
 #[derive(Drop)]
 pub enum NodeEvent {
+    /// Bytes arrive from the network.
     Packet(Bytes),
+    /// The node proposes a batch at its next free slot.
     Propose,
+    /// The timer of this leader's segment fires.
     Timeout(NodeId),
-    /// It asks another node for the epoch in which it is.
+    /// The node asks this peer for the epoch that it is in (state transfer).
     AskFrom(NodeId),
 }
 
-/// Why a batch is not accepted in a segment, in the order in which the causes are tested.
+/// Why the judge refuses a batch in a segment. The reasons are tested in this order.
 #[derive(Clone, Copy, Debug, PartialEq, Eq)]
 pub enum Refusal {
-    /// More requests than a batch may hold.
+    /// The batch has more requests than the set-up allows.
     TooLarge,
-    /// A request whose bucket the leader does not own.
+    /// The leader does not own a request's bucket in this epoch.
     ForeignBucket,
-    /// A client that does not exist, or a signature that does not verify.
+    /// A request's client does not exist, or its signature is invalid.
     BadSignature,
-    /// A number outside the client's window.
+    /// A request's number is outside its client's window.
     OutOfWindow,
-    /// A request that the log of earlier epochs holds.
+    /// The log of earlier epochs holds a request.
     Ordered,
-    /// A request accepted before in this instance, or twice in the batch.
+    /// A request was already accepted in this instance, or occurs twice in the batch.
     Marked,
 }
 
-/// Why an event changed nothing.
+/// Why an event was lost or dropped. The core is unchanged and sends nothing.
 #[derive(Clone, Copy, Debug, PartialEq, Eq)]
 pub enum Why {
-    /// The packet number is not below the count of packets sent.
+    /// No packet has this number yet.
     NoPacket,
-    /// The core's disk has failed, in this event or since the core was last made anew.
+    /// The core's disk has failed, in this event or since the core's last recovery.
     Stopped,
     /// The bytes are no packet.
     NotPacket,
-    /// The request's client does not exist.
+    /// The request's client does not exist, or its signature is invalid.
     BadRequest,
-    /// The request waits, is in flight, or is in the log.
+    /// The request waits, is in flight, or is in the log. Or the vote's signer was counted for its epoch, or the epoch
+    /// is certified.
     Known,
-    /// The request's number is outside the window of its client.
+    /// The request's number is outside its client's window.
     OutOfWindow,
-    /// The message is of an epoch that is past, or more than one ahead.
+    /// The message is of a past epoch, or of one more than one ahead. Or the vote is of an epoch more than one ahead.
+    /// Or the piece is of a later epoch than the node's, or its values or certificate do not fit its epoch.
     OtherEpoch,
-    /// The message is of the next epoch, and as many are kept as a node keeps.
+    /// The message is of the next epoch, and no more of these are kept.
     EarlyFull,
-    /// The leader does not lead the epoch.
+    /// The leader of the addressed instance does not lead the epoch, or the node that should propose does not.
     NotLeader,
-    /// The message holds a claim that does not verify under the key of the node that it names.
+    /// A signature that the message claims is invalid.
     BadClaim,
-    /// No slot of the node's segment is free to cast.
+    /// The node's segment has no free slot to propose at.
     NothingToCast,
-    /// Too few leaves are left to sign with.
+    /// Too few one-time leaves are left. One is kept back for the checkpoint vote.
     NoKeys,
-    /// The batch that the step would accept is refused.
+    /// The judge refuses the batch that the step would accept.
     Refused(Refusal),
-    /// No certificate of the epoch that is asked for is kept, or the log lacks a slot of it.
+    /// The node has no certificate of the epoch that a peer asks for, or its log lacks a slot of it.
     NoCert,
-    /// The piece is of an epoch that has ended.
+    /// The piece is of an epoch that the node has ended.
     NotNeeded,
-    /// The values of a piece do not lead to what its certificate says.
+    /// The values of the piece do not lead to the log that its certificate states.
     WrongChain,
 }

@@ -1,5 +1,5 @@
-//! The rules of a cluster as definitions over lists: the log that follows from what a node took, the judge, and packets in
-//! bytes (ISS, whole protocol). Beside them the events of a node, the reasons of drops and refusals, and evidence.
+//! The rules of a cluster as definitions over lists: the log that follows from what a node took, the judge, votes, and
+//! packet formats (ISS, whole protocol). Also the events of a node, the reasons of drops and refusals, and evidence.
 #![tactic(auto)]
 
 pub mod events;

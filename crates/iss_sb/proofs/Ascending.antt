@@ -1,4 +1,4 @@
--- Rows of things whose numbers are strictly ascending have one spelling, and are read one after the other.
+-- Lists of things with strictly ascending numbers have one encoding, and are read one after another.
 use Rattle.std.proofs.Common.{◌≡◌, ℕ, zero, suc, ◌<◌, Bool, true, List, [], ◌∷◌, ◌++◌, length, get_or, append_assoc, append-nil, refl, sym, ap, ◌∙◌, subst, arith}
 use Rattle.std.specs.List.{flat_map}
 use Rattle.iss_base.proofs.Lists.{and-true, both}
@@ -9,12 +9,12 @@ use Rattle.iss_request.proofs.ParserLemmas.{done_parts, then_good, then_parts}
 use Rattle.iss_request.proofs.Readings.{read_done, read_then, unread_first, unread_then}
 use Rattle.iss_sb.specs.Ascending.{all_ascend, ascending}
 
--- what was read is spelled so, and has a spelling
+-- what was read was encoded so, and has an encoding
 pub record IsText (ok : Bool) (text bytes rest : List ℕ) : Type 0 where
   pub parts : bytes ≡ text ++ rest
   pub fits : ok ≡ true
 
--- and there are as many as were wanted
+-- and as many were read as were wanted
 pub record AreText (ok : Bool) (many wanted : ℕ) (text bytes rest : List ℕ) : Type 0 where
   pub parts : bytes ≡ text ++ rest
   pub fits : ok ≡ true
@@ -23,7 +23,7 @@ pub record AreText (ok : Bool) (many wanted : ℕ) (text bytes rest : List ℕ) 
 pub in-front : (a : List ℕ) {x y : List ℕ} → x ≡ y → a ++ x ≡ a ++ y
 in-front a h = ap (λ (z : List ℕ). a ++ z) h
 
--- one thing that fits is read from its spelling, and from nothing else
+-- one thing that fits is read from its encoding, and from nothing else
 pub record IsExact {A : Type 0} (one : ℕ → Parser A) (fits : ℕ → A → Bool) (spell : A → List ℕ) : Type 0 where
   pub again : (x : A) (from : ℕ) (rest : List ℕ) → fits from x ≡ true → one from (spell x ++ rest) ≡ Good x rest
   pub parts : (from : ℕ) (bytes rest : List ℕ) (x : A) → one from bytes ≡ Good x rest → IsText (fits from x) (spell x) bytes rest
@@ -78,7 +78,7 @@ module _ {A : Type 0} (one : ℕ → Parser A) (number : A → ℕ) where
   unfolding ascending
   read-none from a = read_done [] a
 
-  -- of `total` things these are read, and `count` are still to come, from the number `from` on
+  -- of `total` things these were read; `count` are still to come, none below `from`
   pub record Climbs (total : ℕ) (start : Reading) (count from : ℕ) (here : Reading) (got : List A) : Type 0 where
     pub all : (later : Reading) (xs : List A) → IsRead (ascending one number count from) here later xs → IsRead (ascending one number total 0) start later (got ++ xs)
     pub fails : (at : ℕ) → IsUnreadable (ascending one number count from) here at → IsUnreadable (ascending one number total 0) start at

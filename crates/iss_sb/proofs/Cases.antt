@@ -1,4 +1,4 @@
--- What holds of both cases of a test holds of what the test chooses, and what orders and tests of lists say.
+-- What holds of both branches of a test holds of the result; orderings and tests of lists.
 use Rattle.std.proofs.Common.{◌≡◌, ℕ, Bool, true, false, cond, ◌==◌, ◌&&◌, ◌||◌, if◌then◌else◌, List, [], ◌∷◌, refl, sym, ◌∙◌, subst, true≢false, arith}
 use Rattle.std.specs.Cmp.Lexicographic.{slice_cmp}
 use Rattle.std.specs.Ordering.{is_eq, nat_cmp, ordering_then}
@@ -11,7 +11,7 @@ pub by-both : {A : Type 0} (P : A → Type 0) (t : Bool) (a b : A) → (t ≡ tr
 by-both P true a b h g = h refl
 by-both P false a b h g = g refl
 
--- an element more, as a set of elements tells it
+-- one more element of a set of elements
 pub added : (t u v w : Bool) → t ≡ u → w ≡ cond t true v → w ≡ (u || v)
 added true true v w p q = q
 added false false v w p q = q

@@ -1,5 +1,5 @@
--- Claims inside a message that stood in earlier ones. A claim of a node's own inside a certificate that it sends on would
--- be its own cause in a legal world; this lemma says once that it never is.
+-- Claims in a message that were in earlier messages. A node's own claim in a certificate that it passes on could be its
+-- own cause in a legal world. This lemma shows once that it never is.
 use Rattle.std.proofs.Common.{◌≡◌, ◌⊎◌, ℕ, Bool, true, false, List, sym, subst, ap, ◌∙◌, inl, inr}
 use Rattle.iss_base.specs.Lists.{In}
 use Rattle.iss_request.specs.declared.ids.NodeId.{NodeId}
@@ -14,14 +14,14 @@ use Rattle.iss_sb.proofs.Legal.{reached-keeps}
 use Rattle.iss_sb.proofs.Worlds.{In-added, In-later, added, later-cases}
 
 module _ {M : Type 0} (m : Module M) (p : Params) where
-  -- the message of a sender says that a node signed the statement
+  -- the message of a sender claims that a node signed the statement
   pub record Says (from : ℕ) (msg : M) (by : ℕ) (statement : List ℕ) : Type 0 where
     pub claim : Claim
     pub stands : In claim (m.claims p from msg)
     pub named : claim.by.0 ≡ by
     pub is : claim.statement ≡ statement
 
-  -- where a node had a claim from that it passes on: from a message that it takes now, took before, or sent before
+  -- a claim that a node passes on: it is in the message that it takes now, or in one that it took or sent before
   pub data IsOld (me : ℕ) (xs : List (Item M)) (input : Input M) (by : ℕ) (statement : List ℕ) : Type 0 where
     now : (from : NodeId) (msg : M) → input ≡ Receive from msg → Says from.0 msg by statement → IsOld me xs input by statement
     before : (x : Item M) → In x xs → (from : NodeId) (msg : M) → x.input ≡ Receive from msg → Says from.0 msg by statement → IsOld me xs input by statement
@@ -37,7 +37,7 @@ module _ {M : Type 0} (m : Module M) (p : Params) where
       pub sent : In {A = To × M} (to, msg) item.made.sends
       pub states : States i msg statement
 
-    -- of what a correct node sends, each claim of its own is a statement that the message makes, or an old claim
+    -- each own claim in what a correct node sends is a statement that the message makes, or an old claim
     abbrev pub PassesOn : Type 0
     PassesOn = (w : World M) → IsLegal m p w → (me : ℕ) (input : Input M) (leaf : ℕ) → is_correct p.setup me ≡ true → MayCome m p w me input →
         (to : To) (msg : M) (statement : List ℕ) → In {A = To × M} (to, msg) (m.makes p me (w me) input leaf).sends → Says me msg me statement →
@@ -46,7 +46,7 @@ module _ {M : Type 0} (m : Module M) (p : Params) where
     abbrev AreStated : World M → Type 0
     AreStated w = (i : ℕ) (statement : List ℕ) → is_correct p.setup i ≡ true → IsSigned m p w i statement → IsStated w i statement
 
-    -- what came says that a correct node signed, it signed
+    -- if a received message claims that a correct node signed, it signed
     said-signed : (w : World M) → m.stopping ≡ false → (i : ℕ) (from : NodeId) (msg : M) (by : ℕ) (statement : List ℕ) → MayCome m p w i (Receive from msg) → Says from.0 msg by statement → is_correct p.setup by ≡ true → IsSigned m p w by statement
     said-signed w byzantine i from msg by statement may s correct =
         let c : IsCredible m p (Verifies p) (IsSigned m p w) from.0 msg = subst (λ (b : Bool). MayArrive b m p w i from.0 msg) byzantine may in

@@ -1,4 +1,4 @@
--- Fields of a content, written one after the other, and numbers that are no kind.
+-- The fields of a content, written one after another, and numbers that are no kind.
 use Rattle.std.proofs.Common.{◌≡◌, ◌≢◌, ℕ, false, [], ◌∷◌, append_assoc, arith}
 use Rattle.std.proofs.lemmas.Bool.{lt-leb}
 use Rattle.iss_request.specs.Fields.{Written, and_bytes}

@@ -1,4 +1,4 @@
--- A content has one spelling by each version, which is the one of the table.
+-- In each version a content has at most one encoding, which is that of the table.
 use Rattle.std.proofs.Common.{◌≡◌, ℕ, zero, suc, ◌≤◌, ◌==◌, Bool, true, false, List, [], ◌∷◌, ◌++◌, append-nil, refl, sym, ap, ◌∙◌, subst, inl, inr, true≢false, arith}
 use Rattle.std.proofs.lemmas.Bool.{leb-true}
 use Rattle.iss_base.proofs.Lists.{is-eq}
@@ -16,7 +16,7 @@ use Rattle.iss_sb.specs.declared.content.Content.TheVariants.{Nil, Holds, Mark}
 use Rattle.iss_sb.proofs.Fields.{good-bad}
 use Rattle.iss_sb.proofs.Read.{read-again}
 
--- of two parsers that are the same
+-- two equal parsers give equal errors
 pub bad-by : {A : Type 0} (p q : Parser A) (bytes : List ℕ) (at : ℕ) → p ≡ q → q bytes ≡ Bad at → IsBad (p bytes)
 bad-by p q bytes at e h = (at, rw e h)
 
@@ -86,7 +86,7 @@ module _ (version : ℕ) where
   kind-bad : (n : ℕ) (text : List ℕ) → is_kind n ≡ true → IsBad (content_of version n text) → IsBad (parse_content version (n ∷ text))
   kind-bad n text h k = bad-by _ _ (n ∷ text) _ parse_content-is (then_bad (such_that is_kind byte) (content_of version) (n ∷ text) text n k.0 (kind-is n text h) k.1)
 
-  -- a batch is read again where its value is, and not where that is not
+  -- a content with a batch decodes exactly if the batch's value does
   holds-again : (b : Batch) (text rest : List ℕ) → parse_value version text ≡ Good (Value_batch b) rest → parse_content version (1 ∷ text) ≡ Good (Holds b) rest
   holds-again b text rest good =
       let read = then_good (such_that is_batch (parse_value version)) made text rest rest (Value_batch b) (Holds b) (test_passed is_batch (parse_value version) text rest (Value_batch b) good refl) (done_good (Holds b) rest) in
@@ -114,7 +114,7 @@ module _ (version : ℕ) where
   pub content-grammar : IsGrammar (spell_content version) (parse_content version)
   content-grammar = record { only = content-only; whole = content-whole }
 
-  -- the value of a batch that is read again is so too
+  -- a content with a batch has an encoding if the batch's value has
   pub holds-value : (b : Batch) → IsReadAgain (spell_content version) (parse_content version) (Holds b) → IsReadAgain (spell_value version) (parse_value version) (Value_batch b)
   holds-value b h = elim ((value_grammar version).whole (Value_batch b)) [
     | inl good ↦ good
@@ -136,7 +136,7 @@ module _ (version : ℕ) where
   content-related Mark h = refl
   content-related (Holds b) h = value-row b (holds-value b h)
 
-  -- bytes that the table gives are the spelling, and are read again
+  -- what the table relates is the encoding, and decodes again
   pub content-table : (c : Content) (bytes : List ℕ) → IsSpelledContent version c bytes → (bytes ≡ spell_content version c) × IsReadAgain (spell_content version) (parse_content version) c
   content-table Nil bytes h = (h, λ rest. kind-good 0 rest rest Nil refl (done_good Nil rest))
   content-table Mark bytes h = (h, λ rest. kind-good 2 rest rest Mark refl (done_good Mark rest))
@@ -146,6 +146,6 @@ module _ (version : ℕ) where
       let again = read-again (spell_value version) (parse_value version) (value_grammar version) h.0 [] (Value_batch b) value in
       (h.2 ∙ ap (λ (x : List ℕ). 1 ∷ x) spelled, λ rest. holds-again b (spell_value version (Value_batch b) ++ rest) rest (again rest))
 
-  -- a batch that is read again has a row of the table
+  -- a batch with an encoding has a row in the table
   pub batch-table : (b : Batch) → IsReadAgain (spell_value version) (parse_value version) (Value_batch b) → (bytes : List ℕ) × IsSpelledContent version (Holds b) bytes
   batch-table b h = (spell_content version (Holds b), value-row b h)

@@ -1,4 +1,4 @@
--- A message's number and counts, read field by field.
+-- A message's number, digests and counts, read field by field.
 use Rattle.std.proofs.Common.{◌≡◌, ◌<◌, ℕ, Bool, true, false, List, subst}
 use Rattle.std.specs.Prelude.{nat_lt}
 use Rattle.std.proofs.lemmas.Bool.{lt-ltb}
@@ -6,7 +6,7 @@ use Rattle.iss_request.specs.Fields.{Good, Bad, IsRead, IsUnreadable, Reading}
 use Rattle.iss_request.specs.Parsing.{Parser, ◌>>=◌, byte, such_that}
 use Rattle.iss_request.proofs.Readings.{read_passed, read_then, unread_failed, unread_first, unread_tested, unread_then}
 
--- what stands in bytes is not also a fault
+-- bytes that decode are not also faulty
 pub good-bad : {A : Type 0} (x : A) (rest : List ℕ) (at : ℕ) → Good x rest ≡ Bad at → ⊥
 good-bad x rest at h = cc
 

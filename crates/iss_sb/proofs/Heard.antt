@@ -1,4 +1,4 @@
--- In each world that moves lead to, what a node took is read again: the law on what is sent, put to use.
+-- In each reachable world all that a node took has an encoding: the law `read_again`, put to use.
 use Rattle.std.proofs.Common.{◌≡◌, ◌<◌, ℕ, Bool, true, false, List, [], ◌∷◌, refl, subst, inl, inr}
 use Rattle.std.specs.Prelude.{nat_lt, not}
 use Rattle.std.proofs.lemmas.Bool.{ltb-true}
@@ -15,7 +15,7 @@ use Rattle.iss_sb.proofs.Legal.{reached-keeps}
 use Rattle.iss_sb.proofs.Worlds.{by_node}
 
 module _ {M : Type 0} (m : Module M) (lawful : IsLawful m) (p : Params) (good : IsGoodParams m p) where
-  -- what a node sent at an item of its list is read again
+  -- what a node sent at an entry of its history has an encoding
   pub sent-again : (me : ℕ) (xs : List (Item M)) (x : Item M) (to : To) (msg : M) → me < p.setup.n → AreHeard m p me xs → In x xs → In {A = To × M} (to, msg) x.made.sends → IsReadMessage m p msg
   sent-again me [] x to msg below heard h sent = absurd h
   sent-again me (y ∷ xs) x to msg below heard (inr h) sent = sent-again me xs x to msg below heard.2 h sent
@@ -27,7 +27,7 @@ module _ {M : Type 0} (m : Module M) (lawful : IsLawful m) (p : Params) (good : 
   correct-below : (i : ℕ) → is_correct p.setup i ≡ true → i < p.setup.n
   correct-below i h = let k = and-true (nat_lt i p.setup.n) (not (has_node i p.setup.faulty)) h in ltb-true i p.setup.n k.0
 
-  -- what each node took, and that it is correct if it took anything
+  -- what each node took has encodings, and a node that took anything is correct
   record AreAllHeard (w : World M) : Type 0 where
     heard : (i : ℕ) → AreHeard m p i (w i)
     correct : (i : ℕ) (x : Item M) → In x (w i) → is_correct p.setup i ≡ true

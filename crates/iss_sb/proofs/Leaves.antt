@@ -1,4 +1,4 @@
--- Statements in a row, and the leaves that sign them.
+-- A list of statements, and the leaves that sign them.
 use Rattle.std.proofs.Common.{◌≡◌, ◌∙◌, ◌+◌, ◌++◌, ◌∷◌, ℕ, zero, suc, List, [], length, Some, sym, ap, arith, add-zero}
 use Rattle.std.specs.Prelude.{slice_get}
 use Rattle.iss_sb.specs.declared.effects.Claim.{Claim}
@@ -18,7 +18,7 @@ row-right (y ∷ xs) ys k =
     ap (λ (n : ℕ). slice_get (y ∷ xs ++ ys) n) at ∙ row-right xs ys k
 
 module _ (p : Params) (me : ℕ) where
-  -- the first of a row is signed by the first leaf
+  -- the first leaf signs the first statement
   pub by-first : (leaf : ℕ) (st : List ℕ) (rest : List (List ℕ)) (c : Claim) → st ≡ c.statement → c.sig ≡ signature p me leaf st → IsSignedBy p me leaf (st ∷ rest) c
   by-first leaf st rest c same sig = record {
     place = 0;
@@ -26,7 +26,7 @@ module _ (p : Params) (me : ℕ) where
     signature = sig ∙ ap (λ (z : List ℕ). signature p me leaf z) same ∙ ap (λ (q : ℕ). signature p me q c.statement) (sym (add-zero leaf));
   }
 
-  -- and the others by those that follow
+  -- and the next leaves sign the others
   pub by-next : (leaf : ℕ) (st : List ℕ) (rest : List (List ℕ)) (c : Claim) → IsSignedBy p me (suc leaf) rest c → IsSignedBy p me leaf (st ∷ rest) c
   by-next leaf st rest c h =
       let further : suc leaf + h.place ≡ leaf + suc h.place = omega arith in

@@ -1,4 +1,5 @@
--- Worlds that moves lead to are legal, further invariants of them are kept, and where an item was made.
+-- Reachable worlds are legal; an induction principle for further invariants of them; the history at which an entry was
+-- made.
 use Rattle.std.proofs.Common.{◌≡◌, ◌<◌, ℕ, Bool, true, false, not, ◌&&◌, List, [], ◌∷◌, refl, sym, subst, ap, inl, inr}
 use Rattle.std.specs.Prelude.{nat_lt}
 use Rattle.std.proofs.lemmas.Bool.{lt-ltb}
@@ -18,7 +19,7 @@ use Rattle.iss_sb.proofs.Worlds.{accepts-old, by_node, IsSent-later, IsSigned-la
 -- ---- legal worlds
 
 module _ {M : Type 0} (m : Module M) (p : Params) (w later : World M) (move : Move m p w later) where
-  -- what may come may come later too
+  -- what may be received now may be received later
   pub MayArrive-later : (stopping : Bool) (i from : ℕ) (msg : M) → MayArrive stopping m p w i from msg → MayArrive stopping m p later i from msg
   MayArrive-later true i from msg h = IsSent-later m p w later move from i msg h
   MayArrive-later false i from msg h = record { named = h.named; read = h.read; verified = h.verified; signed = λ c k q. IsSigned-later m p w later move c.by.0 c.statement (h.signed c k q) }
@@ -43,17 +44,17 @@ module _ {M : Type 0} (m : Module M) (p : Params) where
   pub legal-empty : IsLegal m p empty_world
   legal-empty = record { made = λ i. tt; came = λ i x h. absurd h }
 
-  -- each world that moves lead to is legal
+  -- each reachable world is legal
   pub legal-reached : (w : World M) → IsReached m p w → IsLegal m p w
   legal-reached w at_start = legal-empty
   legal-reached w (after {w = before} reached move) = legal-later m p before w move (legal-reached before reached)
 
-  -- what holds at the start, and is kept by each move from a legal world, holds of each world that moves lead to
+  -- what holds at the start, and is kept by each move from a legal world, holds of each reachable world
   pub reached-keeps : (P : World M → Type 0) → P empty_world → ((w later : World M) → IsLegal m p w → P w → Move m p w later → P later) → (w : World M) → IsReached m p w → P w
   reached-keeps P starts keeps w at_start = starts
   reached-keeps P starts keeps w (after {w = before} reached move) = keeps before w (legal-reached before reached) (reached-keeps P starts keeps before reached) move
 
-  -- the same where moves keep it that leave the strings separate
+  -- the same, if only moves keep it after which strings do not collide
   pub separate-keeps : (P : World M → Type 0) → P empty_world → ((w later : World M) → IsLegal m p w → P w → Move m p w later → Separate (IsString later) → P later) → (w : World M) → IsReached m p w → Separate (IsString w) → P w
   separate-keeps P starts keeps = reached-keeps (λ w. Separate (IsString w) → P w) (λ sep. starts) (λ w later legal h move sep. keeps w later legal (h (Separate-before m p w later move sep)) move sep)
 
@@ -61,24 +62,24 @@ module _ {M : Type 0} (m : Module M) (p : Params) where
   have-come w me [] h = tt
   have-come w me (x ∷ xs) h = (h x (inl refl), have-come w me xs (λ y k. h y (inr k)))
 
--- a module is safe in which each legal world with separate strings is a broadcast
+-- a module is safe if each legal world without collisions is a broadcast
 pub safe-legal : {M : Type 0} (m : Module M) → ((p : Params) (w : World M) → IsGoodParams m p → IsLegal m p w → Separate (IsString w) → IsBroadcast m p w) → IsSafe m
 safe-legal m gives p w good reached sep = gives p w good (legal-reached m p w reached) sep
 
--- a predicate of worlds that holds at the start, that moves between legal worlds with separate strings keep, and that
--- makes such a world a broadcast
+-- an inductive invariant of worlds: it holds at the start, moves between legal worlds without collisions keep it, and
+-- it implies a broadcast
 pub record IsKept {M : Type 0} (m : Module M) (Inv : Params → World M → Type 0) : Type 0 where
   pub starts : (p : Params) → IsGoodParams m p → Inv p empty_world
   pub keeps : (p : Params) (w later : World M) → IsGoodParams m p → IsLegal m p w → Inv p w → Move m p w later → Separate (IsString later) → Inv p later
   pub gives : (p : Params) (w : World M) → IsGoodParams m p → IsLegal m p w → Inv p w → Separate (IsString w) → IsBroadcast m p w
 
--- a module with such a predicate is safe
+-- a module with such an invariant is safe
 pub safe-kept : {M : Type 0} (m : Module M) (Inv : Params → World M → Type 0) → IsKept m Inv → IsSafe m
 safe-kept m Inv kept p w good reached sep =
     let inv = separate-keeps m p (Inv p) (kept.starts p good) (λ w later legal h move apart. kept.keeps p w later good legal h move apart) w reached sep in
     kept.gives p w good (legal-reached m p w reached) inv sep
 
--- and a safe one has such a predicate: that moves lead to the world
+-- and a safe module has one: that the world is reachable
 pub kept-safe : {M : Type 0} (m : Module M) → IsSafe m → IsKept m (λ p w. IsReached m p w)
 kept-safe m safe = record {
   starts = λ p good. at_start;
@@ -97,7 +98,7 @@ front_trans a b [] h g = subst (λ (z : List _). Front a z) g h
 front_trans a b (i ∷ c) h (inl e) = subst (λ (z : List _). Front a z) e h
 front_trans a b (i ∷ c) h (inr g) = inr (front_trans a b c h g)
 
--- what stands in a front stands in the list
+-- an element of an earlier history is in the later one
 pub front-in : {A : Type 0} (x : A) (a l : List A) → Front a l → In x a → In x l
 front-in x a [] f h = subst (λ (z : List _). In x z) f h
 front-in x a (y ∷ l) (inl q) h = subst (λ (z : List _). In x z) q h
@@ -128,6 +129,6 @@ module _ {M : Type 0} (m : Module M) (p : Params) (me : ℕ) where
 below-all : (i n : ℕ) → i < n → (nat_lt i n && not false) ≡ true
 below-all i n h = let t : nat_lt i n ≡ true = lt-ltb i n h in rw t refl
 
--- where nodes only stop, each node is correct
+-- in the crash-stop model each node is correct
 pub all-correct : {M : Type 0} (m : Module M) (p : Params) → IsGoodParams m p → m.stopping ≡ true → (i : ℕ) → i < p.setup.n → is_correct p.setup i ≡ true
 all-correct m p good stops i below = let none = none-faulty m p good stops in rw none (below-all i p.setup.n below)

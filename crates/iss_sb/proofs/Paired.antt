@@ -1,4 +1,4 @@
--- Slots with values, one pair after another: what is paired has its value, ascends, and is of the segment.
+-- Slots with values, one pair after another: each slot has its value, slots ascend, and are of the segment.
 use Rattle.std.proofs.Common.{◌≡◌, ℕ, zero, suc, ◌≤◌, ◌==◌, Bool, true, false, if◌then◌else◌, List, [], ◌∷◌, drop, Some, refl, sym, subst, ap, inl, inr, arith}
 use Rattle.iss_base.specs.Lists.{In}
 use Rattle.iss_base.proofs.Lists.{eqb-same, is-eq}

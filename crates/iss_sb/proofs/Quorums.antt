@@ -26,7 +26,7 @@ module _ {M : Type 0} (m : Module M) (p : Params) (good : IsGoodParams m p) wher
   pub none-faulty : m.stopping ≡ true → p.setup.faulty ≡ []
   none-faulty stops = let kind : p.setup.kind ≡ Stopping = rw stops at good.kind in rw kind at good.setup.few_faulty
 
--- a correct node that passes both tests
+-- a correct node that is in both
 pub record Meets (p : Params) (t u : ℕ → Bool) : Type 0 where
   pub node : ℕ
   pub below : node < p.setup.n
@@ -34,7 +34,7 @@ pub record Meets (p : Params) (t u : ℕ → Bool) : Type 0 where
   pub first : t node ≡ true
   pub second : u node ≡ true
 
--- where at most f nodes are faulty, and two quorums have f nodes more than there are
+-- if at most f nodes are faulty, and two quorums together have more than n + f nodes
 pub meets : (p : Params) (f : ℕ) (t u : ℕ → Bool) → length p.setup.faulty ≤ f → p.setup.n + f < p.setup.quorum + p.setup.quorum →
     p.setup.quorum ≤ count_below t p.setup.n → p.setup.quorum ≤ count_below u p.setup.n → Meets p t u
 meets p f t u few wide tq uq =

@@ -1,4 +1,4 @@
--- What was read of bytes is read again, and a batch of few requests that have spellings is.
+-- What was decoded decodes again from its encoding, and so does a small batch of encodable requests.
 use Rattle.std.proofs.Common.{◌≡◌, ◌≤◌, ℕ, List, [], ◌∷◌, ◌++◌, length, refl, sym, ap, subst, ◌∙◌, inl, inr}
 use Rattle.std.specs.List.{AllByRecursion, flat_map}
 use Rattle.iss_base.specs.Lists.{In}
@@ -28,7 +28,7 @@ batch-read version b few h =
     let bytes = version_byte version ∷ spell_count version (length b) ++ flat_map request_bytes b in
     read-again (spell_value version) (parse_value version) (value_grammar version) bytes [] (Value_batch b) ((value_related version (Value_batch b) bytes).1 (few, each-spelled b h, refl))
 
--- what a reader reads by its version, a reader before it in the row reads by its own, which is the same
+-- readers of one version give the same result
 pub read-by : {A : Type 0} (p : ℕ → Parser A) {v w : ℕ} {a b : Reading} {x : A} → v ≡ w → IsRead (p v) a b x → IsRead (p w) a b x
 read-by p {v} {w} {a} {b} {x} e r = subst (λ (n : ℕ). IsRead (p n) a b x) e r
 

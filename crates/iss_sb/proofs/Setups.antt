@@ -1,4 +1,4 @@
--- A set-up is good where a test that computes says so: for an example the proof is `good-by s refl`.
+-- A set-up is good if a test that computes accepts it: for an example the proof is `good-by s refl`.
 use Rattle.std.proofs.Common.{◌≡◌, ◌≤◌, ◌&&◌, ◌||◌, ◌==◌, not, ℕ, suc, Bool, true, false, List, [], ◌∷◌, length, refl, sym, true≢false}
 use Rattle.std.specs.Prelude.{nat_le, nat_lt}
 use Rattle.std.proofs.lemmas.Bool.{eq-eqb, eqb-true, leb-true, ltb-true}
@@ -22,7 +22,7 @@ abbrev are_ascending : ℕ → ℕ → List NodeId → Bool
 are_ascending from n [] = true
 are_ascending from n (i ∷ is) = nat_le from i.0 && (nat_lt i.0 n && are_ascending (suc i.0) n is)
 
--- the relay has no faults, and its nodes only stop
+-- the relay tolerates no faults, and is crash-stop
 abbrev is_relay_good : Setup → Bool
 is_relay_good s = not (s.module == 1) || ((s.f == 0) && stops s.kind)
 

@@ -1,4 +1,4 @@
--- A row of signers: what is spelled of them is read again, and what is read is spelled so.
+-- A list of signers: what is encoded decodes again, and what decodes was encoded so.
 use Rattle.std.proofs.Common.{◌≡◌, ℕ, suc, true, List, [], ◌∷◌, ◌++◌, length, refl, ap, ◌∙◌, subst}
 use Rattle.std.specs.Prelude.{nat_le}
 use Rattle.std.specs.List.{flat_map}

@@ -1,4 +1,4 @@
--- Where nothing is claimed and no leaf is used, no leaf signs twice.
+-- A module that claims nothing and uses no leaf signs with no leaf twice.
 use Rattle.std.proofs.Common.{◌≡◌, ℕ, List, [], sym}
 use Rattle.iss_base.specs.Lists.{In}
 use Rattle.iss_sb.specs.declared.effects.Claim.{Claim}

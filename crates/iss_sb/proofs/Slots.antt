@@ -14,7 +14,7 @@ slot-is a b h = ap (λ (n : ℕ). let s : Slot = record { 0 = n } in s) h
 pub node-is : (a b : NodeId) → a.0 ≡ b.0 → a ≡ b
 node-is a b h = ap (λ (n : ℕ). let s : NodeId = record { 0 = n } in s) h
 
--- a slot whose number is found stands in the list
+-- a slot whose number is found is in the list
 pub has_slot-In : (s : Slot) (slots : List Slot) → has_slot s.0 slots ≡ true → In s slots
 has_slot-In s [] h = absurd (true≢false (sym h))
 has_slot-In s (t ∷ slots) h = go (t.0 == s.0) refl (has_slot-In s slots) h
@@ -51,7 +51,7 @@ ascending-above low s [] a h = absurd h
 ascending-above low s (t ∷ ss) a (inl e) = let q = ap (λ (z : Slot). z.0) e in let l = a.0 in omega (arith, q, l)
 ascending-above low s (t ∷ ss) a (inr h) = let r = ascending-above (suc t.0) s ss a.1 h in let l = a.0 in omega (arith, r, l)
 
--- one further on is another than the first
+-- a later slot differs from the first
 pub another : (low : ℕ) (t s : Slot) (ss : List Slot) → AreAscending low (t ∷ ss) → In s ss → (t.0 == s.0) ≡ false
 another low t s ss a h = let r = ascending-above (suc t.0) s ss a.1 h in eqb-other t.0 s.0 (λ e. omega (arith, r, e))
 

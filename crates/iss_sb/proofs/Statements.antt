@@ -1,4 +1,4 @@
--- Different numbers are spelled by different bytes, whatever stands before and behind them.
+-- Different numbers have different bytes, whatever precedes and follows them.
 use Rattle.std.proofs.Common.{◌≡◌, ℕ, zero, suc, ◌+◌, ◌*◌, ◌/◌, ◌%◌, ◌^◌, ◌<◌, List, [], ◌∷◌, ◌++◌, length, fold, append_assoc, refl, sym, ap, subst, ◌∙◌, arith, pow-suc, mul_comm}
 use Rattle.std.proofs.Math.Nat.{pow-le-pow_right}
 use Rattle.std.proofs.Math.Arith.{mod-mul}
@@ -10,7 +10,7 @@ use Rattle.iss_request.specs.Fields.{Written, and_bytes}
 use Rattle.iss_sb.specs.declared.effects.Params.{Params}
 use Rattle.iss_sb.specs.Statements.{eight_bytes, four_bytes, head_of, statement_head, two_bytes, wide_bytes}
 
--- one more byte in front of the low k bytes
+-- one more byte before the low k bytes
 byte_on : (k n high : ℕ) → (high * 256 + byte_at k n) * 256 ^ k + n % 256 ^ k ≡ high * 256 ^ suc k + n % 256 ^ suc k
 byte_on zero n high = omega arith
 byte_on (suc k) n high =
@@ -23,7 +23,7 @@ bytes_read : (k n high : ℕ) → fold (λ h byte. h * 256 + byte) high (bytes_h
 bytes_read zero n high = omega arith
 bytes_read (suc k) n high = bytes_read k n (high * 256 + byte_at k n) ∙ byte_on k n high
 
--- the number that a list of bytes stands for
+-- the number that a list of bytes represents
 abbrev value_of : List ℕ → ℕ
 value_of [] = 0
 value_of (b ∷ bs) = fold (λ h byte. h * 256 + byte) b bs
@@ -45,13 +45,13 @@ pub wide-length : (low n : ℕ) → length (wide_bytes low n) ≡ suc low
 unfolding wide_bytes
 wide-length low n = ap suc (low-length low n)
 
--- with anything behind
+-- with anything after them
 pub wide-same : (low a b : ℕ) (x y : List ℕ) → wide_bytes low a ++ x ≡ wide_bytes low b ++ y → (a ≡ b) × (x ≡ y)
 wide-same low a b x y h =
     let k = ends-same (wide_bytes low a) (wide_bytes low b) x y (wide-length low a ∙ sym (wide-length low b)) h in
     (sym (wide-value low a) ∙ ap value_of k.0 ∙ wide-value low b, k.1)
 
--- with anything before
+-- with anything before them
 pub wide-last : (low : ℕ) (a b : List ℕ) (q r : ℕ) → a ++ wide_bytes low q ≡ b ++ wide_bytes low r → (a ≡ b) × (q ≡ r)
 wide-last low a b q r h =
     let total : length a + suc low ≡ length b + suc low =
@@ -66,7 +66,7 @@ byte-is : (low n : ℕ) → n / 256 ^ low < 256 → n / 256 ^ low ≡ byte_at lo
 byte-is zero n h = omega (arith, h)
 byte-is (suc low) n h = within (n / 256 ^ suc low) h
 
--- a number that fits is spelled by its bytes
+-- a number that fits is encoded by its bytes
 pub wide-is : (low n : ℕ) → n < 256 ^ suc low → wide_bytes low n ≡ bytes_high_first (suc low) n
 unfolding wide_bytes
 wide-is low n lt =
@@ -86,7 +86,7 @@ eight-is n lt = wide-is 7 n lt
 head-flat : (cluster : List ℕ) (e l tag : ℕ) (x : List ℕ) → head_of cluster e l tag ++ x ≡ cluster ++ (eight_bytes e ++ (l ∷ tag ∷ x))
 head-flat cluster e l tag x = append_assoc (cluster ++ eight_bytes e) (l ∷ tag ∷ []) x ∙ append_assoc cluster (eight_bytes e) (l ∷ tag ∷ x)
 
--- what statements that are equal say alike
+-- what equal statements have in common
 pub record SameHead (cluster other : List ℕ) (e l tag d k mark : ℕ) (x y : List ℕ) : Type 0 where
   pub one_cluster : cluster ≡ other
   pub epoch : e ≡ d
@@ -94,7 +94,7 @@ pub record SameHead (cluster other : List ℕ) (e l tag d k mark : ℕ) (x y : L
   pub module_tag : tag ≡ mark
   pub behind : x ≡ y
 
--- heads with anything behind them. The tags of clusters are of one length
+-- heads with anything after them; the tags of clusters have the same length
 pub head-same : (cluster other : List ℕ) (e l tag d k mark : ℕ) (x y : List ℕ) → length cluster ≡ length other → head_of cluster e l tag ++ x ≡ head_of other d k mark ++ y → SameHead cluster other e l tag d k mark x y
 head-same cluster other e l tag d k mark x y long h =
     let flat : cluster ++ (eight_bytes e ++ (l ∷ tag ∷ x)) ≡ other ++ (eight_bytes d ++ (k ∷ mark ∷ y)) = sym (head-flat cluster e l tag x) ∙ h ∙ head-flat other d k mark y in
@@ -103,7 +103,7 @@ head-same cluster other e l tag d k mark x y long h =
     let rest : ◌≡◌ {A = List ℕ} (l ∷ tag ∷ x) (k ∷ mark ∷ y) = r.1 in
     record { one_cluster = q.0; epoch = r.0; leader = cc; module_tag = cc; behind = cc }
 
--- what statements of one module that are equal say alike: their kinds, their numbers, and what stands behind
+-- what equal statements of one module have in common: their kinds, their numbers, and what follows
 pub record SameStatement (k l n m : ℕ) (x y : List ℕ) : Type 0 where
   pub kind : k ≡ l
   pub number : n ≡ m

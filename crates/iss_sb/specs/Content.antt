@@ -22,7 +22,8 @@ spell_content version Mark = 2 ∷ []
 
 abbrev pub IsSpelledContent : ℕ → Content → List ℕ → Type 0
 IsSpelledContent version Nil bytes = bytes ≡ 0 ∷ []
-IsSpelledContent version (Holds batch) bytes = (value : List ℕ) × IsSpelledValue version (Value_batch batch) value × (bytes ≡ 1 ∷ value)
+IsSpelledContent version (Holds batch) bytes = (value : List ℕ) × IsSpelledValue version (Value_batch batch) value
+    × (bytes ≡ 1 ∷ value)
 IsSpelledContent version Mark bytes = bytes ≡ 2 ∷ []
 
 -- ---- reading
@@ -38,7 +39,7 @@ is_kind n = nat_le n 2
 abbrev pub content_of : ℕ → ℕ → Parser Content
 content_of version kind = if kind == 0 then done Nil else (if kind == 1 then parse_batch_content version else done Mark)
 
--- the kind says what follows
+-- the first byte is the kind of what follows
 unfoldable pub parse_content : ℕ → Parser Content
 parse_content version = do
   kind ← such_that is_kind byte

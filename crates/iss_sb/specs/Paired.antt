@@ -1,15 +1,15 @@
--- Slots with the values that stand there.
+-- Slots with the values that are delivered there.
 use Rattle.std.specs.Prelude.{ℕ, ◌==◌, List, [], ◌∷◌, Option, Some, None, if◌then◌else◌}
 use Rattle.iss_request.specs.declared.ids.Slot.{Slot}
 use Rattle.iss_request.specs.declared.requests.Value.{Value}
 
--- slots, each with a value, as long as there are both
+-- slots with their values, up to the shorter of both lists
 abbrev pub paired : List Slot → List Value → List (Slot × Value)
 paired [] vs = []
 paired (s ∷ ss) [] = []
 paired (s ∷ ss) (v ∷ vs) = (s, v) ∷ paired ss vs
 
--- the value that stands with the slot of this number
+-- the value that is paired with the slot of this number
 abbrev pub value_with : ℕ → List Slot → List Value → Option Value
 value_with n [] vs = None
 value_with n (s ∷ ss) [] = None

@@ -8,7 +8,7 @@ use Rattle.iss_sb.specs.Ascending.{all_ascend, ascending}
 abbrev pub signer_of : Signed → ℕ
 signer_of x = x.by.0
 
--- from this node on, with the shape of a signature
+-- a signer not below `from`, with a well-formed signature
 abbrev pub is_signer : ℕ → Signed → Bool
 is_signer from x = nat_le from x.by.0 && is_signature x.sig
 
@@ -28,7 +28,7 @@ parse_signed from = do
   sig ← parse_signature
   done (record { by = record { 0 = by }; sig = sig })
 
--- n of them
+-- n signers, strictly ascending
 -- rule: Signers: The signers of a certificate are strictly ascending, and an error names the first other
 abbrev pub parse_signers : ℕ → ℕ → Parser (List Signed)
 parse_signers n from = ascending parse_signed signer_of n from

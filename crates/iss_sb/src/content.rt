@@ -1,4 +1,4 @@
-//! The content of a log entry (Raft) or of a tree node (HotStuff), and its bytes.
+//! What a log entry (Raft) or a tree node (HotStuff) holds, and its encoding.
 ghost use Rattle.std.specs.Prelude.{◌≡◌, ℕ, IfOk, OnOk, Err};
 ghost use Rattle.iss_request.specs.Fields.{IsRead, IsUnreadable, and_bytes};
 ghost use Rattle.iss_sb.specs.Content.{parse_content, spell_content};
@@ -14,16 +14,19 @@ const HOLDS: u8 = 1;
 
 const MARK: u8 = 2;
 
-/// What a log entry or a tree node proposes for a slot: nil, a batch, or the mark of a new leader, which fills no slot.
+/// What a log entry or a tree node holds for a slot.
 #[derive(Drop)]
 pub enum Content {
+    /// Nil: the slot gets no batch.
     Nil,
+    /// A batch.
     Holds(Batch),
+    /// The mark of a new leader, which fills no slot.
     Mark,
 }
 
 impl Content {
-    /// Another with equal content.
+    /// A copy. The only error is out of memory.
     pub fn copy(&self) -> Result<Content, NoMemory>
         ensures { IfOk result (λ w. w ≡ self.now) }
     {
@@ -35,7 +38,7 @@ impl Content {
     }
 }
 
-/// Writes a content: its kind, and the value of a batch.
+/// Appends the encoding: the kind, and the value of a batch. The only error is out of memory.
 pub fn write_content(content: &Content, out: &mut Writer) -> Result<(), NoMemory>
     ensures { OnOk result (out.new ≡ and_bytes out.old (spell_content out.old.version content.now)) }
 {
@@ -49,11 +52,12 @@ pub fn write_content(content: &Content, out: &mut Writer) -> Result<(), NoMemory
     }
 }
 
-/// Reads a content. `BadField` names the kind where there is no such, and the value where it is no batch.
+/// Decodes a content. `BadField` names the kind if there is no such kind, and the value if it is no batch.
 // rule: Raft: An entry holds nil, a batch or a mark
 pub fn read_content(alloc: Global, f: &mut Fields) -> Result<Content, DecodeError>
     ensures ok { IfOk result (λ w. IsRead (parse_content f.old.version) f.old f.new w) }
-    ensures bad { (at : ℕ) → result ≡ Err (DecodeError.BadField at) → IsUnreadable (parse_content f.old.version) f.old at }
+    ensures bad { (at : ℕ) → result ≡ Err (DecodeError.BadField at) →
+        IsUnreadable (parse_content f.old.version) f.old at }
 {
     let no_kind = f.bad_field();
     let kind = f.read_u8()?;

@@ -1,4 +1,4 @@
-//! What goes into a module and what comes out of it.
+//! The inputs of a module, and the effects of a step.
 ghost use Rattle.std.specs.Prelude.{◌≡◌};
 ghost use Rattle.iss_base.specs.Lists.{nth};
 ghost use Rattle.iss_sb.specs.Calls.{is_slot};
@@ -7,22 +7,25 @@ use iss_keys::SharedDirectory;
 use iss_request::{Batch, Bytes, Epoch, NoMemory, NodeId, Seq, Setup, Slot, Value};
 use std::alloc::Global;
 
-/// What a module takes: a batch to broadcast at a slot, a message, or that time has run out.
+/// An input of an instance.
 #[derive(Drop)]
 pub enum Input<M> {
+    /// A batch to propose at a slot, at the leader.
     Cast { slot: Slot, batch: Batch },
+    /// A message from a node. The host has checked each signature that it claims.
     Receive { from: NodeId, msg: M },
+    /// The timer of the segment fired.
     Timeout,
 }
 
-/// Whom a message goes to. A send to all includes the sender.
+/// The recipients of a message. A send to all includes the sender.
 #[derive(Clone, Copy, Debug, PartialEq, Eq)]
 pub enum To {
     All,
     One(NodeId),
 }
 
-/// What a node is said to have signed.
+/// A claim in a message: node `by` signed `statement`, with signature `sig`. It may be false.
 #[derive(Drop)]
 pub struct Claim {
     pub by: NodeId,
@@ -30,8 +33,8 @@ pub struct Claim {
     pub sig: Bytes,
 }
 
-/// What an instance is started with: one epoch, one leader, the slots of the leader's segment, ascending, and the public
-/// keys of nodes and clients.
+/// What an instance is started with: its epoch, its leader, the slots of the leader's segment (strictly ascending), and
+/// the public keys of nodes and clients.
 #[derive(Drop)]
 pub struct Params {
     pub setup: Setup,
@@ -41,7 +44,7 @@ pub struct Params {
     pub directory: SharedDirectory,
 }
 
-/// Whether the slot is that of this place in the segment.
+/// Whether `slot` is the slot at this place of the segment.
 pub fn is_next(p: &Params, place: usize, slot: Slot) -> bool
     ensures { result ≡ is_slot slot.0 (nth p.now.slots place) }
 {
@@ -51,10 +54,12 @@ pub fn is_next(p: &Params, place: usize, slot: Slot) -> bool
     }
 }
 
-/// Why a step was not made: fewer leaves are left than one step may sign with, or memory was wanting.
+/// Why a step was not made.
 #[derive(Clone, Copy, Debug, PartialEq, Eq)]
 pub enum StepError {
+    /// Fewer one-time leaves are left than the step may use. Nothing changed.
     Spent,
+    /// Out of memory. The contract promises nothing of the instance.
     NoMemory,
 }
 
@@ -69,8 +74,8 @@ impl From<NoMemory> for StepError {
     }
 }
 
-/// What a step gives: messages to send, the batch that it accepted, the slots that it delivers, and the strings that
-/// it hashed.
+/// The effects of a step: messages to send, the batch that it accepted, the slots that it delivers (ascending), and the
+/// strings that it hashed.
 #[derive(Drop)]
 pub struct Effects<M> {
     pub sends: Seq<(To, M)>,

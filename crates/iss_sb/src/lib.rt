@@ -1,5 +1,5 @@
-//! Sequenced Broadcast: the trait of an ordering module, what its calls take and give, the world of one instance,
-//! and the laws that a module meets (ISS, "Sequenced Broadcast").
+//! Sequenced Broadcast: the trait of an ordering module, the inputs and effects of its calls, the world of one
+//! instance, and the laws that each module proves (ISS, "Sequenced Broadcast").
 #![tactic(auto)]
 
 pub mod content;

@@ -1,4 +1,4 @@
-//! Nodes with their signatures, strictly ascending: what a certificate holds of those that voted.
+//! Lists of signers with their signatures, strictly ascending, as in certificates.
 ghost use Rattle.std.specs.Prelude.{◌≡◌, ◌≤◌, ℕ, IfOk, OnOk, Err};
 ghost use Rattle.std.specs.List.{flat_map};
 ghost use Rattle.iss_request.specs.Fields.{IsRead, IsUnreadable, and_bytes};
@@ -9,7 +9,7 @@ use iss_request::{
 };
 use std::alloc::Global;
 
-/// A node's signature.
+/// A signer and its signature.
 #[derive(Drop)]
 pub struct Signed {
     pub by: NodeId,
@@ -17,7 +17,7 @@ pub struct Signed {
 }
 
 impl Signed {
-    /// Another with equal content.
+    /// A copy. The only error is out of memory.
     pub fn copy(&self) -> Result<Signed, NoMemory>
         ensures { IfOk result (λ x. x ≡ self.now) }
     {
@@ -28,7 +28,7 @@ impl Signed {
     }
 }
 
-/// Other signers with equal content.
+/// A copy of the list. The only error is out of memory.
 pub fn copy_signers(alloc: Global, signers: &[Signed]) -> Result<Seq<Signed>, NoMemory>
     ensures { IfOk result (λ xs. xs ≡ signers.now) }
 {
@@ -39,7 +39,7 @@ pub fn copy_signers(alloc: Global, signers: &[Signed]) -> Result<Seq<Signed>, No
     Ok(copies)
 }
 
-/// Whether the nodes are strictly ascending, none below `from`, each with the shape of a signature.
+/// Whether the signers are strictly ascending, none below `from`, each with a well-formed signature.
 pub fn are_signers(from: u16, signers: &[Signed]) -> bool
     requires { from ≤ 256 }
     ensures { result ≡ are_signers from signers.now }
@@ -60,7 +60,7 @@ fn put_signed(signed: &Signed, out: &mut Writer) -> Result<(), NoMemory>
     out.put_bytes(signed.sig.as_slice())
 }
 
-/// Writes signers, without their count.
+/// Appends the signers without their count. The only error is out of memory.
 pub fn put_signers(signers: &[Signed], out: &mut Writer) -> Result<(), NoMemory>
     ensures { OnOk result (out.new ≡ and_bytes out.old (flat_map spell_signed signers.now)) }
 {
@@ -86,7 +86,8 @@ fn read_signed(alloc: Global, from: u16, f: &mut Fields) -> Result<Signed, Decod
     })
 }
 
-/// Reads `count` signers. `BadField` names the first field that does not fit, as a node that is not above the last.
+/// Decodes `count` signers. `BadField` names the first field that does not fit, also a node that is not above the one
+/// before it.
 // rule: Signers: The signers of a certificate are strictly ascending, and an error names the first other
 pub fn read_signers(alloc: Global, count: u8, f: &mut Fields) -> Result<Seq<Signed>, DecodeError>
     ensures ok { IfOk result (λ xs. IsRead (parse_signers count 0) f.old f.new xs) }

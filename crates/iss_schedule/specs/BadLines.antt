@@ -1,4 +1,6 @@
--- The first bad line of a text, and what is wrong with it.
+-- The first bad line of a text, and what is wrong with it. The lines before it begin a schedule, and with it no
+-- schedule goes on. Reasons: too many events, a cut line, a wrong form, bad faulty nodes, bytes for a core of stopping
+-- nodes, or a number out of range. Each text is a schedule, or has exactly one first bad line with one reason.
 use Rattle.std.specs.Prelude.{◌≡◌, ◌≢◌, ◌⊎◌, ◌<◌, ◌≤◌, ◌+◌, ℕ, suc, List, [], ◌∷◌, ◌++◌, length, take}
 use Rattle.iss_request.specs.declared.setups.Kind.TheVariants.{Stopping}
 use Rattle.iss_schedule.specs.declared.errors.LineFault.{LineFault}

@@ -1,4 +1,4 @@
--- The cores of a set-up.
+-- The cores of a set-up: one for each node, and a second one for each faulty node.
 use Rattle.std.specs.Prelude.{ℕ, ◌+◌, length}
 use Rattle.iss_request.specs.declared.setups.Setup.{Setup}
 

@@ -1,4 +1,5 @@
--- Events as lines, and their ranges.
+-- Events as lines, and their ranges: cores, leaders, peers, clients and numbers that exist, payloads of at most 256
+-- bytes, 1 to 1,000 pumps, and 0 to 1,000 calls before a crash. Bytes for a core need a Byzantine module.
 use Rattle.std.specs.Prelude.{◌≡◌, ◌<◌, ◌≤◌, ◌^◌, ℕ, List, [], ◌∷◌, length, decimal}
 use Rattle.hex.specs.Hex.{IsBytes}
 use Rattle.iss_request.specs.declared.setups.Kind.TheVariants.{Byzantine}

@@ -1,4 +1,4 @@
--- How each line is spelled, whatever the size of its numbers.
+-- How each line is formed, whatever the size of its numbers. A line of the right form may still be out of range.
 use Rattle.std.specs.Prelude.{◌≡◌, ◌⊎◌, ◌<◌, ℕ, zero, suc, Bool, true, false, Option, Some, None, List, [], ◌∷◌, ◌++◌, length, get_or, codes}
 use Rattle.hex.specs.Hex.{IsBytes}
 use Rattle.iss_base.specs.Lists.{nth}

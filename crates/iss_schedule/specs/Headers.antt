@@ -1,5 +1,6 @@
--- The header: a table of its lines, and the set-up that their values give. A field, a module or a policy is one line more.
--- Its last line names the faulty nodes.
+-- The header of a schedule: a table of its lines, and the set-up that their values give. A line has one of some words,
+-- or a name and a number within two bounds, which may depend on the lines above. The last line names the faulty nodes.
+-- A module is one row of the module table: its word, number, kind, and most faults.
 use Rattle.std.specs.Prelude.{◌≡◌, ◌⊎◌, ◌<◌, ◌==◌, ℕ, suc, List, [], ◌∷◌, ◌++◌, length, get_or, codes, if◌then◌else◌, decimal}
 use Rattle.iss_request.specs.Setup.{node_count, quorum_count}
 use Rattle.iss_request.specs.declared.setups.Kind.{Kind}

@@ -1,4 +1,4 @@
--- What reading found.
+-- What a private reader found: the thing that is encoded so and in range, or that nothing in range is encoded so.
 use Rattle.std.specs.Prelude.{◌≡◌, ◌≢◌, ◌<◌, ◌≤◌, ℕ, List, [], ◌∷◌, length, get_or, decimal, Option, Some, None}
 
 -- a thing that is in range and spelled so, or nothing, where no thing in range is spelled so

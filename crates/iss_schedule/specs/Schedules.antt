@@ -1,4 +1,6 @@
--- Schedules and their texts.
+-- Schedules and their texts. A schedule has a good set-up of a module that has a word, events in range, and at most
+-- 1,048,576 of them; its text has at most 16,777,216 bytes. The cluster's tag is the SHA-256 of a letter C and the
+-- header's lines. A schedule has one text, and a text is that of at most one schedule.
 use Rattle.std.specs.Prelude.{◌≡◌, ◌≤◌, ℕ, List, [], ◌∷◌, ◌++◌, length, map}
 use Rattle.sha2.specs.Sha256.{sha256}
 use Rattle.iss_request.specs.Setup.{IsGoodSetup}

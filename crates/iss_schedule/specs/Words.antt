@@ -1,4 +1,5 @@
--- Texts, lines and words.
+-- Texts, lines and words. A line is words parted by one space; a text is lines, each ended by one line feed. Bytes are
+-- lower case hexadecimal, `-` for none. Numbers are decimal without leading zeros.
 use Rattle.std.specs.Prelude.{◌≡◌, ◌≢◌, ◌≤◌, ◌<◌, ◌==◌, ℕ, List, [], ◌∷◌, ◌++◌, length, codes, EachIndex, slice_index}
 use Rattle.std.specs.List.{slice_split, join_with_byte}
 use Rattle.hex.specs.Hex.{encode_lower}

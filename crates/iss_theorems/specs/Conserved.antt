@@ -1,4 +1,5 @@
--- Where the requests are that a core took: each identity in one place.
+-- No request is lost: each identity that a correct core took is in exactly one of its log, its waiting list and its
+-- batches in flight. This asks that a correct leader accepts one batch per slot.
 use Rattle.std.specs.Prelude.{◌≡◌, ◌⊎◌, ℕ, true, cond, ◌==◌, List, [], ◌∷◌, Option, Some, None}
 use Rattle.iss_base.specs.Lists.{In}
 use Rattle.iss_request.specs.Log.{ids, log_ids}
@@ -21,9 +22,10 @@ use Rattle.iss_rules.specs.Rules.{Rules}
 use Rattle.iss_theorems.specs.OneLog.{run_after}
 use Rattle.iss_model.specs.Run.{Happening, Progress, apply_event, begin_run, run_event_if_open}
 
--- the identity of a request event at core i that was not lost
+-- the identity of a request event at core i, if the core accepted the request
 abbrev pub asked_by : ℕ → Event → Option Why → List ReqId
-asked_by i (Event_request c client number payload) None = cond (c == i) (record { client = client; number = number } ∷ []) []
+asked_by i (Event_request c client number payload) None =
+    cond (c == i) (record { client = client; number = number } ∷ []) []
 asked_by i (Event_request c client number payload) (Some why) = []
 asked_by i (Propose c) lost = []
 asked_by i (Timeout c l) lost = []
@@ -39,16 +41,18 @@ asked_by i (Restart c) lost = []
 asked_by i (Crash c calls) lost = []
 asked_by i (Bytes c bytes) lost = []
 
--- what is asked for in the event in which a run ends, or later, is not taken
+-- a request in the event that stops the run, or in a later one, was not accepted
 abbrev pub unless_ended : {A : Type 0} → Option A → List ReqId → List ReqId
 unless_ended None xs = xs
 unless_ended (Some end) xs = []
 
+-- the same, given the outcome of the event
 abbrev pub asked_in : {Msg : Type 0} → ℕ → Event → Happening Msg → List ReqId
 asked_in i e d = unless_ended d.ended (asked_by i e d.lost)
 
--- the core took the identity by a request event in the course of these events
-abbrev pub WasAsked : {Msg : Type 0} → Setup → Formats Msg → Rules → Module Msg → Progress Msg → List Event → ℕ → ReqId → Type 0
+-- one of these events is a request with this identity that core i accepted
+abbrev pub WasAsked : {Msg : Type 0} → Setup → Formats Msg → Rules → Module Msg → Progress Msg → List Event → ℕ →
+    ReqId → Type 0
 WasAsked s F R M p [] i x = ⊥
 WasAsked s F R M p (e ∷ es) i x =
     In x (unless_ended p.ended (asked_in i e (apply_event s F R M p.held e))) ⊎
@@ -60,19 +64,22 @@ pub data One (A B C : Type 0) : Type 0 where
   second : (A → ⊥) → B → (C → ⊥) → One A B C
   third : (A → ⊥) → (B → ⊥) → C → One A B C
 
--- the identity is in the core's log, waits, or is in flight, and in no two of these
+-- the identity is in exactly one place at the core: its log, the waiting requests, or a batch in flight
 abbrev pub IsInOnePlace : {Msg : Type 0} → Rules → Module Msg → ℕ → Core Msg → ReqId → Type 0
 IsInOnePlace R M i c x = One (In x (log_ids (log_of R M i c.past))) (In x (ids c.waiting)) (In x (flown c.flight))
 
--- a correct leader accepts one batch at a slot, in every world that moves lead to
+-- in every reachable world, a correct leader accepts at most one batch a slot
 abbrev pub AcceptsOnce : {Msg : Type 0} → Module Msg → Type 0
 AcceptsOnce {Msg} m =
-    (p : Params) (w : World Msg) → IsGoodParams m p → IsReached m p w → Separate (IsString w) → is_correct p.setup p.leader.0 ≡ true →
-    (slot : Slot) (b c : Batch) → In {A = Slot × Batch} (slot, b) (accepts (w p.leader.0)) → In {A = Slot × Batch} (slot, c) (accepts (w p.leader.0)) → b ≡ c
+    (p : Params) (w : World Msg) → IsGoodParams m p → IsReached m p w → Separate (IsString w) →
+    is_correct p.setup p.leader.0 ≡ true →
+    (slot : Slot) (b c : Batch) → In {A = Slot × Batch} (slot, b) (accepts (w p.leader.0)) →
+    In {A = Slot × Batch} (slot, c) (accepts (w p.leader.0)) → b ≡ c
 
--- each request that a correct core took is still there, once
+-- No loss: each request that a correct core accepted is still there, in exactly one place.
 -- rule: Epochs: A request that a correct node took is in one place: its log, waiting, or in flight
 abbrev pub IsConserved : {Msg : Type 0} → Setup → Module Msg → List Event → Type 0
 IsConserved s M events =
-    (i : ℕ) → is_correct s i ≡ true → (x : ReqId) → WasAsked s (formats_of s M) (rules_of s) M (begin_run s) events i x →
+    (i : ℕ) → is_correct s i ≡ true → (x : ReqId) →
+    WasAsked s (formats_of s M) (rules_of s) M (begin_run s) events i x →
     IsInOnePlace (rules_of s) M i ((run_after s M events).held.net.cores i) x

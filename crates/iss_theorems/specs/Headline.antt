@@ -1,4 +1,7 @@
--- What a run leads to in which disks fail and cores are made anew: what a run of nodes leads to that never do, and so one log.
+-- The recovery theorem: a run with disk failures and restarts equals a run without any, by the events that were
+-- journaled. Cores, packets, books and the end of the run are the same. So all that holds for runs holds here: one
+-- log, conserved requests, certificates of correct logs, adopted values that were delivered, and evidence for an early
+-- end.
 use Rattle.std.specs.Prelude.{◌≡◌, ◌⊎◌, ℕ, true, List, [], ◌∷◌, ◌++◌, Option, Some, None, reverse}
 use Rattle.iss_base.specs.Lists.{In}
 use Rattle.iss_checkpoint.specs.declared.votes.Cert.{Cert}
@@ -38,7 +41,7 @@ held_after s M events = (course_after s M events).machines.held
 
 -- ---- what enters
 
--- no disk is to fail, and no core is made anew
+-- the event is neither a crash nor a restart
 abbrev pub IsUndisturbed : Event → Type 0
 IsUndisturbed (Event_request c client number payload) = Unit {0}
 IsUndisturbed (Propose c) = Unit {0}
@@ -63,8 +66,8 @@ abbrev pub why_ended : Option (ℕ × End) → Option End
 why_ended None = None
 why_ended (Some at) = Some at.1
 
--- Nodes whose disks never fail, and none of which is made anew, come to the same by these events: cores, packets and books are
--- the same, and so is why the run ended. So an event that was not kept never enters.
+-- Crash recovery. Cores, packets, books and evidence equal those of a failure-free run of the events that were
+-- journaled (`entered`). So an event that was not journaled has no effect.
 pub record Enters {Msg : Type 0} (s : Setup) (M : Module Msg) (events : List Event) : Type 0 where
   pub entered : List Event
   pub at_cores : AreAtCores s entered
@@ -72,13 +75,13 @@ pub record Enters {Msg : Type 0} (s : Setup) (M : Module Msg) (events : List Eve
   pub held : (run_after s M entered).held ≡ held_after s M events
   pub ended : why_ended (run_after s M entered).ended ≡ why_ended (course_after s M events).ended
 
--- each core is that of the events that its disk keeps
+-- each core equals the replay of the events in its journal
 abbrev pub AreOfTheirDisks : {Msg : Type 0} → Setup → Formats Msg → Rules → Module Msg → Machines Msg → Type 0
 AreOfTheirDisks s F R M w = (c : ℕ) → w.held.net.cores c ≡ core_of F R M (node_of s c) (w.disks c).kept
 
 -- ---- one log
 
--- what the cores took is what the nodes of a cluster took after some moves, with the run's books
+-- What the cores took is reached by moves of a cluster with the same books. So the composition theorem holds.
 pub record AreOfCluster {Msg : Type 0} (s : Setup) (M : Module Msg) (h : Held Msg) : Type 0 where
   pub cluster : Cluster Msg
   pub pasts : cluster.pasts ≡ pasts_of h.net
@@ -89,43 +92,50 @@ pub record AreOfCluster {Msg : Type 0} (s : Setup) (M : Module Msg) (h : Held Ms
   pub exact : IsExact s (scheme_of s) cluster
   pub separate : Separate (Among cluster.strings)
 
--- the log of a node, oldest first
+-- the log of node i, oldest value first
 abbrev pub shown : {Msg : Type 0} → Setup → Module Msg → Held Msg → ℕ → List Value
 shown s M h i = reverse (log_of (rules_of s) M i (pasts_of h.net i))
 
--- the logs that correct nodes print are of one log
+-- Agreement and integrity: the logs of correct nodes are prefixes of one log.
 -- rule: Log: Of two correct nodes' logs one is a prefix of the other, and no request is in one twice
 pub record AreOneLog {Msg : Type 0} (s : Setup) (M : Module Msg) (h : Held Msg) : Type 0 where
-  -- of two logs one is the beginning of the other
+  -- of two correct logs, one is a prefix of the other
   pub prefix : (i j : ℕ) → is_correct s i ≡ true → is_correct s j ≡ true →
       IsPrefix (shown s M h i) (shown s M h j) ⊎ IsPrefix (shown s M h j) (shown s M h i)
-  -- no request stands twice in a log
+  -- no request occurs twice in a log
   pub once : (i : ℕ) → is_correct s i ≡ true → Once (shown s M h i)
-  -- a correct node accepted each batch as valid, in the slot in which it is printed
+  -- a correct node accepted each batch as valid, at the slot where the log holds it
   pub valid : (i : ℕ) → is_correct s i ≡ true → (front back : List Value) (b : Batch) →
       shown s M h i ≡ front ++ Value_batch b ∷ back → WasAccepted s (rules_of s) M (pasts_of h.net) (reverse front) b
-  -- a slot that two correct nodes hold begins with the same number at both: the sum of the sizes of the batches before it
-  pub numbers : (i j slot k l : ℕ) → is_correct s i ≡ true → is_correct s j ≡ true → first_number_of (shown s M h i) slot ≡ Some k →
+  -- If two correct logs hold a slot, they give its first request the same number: the count of requests in earlier
+  -- slots.
+  pub numbers : (i j slot k l : ℕ) → is_correct s i ≡ true → is_correct s j ≡ true →
+      first_number_of (shown s M h i) slot ≡ Some k →
       first_number_of (shown s M h j) slot ≡ Some l → k ≡ l
 
--- certificates that correct nodes keep are of logs of correct nodes, and what correct nodes adopted was delivered at one
+-- Checkpoints and state transfer: a certificate that a correct node keeps is of a correct signer's log. What a correct
+-- node adopted was delivered by a correct node.
 pub record AreCertified {Msg : Type 0} (s : Setup) (M : Module Msg) (h : Held Msg) : Type 0 where
-  pub of_logs : (i : ℕ) → is_correct s i ≡ true → (c : Cert) → In c (h.net.cores i).certs → IsOfLog s (rules_of s) M (pasts_of h.net) c
-  pub delivered : (i : ℕ) → is_correct s i ≡ true → (e k : ℕ) (v : Value) → adopted_at (pasts_of h.net i).adopted e k ≡ Some v →
+  pub of_logs : (i : ℕ) → is_correct s i ≡ true → (c : Cert) → In c (h.net.cores i).certs →
+      IsOfLog s (rules_of s) M (pasts_of h.net) c
+  pub delivered : (i : ℕ) → is_correct s i ≡ true → (e k : ℕ) (v : Value) →
+      adopted_at (pasts_of h.net i).adopted e k ≡ Some v →
       WasDelivered s (rules_of s) M (pasts_of h.net) e k v
 
--- the book misses no claim and no vote that a correct node sent of its own
+-- the book holds every claim and every checkpoint vote that a correct node signed and sent
 pub record AreWritten {Msg : Type 0} (s : Setup) (M : Module Msg) (h : Held Msg) : Type 0 where
   pub claims : (i : ℕ) → is_correct s i ≡ true → AreBooked (rules_of s) M i (pasts_of h.net i) h.signed
   pub votes : (i : ℕ) → is_correct s i ≡ true → AreVoted (rules_of s) M i (pasts_of h.net i) h.signed
 
 -- ---- where requests are
 
--- the identity of a request event at core i that was taken and kept
+-- the identity of a request event at core i that the core accepted and journaled
 abbrev pub asked_in : {Msg : Type 0} → ℕ → Event → Upshot Msg → List ReqId
 asked_in i e d = unless_ended d.ended (asked_by i e d.lost)
 
-abbrev pub WasAsked : {Msg : Type 0} → Setup → Formats Msg → Rules → Module Msg → Course Msg → List Event → ℕ → ReqId → Type 0
+-- one of these events is such a request
+abbrev pub WasAsked : {Msg : Type 0} → Setup → Formats Msg → Rules → Module Msg → Course Msg → List Event → ℕ →
+    ReqId → Type 0
 WasAsked s F R M p [] i x = ⊥
 WasAsked s F R M p (e ∷ es) i x =
     In x (unless_ended p.ended (asked_in i e (apply_event s F R M p.machines e))) ⊎
@@ -133,23 +143,32 @@ WasAsked s F R M p (e ∷ es) i x =
 
 -- ---- all of it
 
--- What every run says of itself, whatever disks fail and cores are made anew.
+-- The headline. It holds for every ordering module and every schedule: for any faulty nodes, network, disk failures and
+-- restarts. It assumes nothing of signatures or SHA-256: a run that breaks one of them stops and shows the evidence.
+-- Other crates cite this record.
 -- rule: Recovery: A run with crashes refines the run of its kept events without crashes
 pub record IsWhole {Msg : Type 0} (s : Setup) (M : Module Msg) (events : List Event) : Type 0 where
+  -- crash recovery: the run equals a failure-free run of the events that were journaled
   pub enters : Enters s M events
+  -- each core equals the replay of its journal
   pub disks : AreOfTheirDisks s (formats_of s M) (rules_of s) M (course_after s M events).machines
+  -- the run refines moves of a cluster
   pub of_cluster : AreOfCluster s M (held_after s M events)
+  -- agreement and integrity: correct logs are prefixes of one log, with valid batches, and no request twice
   pub one_log : AreOneLog s M (held_after s M events)
-  -- more events only make logs longer
+  -- more events only extend correct logs
   pub grows : (more : List Event) → AreAtCores s more → (i : ℕ) → is_correct s i ≡ true →
       IsPrefix (shown s M (held_after s M events) i) (shown s M (held_after s M (events ++ more)) i)
-  -- each request that a correct core took is still there, once
+  -- no loss: each request that a correct core accepted is in its log, waiting, or in flight, and in only one of these
   pub conserved : AcceptsOnce M → (i : ℕ) → is_correct s i ≡ true → (x : ReqId) →
-      WasAsked s (formats_of s M) (rules_of s) M (begin_course s) events i x → IsInOnePlace (rules_of s) M i ((held_after s M events).net.cores i) x
+      WasAsked s (formats_of s M) (rules_of s) M (begin_course s) events i x →
+      IsInOnePlace (rules_of s) M i ((held_after s M events).net.cores i) x
+  -- checkpoints and state transfer: certificates and adopted values come from correct logs
   pub certified : AreCertified s M (held_after s M events)
-  -- where the run has ended, that is shown by what it holds, and what comes later changes nothing
+  -- Evidence: a run that stopped shows a forged signature or a collision, and later events change nothing.
   pub shows : (k : ℕ) (end : End) → (course_after s M events).ended ≡ Some (k, end) →
       IsEvidenced s (formats_of s M) (rules_of s) M (held_after s M events) end
   pub stays : (k : ℕ) (end : End) → (course_after s M events).ended ≡ Some (k, end) → (more : List Event) →
       course_after s M (events ++ more) ≡ course_after s M events
+  -- the book of signed statements is complete for correct nodes
   pub written : AreWritten s M (held_after s M events)

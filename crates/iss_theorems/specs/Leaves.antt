@@ -1,4 +1,6 @@
--- What the leaves of a node's keys signed, over all that the node did.
+-- One-time keys stay one-time. A deed is an event that a node took and its turn; a life is a row of deeds, each a step
+-- from the core before. For each life there is one statement per used leaf, and each own claim is signed by a leaf
+-- over its statement, or was heard before.
 use Rattle.std.specs.Prelude.{◌≡◌, ◌⊎◌, ℕ, true, List, [], ◌∷◌, ◌++◌, Some, length, slice_get}
 use Rattle.iss_base.specs.Lists.{In}
 use Rattle.iss_request.specs.declared.setups.Setup.{Setup}
@@ -13,56 +15,57 @@ use Rattle.iss_model.specs.Node.{Core, Taken, Turn, initial_core}
 use Rattle.iss_model.specs.Run.{as_signed, node_of}
 use Rattle.iss_theorems.specs.OneLog.{run_after}
 
--- an event that a node took, and the turn that it led to
+-- an event that a node accepted, and the outcome
 pub record Deed (Msg : Type 0) : Type 0 where
   pub event : NodeEvent
   pub turn : Turn Msg
 
--- the core that a node's deeds, newest first, led to
+-- the core after these steps, newest first
 abbrev pub core_behind : {Msg : Type 0} → List (Deed Msg) → Core Msg
 core_behind [] = initial_core
 core_behind (x ∷ xs) = x.turn.core
 
--- each deed is a step of node me, from the core that the older ones led to
+-- The history of node me, newest first: each entry is a step of the node from the core after the older ones.
 abbrev pub IsLife : {Msg : Type 0} → Frame Msg → ℕ → List (Deed Msg) → Type 0
 IsLife W me [] = Unit {0}
 IsLife W me (x ∷ xs) = (step_in W me (core_behind xs) x.event ≡ Taken x.turn) × IsLife W me xs
 
--- the claims that the node read in what came to it
+-- the claims that the node received
 abbrev pub told : {Msg : Type 0} → Frame Msg → ℕ → List (Deed Msg) → List Claim
 told W me [] = []
 told W me (x ∷ xs) = claims_at_in W me (core_behind xs) x.event ++ (x.turn.early ++ told W me xs)
 
--- the claim is of one of these statements, and signed by the leaf of its place
+-- the claim's statement is that of some leaf in the row, and its signature is by this leaf
 pub record IsOfRow (R : Rules) (me : ℕ) (row : List (List ℕ)) (c : Claim) : Type 0 where
   pub leaf : ℕ
   pub statement : slice_get row leaf ≡ Some c.statement
   pub signature : c.sig ≡ R.signature me leaf c.statement
 
--- each claim of its own in what the node sent is one of these, or the node had been told it
+-- each own claim that the node sent is of the row, or the node had received it
 abbrev pub AreOfRow : {Msg : Type 0} → Frame Msg → ℕ → List (List ℕ) → List (Deed Msg) → Type 0
 AreOfRow W me row [] = Unit {0}
 AreOfRow W me row (x ∷ xs) =
     ((c : Claim) → In c x.turn.own → IsOfRow W.rules me row c ⊎ In c (told W me (x ∷ xs))) × AreOfRow W me row xs
 
--- Each leaf that the node has used is of one statement: there is a row of them, one for each leaf up to the next, and whatever the node
--- sent as signed of its own is signed by a leaf over the statement of its place. A claim that the node was told may be sent on as it came.
+-- No leaf signs two statements: `row` gives each used leaf its one statement. Every signature of its own that the node
+-- sends is by a leaf over that leaf's statement, or the node had received it.
 -- rule: Signatures: A node signs at most one statement with each leaf
 pub record SignsOnceEach {Msg : Type 0} (W : Frame Msg) (me : ℕ) (deeds : List (Deed Msg)) : Type 0 where
   pub row : List (List ℕ)
   pub each : length row ≡ (core_behind deeds).leaf
   pub own : AreOfRow W me row deeds
 
--- the claims of its own that a node sent
+-- the own claims that a node sent
 abbrev pub sent : {Msg : Type 0} → List (Deed Msg) → List Claim
 sent [] = []
 sent (x ∷ xs) = x.turn.own ++ sent xs
 
--- Each core of a run is what a life of its node led to, in which no leaf signed two statements; and the book has nothing but what
--- correct nodes sent in these lives as signed of their own.
+-- Each core of the run has a history of its node in which no leaf signs two statements. The book holds only statements
+-- that correct nodes signed and sent in these histories.
 pub record AreLives {Msg : Type 0} (s : Setup) (M : Module Msg) (events : List Event) : Type 0 where
   pub deeds : ℕ → List (Deed Msg)
   pub life : (i : ℕ) → IsLife (frame_of s M) (node_of s i) (deeds i)
   pub core : (i : ℕ) → core_behind (deeds i) ≡ (run_after s M events).held.net.cores i
   pub signs : (i : ℕ) → SignsOnceEach (frame_of s M) (node_of s i) (deeds i)
-  pub book : (x : Signed) → In x (run_after s M events).held.signed → (i : ℕ) × (is_correct s i ≡ true) × In x (as_signed (sent (deeds i)))
+  pub book : (x : Signed) → In x (run_after s M events).held.signed → (i : ℕ) × (is_correct s i ≡ true)
+      × In x (as_signed (sent (deeds i)))

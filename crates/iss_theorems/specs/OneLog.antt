@@ -1,4 +1,6 @@
--- What a run prints, up to its end, and what a reader wants of it.
+-- Agreement, for every run and with no premise on claims or digests. Of two correct nodes' printed logs one is a
+-- prefix of the other, and no request stands twice. Each batch was accepted as valid by a correct node that judged it
+-- over the log before its epoch. More events only extend the logs.
 use Rattle.std.specs.Prelude.{◌≡◌, ◌⊎◌, ℕ, true, List, ◌∷◌, ◌++◌, reverse}
 use Rattle.iss_request.specs.Log.{Once}
 use Rattle.iss_request.specs.declared.requests.Batch.{Batch}
@@ -24,12 +26,12 @@ run_after s M events = run_in (frame_of s M) (begin_run s) events
 abbrev pub pasts_after : {Msg : Type 0} → Setup → Module Msg → List Event → ℕ → Past Msg
 pasts_after s M events = pasts_of (run_after s M events).held.net
 
--- the log of a node, oldest first
+-- the log of node i, oldest value first
 abbrev pub printed : {Msg : Type 0} → Setup → Module Msg → List Event → ℕ → List Value
 printed s M events i = reverse (log_of (rules_of s) M i (pasts_after s M events i))
 
--- What the cores took is what the nodes of a cluster took after some moves, with the run's books, where logs are chained and
--- voted for as the set-up has it; and all that was hashed is separate, since a collision would have ended the run.
+-- The run refines moves of a cluster with the same books, under the set-up's chaining and vote quorum. No two hashed
+-- strings collide, since a collision would have stopped the run.
 pub record IsClusterRun {Msg : Type 0} (s : Setup) (M : Module Msg) (events : List Event) : Type 0 where
   pub cluster : Cluster Msg
   pub pasts : cluster.pasts ≡ pasts_after s M events
@@ -40,16 +42,17 @@ pub record IsClusterRun {Msg : Type 0} (s : Setup) (M : Module Msg) (events : Li
   pub exact : IsExact s (scheme_of s) cluster
   pub separate : Separate (Among cluster.strings)
 
--- The logs that correct nodes print are of one log, with no premise on claims or digests.
+-- Agreement and integrity of a failure-free run, with no assumption on signatures or digests.
 pub record IsOneLog {Msg : Type 0} (s : Setup) (M : Module Msg) (events : List Event) : Type 0 where
-  -- of two logs one is the beginning of the other
+  -- of two correct logs, one is a prefix of the other
   pub prefix : (i j : ℕ) → is_correct s i ≡ true → is_correct s j ≡ true →
       IsPrefix (printed s M events i) (printed s M events j) ⊎ IsPrefix (printed s M events j) (printed s M events i)
-  -- no request stands twice in a log
+  -- no request occurs twice in a log
   pub once : (i : ℕ) → is_correct s i ≡ true → Once (printed s M events i)
-  -- a correct node accepted each batch as valid, in the slot in which it is printed
+  -- a correct node accepted each batch as valid, at the slot where the log holds it
   pub valid : (i : ℕ) → is_correct s i ≡ true → (front back : List Value) (b : Batch) →
-      printed s M events i ≡ front ++ Value_batch b ∷ back → WasAccepted s (rules_of s) M (pasts_after s M events) (reverse front) b
-  -- more events only make logs longer
+      printed s M events i ≡ front ++ Value_batch b ∷ back →
+      WasAccepted s (rules_of s) M (pasts_after s M events) (reverse front) b
+  -- more events only extend correct logs
   pub grows : (more : List Event) → AreAtCores s more → (i : ℕ) → is_correct s i ≡ true →
       IsPrefix (printed s M events i) (printed s M (events ++ more) i)

@@ -1,5 +1,5 @@
-//! The theorems that the contracts of the program cite: every run, also one with disk failures and recovery, refines moves of
-//! a cluster, so the composition holds of it (ISS, whole protocol).
+//! The theorems that the program's contracts cite. Every run, also one with disk failures and recovery, refines moves
+//! of a cluster. So the composition theorem holds of it (ISS, whole protocol).
 #![tactic(auto)]
 
 pub mod conservation;

@@ -1,4 +1,4 @@
-//! The theorem of runs with restarts, as a call without a body: who calls it may use what it says.
+//! Crash recovery. A theorem, as a call without a body: calling it makes its contract available.
 ghost use Rattle.std.specs.Prelude.{List};
 ghost use Rattle.iss_request.specs.declared.setups.Setup.{Setup};
 ghost use Rattle.iss_schedule.specs.declared.schedules.Event.{Event};
@@ -12,10 +12,9 @@ use crate::{
 };
 use iss_sb::Sequenced;
 
-/// A run in which disks fail at any call, and cores are made anew of what their disks keep, leads to what nodes come to that never
-/// stop, by the events that were kept alone. So the logs that correct nodes print are of one log, which more events only make longer,
-/// each request that a correct core took is in one place, and where the run has ended there is evidence (ISS, whole protocol; crashes
-/// and recovery).
+/// The headline, with crash recovery (ISS, whole protocol). Disks may fail at any call, and cores are recovered from
+/// what their disks kept. Such a run equals a failure-free run of the events that were journaled. What follows for
+/// logs, requests, checkpoints and evidence is told at `IsWhole` in `specs/Headline.antt`.
 pub fn restarts_change_nothing<M: Sequenced>()
     ensures { (s : Setup) → IsSetupOf M.spec s → (events : List Event) → AreAtCores s events → IsWhole s M.spec events }
 {

@@ -1,4 +1,4 @@
-//! What the leaves of a node's keys sign, as a call without a body.
+//! One-time keys. A theorem, as a call without a body: calling it makes its contract available.
 ghost use Rattle.std.specs.Prelude.{ℕ, List};
 ghost use Rattle.iss_request.specs.declared.setups.Setup.{Setup};
 ghost use Rattle.iss_schedule.specs.declared.schedules.Event.{Event};
@@ -8,9 +8,9 @@ ghost use Rattle.iss_theorems.specs.Leaves.{AreLives, Deed, IsLife, SignsOnceEac
 
 use iss_sb::Sequenced;
 
-/// No leaf of a node's keys signs two statements, whatever events the node takes: for each leaf that it has used there is one
-/// statement, which each signature of its own by that leaf is over. What it was told of its own signatures it may send on as it came
-/// (`node`). So it is with each core of a run, of which the book has what correct nodes sent as signed of their own (`runs`).
+/// No leaf of a node's keys signs two statements, whatever events the node takes. Each signature of its own that a node
+/// sends is by a leaf over that leaf's one statement, or the node had received it (`node`). This holds for each core of
+/// a run, and the run's book holds only statements that correct nodes signed and sent (`runs`).
 pub fn leaves_sign_once<M: Sequenced>()
     ensures node { (s : Setup) → IsSetupOf M.spec s → (me : ℕ) (deeds : List (Deed M.Msg)) →
         IsLife (frame_of s M.spec) me deeds → SignsOnceEach (frame_of s M.spec) me deeds }

@@ -1,4 +1,4 @@
--- What an adoption says, and why chains of one digest are of one log.
+-- What an adoption implies, and why equal chain digests are of equal logs.
 use Rattle.std.proofs.Common.{◌≡◌, inl, inr, ℕ, zero, suc, ◌+◌, ◌*◌, ◌<◌, ◌≤◌, Bool, true, false, ◌==◌, ◌&&◌, List, [], ◌∷◌, ◌++◌, length, take, append_assoc, refl, sym, ap, ap₂, ◌∙◌, subst, arith, Some, None, slice_get, get_or}
 use Rattle.sha2.proofs.Facts256.{length-sha256}
 use Rattle.iss_base.specs.Lists.{In, same_bytes}
@@ -82,7 +82,7 @@ value-same version v u rv ru h =
     let bytes : spell_value version v ≡ spell_value version u = tail-same 64 (spell_value version v) (spell_value version u) h in
     good-same v u [] [] (sym (rv []) ∙ ap (λ (t : List ℕ). parse_value version (t ++ [])) bytes ∙ ru [])
 
--- chains of as many values from two starts
+-- chains of equally many values from two starts
 record AreSame (x y : List ℕ) (a b : List Value) : Type 0 where
   pub starts : x ≡ y
   pub values : a ≡ b
@@ -137,7 +137,7 @@ end-there [] k lt h = omega (arith, lt)
 end-there (x ∷ ends) zero lt h = cc
 end-there (x ∷ ends) (suc k) lt h = let within : k < length ends = omega (arith, lt) in end-there ends k within h
 
--- the end at which the epoch starts
+-- the chain before the epoch
 pub start-is : (s : Setup) (log : List Value) (e : ℕ) (c : ChainsState) (start : End) → IsChainOf c log → c.version ≡ s.version → e * s.epoch < length c.ends → slice_get c.ends (e * s.epoch) ≡ Some start
     → start ≡ end_of s.version (log_before s log e)
 start-is s log e c start kept version whole at =

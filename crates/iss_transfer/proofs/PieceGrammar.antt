@@ -1,4 +1,4 @@
--- A piece has one spelling, and what is read is what the table relates to the bytes.
+-- A piece has at most one encoding, and bytes decode to a piece exactly if the table relates them.
 use Rattle.std.proofs.Common.{◌≡◌, ◌↔◌, inl, inr, ℕ, zero, suc, ◌+◌, ◌-◌, ◌<◌, ◌==◌, ◌||◌, eqb, cond, Bool, true, false, List, [], ◌∷◌, ◌++◌, length, append_assoc, append-nil, refl, sym, ap, ap₂, ◌∙◌, subst, ◌⊎◌, arith, true≢false}
 use Rattle.std.specs.Prelude.{nat_lt, Result, Err}
 use Rattle.std.specs.List.{flat_map}

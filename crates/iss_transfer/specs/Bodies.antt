@@ -1,7 +1,7 @@
--- How asks and pieces are spelled in the bodies of their packets, whose head names the epoch.
+-- How asks and pieces are encoded in the bodies of their packets, whose head names the epoch.
 --
 --   ask      nothing
---   piece    count (1 byte), and so many values; the certificate of the same epoch
+--   piece    count (1 byte), and that many values; the certificate of the same epoch
 use Rattle.std.specs.Prelude.{◌≡◌, ℕ, ◌<◌, nat_lt, ◌==◌, ◌&&◌, Bool, List, [], ◌∷◌, ◌++◌, length, if◌then◌else◌}
 use Rattle.std.specs.List.{flat_map}
 use Rattle.iss_request.specs.Formats.{IsSpelledValue, parse_value, spell_value}
@@ -28,7 +28,8 @@ fits p = (p.cert.epoch.0 == p.epoch.0) && nat_lt (length p.values) 256
 abbrev pub piece_row : ℕ → Piece → List ℕ
 piece_row version p = length p.values ∷ (flat_map (spell_value version) p.values ++ spell_cert p.cert)
 
--- one that has no spelling is written as one with a value that is neither nil nor a batch
+-- A piece without an encoding is written as these bytes, whose one value is neither nil nor a batch: they decode to no
+-- piece.
 abbrev pub no_piece : List ℕ
 no_piece = 1 ∷ 3 ∷ []
 
@@ -44,11 +45,12 @@ parse_piece version e = do
 
 -- ---- the table as a relation between the pieces of an epoch and bytes
 
--- one value behind the other
+-- the encodings of the values, one after the other
 abbrev pub AreSpelledValues : ℕ → List Value → List ℕ → Type 0
 AreSpelledValues version [] bytes = bytes ≡ []
 AreSpelledValues version (v ∷ vs) bytes =
-    (first : List ℕ) × (others : List ℕ) × IsSpelledValue version v first × AreSpelledValues version vs others × (bytes ≡ first ++ others)
+    (first : List ℕ) × (others : List ℕ) × IsSpelledValue version v first × AreSpelledValues version vs others
+    × (bytes ≡ first ++ others)
 
 -- rule: Transfer: A piece has one encoding a version: count, values, and the certificate of its epoch
 pub record IsSpelledPiece (version e : ℕ) (p : Piece) (bytes : List ℕ) : Type 0 where

@@ -1,4 +1,4 @@
-//! Whether the values of a piece are those that its certificate stands for.
+//! Whether the values of a piece are those that its certificate states.
 ghost use Rattle.std.specs.Prelude.{◌≡◌, ◌≤◌, ◌<◌, ◌*◌, ◌^◌, ◌++◌, List, length, take, IfOk, OnOk, if◌then◌else◌};
 ghost use Rattle.iss_checkpoint.specs.Votes.{is_cert, voters_of};
 ghost use Rattle.iss_log.specs.Chains.{IsChainOf, end_from, end_of, strings_from};
@@ -12,17 +12,20 @@ use iss_log::{Chains, End, link};
 use iss_request::{Bytes, Epoch, NoMemory, Seq, Setup, Value};
 use std::alloc::Global;
 
-/// What becomes of a piece. It is adopted, and these strings were hashed for its values; or it is of another epoch or has not the
-/// values of all its slots; or its certificate is not true; or its values lead to another end than its certificate says.
+/// The result of checking a piece.
 #[derive(Drop)]
 pub enum Adoption {
+    /// The piece is adopted. These strings were hashed for its values.
     Adopt { hashed: Seq<Bytes> },
+    /// The piece or its certificate is of another epoch, or it does not have one value for each slot.
     WrongEpoch,
+    /// The certificate is invalid.
     BadCert,
+    /// The values lead to the log `ours`, but the certificate states `theirs`.
     WrongChain { ours: End, theirs: End },
 }
 
-/// Whether the piece is one of this epoch, with a value for each of its slots.
+/// Whether the piece and its certificate are of this epoch, with one value for each slot.
 fn has_shape(setup: &Setup, epoch: Epoch, piece: &Piece) -> bool
     ensures { result ≡ has_shape setup.now epoch.0 piece.now }
 {
@@ -31,14 +34,14 @@ fn has_shape(setup: &Setup, epoch: Epoch, piece: &Piece) -> bool
         && piece.values.len() as u64 == setup.epoch
 }
 
-// Whether the piece's certificate is true.
+// Whether the piece's certificate is valid.
 fn is_certified(setup: &Setup, directory: &Directory, piece: &Piece) -> bool
     ensures { result ≡ is_cert (voters_of setup.now directory.now) piece.now.cert }
 {
     check(setup, directory, &piece.cert)
 }
 
-// What a certificate says of the log.
+// What a certificate states of the log.
 fn said_in(cert: &Cert) -> End
     ensures { result ≡ said_in cert.now }
 {
@@ -48,13 +51,14 @@ fn said_in(cert: &Cert) -> End
     }
 }
 
+/// Whether both are of the same log.
 fn same_end(ours: &End, theirs: &End) -> bool
     ensures { result ≡ same_end ours.now theirs.now }
 {
     ours.requests == theirs.requests && ours.chain == theirs.chain
 }
 
-// What stands for a log and these values behind it.
+// The chain digest and number of requests of a log followed by these values.
 fn end_from(
     alloc: Global,
     directory: &Directory,
@@ -73,7 +77,8 @@ fn end_from(
     Ok(end)
 }
 
-/// Whether a node may take over a piece in an epoch, by the chain of its log before that epoch.
+/// Whether a node may adopt a piece in this epoch, given the chain of its log. `chains` must hold the log before the
+/// epoch. The only error is out of memory.
 // rule: Transfer: A piece is adopted if it is whole, its certificate good, and its values match the chain
 // rule: Transfer: What is adopted has a chain and count that a correct node signed
 pub fn adopt(
@@ -95,7 +100,7 @@ pub fn adopt(
     if !is_certified(setup, directory, piece) {
         return Ok(Adoption::BadCert);
     }
-    // Its range is part of the answer.
+    // Names the value, so that the proof sees its range.
     let _slots = chains.slots();
     let Some(start) = chains.end_at((epoch.0 * setup.epoch) as usize) else {
         unreachable!();

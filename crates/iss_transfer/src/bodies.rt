@@ -1,4 +1,4 @@
-//! Asks and pieces as bytes: the bodies of packets that name the epoch.
+//! Asks and pieces in bytes: the bodies of packets that name the epoch.
 ghost use Rattle.std.specs.Prelude.{◌≡◌, ◌≢◌, ◌<◌, ℕ, [], length, IfOk, OnOk, Err};
 ghost use Rattle.std.specs.List.{flat_map};
 ghost use Rattle.iss_request.specs.Fields.{Bad, Good, IsRead, IsUnreadable, and_bytes};
@@ -13,10 +13,10 @@ use iss_request::{
 };
 use std::alloc::Global;
 
-// What stands for a piece without a spelling: one value, which is neither nil nor a batch.
+// Written for a piece without an encoding: one value, which is neither nil nor a batch.
 const NO_PIECE: [u8; 2] = [1, 3];
 
-// Whether the piece is of its certificate's epoch, and has no more values than are counted.
+// Whether the piece has an encoding: it is of its certificate's epoch, and the number of its values fits one byte.
 fn has_spelling(piece: &Piece) -> bool
     ensures { result ≡ fits piece.now }
 {
@@ -41,7 +41,7 @@ fn put_row(piece: &Piece, out: &mut Writer) -> Result<(), NoMemory>
     write_cert(&piece.cert, out)
 }
 
-/// Writes a piece. One that has no spelling is written as bytes that no reader takes.
+/// Appends a piece's encoding. One without an encoding is written as bytes that no reader accepts.
 pub fn write_piece(piece: &Piece, out: &mut Writer) -> Result<(), NoMemory>
     ensures { OnOk result (out.new ≡ and_bytes out.old (spell_piece out.old.version piece.now)) }
 {
@@ -53,7 +53,8 @@ pub fn write_piece(piece: &Piece, out: &mut Writer) -> Result<(), NoMemory>
 
 fn read_values(alloc: Global, count: u8, f: &mut Fields) -> Result<Seq<Value>, DecodeError>
     ensures ok { IfOk result (λ vs. IsRead (times count (parse_value f.old.version)) f.old f.new vs) }
-    ensures bad { (at : ℕ) → result ≡ Err (DecodeError.BadField at) → IsUnreadable (times count (parse_value f.old.version)) f.old at }
+    ensures bad { (at : ℕ) → result ≡ Err (DecodeError.BadField at) →
+        IsUnreadable (times count (parse_value f.old.version)) f.old at }
 {
     let mut values = Seq::new(alloc);
     for _ in 0..count {
@@ -63,10 +64,11 @@ fn read_values(alloc: Global, count: u8, f: &mut Fields) -> Result<Seq<Value>, D
     Ok(values)
 }
 
-/// Reads a piece of an epoch. `BadField` names the first field that does not fit.
+/// Decodes a piece of an epoch. `BadField` names the first field that does not fit.
 pub fn read_piece(alloc: Global, epoch: Epoch, f: &mut Fields) -> Result<Piece, DecodeError>
     ensures ok { IfOk result (λ p. IsRead (parse_piece f.old.version epoch.0) f.old f.new p) }
-    ensures bad { (at : ℕ) → result ≡ Err (DecodeError.BadField at) → IsUnreadable (parse_piece f.old.version epoch.0) f.old at }
+    ensures bad { (at : ℕ) → result ≡ Err (DecodeError.BadField at) →
+        IsUnreadable (parse_piece f.old.version epoch.0) f.old at }
 {
     let count = f.read_u8()?;
     let values = read_values(alloc, count, f)?;
@@ -78,7 +80,7 @@ pub fn read_piece(alloc: Global, epoch: Epoch, f: &mut Fields) -> Result<Piece, 
     })
 }
 
-/// The bytes of an ask: none. It takes no memory.
+/// The encoding of an ask: no bytes. It needs no memory.
 pub fn encode_ask(alloc: Global, ask: &Ask) -> Bytes
     ensures { result ≡ spell_ask ask.now }
 {
@@ -86,7 +88,7 @@ pub fn encode_ask(alloc: Global, ask: &Ask) -> Bytes
     Bytes::new(alloc)
 }
 
-/// The ask that bytes spell, all of them. There is none but that of no bytes, so what stands there does not fit. It takes no memory.
+/// Decodes an ask. Only the empty body is one; otherwise `BadField` names the first byte. It needs no memory.
 // rule: Transfer: An ask has an empty body
 pub fn decode_ask(epoch: Epoch, bytes: &[u8]) -> Result<Ask, DecodeError>
     ensures ok { IfOk result (λ a. parse_ask epoch.0 bytes.now ≡ Good a []) }
@@ -99,7 +101,7 @@ pub fn decode_ask(epoch: Epoch, bytes: &[u8]) -> Result<Ask, DecodeError>
     Ok(Ask { epoch })
 }
 
-/// The bytes of a piece. One that has no spelling gives bytes that are no piece's.
+/// The encoding of a piece. A piece without one gives bytes that decode to no piece. The only error is out of memory.
 // rule: Transfer: A piece has one encoding a version: count, values, and the certificate of its epoch
 pub fn encode_piece(alloc: Global, version: u8, piece: &Piece) -> Result<Bytes, NoMemory>
     ensures { IfOk result (λ bytes. bytes ≡ spell_piece version piece.now) }
@@ -109,8 +111,8 @@ pub fn encode_piece(alloc: Global, version: u8, piece: &Piece) -> Result<Bytes, 
     Ok(out.into_bytes())
 }
 
-/// The piece of an epoch that the bytes spell, all of them. `BadField` names the offset of the first field that does not fit;
-/// behind a piece that is followed by more bytes that is the first of them.
+/// Decodes a piece of an epoch, which must take up all of the bytes. `BadField` gives the offset of the first field
+/// that does not fit, or of the first byte after the piece.
 pub fn decode_piece(
     alloc: Global,
     version: u8,
@@ -118,7 +120,8 @@ pub fn decode_piece(
     bytes: &[u8],
 ) -> Result<Piece, DecodeError>
     ensures ok { IfOk result (λ p. parse_piece version epoch.0 bytes.now ≡ Good p []) }
-    ensures bad { (at : ℕ) → result ≡ Err (DecodeError.BadField at) → all_of (parse_piece version epoch.0) bytes.now ≡ Bad at }
+    ensures bad { (at : ℕ) → result ≡ Err (DecodeError.BadField at) →
+        all_of (parse_piece version epoch.0) bytes.now ≡ Bad at }
 {
     let mut f = Fields::over(version, bytes);
     let piece = read_piece(alloc, epoch, &mut f)?;

@@ -1,4 +1,5 @@
-//! State transfer: a node that missed an epoch asks for it, and takes over the values that a certificate stands for (PBFT, ISS).
+//! State transfer: a lagging node asks a peer for an epoch, and adopts the values that a checkpoint certificate states
+//! (PBFT, ISS).
 #![tactic(auto)]
 
 pub mod adopting;

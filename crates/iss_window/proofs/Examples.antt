@@ -1,4 +1,4 @@
--- One client's identities 0, 1 and 3 are noted, then the epoch ends: its window moves to 2, and 3 is not in it twice.
+-- One client's identities 0, 1 and 3 are noted, then the epoch ends. Its window moves to 2, where 3 is already ordered.
 use Rattle.std.proofs.Common.{◌≡◌, refl, true}
 use Rattle.iss_request.specs.Log.{has_id}
 use Rattle.iss_window.specs.declared.windows.Place.TheVariants.{Below, Inside, Above}

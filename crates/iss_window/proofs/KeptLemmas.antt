@@ -1,4 +1,4 @@
--- What is kept stands for what was noted, at each call.
+-- Each call keeps the relation between what is kept and what was noted.
 use Rattle.std.proofs.Common.{◌≡◌, ◌≢◌, ⊎_elim, ℕ, zero, suc, ◌+◌, ◌^◌, ◌<◌, ◌≤◌, Bool, true, false, cond, ◌&&◌, ◌||◌, eqb, nat_lt, nat_le, List, [], ◌∷◌, ◌++◌, length, slice_index, slice_set, refl, sym, ap, ◌∙◌, subst, arith}
 use Rattle.std.proofs.lemmas.Bool.Decides.{nat_tests}
 use Rattle.std.proofs.lemmas.List.{get_or-set_same, get_or-set_other, length-set}
@@ -87,7 +87,7 @@ noted-again k n x st there = record {
     go id true same = ap (λ y. has_id y n.all) (same_id-tells id x same) ∙ there
     go id false same = refl
 
--- lists with the same identities serve alike
+-- lists with the same identities are interchangeable
 pub refines-same : (k : Kept) (n m : Noted) → RefinesNoted k n → ((id : ReqId) → has_id id n.all ≡ has_id id m.all) → ((id : ReqId) → has_id id n.closed ≡ has_id id m.closed) → RefinesNoted k m
 refines-same k n m st all closed = record {
   noted = λ id. st.noted id ∙ all id;

@@ -1,4 +1,4 @@
--- A client's least number that is not among identities: it is there, it is one, and it hangs on which identities there are.
+-- A client's low watermark: it exists, it is unique, and it is a function of the set of identities.
 use Rattle.std.proofs.Common.{◌≡◌, ◌⊎◌, inl, inr, ⊎_elim, ℕ, zero, suc, ◌+◌, ◌<◌, ◌≤◌, Bool, true, false, cond, ◌&&◌, ◌||◌, eqb, List, [], ◌∷◌, length, refl, sym, ap, ◌∙◌, arith}
 use Rattle.std.proofs.lemmas.Bool.{cases_Bool}
 use Rattle.std.proofs.lemmas.Map.Steps.{le-length_from_below}

@@ -1,10 +1,10 @@
--- A set of identities, as the list of them in the order in which they came.
+-- A set of identities, seen as the list of them in order of arrival. Only membership is asked of it.
 use Rattle.std.specs.Prelude.{List, [], ◌∷◌, ◌++◌, if◌then◌else◌, fold}
 use Rattle.iss_request.specs.Log.{has_id}
 use Rattle.iss_request.specs.declared.ids.ReqId.{ReqId}
 use Rattle.iss_request.specs.declared.requests.Request.{Request}
 
--- the set with one identity more, which stays where it is in the list if it is there
+-- the set with one more identity; one that is there keeps its place
 abbrev pub and_id : List ReqId → ReqId → List ReqId
 and_id xs x = if has_id x xs then xs else xs ++ x ∷ []
 

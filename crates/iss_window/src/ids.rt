@@ -1,4 +1,4 @@
-//! The set.
+//! Sets of request identities.
 ghost use Rattle.std.specs.Prelude.{◌≡◌, ◌&&◌, ℕ, [], not, take, OnOk, OnErr};
 ghost use Rattle.iss_request.specs.Log.{has_id, ids, same_id};
 ghost use Rattle.iss_request.specs.declared.ids.ReqId.{ReqId};
@@ -9,7 +9,7 @@ use iss_request::{NoMemory, ReqId, Request};
 use std::alloc::Global;
 use std::marker::Model;
 
-/// Identities, which contracts see as the list of them in the order in which they came.
+/// A set of identities. Contracts see it as the list in the order of insertion.
 #[derive(Drop)]
 pub struct Ids {
     all: IndexSet<ReqId>,
@@ -25,7 +25,7 @@ impl Model for Ids {
 }
 
 impl Ids {
-    /// No identities.
+    /// The empty set.
     pub fn new(alloc: Global) -> Ids
         ensures { result ≡ [] }
     {
@@ -41,14 +41,14 @@ impl Ids {
         self.all.contains(&id)
     }
 
-    /// The identities, in the order in which they came.
+    /// The identities in the order of insertion.
     pub fn as_slice(&self) -> &[ReqId]
         ensures { result.now ≡ self.now }
     {
         self.all.as_slice()
     }
 
-    /// Puts an identity in. One that is there stays as it is.
+    /// Adds an identity. One that is there keeps its place. The only error is out of memory.
     pub fn add(&mut self, id: ReqId) -> Result<(), NoMemory>
         ensures ok { OnOk result (self.new ≡ and_id self.old id) }
         ensures err { OnErr result (self.new ≡ self.old) }
@@ -57,7 +57,7 @@ impl Ids {
         Ok(())
     }
 
-    /// Puts the identities of these requests in. After want of memory those of the first few may be in, and no others.
+    /// Adds the identities of these requests. After out of memory, a prefix of them is added.
     pub fn add_all(&mut self, requests: &[Request]) -> Result<(), NoMemory>
         ensures ok { OnOk result (self.new ≡ and_ids self.old requests.now) }
         ensures err { OnErr result ((k : ℕ) × (self.new ≡ and_ids self.old (take k requests.now))) }
@@ -68,7 +68,7 @@ impl Ids {
         Ok(())
     }
 
-    /// Takes the identities of these requests out.
+    /// Removes the identities of these requests.
     pub fn drop_all(&mut self, requests: &[Request])
         ensures { (x : ReqId) → has_id x self.new ≡ (has_id x self.old && not (has_id x (ids requests.now))) }
     {
@@ -77,7 +77,7 @@ impl Ids {
         }
     }
 
-    // Takes one identity out.
+    // Removes one identity.
     fn remove(&mut self, id: ReqId)
         ensures { (x : ReqId) → has_id x self.new ≡ (has_id x self.old && not (same_id x id)) }
     {

@@ -1,9 +1,9 @@
-//! Laws of the windows.
+//! A theorem about client windows, as a call without a body.
 ghost use Rattle.std.specs.Prelude.{ℕ, List};
 ghost use Rattle.iss_request.specs.declared.ids.ReqId.{ReqId};
 ghost use Rattle.iss_window.specs.Window.{IsLow, low};
 
-/// Whatever identities there are, a client's window begins at its least number that is not among them.
+/// A client's window begins at its least number that was not ordered, whatever was ordered.
 pub fn windows_begin_at_the_least()
     ensures { (ids : List ReqId) (client : ℕ) → IsLow ids client (low ids client) }
 {}

@@ -1,5 +1,5 @@
-//! The clients' windows, which requests have been ordered, and sets of request identities (ISS, "State Machine Replication
-//! Scalability Made Simple": watermarks bound the numbers that a client may use in an epoch).
+//! Client windows, the record of ordered requests, and sets of request identities (ISS, "State Machine Replication
+//! Scalability Made Simple": watermarks bound the request numbers that a client may use in an epoch).
 #![tactic(auto)]
 
 pub mod ids;

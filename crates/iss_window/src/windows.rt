@@ -1,4 +1,4 @@
-//! The windows.
+//! The client windows.
 ghost use Rattle.std.specs.Prelude.{◌≡◌, ◌<◌, ◌≤◌, ◌^◌, ℕ, false, length, slice_index, IfOk, OnOk, OnErr, IsTrue, if◌then◌else◌};
 ghost use Rattle.iss_request.specs.Log.{has_id, same_id};
 ghost use Rattle.iss_request.specs.declared.ids.ReqId.{ReqId};
@@ -10,10 +10,10 @@ use std::alloc::Global;
 use std::collections::HashSet;
 use std::marker::Model;
 
-/// How many clients there can be.
+/// The most clients: identities have one byte.
 const CLIENTS: usize = 256;
 
-/// Where a request's number lies to its client's window.
+/// Where a request's number lies relative to its client's window.
 #[derive(Clone, Copy, Debug, PartialEq, Eq)]
 pub enum Place {
     Below,
@@ -21,14 +21,14 @@ pub enum Place {
     Above,
 }
 
-/// The window of each client, and which identities were noted. A window begins at the client's least number that was
-/// not noted before the last epoch's end.
+/// The window of each client, and the noted identities. A window begins at the client's low watermark: its least number
+/// that was not noted before the last epoch's end.
 #[derive(Drop)]
 pub struct Windows {
     width: u32,
-    // where each client's window begins
+    // the low watermark of each client
     lows: Vec<u64>,
-    // what was noted of the numbers from there on
+    // the noted identities from the low watermarks on
     above: HashSet<ReqId>,
 }
 
@@ -43,7 +43,7 @@ impl Model for Windows {
 }
 
 impl Windows {
-    /// Each window begins at 0, and nothing is noted.
+    /// All windows begin at 0, and nothing is noted.
     pub fn new(alloc: Global, setup: &Setup) -> Result<Windows, NoMemory>
         ensures none { IfOk result (λ w. RefinesNoted w none_noted) }
         ensures width { IfOk result (λ w. w.width ≡ setup.now.window) }
@@ -55,7 +55,7 @@ impl Windows {
         })
     }
 
-    /// Where an identity lies to its client's window.
+    /// Where the identity lies relative to its client's window.
     // rule: Windows: A number is inside its window from the first number on, up to the window's width
     pub fn test(&self, id: ReqId) -> Place
         ensures { (n : Noted) → RefinesNoted self.now n → result ≡ place_of self.now.width n.closed id }
@@ -71,7 +71,7 @@ impl Windows {
         }
     }
 
-    /// Whether an identity was noted.
+    /// Whether the identity was noted.
     // rule: Windows: A number is ordered if it is below its client's least unordered one or was recorded
     pub fn ordered(&self, id: ReqId) -> bool
         ensures { (n : Noted) → RefinesNoted self.now n → result ≡ has_id id n.all }
@@ -79,7 +79,7 @@ impl Windows {
         (id.number as u64) < self.lows[id.client as usize] || self.above.contains(&id)
     }
 
-    /// Notes an identity. The windows stay where they are until the epoch ends.
+    /// Notes an ordered identity. Windows do not move before the epoch ends. The only error is out of memory.
     pub fn note(&mut self, id: ReqId) -> Result<(), NoMemory>
         ensures ok { OnOk result ((n : Noted) → RefinesNoted self.old n → RefinesNoted self.new (and_noted n id)) }
         ensures width { self.new.width ≡ self.old.width }
@@ -91,7 +91,7 @@ impl Windows {
         Ok(())
     }
 
-    /// The epoch has ended: each window begins now at the client's least number that was not noted.
+    /// Ends the epoch: each window moves to the client's least number that was not noted.
     pub fn close_epoch(&mut self)
         ensures closed { (n : Noted) → RefinesNoted self.old n → RefinesNoted self.new (and_closed n) }
         ensures width { self.new.width ≡ self.old.width }
@@ -100,7 +100,7 @@ impl Windows {
     }
 }
 
-// So many zeros.
+// n zeros.
 fn zeros(alloc: Global, count: usize) -> Result<Vec<u64>, NoMemory>
     ensures size { IfOk result (λ v. length v.items ≡ count) }
     ensures zero { IfOk result (λ v. (i : ℕ) → slice_index v.items i ≡ 0) }
@@ -112,14 +112,16 @@ fn zeros(alloc: Global, count: usize) -> Result<Vec<u64>, NoMemory>
     Ok(zeros)
 }
 
-// Raises where each client's window begins, over the numbers from there on that were noted.
+// Raises each client's low watermark past the noted numbers that follow it.
 fn raise_all(lows: &mut Vec<u64>, above: &mut HashSet<ReqId>)
     requires table { IsTable lows.old.items }
     requires numbers { AreNumbers above.old.keys }
     ensures table { IsTable lows.new.items }
     ensures numbers { AreNumbers above.new.keys }
-    ensures same { (id : ReqId) → is_noted lows.new.items above.new.keys id ≡ is_noted lows.old.items above.old.keys id }
-    ensures raised { (client : ℕ) → client < 256 → has_id (id_of client (slice_index lows.new.items client)) above.new.keys ≡ false }
+    ensures same { (id : ReqId) → is_noted lows.new.items above.new.keys id
+        ≡ is_noted lows.old.items above.old.keys id }
+    ensures raised { (client : ℕ) → client < 256 →
+        has_id (id_of client (slice_index lows.new.items client)) above.new.keys ≡ false }
 {
     for client in 0..CLIENTS {
         let low = lows[client];
@@ -127,8 +129,7 @@ fn raise_all(lows: &mut Vec<u64>, above: &mut HashSet<ReqId>)
     }
 }
 
-// Takes out of the set the numbers of a client that follow one another from a given one on, and gives the first that is
-// not there.
+// Removes the client's consecutive numbers from `from` on, and gives the first one that is missing.
 // rule: Windows: A client's window begins at its least number that was not ordered before the epoch
 fn raise(above: &mut HashSet<ReqId>, client: u8, low: u64) -> u64
     requires low { low ≤ 2 ^ 32 }
@@ -146,14 +147,15 @@ fn raise(above: &mut HashSet<ReqId>, client: u8, low: u64) -> u64
     next
 }
 
-// Takes one number of a client out of the set, if it is there.
+// Removes one number of a client, if it is there.
 fn take(above: &mut HashSet<ReqId>, client: u8, number: u64) -> bool
     requires number { number ≤ 2 ^ 32 }
     requires numbers { AreNumbers above.old.keys }
     ensures there { result ≡ has_id (id_of client number) above.old.keys }
     ensures number { IsTrue result → number < 2 ^ 32 }
     ensures numbers { AreNumbers above.new.keys }
-    ensures left { (id : ReqId) → has_id id above.new.keys ≡ (if same_id (id_of client number) id then false else has_id id above.old.keys) }
+    ensures left { (id : ReqId) → has_id id above.new.keys
+        ≡ (if same_id (id_of client number) id then false else has_id id above.old.keys) }
 {
     if number > u32::MAX as u64 {
         return false;

@@ -1,4 +1,5 @@
--- What a new view proposes at a slot, of the ViewChanges that it begins with.
+-- What a new view proposes at a slot, given the ViewChanges that it begins with: the value of the certificate of the
+-- highest view, that of the lowest node on a tie, and nil if there is none (PBFT).
 use Rattle.std.specs.Prelude.{ℕ, ◌==◌, cond, nat_lt, List, [], ◌∷◌, ◌++◌, Option, Some, None}
 use Rattle.iss_request.specs.declared.requests.Value.{Value}
 use Rattle.iss_request.specs.declared.requests.Value.TheVariants.{Nil}

@@ -1,5 +1,5 @@
--- Which certificates and ViewChanges are good by their shape. That their signatures verify is asked of the claims of
--- the message that they stand in.
+-- The primary of a view, and which certificates and ViewChanges are good by their shape. That their signatures verify
+-- is asked of the claims of the message that holds them.
 use Rattle.std.specs.Prelude.{ℕ, suc, ◌+◌, ◌*◌, ◌%◌, ◌==◌, ◌&&◌, ◌||◌, Bool, true, not, nat_lt, nat_le, List, [], ◌∷◌, length}
 use Rattle.iss_request.specs.Formats.{is_batch}
 use Rattle.iss_sb.specs.declared.effects.Params.{Params}

@@ -1,4 +1,4 @@
--- What a good certificate has, and what the choice of a new view is, said once more without the functions that find them.
+-- What a good certificate has, and what the choice of a new view is, restated without the functions that compute them.
 use Rattle.std.specs.Prelude.{◌≡◌, ◌<◌, ◌≤◌, ℕ, ◌+◌, ◌*◌, true, List, [], ◌∷◌, length}
 use Rattle.iss_base.specs.Lists.{In}
 use Rattle.iss_base.specs.Quorum.{all_below, distinct}

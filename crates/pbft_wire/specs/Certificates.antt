@@ -1,9 +1,8 @@
--- How certificates and ViewChanges are spelled in bytes, and how they are read. Numbers have their highest byte first.
+-- How certificates and ViewChanges of PBFT are encoded and decoded. A node or slot that does not ascend is itself the
+-- field that does not fit. Numbers have their highest byte first; values follow the version of the formats.
 --
---   certificate   slot (8 bytes), view (2), value, signature, count (1), that many signers
---   ViewChange    view (2), count (1), so many certificates with their slots ascending, signature
---
--- Values are spelled and read by the version of the formats.
+--   certificate   slot (8 bytes), view (2), value, signature, count (1), that many signers, strictly ascending
+--   ViewChange    view (2), count (1), that many certificates with their slots strictly ascending, signature
 use Rattle.std.specs.Prelude.{◌≡◌, ◌≤◌, ◌<◌, ℕ, suc, ◌^◌, ◌&&◌, Bool, true, nat_lt, nat_le, List, [], ◌∷◌, ◌++◌, length, Option, Some, None}
 use Rattle.std.specs.Int.{to_be_bytes, w16, w64}
 use Rattle.std.specs.List.{list_all, flat_map}

@@ -1,4 +1,5 @@
--- What a ViewChange signs of one certificate, as a thing of its own: the value is hashed once for all that it is needed for.
+-- What a ViewChange signs of one certificate, as a thing of its own: slot, view and digest. So the value is hashed
+-- once.
 use Rattle.std.specs.Prelude.{ℕ, List, ◌++◌}
 use Rattle.iss_sb.specs.declared.effects.Params.{Params}
 use Rattle.iss_sb.specs.Statements.{eight_bytes, two_bytes}

@@ -1,12 +1,13 @@
--- How the messages of PBFT are spelled in bytes, and how they are read. Numbers have their highest byte first.
+-- How the messages of PBFT are encoded and decoded. The table is also stated as a relation, so each message has
+-- exactly one encoding. Numbers have their highest byte first.
 --
 --   message      its number (1 byte), its fields, its sender's signature
 --   PrePrepare   1: view (2), slot (8), value
 --   Prepare      2: view (2), slot (8), digest (32)
 --   Commit       3: view (2), slot (8), digest (32)
---   ViewChange   4: view (2), count (1), so many certificates with their slots ascending
---   NewView      5: view (2), count (1), so many ViewChanges, each a node (1) and the ViewChange's fields and signature,
---                with the nodes ascending, count (1), so many signatures
+--   ViewChange   4: view (2), count (1), that many certificates with their slots strictly ascending
+--   NewView      5: view (2), count (1), that many ViewChanges, each a node (1) and the ViewChange's fields and
+--                signature, with the nodes strictly ascending, count (1), that many signatures
 use Rattle.std.specs.Prelude.{◌≡◌, ◌≤◌, ◌<◌, ℕ, suc, ◌^◌, ◌==◌, ◌&&◌, ◌||◌, Bool, true, nat_le, List, [], ◌∷◌, ◌++◌, length, if◌then◌else◌}
 use Rattle.std.specs.Int.{to_be_bytes, w16, w64}
 use Rattle.std.specs.List.{list_all, flat_map}

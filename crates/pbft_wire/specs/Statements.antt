@@ -1,5 +1,5 @@
--- What PBFT's nodes sign: the instance, the kind of the message, and its fields. Numbers are written so that different
--- ones differ whatever their size.
+-- What PBFT's replicas sign: the instance, the kind of the message, and its fields. Numbers are encoded so that
+-- different ones differ, whatever their size.
 --
 --   1 PrePrepare, 2 Prepare, 3 Commit   view, slot, the value's digest
 --   4 ViewChange                        view, count, and slot, view, the value's digest of each certificate

@@ -1,8 +1,6 @@
--- How the entries of a log are spelled in bytes, and how they are read.
+-- How the entries of a log are encoded and decoded. An entry is a term and its content: nil, a batch or a mark.
 --
 --   entry   term (2 bytes), then its content
---
--- The value is spelled and read by the version of the formats.
 use Rattle.std.specs.Prelude.{◌≡◌, ◌<◌, ℕ, ◌^◌, nat_lt, List, [], ◌∷◌, ◌++◌, if◌then◌else◌}
 use Rattle.std.specs.Int.{to_be_bytes, w16}
 use Rattle.iss_request.specs.Parsing.{Parser, ◌>>=◌, done, number}

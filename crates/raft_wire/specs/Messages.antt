@@ -1,7 +1,8 @@
--- How the messages of Raft are spelled in bytes, and how they are read. Numbers have their highest byte first.
+-- How the messages of Raft are encoded and decoded. The table is also stated as a relation, so each message has
+-- exactly one encoding. Numbers have their highest byte first.
 --
 --   message   its number (1 byte), then its fields
---   Append    1: term (2), previous index (4), previous term (2), commit (4), count (4), so many entries
+--   Append    1: term (2), previous index (4), previous term (2), commit (4), count (4), that many entries
 --   Reply     2: term (2), ok (1 byte, 0 or 1), index (4)
 --   AskVote   3: term (2), last index (4), last term (2)
 --   Vote      4: term (2), granted (1 byte, 0 or 1)

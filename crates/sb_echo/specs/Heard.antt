@@ -1,4 +1,4 @@
--- Which echoes were heard, as the code holds them.
+-- Which echoes were heard, as the set that the code keeps.
 use Rattle.std.specs.Prelude.{ℕ, Bool, List}
 use Rattle.std.specs.BTreeSet.{contains}
 use Rattle.std.specs.declared.cmp.Ordering.{Ordering}

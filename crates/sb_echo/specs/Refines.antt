@@ -1,4 +1,5 @@
--- What echo's code holds and tests.
+-- What echo's code holds, and when it refines a list of inputs: for each slot what was taken, whether it was
+-- delivered, and which echoes were heard.
 use Rattle.std.specs.Prelude.{◌≡◌, ℕ, ◌==◌, ◌&&◌, ◌∷◌, nat_le, Bool, true, not, List, [], Option, Some, None, is_some, if◌then◌else◌}
 use Rattle.std.specs.BTreeMap.{get}
 use Rattle.std.specs.Ordering.{nat_cmp}

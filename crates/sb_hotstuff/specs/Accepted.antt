@@ -1,4 +1,4 @@
--- What the code keeps of the batches that it accepted.
+-- How the code keeps the batches that it accepted: by slot.
 use Rattle.std.specs.Prelude.{◌≡◌, ℕ, Bool, List, [], Option, Some, None}
 use Rattle.std.specs.BTreeMap.{get}
 use Rattle.std.specs.List.{list_any}

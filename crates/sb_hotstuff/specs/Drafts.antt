@@ -1,4 +1,4 @@
--- Messages before they are signed, as the code makes them.
+-- Messages before they are signed, as the code makes them, each with its statement.
 use Rattle.std.specs.Prelude.{◌≡◌, ℕ, List, [], ◌∷◌, Option, Some, None}
 use Rattle.iss_sb.specs.declared.effects.Params.{Params}
 use Rattle.iss_sb.specs.declared.effects.To.{To}

@@ -1,4 +1,6 @@
--- What holds of a world of HotStuff that moves lead to: the facts that agreement stands on, in their order.
+-- Facts about every reached world of HotStuff, in the order in which agreement follows from them. A node votes once
+-- per view and phase. Votes of a later phase need a certificate of the one before. A vote respects the lock, so
+-- certificates of later views extend what was decided. What is delivered was accepted by each correct voter.
 use Rattle.std.specs.Prelude.{◌≡◌, ◌≢◌, ◌<◌, ◌≤◌, ◌⊎◌, ℕ, Bool, true, List, ◌∷◌, Some}
 use Rattle.iss_base.specs.Lists.{In}
 use Rattle.iss_base.specs.Quorum.{count_below}

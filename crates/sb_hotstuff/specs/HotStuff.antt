@@ -1,4 +1,5 @@
--- HotStuff as a module: its definitions over the list of what a node took.
+-- HotStuff as a module: what a replica accepts, sends, hashes and decides, over the list of what it took. 3f+1
+-- replicas, 2f+1 decide.
 use Rattle.std.specs.Prelude.{ℕ, suc, ◌+◌, ◌*◌, ◌==◌, ◌&&◌, ◌||◌, Bool, true, false, List, [], ◌∷◌, ◌++◌, length, Option, Some, None, if◌then◌else◌}
 use Rattle.iss_base.specs.Lists.{first_of, nth, same_bytes}
 use Rattle.iss_request.specs.declared.ids.Slot.{Slot}

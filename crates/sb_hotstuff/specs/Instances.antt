@@ -1,4 +1,5 @@
--- What the code of an instance stands for, and what the parts of its steps give.
+-- When an instance of the code refines a list of inputs, and what the parts of its steps give. The messages of an
+-- outcome are signed one after the other.
 use Rattle.std.specs.Prelude.{◌≡◌, ℕ, ◌+◌, List, [], ◌++◌, take, Option, Some, None, is_some}
 use Rattle.iss_keys.specs.Directories.{AreKeysOf}
 use Rattle.iss_keys.specs.KeyStates.{KeyState}

@@ -1,4 +1,4 @@
--- What HotStuff's code keeps, and what its rules do.
+-- What HotStuff's code keeps, and when it is the state of the definitions.
 use Rattle.std.specs.Prelude.{◌≡◌, ◌≤◌, ◌+◌, ◌/◌, ◌%◌, ◌&&◌, nat_le, Bool, Some}
 use Rattle.iss_sb.specs.declared.effects.Params.{Params}
 use Rattle.hs_tree.specs.Known.{Keeps}

@@ -1,7 +1,9 @@
--- The rules of HotStuff: what a node keeps, what it takes of an input, and the proposals that an input leads a leader to.
+-- The rules of HotStuff (basic HotStuff, Yin and others, 2019). A view is a round and a turn in it. Each rule is a
+-- test and what it changes: a cast, a proposal that is safe against the lock, certificates of the three phases, the
+-- end of a round, and the leader's votes and new-view messages. An input leads to at most one proposal: the next turn
+-- once the last one has its quorums, or a new round's first on the best certificate.
 use Rattle.std.specs.Prelude.{ℕ, zero, suc, ◌+◌, ◌*◌, ◌/◌, ◌%◌, ◌==◌, ◌&&◌, ◌||◌, Bool, true, false, not, nat_lt, nat_le, List, [], ◌∷◌, ◌++◌, length, Option, Some, None, is_some, if◌then◌else◌}
 use Rattle.iss_base.specs.Lists.{nth, same_bytes}
-use Rattle.iss_request.specs.declared.ids.Slot.{Slot}
 use Rattle.iss_request.specs.declared.requests.Batch.{Batch}
 use Rattle.iss_sb.specs.Calls.{is_slot}
 use Rattle.iss_sb.specs.declared.effects.Input.{Input}

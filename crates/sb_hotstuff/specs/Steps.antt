@@ -1,4 +1,5 @@
--- What the rules of HotStuff's code do, over any state that the code keeps.
+-- What each handler of HotStuff's code does, over any state that the code keeps: the input was taken as the
+-- definitions say, and a turn was proposed or not.
 use Rattle.std.specs.Prelude.{◌≡◌, [], Option, Some, None}
 use Rattle.iss_sb.specs.declared.effects.Input.{Input}
 use Rattle.iss_sb.specs.declared.effects.Params.{Params}

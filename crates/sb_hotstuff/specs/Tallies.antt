@@ -1,4 +1,4 @@
--- What the code keeps of a leader: votes, words on rounds, and turns.
+-- What the code keeps at a leader: votes, new-view messages and turns, compared with the definitions by look-ups.
 use Rattle.std.specs.Prelude.{◌≡◌, ℕ, zero, suc, List, [], ◌∷◌, ◌++◌, nat_lt, is_some, Option, Some, None, if◌then◌else◌}
 use Rattle.std.specs.BTreeMap.{get}
 use Rattle.std.specs.BTreeSet.{contains}

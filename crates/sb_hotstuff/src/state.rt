@@ -1,9 +1,9 @@
 //! The state of a replica of HotStuff, and the tests of its rules.
 ghost use Rattle.std.specs.Prelude.{◌≡◌, ◌/◌, ◌&&◌, IsTrue};
-ghost use Rattle.iss_base.specs.Lists.{In, nth};
+ghost use Rattle.iss_base.specs.Lists.{In};
 ghost use Rattle.hs_tree.specs.Certificates.{digest_of};
 ghost use Rattle.hs_tree.specs.Tree.{is_known};
-ghost use Rattle.iss_sb.specs.Calls.{is_slot, IsGoodParams};
+ghost use Rattle.iss_sb.specs.Calls.{IsGoodParams};
 ghost use Rattle.sb_hotstuff.specs.HotStuff.{hotstuff};
 ghost use Rattle.sb_hotstuff.specs.Rules.{State, is_allowed, is_good, is_just, is_reached, is_shown, is_timely, keeps_news, keeps_vote, may_cast, may_second, may_third, start};
 ghost use Rattle.sb_hotstuff.specs.Refines.{RefinesState};

@@ -1,4 +1,7 @@
--- What holds of a world of PBFT that moves lead to: the facts that agreement stands on. Of a faulty node nothing is known.
+-- Facts about every reached world of PBFT, from which agreement follows. A correct replica signs one PrePrepare,
+-- Prepare and Commit per view and slot. Its ViewChange shows a certificate for each slot that it committed. A new view
+-- proposes the choice of 2f+1 ViewChanges. So from a decided view on, good certificates have its digest. Nothing is
+-- known about Byzantine replicas.
 use Rattle.std.specs.Prelude.{◌≡◌, ◌<◌, ◌≤◌, ℕ, ◌+◌, ◌*◌, true, List, ◌∷◌, length, Some}
 use Rattle.iss_base.specs.Lists.{In}
 use Rattle.iss_base.specs.Quorum.{all_below, distinct, mem}

@@ -1,4 +1,5 @@
--- What a node makes at an input: messages, signatures by its next leaves, strings that it hashes.
+-- What a replica makes at an input: messages as drafts in their order, their signatures by the next leaves, and the
+-- strings that it hashes. It keeps a certificate for each Commit that it sends.
 use Rattle.std.specs.Prelude.{ℕ, suc, ◌+◌, ◌*◌, ◌==◌, ◌&&◌, ◌||◌, Bool, false, not, cond, List, [], ◌∷◌, ◌++◌, length, take, Option, Some, None, is_some}
 use Rattle.iss_base.specs.Lists.{first_of}
 use Rattle.iss_request.specs.declared.ids.Slot.{Slot}

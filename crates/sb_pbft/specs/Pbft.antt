@@ -1,4 +1,5 @@
--- PBFT as a module.
+-- PBFT as a module (Castro and Liskov, 1999): 3f+1 replicas of which f may be Byzantine. A slot is decided in any
+-- view, the lowest if there are several.
 use Rattle.std.specs.Prelude.{ℕ, ◌+◌, ◌*◌, false, List, length, Option}
 use Rattle.iss_request.specs.declared.ids.Slot.{Slot}
 use Rattle.iss_request.specs.declared.requests.Batch.{Batch}

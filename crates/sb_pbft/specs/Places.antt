@@ -1,4 +1,5 @@
--- What the code's tables hold at a place.
+-- What the code's tables hold at a place: proposals by view and slot, votes by node too, ViewChanges by view and node,
+-- and each slot's highest certificate.
 use Rattle.std.specs.Prelude.{ℕ, Bool, false, List, [], Option, Some, None}
 use Rattle.std.specs.BTreeMap.{get}
 use Rattle.std.specs.Ordering.{nat_cmp}

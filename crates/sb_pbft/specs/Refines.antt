@@ -1,4 +1,5 @@
--- What PBFT's code holds, and what its parts do.
+-- When PBFT's code refines a list of inputs, and what its parts do: what is signed and sent, kept as certificate, and
+-- delivered.
 use Rattle.std.specs.Prelude.{◌≡◌, ℕ, ◌+◌, ◌*◌, ◌==◌, ◌&&◌, Bool, cond, not, nat_le, nat_lt, List, [], ◌∷◌, ◌++◌, length, Option, Some, None, is_some}
 use Rattle.std.specs.BTreeSet.{contains}
 use Rattle.std.specs.Ordering.{nat_cmp}

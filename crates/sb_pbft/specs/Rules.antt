@@ -1,5 +1,7 @@
--- What a node makes of its inputs, as functions of their list, the newest first: its view, its proposals, the votes
--- and ViewChanges that it keeps.
+-- PBFT's rules as functions of the list of inputs, newest first: the view and whether it is active, the proposal at a
+-- view and slot, and the first Prepare, Commit and ViewChange of each replica. A slot is prepared with Prepares of 2f
+-- replicas other than the primary, and committed with Commits of 2f+1. A NewView is due with the (2f+1)-th good
+-- ViewChange.
 use Rattle.std.specs.Prelude.{ℕ, zero, suc, ◌+◌, ◌*◌, ◌==◌, ◌&&◌, ◌||◌, Bool, true, false, not, cond, nat_lt, nat_le, List, [], ◌∷◌, length, Option, Some, None}
 use Rattle.iss_base.specs.Lists.{first_of, same_bytes}
 use Rattle.iss_request.specs.declared.ids.Slot.{Slot}

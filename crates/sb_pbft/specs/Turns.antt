@@ -1,4 +1,5 @@
--- What a node holds, and what an input makes of it.
+-- PBFT's rules once more, as functions of what a replica holds and not of the whole list. A theorem ties both: what is
+-- held after an input, and what is sent, are what the list's functions say.
 use Rattle.std.specs.Prelude.{◌≡◌, ℕ, ◌+◌, ◌*◌, ◌==◌, ◌&&◌, ◌||◌, Bool, true, false, not, cond, nat_lt, nat_le, List, [], ◌∷◌, ◌++◌, length, take}
 use Rattle.std.specs.Prelude.{Option, Some, None, is_some}
 use Rattle.iss_base.specs.Lists.{first_of, set_at, set_at2}

@@ -1,5 +1,5 @@
--- How much of its log a node has committed, said once more without the rules' bookkeeping: the greatest index of which it
--- was told, or whose entry was of the term that it led while f other nodes had answered at or above it.
+-- How much of its log a replica has committed, restated without the rules' counters. It is the greatest index that a
+-- leader told it, or whose entry was of the term that it led while f others had answered for it.
 use Rattle.std.specs.Prelude.{◌≡◌, ◌≤◌, ℕ, ◌+◌, ◌==◌, ◌&&◌, ◌||◌, Bool, true, false, not, nat_le, min, List, [], ◌∷◌, length}
 use Rattle.iss_base.specs.Lists.{In}
 use Rattle.iss_base.specs.Quorum.{count_below}

@@ -1,5 +1,6 @@
--- What holds of a world of Raft that moves lead to: the facts that agreement stands on. What node i had taken at a moment
--- is a front of its list.
+-- Facts about every reached world of Raft, as in the paper: one leader per term, log matching, and committed entries
+-- in the log of each later leader. From them follow agreement and that the segment's leader accepted what is
+-- delivered. What a replica had taken at a moment is a tail of its list.
 use Rattle.std.specs.Prelude.{◌≡◌, ◌<◌, ◌≤◌, ℕ, List, ◌∷◌, ◌++◌, length, take, Some}
 use Rattle.iss_base.specs.Lists.{In, nth}
 use Rattle.iss_request.specs.declared.ids.Slot.{Slot}

@@ -1,4 +1,5 @@
--- What the parts of the code hold.
+-- What the parts of Raft's code hold: a log as its entries, with counts of the slots that they fill, and its committed
+-- index.
 use Rattle.std.specs.Prelude.{◌≡◌, ◌≤◌, ℕ, suc, ◌+◌, ◌==◌, ◌&&◌, Bool, false, cond, nat_le, List, [], ◌∷◌, drop, length, take}
 use Rattle.iss_request.specs.declared.ids.Slot.{Slot}
 use Rattle.iss_request.specs.declared.requests.Value.{Value}

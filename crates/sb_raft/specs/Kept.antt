@@ -1,4 +1,4 @@
--- What the code keeps for a node: what was set, or what is kept for all others.
+-- What the code keeps for each peer: what was set for it, or a default.
 use Rattle.std.specs.Prelude.{ℕ, Option, Some, None}
 use Rattle.std.specs.BTreeMap.{get}
 use Rattle.std.specs.Ordering.{nat_cmp}

@@ -1,4 +1,5 @@
--- Logs, the first entry first. The first index is 1, and the term at index 0 is 0.
+-- Logs, the first entry first. The first index is 1, and the term at index 0 is 0. A log's contents are the values
+-- that it gives to the slots; a mark gives none. Merging puts sent entries behind a previous index.
 use Rattle.std.specs.Prelude.{ℕ, zero, suc, ◌==◌, ◌&&◌, ◌||◌, Bool, cond, nat_lt, nat_le, List, [], ◌∷◌, ◌++◌, length, take, drop}
 use Rattle.iss_request.specs.declared.requests.Value.{Value}
 use Rattle.iss_request.specs.declared.requests.Value.TheVariants.{Nil as Value_nil, Batch as Value_batch}

@@ -1,4 +1,5 @@
--- What Raft's code holds, and what its rules do.
+-- When Raft's code refines a list of inputs: it holds the state that the list leads to. Each rule of the code does
+-- what the definition of the same rule does, where indices fit the messages' fields, which holds for every list.
 use Rattle.std.specs.Prelude.{◌≡◌, ◌<◌, ◌≤◌, ◌+◌, ◌-◌, ◌^◌, ◌==◌, ℕ, Bool, true, cond}
 use Rattle.std.specs.Prelude.{min, List, [], ◌∷◌, length, take, drop, Option, Some, None, if◌then◌else◌}
 use Rattle.iss_base.specs.Quorum.{count_below}

@@ -1,4 +1,5 @@
--- The rules of Raft: what one node's state becomes with one input, and what it sends. A function a rule.
+-- The rules of Raft: what a replica's state becomes with one input, and what it sends. Each rule is one function: a
+-- newer term, a cast, an Append, its reply, commitment, a vote request, a vote, and a timeout.
 use Rattle.std.specs.Prelude.{ℕ, zero, suc, ◌+◌, ◌-◌, ◌==◌, ◌&&◌, ◌||◌, Bool, true, false, not, cond, ◌∷◌, ◌++◌, if◌then◌else◌}
 use Rattle.std.specs.Prelude.{nat_lt, nat_le, max, min, List, [], length, drop, Option, Some, None}
 use Rattle.iss_base.specs.Lists.{nth, set_at}

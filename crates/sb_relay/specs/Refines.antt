@@ -1,4 +1,4 @@
--- What the relay's code holds and tests.
+-- When the relay's code refines a list of inputs: it has marked the slots that were cast and those that are decided.
 use Rattle.std.specs.Prelude.{◌≡◌, ℕ, ◌==◌, ◌&&◌, Bool, not, List, is_some, IfSome}
 use Rattle.iss_base.specs.Lists.{In}
 use Rattle.iss_request.specs.declared.ids.NodeId.{NodeId}

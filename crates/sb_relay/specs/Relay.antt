@@ -1,4 +1,7 @@
--- The relay: the leader says each batch that is cast to it to all, and a node takes the leader's first word on a slot.
+-- The relay, the smallest module: the leader sends each batch that is cast to all, and a node takes the leader's first
+-- word on a slot. It has three nodes, withstands no fault, and signs nothing.
+--
+--   message   1, slot (8 bytes), a value that is a batch
 use Rattle.std.specs.Prelude.{◌≡◌, ℕ, ◌==◌, ◌&&◌, ◌||◌, Bool, true, false, not, nat_lt, ◌^◌, ◌<◌, List, [], ◌∷◌, ◌++◌, Option, Some, None, if◌then◌else◌}
 use Rattle.std.specs.Int.{to_be_bytes, w64}
 use Rattle.iss_base.specs.Lists.{first_of}

@@ -31,7 +31,7 @@ use Rattle.iss_rules.specs.Setups.{IsSetupOf}
 use Rattle.iss_model.specs.Run.{as_signed, collision_in}
 use Rattle.iss_composition.proofs.Chains.{hashed-older, spelled-older}
 use Rattle.iss_rules.proofs.Layouts.{however-signed, own-verifies, sound-rules}
-use Rattle.iss_theorems.proofs.Tests.{over-new, over-old, own-is, separate-more}
+use Rattle.iss_theorems.proofs.Refinement.DeliveryChecks.{over-new, over-old, own-is, separate-more}
 use Rattle.sb_echo.specs.declared.word.Word.{Word}
 use Rattle.sb_echo.specs.declared.word.Word.TheVariants.{Say, Echo}
 use Rattle.sb_echo.specs.Echo.{claims, digest_of, echo, statement, string_of}

@@ -1,4 +1,5 @@
--- What is shown of a cluster over echo: four nodes, of which the last is faulty, and epochs of four slots.
+-- A reached cluster that meets all premises of the composition at once: four nodes over echo, one of them Byzantine,
+-- with real keys. A batch is cast and delivered by three echoes, and the composition's result holds for it.
 use Rattle.std.specs.Prelude.{◌≡◌, ℕ, true, false, List, [], ◌∷◌, replicate}
 use Rattle.iss_request.specs.declared.requests.Batch.{Batch}
 use Rattle.iss_request.specs.declared.requests.Value.TheVariants.{Batch as Value_batch}

@@ -1,5 +1,5 @@
 -- The proposals of round 0 are the leader's casts in order, each on the one before.
-use Rattle.std.proofs.Common.{◌≡◌, ◌≤◌, ℕ, zero, suc, ◌+◌, ◌*◌, ◌/◌, ◌==◌, ◌&&◌, Bool, true, false, if◌then◌else◌, List, [], ◌∷◌, ◌++◌, length, Option, Some, None, refl, sym, ap, ◌∙◌, subst, inl, inr, ◌⊎◌, true≢false, arith}
+use Rattle.std.proofs.Common.{◌≡◌, ◌≤◌, ℕ, zero, suc, ◌+◌, ◌*◌, ◌/◌, ◌==◌, ◌&&◌, Bool, true, false, if◌then◌else◌, List, [], ◌∷◌, ◌++◌, length, Option, Some, None, refl, sym, ap, ◌∙◌, subst, inl, inr, ◌⊎◌, arith}
 use Rattle.std.specs.Prelude.{nat_lt}
 use Rattle.std.proofs.lemmas.Bool.{eqb-false, leb-true}
 use Rattle.iss_base.specs.Lists.{In, nth}
@@ -16,7 +16,7 @@ use Rattle.iss_sb.specs.Evidence.{Item, IsString, Made, World, accepts}
 use Rattle.iss_sb.specs.Laws.{AreHeard}
 use Rattle.iss_sb.specs.Legal.{IsLegal}
 use Rattle.iss_sb.specs.Statements.{signature}
-use Rattle.iss_sb.proofs.Slots.{slot-is, slot-some}
+use Rattle.iss_sb.proofs.Slots.{slot-some}
 use Rattle.iss_sb.proofs.Worlds.{accepts-new, accepts-old}
 use Rattle.iss_sb.specs.declared.content.Content.{Content}
 use Rattle.iss_sb.specs.declared.content.Content.TheVariants.{Nil, Holds, Mark}

@@ -7,7 +7,6 @@ use Rattle.sha2.proofs.Facts256.{length-sha256}
 use Rattle.iss_base.specs.Lists.{In, nth, same_bytes}
 use Rattle.iss_base.proofs.Lists.{and-true, in_append, nth-below, nth-in}
 use Rattle.iss_request.specs.Formats.{is_signature}
-use Rattle.iss_request.specs.declared.ids.Slot.{Slot}
 use Rattle.iss_request.specs.declared.requests.Batch.{Batch}
 use Rattle.iss_sb.specs.declared.effects.Input.{Input}
 use Rattle.iss_sb.specs.declared.effects.Input.TheVariants.{Cast, Receive, Timeout}

@@ -1,5 +1,5 @@
-use Rattle.iss_theorems.proofs.Conserved.{conserved}
-use Rattle.iss_theorems.proofs.OneLog.{cluster-run}
+use Rattle.iss_theorems.proofs.NoLoss.OnePlaceInRun.{conserved}
+use Rattle.iss_theorems.proofs.Refinement.LogsArePrefixes.{cluster-run}
 use Rattle.iss_rules.proofs.Written.{faithful}
 use Rattle.iss_theorems.proofs.conservation.requests_are_conserved.Goals as goal
 

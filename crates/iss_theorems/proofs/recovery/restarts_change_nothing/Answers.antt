@@ -1,4 +1,4 @@
-use Rattle.iss_theorems.proofs.Whole.{whole}
+use Rattle.iss_theorems.proofs.CrashRecovery.Headline.{whole}
 use Rattle.iss_theorems.proofs.recovery.restarts_change_nothing.Goals as goal
 
 pub returns : goal.returns

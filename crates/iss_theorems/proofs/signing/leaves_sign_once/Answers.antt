@@ -1,5 +1,5 @@
-use Rattle.iss_theorems.proofs.Leaves.{signs-once-each}
-use Rattle.iss_theorems.proofs.Lives.{are-lives}
+use Rattle.iss_theorems.proofs.OneTimeKeys.LeafSignsOnce.{signs-once-each}
+use Rattle.iss_theorems.proofs.OneTimeKeys.CoresHaveHistories.{are-lives}
 use Rattle.iss_theorems.proofs.signing.leaves_sign_once.Goals as goal
 
 pub returns-clause-node : goal.returns-clause-node

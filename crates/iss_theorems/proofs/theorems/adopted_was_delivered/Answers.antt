@@ -1,4 +1,4 @@
-use Rattle.iss_theorems.proofs.Certified.{delivered-first, were-delivered}
+use Rattle.iss_theorems.proofs.Checkpoints.CertificatesDescribeLogs.{delivered-first, were-delivered}
 use Rattle.iss_rules.proofs.Written.{faithful}
 use Rattle.iss_theorems.proofs.theorems.adopted_was_delivered.Goals as goal
 

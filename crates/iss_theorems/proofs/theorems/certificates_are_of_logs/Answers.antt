@@ -1,4 +1,4 @@
-use Rattle.iss_theorems.proofs.Certified.{are-of-logs}
+use Rattle.iss_theorems.proofs.Checkpoints.CertificatesDescribeLogs.{are-of-logs}
 use Rattle.iss_rules.proofs.Written.{faithful}
 use Rattle.iss_theorems.proofs.theorems.certificates_are_of_logs.Goals as goal
 

@@ -1,4 +1,4 @@
-use Rattle.iss_theorems.proofs.OneLog.{cluster-run, one-log}
+use Rattle.iss_theorems.proofs.Refinement.LogsArePrefixes.{cluster-run, one-log}
 use Rattle.iss_rules.proofs.Written.{faithful}
 use Rattle.iss_theorems.proofs.theorems.cluster_runs.Goals as goal
 

@@ -1,4 +1,4 @@
-use Rattle.iss_theorems.proofs.Evidence.{has-evidence}
+use Rattle.iss_theorems.proofs.StoppedRuns.RunShowsEvidence.{has-evidence}
 use Rattle.iss_rules.proofs.Written.{faithful}
 use Rattle.iss_theorems.proofs.theorems.runs_end_with_evidence.Goals as goal
 

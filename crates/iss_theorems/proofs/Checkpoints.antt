@@ -1,0 +1,4 @@
+pub mod CertificatesDescribeLogs
+pub mod KeptVotesAreValid
+pub mod VotesAreForChains
+pub mod VotesDescribeLogs

@@ -1,0 +1,5 @@
+pub mod Headline
+pub mod JournaledEventsEnter
+pub mod LostEventsAreNumbered
+pub mod RunsInSequence
+pub mod SlotsHaveOneNumber

@@ -1,0 +1,2 @@
+pub mod OnePlaceInCluster
+pub mod OnePlaceInRun

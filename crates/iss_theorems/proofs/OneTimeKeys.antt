@@ -1,0 +1,2 @@
+pub mod CoresHaveHistories
+pub mod LeafSignsOnce

@@ -1,0 +1,14 @@
+pub mod AdoptionIsMove
+pub mod ClusterDuringStep
+pub mod DeliveryChecks
+pub mod EventIsManyMoves
+pub mod EventKeepsInvariant
+pub mod Invariant
+pub mod LoggedValuesAreEncodable
+pub mod LogsArePrefixes
+pub mod MovesReachCluster
+pub mod PacketsHoldSends
+pub mod RunKeepsInvariant
+pub mod RunKeepsWhatStepsKeep
+pub mod StepIsMove
+pub mod StepsHashChains

@@ -1,0 +1,3 @@
+pub mod BookIsComplete
+pub mod EvidenceIsValid
+pub mod RunShowsEvidence
