@@ -1,4 +1,4 @@
--- Branches as the code keeps them.
+-- The code's branches are the model's.
 use Rattle.std.proofs.Common.{◌≡◌, ◌≤◌, ◌<◌, ℕ, zero, suc, ◌+◌, ◌-◌, ◌||◌, cond, Bool, true, false, if◌then◌else◌, List, [], ◌∷◌, ◌++◌, length, drop, reverse, Option, Some, None, is_some, refl, sym, ap, ◌∙◌, subst, arith, append_assoc, append-nil}
 use Rattle.std.specs.Prelude.{slice_get, min}
 use Rattle.std.proofs.lemmas.List.{drop-append-le, length-append, length-drop, nil_from_length}
@@ -51,7 +51,7 @@ pub filled-few : (ks : List Node) → filled (whats ks) ≤ length ks
 filled-few [] = omega arith
 filled-few (k ∷ ks) = let one = weight-few k.what in let rest = filled-few ks in omega (arith, one, rest)
 
--- ---- one node more
+-- ---- One more node
 
 more-get : (xs : List Known) (x n : Known) (i : ℕ) → slice_get xs i ≡ Some n → slice_get (xs ++ x ∷ []) i ≡ Some n
 more-get [] x n i h = absurd cc
@@ -70,10 +70,10 @@ leads-more : (nodes : List Known) (x : Known) (o : Option ℕ) (ks : List Node) 
 leads-more nodes x o [] h = h
 leads-more nodes x o (k ∷ ks) h = (h.0, more-at nodes x h.0 o h.1, h.2, leads-more nodes x h.0.above ks h.3)
 
--- ---- what is read at a place
+-- ---- The node at an index
 
 module _ (nodes : List Known) (o : Option ℕ) where
-  -- a node stands at the place, below others
+  -- the node at this index, with its branch
   pub record IsOne (n : Known) (ks : List Node) : Type 0 where
     pub node : Node
     pub rest : List Node
@@ -104,9 +104,9 @@ module _ (nodes : List Known) (o : Option ℕ) where
   pub slots-none : (ks : List Node) → Leads nodes o ks → known_at nodes o ≡ None → 0 ≡ filled (whats ks)
   slots-none ks h e = ap (λ (z : List Node). filled (whats z)) (sym (none ks h e))
 
--- ---- up from a place
+-- ---- From an index towards the root
 
--- what is left of the walk after so many nodes
+-- the rest of the walk after this many nodes
 pub record Looks (nodes : List Known) (here : Option ℕ) (count : ℕ) (e : List ℕ) (ks : List Node) : Type 0 where
   pub rest : List Node
   pub leads : Leads nodes here rest
@@ -146,7 +146,7 @@ module _ (nodes : List Known) (here : Option ℕ) (e : List ℕ) (ks : List Node
         let over : length h.rest ≡ 0 = omega (arith, left, le) in
         sym (h.same ∙ ap (λ (z : List Node). meets e z) (nil_from_length h.rest over))
 
--- ---- values of a branch
+-- ---- Values of a branch
 
 pub length-values : (cs : List Content) → length (values cs) ≡ filled cs
 length-values [] = refl
@@ -241,7 +241,7 @@ module _ (nodes : List Known) (here : Option ℕ) (from : ℕ) (ks : List Node) 
           low_enough : from ≤ length (values (whats a.rest))
           low_enough = let few = weight-few n.what in let l = le in omega (arith, few, l)
 
--- ---- one node more
+-- ---- One more node
 
 module _ (t u : Tree) (k : Node) (ks : List Node) (n : Known) (h : Keeps t ks) (items : u.nodes.items ≡ t.nodes.items ++ n ∷ [])
     (places : (d : List ℕ) → place u d ≡ cond (same_bytes k.digest d) (Some (length t.nodes.items)) (place t d))
@@ -288,7 +288,7 @@ module _ (t u : Tree) (k : Node) (ks : List Node) (n : Known) (h : Keeps t ks) (
     few = λ d. subst (λ (z : List Known). length (path (k ∷ ks) d) ≤ length z) (sym items) (few-add d);
   }
 
--- ---- what is asked of a branch by its digest
+-- ---- Branches by digest
 
 module _ (t : Tree) (ks : List Node) (d : List ℕ) (h : Keeps t ks) (o : Option ℕ) (at : o ≡ place t d) where
   pub from-place : Leads t.nodes.items o (path ks d)
@@ -306,11 +306,11 @@ module _ (t : Tree) (ks : List Node) (d : List ℕ) (h : Keeps t ks) (o : Option
   pub values-there : (from : ℕ) (vs : List Value) → vs ≡ drop from (values (whats (path ks d))) → vs ≡ drop from (values (branch ks d))
   values-there from vs e = e ∙ ap (λ (z : List Content). drop from (values z)) (sym (branch-path ks d))
 
--- the root's digest, as a constant
+-- the root's digest as a constant
 pub has-there : (t : Tree) (ks : List Node) (d : List ℕ) → Keeps t ks → (b : Bool) → is_some (place t d) ≡ b → (c : Bool) → c ≡ (b || same_bytes d root) → c ≡ is_known ks d
 has-there t ks d h b e c is = is ∙ ap (λ (z : Bool). z || same_bytes d root) (sym e) ∙ sym (h.known d)
 
--- a node that is put behind the others
+-- a node appended to the vector
 pub added : (t u : Tree) (k : Node) (ks : List Node) (above : Option ℕ) (depth slots weighs at : ℕ) → Keeps t ks → above ≡ place t k.parent →
     (n : Known) → n.parent ≡ k.parent → n.what ≡ k.what → n.above ≡ above → length t.nodes.items < 9223372036854775808 →
     ((rest : List Node) → Leads t.nodes.items above rest → depth ≡ length rest) → ((rest : List Node) → Leads t.nodes.items above rest → slots ≡ filled (whats rest)) →

@@ -1,4 +1,4 @@
--- A certificate has one spelling, and what is read is what the table relates to the bytes.
+-- A certificate has at most one encoding, and decoding is the relation of the encoding.
 use Rattle.std.proofs.Common.{◌≡◌, ◌<◌, ℕ, zero, suc, ◌^◌, ◌==◌, ◌&&◌, Bool, true, false, List, [], ◌∷◌, ◌++◌, length, refl, sym, ap, ◌∙◌, subst, inl, inr, arith}
 use Rattle.std.specs.Prelude.{nat_le, nat_lt}
 use Rattle.std.specs.Int.{to_be_bytes, w32}
@@ -19,7 +19,7 @@ use Rattle.iss_sb.specs.declared.signers.Signed.{Signed}
 use Rattle.hs_tree.specs.Certificates.{AreSpelledVotes, IsSpelledCertificate, are_votes, fits, is_phase, no_certificate, parse_certificate, parse_votes, root_row, spell_certificate, votes_row}
 use Rattle.hs_tree.proofs.Rows.{Again, Never, Whole, block-field, by-same, byte-field, byte-never, first-never, glue, last-again, never-same, number-field, then-again, then-never}
 
--- ---- what fits
+-- ---- Which certificates have an encoding
 
 fits-is : (phases view phase : ℕ) (d : List ℕ) (votes : List Signed) (bytes : List ℕ) → AreSpelledVotes phases view phase d votes bytes → fits phases view phase d votes ≡ true
 fits-is phases view phase d votes bytes h =
@@ -46,7 +46,7 @@ fits-of phases view phase d votes h =
       row = refl;
     }
 
--- ---- the parsers, field by field
+-- ---- The parsers, field by field
 
 module _ (phases : ℕ) where
   abbrev pub make : ℕ → ℕ → List ℕ → List Signed → Certificate
@@ -73,7 +73,7 @@ module _ (phases : ℕ) where
   unfolding parse_certificate
   parse_certificate-is = refl
 
-  -- ---- what the table gives is read
+  -- ---- What the relation gives is decoded
 
   behind-again : (less phase : ℕ) (d : List ℕ) (votes : List Signed) (bytes : List ℕ) → AreSpelledVotes phases (suc less) phase d votes bytes →
       Again (phase ∷ d ++ length votes ∷ flat_map spell_signed votes) (parse_votes phases (suc less)) (Votes (suc less) phase d votes)
@@ -100,7 +100,7 @@ module _ (phases : ℕ) where
       let read = then-again (number w32) (parse_votes phases) (to_be_bytes w32 view) (phase ∷ d ++ length votes ∷ flat_map spell_signed votes) view c (number-field w32 (2 ^ 32) wide32 view h.view_fits) (votes-again view phase d votes bytes h) in
       subst (λ (z : List ℕ). Again z (parse_certificate phases) c) (sym h.row) (by-same (votes_row view phase d votes) (parse_certificate phases) _ c parse_certificate-is read)
 
-  -- ---- what is read is of the table
+  -- ---- What is decoded is in the relation
 
   pub record IsCertificate (bytes rest : List ℕ) (c : Certificate) : Type 0 where
     pub front : List ℕ
@@ -139,7 +139,7 @@ module _ (phases : ℕ) where
       let view = number_parts w32 (2 ^ 32) wide32 bytes a.mid a.thing a.first in
       behind-parts a.thing bytes a.mid rest c view.below view.parts a.second
 
-  -- ---- what is spelled
+  -- ---- Encodings
 
   pub certificate-spelled : (c : Certificate) (bytes : List ℕ) → IsSpelledCertificate phases c bytes → bytes ≡ spell_certificate phases c
   certificate-spelled Root bytes h = h

@@ -1,4 +1,4 @@
--- The definitions of the tree and of the messages, on rows of bytes and on a small tree.
+-- Worked examples of the encodings and of a small tree.
 use Rattle.std.proofs.Common.{◌≡◌, ◌+◌, ◌*◌, ℕ, true, false, List, [], ◌∷◌, ◌++◌, Some, None, refl}
 use Rattle.std.specs.Prelude.{replicate}
 use Rattle.iss_keys.specs.Directories.{directory_of}
@@ -32,7 +32,7 @@ node n = record { 0 = n }
 abbrev slot : ℕ → Slot
 slot n = record { 0 = n }
 
--- a signature stands as zeros of its length
+-- a signature of zeros, of the right length
 abbrev blank : List ℕ
 blank = 2 ∷ replicate (4 + 32 * 69) 0
 
@@ -42,11 +42,11 @@ d = replicate 32 9
 abbrev by : ℕ → Signed
 by k = record { by = node k; sig = blank }
 
--- two votes of the first phase, in turn 1 of round 1
+-- two prepare votes, in turn 1 of round 1
 abbrev shown : Certificate
 shown = Votes 65537 1 d (by 0 ∷ by 3 ∷ [])
 
--- ---- certificates
+-- ---- Certificates
 
 root_spelled : spell_certificate 3 Root ≡ 0 ∷ 0 ∷ 0 ∷ 0 ∷ []
 root_spelled = refl
@@ -54,7 +54,7 @@ root_spelled = refl
 shown_spelled : spell_certificate 3 shown ≡ 0 ∷ 1 ∷ 0 ∷ 1 ∷ 1 ∷ (d ++ (2 ∷ 0 ∷ (blank ++ (3 ∷ blank))))
 shown_spelled = refl
 
--- in the second phase, with a node twice, with nodes that fall, and in view 0 none has a spelling there
+-- a second phase, a repeated signer, descending signers, or view 0 have no encoding there
 no_second_phase : spell_certificate 1 (Votes 65537 2 d []) ≡ 0 ∷ 0 ∷ 0 ∷ 1 ∷ 0 ∷ []
 no_second_phase = refl
 
@@ -64,8 +64,7 @@ no_node_twice = refl
 no_view : spell_certificate 3 (Votes 0 1 d []) ≡ 0 ∷ 0 ∷ 0 ∷ 1 ∷ 0 ∷ []
 no_view = refl
 
--- the second of two nodes that fall is the field that does not fit: behind the view, the phase, the digest, the count, and the first
--- node and its signature
+-- the second of two descending signers is the bad field, after the view, phase, digest, count and first vote
 falling : parse_certificate 3 (0 ∷ 1 ∷ 0 ∷ 1 ∷ 1 ∷ (d ++ (2 ∷ 3 ∷ (blank ++ (3 ∷ blank))))) ≡ Bad (38 + (1 + 2213))
 unfolding parse_certificate parse_votes ascending parse_signed parse_signature such_that byte number block digests done ◌>>=◌
 falling = refl
@@ -74,7 +73,7 @@ no_phase : parse_certificate 3 (0 ∷ 1 ∷ 0 ∷ 1 ∷ 4 ∷ d) ≡ Bad 4
 unfolding parse_certificate parse_votes such_that byte number ◌>>=◌
 no_phase = refl
 
--- exactly a quorum's votes, of the phase and view that are asked for
+-- exactly a quorum's votes, of the given phase and view
 two_are_two : is_quorum 2 1 65537 shown ≡ true
 two_are_two = refl
 
@@ -84,7 +83,7 @@ two_are_not_three = refl
 not_of_the_second : is_quorum 2 2 65537 shown ≡ false
 not_of_the_second = refl
 
--- ---- messages
+-- ---- Messages
 
 vote_spelled : spell 3 1 (Vote 2 258 d blank) ≡ 6 ∷ 2 ∷ 0 ∷ 0 ∷ 1 ∷ 2 ∷ (d ++ blank)
 vote_spelled = refl
@@ -96,7 +95,7 @@ vote_read = refl
 new_view_spelled : spell 3 1 (NewView 259 Root blank) ≡ 1 ∷ 1 ∷ 3 ∷ 0 ∷ 0 ∷ 0 ∷ 0 ∷ blank
 new_view_spelled = refl
 
--- an empty batch by either version, and a mark
+-- the empty batch in either version, and a mark
 prepare_spelled : spell 3 1 (Prepare 1 (Holds []) Root blank) ≡ 2 ∷ 0 ∷ 0 ∷ 0 ∷ 1 ∷ 1 ∷ 1 ∷ 0 ∷ 0 ∷ 0 ∷ 0 ∷ 0 ∷ blank
 unfolding spell_value spell_batch spell_count
 prepare_spelled = refl
@@ -112,7 +111,7 @@ mark_read = refl
 shows_spelled : (spell 3 1 (PreCommit 1 Root blank) ≡ 3 ∷ 0 ∷ 0 ∷ 0 ∷ 1 ∷ 0 ∷ 0 ∷ 0 ∷ 0 ∷ blank) × (spell 3 1 (Commit 1 Root blank) ≡ 4 ∷ 0 ∷ 0 ∷ 0 ∷ 1 ∷ 0 ∷ 0 ∷ 0 ∷ 0 ∷ blank) × (spell 3 1 (Decide 1 Root blank) ≡ 5 ∷ 0 ∷ 0 ∷ 0 ∷ 1 ∷ 0 ∷ 0 ∷ 0 ∷ 0 ∷ blank)
 shows_spelled = (refl, refl, refl)
 
--- with one phase there are no Decides, and no votes of the second phase
+-- with one phase there are no Decide and no pre-commit votes
 no_decide : (spell 1 1 (Decide 1 Root blank) ≡ 0 ∷ []) × (parse 1 1 (5 ∷ 0 ∷ 0 ∷ 0 ∷ 1 ∷ 0 ∷ 0 ∷ 0 ∷ 0 ∷ blank) ≡ Bad 0)
 unfolding parse such_that byte ◌>>=◌
 no_decide = (refl, refl)
@@ -125,7 +124,7 @@ no_number : (parse 3 1 (0 ∷ blank) ≡ Bad 0) × (parse 3 1 (7 ∷ blank) ≡ 
 unfolding parse such_that byte ◌>>=◌
 no_number = (refl, refl)
 
--- ---- statements and claims
+-- ---- Statements and claims
 
 abbrev setup : Setup
 setup = record {
@@ -157,7 +156,7 @@ states_a_vote : own_statement basic p (Vote 2 258 d blank) ≡ head ++ (4 ∷ 6 
 unfolding wide_bytes
 states_a_vote = refl
 
--- of the chained form by its tag
+-- chained HotStuff has its own tag
 states_chained : own_statement chained p (Vote 1 258 d blank) ≡ head ++ (5 ∷ 6 ∷ 1 ∷ 0 ∷ 0 ∷ 1 ∷ 2 ∷ d)
 unfolding wide_bytes
 states_chained = refl
@@ -166,16 +165,16 @@ states_a_round : own_statement basic p (NewView 259 shown blank) ≡ head ++ (4 
 unfolding wide_bytes
 states_a_round = refl
 
--- the votes of the certificate first, each over a vote's statement; then the sender's own signature
+-- first the votes of the certificate, each with a vote's statement; then the sender's own signature
 claims_in_order : claims basic p 2 (Commit 65537 shown blank) ≡
     record { by = node 0; statement = own_statement basic p (Vote 1 65537 d blank); sig = blank } ∷
     record { by = node 3; statement = own_statement basic p (Vote 1 65537 d blank); sig = blank } ∷
     record { by = node 2; statement = own_statement basic p (Commit 65537 shown blank); sig = blank } ∷ []
 claims_in_order = refl
 
--- ---- nodes and branches
+-- ---- Nodes and branches
 
--- the same node in another view has the same string, unless nodes have one view
+-- the same node in another view has the same string, except in the chained form
 one_string : plain_string 1 5 d Mark ≡ plain_string 1 6 d Mark
 one_string = refl
 
@@ -186,7 +185,7 @@ viewed : viewed_string 1 258 d Mark ≡ 0x44 ∷ 0 ∷ 0 ∷ 1 ∷ 2 ∷ (d ++ (
 unfolding wide_bytes
 viewed = refl
 
--- nil on a batch on the root, a mark on the nil, and beside it a nil on the batch
+-- a batch on the root, nil on it, a mark on the nil; and another nil on the batch
 abbrev known : List Node
 known =
     record { view = 4; digest = 4 ∷ []; from = 1; parent = 1 ∷ []; what = Nil } ∷
@@ -203,7 +202,7 @@ of_the_mark = refl
 extends_itself : (extends known (3 ∷ []) (3 ∷ []) ≡ true) × (extends known (3 ∷ []) (1 ∷ []) ≡ true) × (extends known (3 ∷ []) root ≡ true) × (extends known (3 ∷ []) (4 ∷ []) ≡ false)
 extends_itself = (refl, refl, refl, refl)
 
--- a mark holds no slot
+-- a mark fills no slot
 fills_two : filled (branch known (3 ∷ [])) ≡ 2
 fills_two = refl
 

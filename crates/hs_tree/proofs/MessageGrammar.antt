@@ -1,4 +1,4 @@
--- A message has one spelling by each version.
+-- In each version a message has at most one encoding.
 use Rattle.std.proofs.Common.{◌≡◌, ◌≤◌, ◌<◌, ℕ, ◌^◌, ◌==◌, ◌&&◌, ◌||◌, Bool, true, false, if◌then◌else◌, List, [], ◌∷◌, ◌++◌, length, append-nil, refl, sym, ap, ◌∙◌, subst, inl, inr, true≢false, arith}
 use Rattle.std.specs.Prelude.{◌↔◌, nat_le, nat_lt}
 use Rattle.std.specs.Int.{to_be_bytes, w16, w32}
@@ -23,7 +23,7 @@ use Rattle.iss_sb.proofs.Contents.{content-grammar, content-read, content-relate
 use Rattle.hs_tree.proofs.Rows.{Again, Fate, HasFate, Never, Whole, again-fate, again-whole, block-field, by-same, byte-field, byte-never, fate-again, fate-fate, fate-of, fate-same, first-never, glue, last-again, never-same, number-field, signature-field, then-again, whole-of}
 
 module _ (phases version : ℕ) where
-  -- ---- the parsers, field by field
+  -- ---- The parsers, field by field
 
   abbrev after_high : ℕ → Certificate → Parser Message
   after_high round high = parse_signature >>= λ sig. done (NewView round high sig)
@@ -78,7 +78,7 @@ module _ (phases version : ℕ) where
   unfolding parse
   parse-is = refl
 
-  -- ---- what is read is of the table
+  -- ---- What is decoded is in the relation
 
   record IsRow (msg : Message) (bytes rest : List ℕ) : Type 0 where
     front : List ℕ
@@ -174,7 +174,7 @@ module _ (phases version : ℕ) where
         parts = ap (λ (x : List ℕ). 6 ∷ x) (byte_parts bytes a.mid a.thing phase.0 ∙ ap (λ (x : List ℕ). a.thing ∷ x) inner);
       })
 
-  -- ---- which message a number is of
+  -- ---- The message with each number
 
   not-same : (n k : ℕ) → (n == k) ≡ false → n ≡ k → ⊥
   not-same n k f e = true≢false (sym ((Decides-eqb n k).1 e) ∙ f)
@@ -193,7 +193,7 @@ module _ (phases version : ℕ) where
       let t = and-true (nat_le 3 n) (nat_le n 5) h in
       between n (leb-true 3 n t.0) (leb-true n 5 t.1) (not-same n 3 f3) (not-same n 4 f4) (not-same n 5 f5)
 
-  -- a number of a message that is none of these is that of a vote
+  -- the only other valid number is a vote's
   known-six : (n : ℕ) → is_message phases n ≡ true → (n == 1) ≡ false → (n == 2) ≡ false → (n == 3) ≡ false → (n == 4) ≡ false → (n == 5) ≡ false → (n == 6) ≡ true
   known-six n known f1 f2 f3 f4 f5 = go (n == 1) (n == 2) (n == 6) (phases == 3) known f1 f2
     where
@@ -204,7 +204,7 @@ module _ (phases version : ℕ) where
       go false false false true h f g = absurd (in-range n h f3 f4 f5)
       go false false false false h f g = absurd (true≢false (sym h))
 
-  -- a message that shows a certificate is one of three phases
+  -- PreCommit, Commit and Decide need three phases
   three-is : (k : ℕ) → is_message phases k ≡ true → (k == 1) ≡ false → (k == 2) ≡ false → (k == 6) ≡ false → phases ≡ 3
   three-is k known f1 f2 f6 = go (k == 1) (k == 2) (k == 6) (phases == 3) refl known f1 f2 f6
     where
@@ -256,7 +256,7 @@ module _ (phases version : ℕ) where
       let t = test_parts (is_message phases) byte bytes a.mid a.thing a.first in
       subst (λ (z : List ℕ). IsRow msg z rest) (sym (byte_parts bytes a.mid a.thing t.0)) (fields-parts a.thing a.mid rest msg t.1 a.second)
 
-  -- ---- what the table gives is the spelling
+  -- ---- The relation gives the encoding
 
   shown-spelled : (kind view : ℕ) (shown : Certificate) (sig front : List ℕ) → IsSpelledShown phases kind view shown sig front → front ≡ spell_shown phases kind view shown sig
   shown-spelled kind view shown sig front h =
@@ -279,7 +279,7 @@ module _ (phases version : ℕ) where
       let fit = both _ _ (both _ _ (le-leb 1 phase h.phase_low) (le-leb phase phases h.phase_fits)) (both _ _ (lt-ltb view (2 ^ 32) h.view_fits) (both _ _ ((Decides-eqb (length d) 32).1 h.digest_fits) h.signed)) in
       rw fit h.row
 
-  -- ---- what is spelled is read
+  -- ---- An encoding is decoded
 
   number-again : (n : ℕ) (text : List ℕ) (msg : Message) → is_message phases n ≡ true → Again text (fields_of phases version n) msg → Again (n ∷ text) (parse phases version) msg
   number-again n text msg k h = by-same (n ∷ text) (parse phases version) _ msg parse-is (then-again (such_that (is_message phases) byte) (fields_of phases version) (n ∷ []) text n msg (byte-field (is_message phases) n k) h)
@@ -316,7 +316,7 @@ module _ (phases version : ℕ) where
       let all = again-fate (read && behind) (number w32) after_view (to_be_bytes w32 view) (text ++ (certificate ++ sig)) view msg (number-field w32 (2 ^ 32) wide32 view low) second in
       number-fate (read && behind) 2 (to_be_bytes w32 view ++ (text ++ (certificate ++ sig))) msg refl (fate-same (read && behind) (to_be_bytes w32 view ++ (text ++ (certificate ++ sig))) (parse_prepare phases version) _ msg parse_prepare-is all)
 
-  -- the three messages that show a certificate
+  -- PreCommit, Commit and Decide
   shown-fate : (read : Bool) (make : Makes) (kind view : ℕ) (shown : Certificate) (sig certificate : List ℕ) → (has_shows phases ≡ true → is_message phases kind ≡ true) → fields_of phases version kind ≡ parse_shown phases make →
       has_shows phases ≡ true → view < 2 ^ 32 → is_signature sig ≡ true → Fate read certificate (parse_certificate phases) shown → Fate read (shown_row kind view certificate sig) (parse phases version) (make view shown sig)
   shown-fate read make kind view shown sig certificate known fields three low shape h =
@@ -387,7 +387,7 @@ module _ (phases version : ℕ) where
     whole = whole;
   }
 
-  -- ---- the table
+  -- ---- The relation
 
   shown-table : (make : Makes) (kind view : ℕ) (shown : Certificate) (sig bytes : List ℕ) → (has_shows phases ≡ true → is_message phases kind ≡ true) → fields_of phases version kind ≡ parse_shown phases make →
       IsSpelledShown phases kind view shown sig bytes → Again bytes (parse phases version) (make view shown sig)
@@ -411,14 +411,14 @@ module _ (phases version : ℕ) where
       subst (λ (x : List ℕ). Again x (parse phases version) (Vote phase view d sig)) (sym h.row)
       (vote-again phase view d sig (both _ _ (le-leb 1 phase h.phase_low) (le-leb phase phases h.phase_fits)) h.view_fits h.digest_fits h.signed)
 
-  -- what is read of bytes, and all of them, is what the table relates to them
+  -- decoding all of the bytes is the relation of the encoding
   pub message-related : (msg : Message) (bytes : List ℕ) → (parse phases version bytes ≡ Good msg []) ↔ IsSpelledMessage phases version msg bytes
   message-related msg bytes = (
     (λ h. let r = message-parts bytes [] msg h in subst (λ (x : List ℕ). IsSpelledMessage phases version msg x) (sym (r.parts ∙ append-nil r.front)) r.spelled),
     (λ h. again-whole bytes (parse phases version) msg (table-again msg bytes h)),
   )
 
-  -- ---- what is read again, the table relates to some bytes, and the other way
+  -- ---- A message can be decoded exactly if the relation gives it some bytes
 
   pub spelled-read : (msg : Message) (bytes : List ℕ) → IsSpelledMessage phases version msg bytes → IsReadAgain (spell phases version) (parse phases version) msg
   spelled-read msg bytes h = read-again (spell phases version) (parse phases version) message-grammar bytes [] msg ((message-related msg bytes).1 h)

@@ -1,4 +1,4 @@
--- Nodes whose strings are separate: one digest has one parent and one content, so a branch is unique.
+-- Unless SHA-256 collides, a digest has one parent and one content, so its branch is unique.
 use Rattle.std.proofs.Common.{◌≡◌, ℕ, ◌||◌, Bool, true, false, if◌then◌else◌, List, [], ◌∷◌, ◌++◌, refl, sym, ap, ◌∙◌, subst}
 use Rattle.iss_base.specs.Lists.{same_bytes}
 use Rattle.iss_base.proofs.Lists.{ends-same, same_bytes-is}
@@ -13,7 +13,7 @@ use Rattle.hs_tree.specs.Paths.{Has, IsTree, Path, hash}
 use Rattle.hs_tree.specs.Tree.{Node, branch, extends, is_known, kind_of, plain_string, root, value_digest, value_of, what_bytes}
 use Rattle.iss_sb.proofs.Contents.{holds-value}
 
--- values that are read again are told apart by their strings
+-- values that can be decoded have different strings
 value-same : (version : ℕ) (b c : Batch) → IsReadAgain (spell_value version) (parse_value version) (Value_batch b) → IsReadAgain (spell_value version) (parse_value version) (Value_batch c) → value_string version (Value_batch b) ≡ value_string version (Value_batch c) → b ≡ c
 value-same version b c h g e =
     let same : spell_value version (Value_batch b) ≡ spell_value version (Value_batch c) = cc in
@@ -42,7 +42,7 @@ module _ (version : ℕ) (Is : List ℕ → Type 0) where
     content-same a b Mark (Holds y) h g t d = absurd cc
     content-same a b Mark Mark h g t d = refl
 
-    -- nodes of one digest are one node
+    -- nodes with the same digest are equal
     pub has-same : (a b : List ℕ) (c e : Content) → Holder a c → Holder b e → hash version a c ≡ hash version b e → (a ≡ b) × (c ≡ e)
     has-same a b c e h g q =
         let s : plain_string version 0 a c ≡ plain_string version 0 b e = sep (plain_string version 0 a c) (plain_string version 0 b e) h.node g.node q in
@@ -68,7 +68,7 @@ module _ (version : ℕ) (Is : List ℕ → Type 0) where
           let rest = branch-one h.0 xs ys h.3 (subst (λ (z : List ℕ). Path version Is z root ys) (sym q.0) k.3) in
           ap (λ (z : Content). z ∷ xs) q.1 ∙ ap (λ (z : List Content). y ∷ z) rest
 
-  -- ---- the tree of a replica
+  -- ---- The tree of a replica
 
   pub branch-is : (ks : List Node) (d : List ℕ) → IsTree version Is ks → is_known ks d ≡ true → Path version Is d root (branch ks d)
   branch-is [] d t h = same_bytes-is d root h

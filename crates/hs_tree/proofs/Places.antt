@@ -1,4 +1,4 @@
--- What a branch holds stays where more stands above it.
+-- A place of a branch keeps its value when the branch is extended.
 use Rattle.std.proofs.Common.{◌≡◌, ◌≤◌, ◌<◌, ℕ, ◌+◌, ◌==◌, ◌&&◌, Bool, true, false, if◌then◌else◌, List, [], ◌∷◌, ◌++◌, Option, Some, refl, ap, inl, inr, ◌⊎◌, arith}
 use Rattle.std.proofs.lemmas.Bool.Decides.{Decides-eqb}
 use Rattle.iss_request.specs.declared.requests.Batch.{Batch}
@@ -9,7 +9,7 @@ use Rattle.iss_sb.specs.declared.content.Content.{Content}
 use Rattle.iss_sb.specs.declared.content.Content.TheVariants.{Nil, Holds, Mark}
 use Rattle.hs_tree.specs.Tree.{filled, value_at, value_here, value_of, weight}
 
--- a batch at a place stands on top, or below
+-- the batch at a place is the newest one, or below it
 pub here-is : (k n : ℕ) (c : Content) (o : Option Value) (b : Batch) → value_here k n c o ≡ Some (Value_batch b) → ((k ≡ n) × (c ≡ Holds b)) ⊎ (o ≡ Some (Value_batch b))
 here-is k n c o b h = go (k == n) refl c h
   where

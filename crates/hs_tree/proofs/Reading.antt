@@ -1,4 +1,4 @@
--- What is read field by field is what the parsers find.
+-- Reading field by field is what the parsers do.
 use Rattle.std.proofs.Common.{◌≡◌, ◌≢◌, ◌<◌, ℕ, zero, suc, true, false, refl, subst, arith}
 use Rattle.iss_base.proofs.Lists.{eqb-other}
 use Rattle.iss_request.specs.Fields.{IsRead, IsUnreadable, Reading}
@@ -12,14 +12,14 @@ use Rattle.hs_tree.specs.Certificates.{is_phase, parse_certificate, parse_votes}
 use Rattle.hs_tree.specs.Messages.{fields_of, is_message, parse, parse_vote}
 use Rattle.hs_tree.proofs.CertificateGrammar.{after_phase, parse_certificate-is, parse_root-is, parse_votes-is}
 
--- of two parsers that are the same
+-- two parsers that are equal
 pub by-same : {A : Type 0} (p q : Parser A) {a b : Reading} {x : A} → p ≡ q → IsRead q a b x → IsRead p a b x
 by-same p q e h = rw e h
 
 pub un-same : {A : Type 0} (p q : Parser A) {a : Reading} {at : ℕ} → p ≡ q → IsUnreadable q a at → IsUnreadable p a at
 un-same p q e h = rw e h
 
--- ---- certificates
+-- ---- Certificates
 
 module _ (phases : ℕ) where
   pub behind : (view : ℕ) → 0 < view → parse_votes phases view ≡ (such_that (is_phase phases) byte >>= after_phase phases view)
@@ -41,7 +41,7 @@ module _ (phases : ℕ) where
   pub votes-unread : {a b : Reading} (view : ℕ) {at : ℕ} → IsRead (number w32) a b view → IsUnreadable (parse_votes phases view) b at → IsUnreadable (parse_certificate phases) a at
   votes-unread view h k = un-same (parse_certificate phases) (number w32 >>= parse_votes phases) (parse_certificate-is phases) (unread_then (number w32) (parse_votes phases) h k)
 
--- ---- messages
+-- ---- Messages
 
 module _ (phases v : ℕ) where
   pub number-unread : {a : Reading} {at : ℕ} → IsUnreadable byte a at → IsUnreadable (parse phases v) a at
@@ -60,7 +60,7 @@ module _ (phases v : ℕ) where
   unfolding parse
   fields-unread n q e t h r = unread_then (such_that (is_message phases) byte) (fields_of phases v) (read_passed (is_message phases) byte h t) (un-same (fields_of phases v n) q e r)
 
-  -- the number of none of the others is that of a vote
+  -- if the number is none of the others, the message is a vote
   pub vote-fields : (n : ℕ) → n ≢ 1 → n ≢ 2 → n ≢ 3 → n ≢ 4 → n ≢ 5 → fields_of phases v n ≡ parse_vote phases
   vote-fields n a b c d e =
       let one = eqb-other n 1 a in

@@ -1,4 +1,4 @@
--- Fields one behind the other: what is read again, and what is read of none.
+-- Fields in sequence: what can be decoded, and what no reader accepts.
 use Rattle.std.proofs.Common.{◌≡◌, ℕ, ◌<◌, ◌&&◌, Bool, true, false, List, [], ◌∷◌, ◌++◌, length, append_assoc, append-nil, sym, ap, ◌∙◌, subst, ◌⊎◌, inl, inr}
 use Rattle.std.specs.Int.{Width, to_be_bytes}
 use Rattle.iss_request.specs.Fields.{Good, IsBad}
@@ -8,7 +8,7 @@ use Rattle.iss_request.proofs.OneSpelling.{done_good, signature_again}
 use Rattle.iss_sb.proofs.Fields.{good-bad}
 use Rattle.iss_request.proofs.ParserLemmas.{IsWide, block_again, byte_again, first_bad, number_again, test_failed, test_passed, then_bad, then_good}
 
--- a thing is read again from these bytes, whatever stands behind; or nothing is
+-- the value is decoded from these bytes, whatever follows, or no value is
 abbrev pub Again : {A : Type 0} → List ℕ → Parser A → A → Type 0
 Again front p x = (rest : List ℕ) → p (front ++ rest) ≡ Good x rest
 
@@ -21,14 +21,14 @@ Whole front p x = Again front p x ⊎ Never front p
 pub not-both : {A : Type 0} (front : List ℕ) (p : Parser A) (x : A) → Again front p x → Never front p → ⊥
 not-both front p x good bad = let b = bad [] in good-bad x [] b.0 (sym (good []) ∙ b.1)
 
--- of two parsers that are the same
+-- two parsers that are equal
 pub by-same : {A : Type 0} (front : List ℕ) (p q : Parser A) (x : A) → p ≡ q → Again front q x → Again front p x
 by-same front p q x e h rest = rw e (h rest)
 
 pub never-same : {A : Type 0} (front : List ℕ) (p q : Parser A) → p ≡ q → Never front q → Never front p
 never-same front p q e h rest = let b = h rest in (b.0, rw e b.1)
 
--- ---- two pieces
+-- ---- Two fields
 
 pub then-again : {A B : Type 0} (p : Parser A) (q : A → Parser B) (a b : List ℕ) (x : A) (y : B) → Again a p x → Again b (q x) y → Again (a ++ b) (p >>= q) y
 then-again p q a b x y h g rest = rw (append_assoc a b rest) (then_good p q (a ++ (b ++ rest)) (b ++ rest) rest x y (h (b ++ rest)) (g rest))
@@ -43,7 +43,7 @@ first-never p q a b h rest =
     let k = h (b ++ rest) in
     subst (λ (z : List ℕ). IsBad ((p >>= q) z)) (sym (append_assoc a b rest)) (k.0, first_bad p q (a ++ (b ++ rest)) k.0 k.1)
 
--- whether a thing is read again or nothing is
+-- whether the value is decoded or no value is
 abbrev pub Fate : {A : Type 0} → Bool → List ℕ → Parser A → A → Type 0
 Fate true front p x = Again front p x
 Fate false front p x = Never front p
@@ -76,11 +76,11 @@ pub fate-fate : {A B : Type 0} (read behind : Bool) (p : Parser A) (q : A → Pa
 fate-fate true behind p q a b x y h g = again-fate behind p q a b x y h g
 fate-fate false behind p q a b x y h g = first-never p q a b h
 
--- the last piece, of which a thing is made
+-- the last field, which completes the value
 pub last-again : {A B : Type 0} (p : Parser A) (make : A → B) (a : List ℕ) (x : A) → Again a p x → Again a (p >>= λ z. done (make z)) (make x)
 last-again p make a x h rest = then_good p (λ z. done (make z)) (a ++ rest) rest rest x (make x) (h rest) (done_good (make x) rest)
 
--- ---- single fields
+-- ---- Single fields
 
 pub number-field : (w : Width) (limit : ℕ) → IsWide w limit → (n : ℕ) → n < limit → Again (to_be_bytes w n) (number w) n
 number-field w limit wide n lt rest = number_again w limit wide n rest lt
@@ -97,7 +97,7 @@ block-field width front h rest = block_again front rest width h
 pub signature-field : (sig : List ℕ) → is_signature sig ≡ true → Again sig parse_signature sig
 signature-field sig h rest = signature_again sig rest h
 
--- ---- pieces that were read
+-- ---- Fields that were decoded
 
 pub glue : (a b bytes mid rest : List ℕ) → bytes ≡ a ++ mid → mid ≡ b ++ rest → bytes ≡ (a ++ b) ++ rest
 glue a b bytes mid rest h g = h ∙ ap (λ (x : List ℕ). a ++ x) g ∙ sym (append_assoc a b rest)

@@ -1,4 +1,4 @@
--- The votes of a certificate are of different nodes.
+-- The votes of a quorum certificate are by different replicas.
 use Rattle.std.proofs.Common.{◌≡◌, ◌≤◌, ◌<◌, ℕ, suc, ◌==◌, ◌&&◌, ◌||◌, not, Bool, true, false, List, [], ◌∷◌, length, refl, sym, ap, ◌∙◌, arith, true≢false}
 use Rattle.std.specs.Prelude.{nat_le}
 use Rattle.std.proofs.lemmas.Bool.{leb-true}
@@ -14,7 +14,7 @@ same-length : (votes : List Signed) → length (signers votes) ≡ length votes
 same-length [] = refl
 same-length (v ∷ vs) = ap suc (same-length vs)
 
--- nothing below the bound stands among nodes that rise from it
+-- no signer is below the bound from which they ascend
 not-below : (from k : ℕ) (votes : List Signed) → k < from → is_rising from votes ≡ true → mem k (signers votes) ≡ false
 not-below from k [] low h = refl
 not-below from k (v ∷ vs) low h =

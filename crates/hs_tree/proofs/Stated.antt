@@ -1,4 +1,4 @@
--- Fields that are written one after the other are the strings and statements.
+-- The fields that the code writes in sequence are the strings and statements.
 use Rattle.std.proofs.Common.{◌≡◌, ◌<◌, ◌^◌, ℕ, List, [], ◌∷◌, ◌++◌, append_assoc, Option, refl, ap, ◌∙◌}
 use Rattle.sha2.specs.Sha256.{sha256}
 use Rattle.iss_sb.specs.Evidence.{one_or_none}
@@ -30,7 +30,7 @@ pub round-written : (p : Params) (form : Form) (tag round view version : ℕ) (a
     c ≡ and_bytes b (to_be_bytes w16 round) → d ≡ and_bytes c (to_be_bytes w32 view) → d.bytes ≡ statement form p 1 (two_bytes round ++ four_bytes view)
 round-written p form tag round view version a b c d low lt et ha hb hc hd = let rounds = two-is round low in let views = four-is view lt in rw (hd, hc, hb, ha, rounds, views, et) (simp append_assoc)
 
--- ---- claims
+-- ---- Claims
 
 abbrev pub one_claim : List ℕ → Signed → List Claim
 one_claim statement v = claim v.by.0 statement v.sig ∷ []
@@ -39,7 +39,7 @@ pub claims-flat : (statement : List ℕ) (votes : List Signed) → flat_map (one
 claims-flat statement [] = refl
 claims-flat statement (v ∷ vs) = ap (λ (z : List Claim). claim v.by.0 statement v.sig ∷ z) (claims-flat statement vs)
 
--- ---- a node that is hashed
+-- ---- A node's strings
 
 pub hashed-node : (version view : ℕ) (parent : List ℕ) (what : Content) (value : Option (List ℕ)) (node bytes : List ℕ) (none mid all : List (List ℕ)) (d : List ℕ) → none ≡ [] → one_or_none value ≡ strings_of version (value_of what) →
     mid ≡ none ++ one_or_none value → all ≡ mid ++ node ∷ [] → node ≡ plain_string version view parent what → bytes ≡ node → d ≡ sha256 bytes → IsHashed version view parent what (record { strings = all; digest = d })

@@ -13,10 +13,12 @@ use Rattle.hs_tree.specs.declared.certificates.Certificate.{Certificate}
 use Rattle.hs_tree.specs.declared.certificates.Certificate.TheVariants.{Root, Votes}
 use Rattle.hs_tree.specs.Tree.{root}
 
+-- the view of the votes, 0 for the root's certificate
 abbrev pub view_of : Certificate → ℕ
 view_of Root = 0
 view_of (Votes view phase d votes) = view
 
+-- the digest of the certified node
 abbrev pub digest_of : Certificate → List ℕ
 digest_of Root = root
 digest_of (Votes view phase d votes) = d
@@ -29,27 +31,31 @@ abbrev pub signers : List Signed → List ℕ
 signers [] = []
 signers (v ∷ vs) = v.by.0 ∷ signers vs
 
--- nodes that rise, none below the first number that is allowed
+-- signers strictly ascending, from this number on
 abbrev pub is_rising : ℕ → List Signed → Bool
 is_rising from [] = true
 is_rising from (v ∷ vs) = nat_le from v.by.0 && is_rising (suc v.by.0) vs
 
--- a certificate of exactly a quorum's votes for this phase in this view
+-- a quorum certificate: exactly a quorum's votes for this phase in this view
 abbrev pub is_quorum : ℕ → ℕ → ℕ → Certificate → Bool
 is_quorum quorum phase view Root = false
-is_quorum quorum phase view (Votes w q d votes) = ((w == view) && (q == phase)) && ((length votes == quorum) && is_rising 0 votes)
+is_quorum quorum phase view (Votes w q d votes) = ((w == view) && (q == phase)) &&
+    ((length votes == quorum) && is_rising 0 votes)
 
--- ---- spelling
+-- ---- Encoding
 
+-- phases are numbered from 1
 abbrev pub is_phase : ℕ → ℕ → Bool
 is_phase phases n = nat_le 1 n && nat_le n phases
 
--- as many as a byte counts, of nodes strictly ascending, each with a signature
+-- at most 255 votes, by strictly ascending signers, each with a signature
 abbrev pub are_votes : List Signed → Bool
 are_votes votes = nat_lt (length votes) 256 && are_signers 0 votes
 
+-- whether the votes have an encoding
 abbrev pub fits : ℕ → ℕ → ℕ → List ℕ → List Signed → Bool
-fits phases view phase d votes = (nat_lt 0 view && nat_lt view (2 ^ 32)) && ((is_phase phases phase && (length d == 32)) && are_votes votes)
+fits phases view phase d votes = (nat_lt 0 view && nat_lt view (2 ^ 32)) &&
+    ((is_phase phases phase && (length d == 32)) && are_votes votes)
 
 abbrev pub root_row : List ℕ
 root_row = to_be_bytes w32 0
@@ -57,15 +63,16 @@ root_row = to_be_bytes w32 0
 abbrev pub votes_row : ℕ → ℕ → List ℕ → List Signed → List ℕ
 votes_row view phase d votes = to_be_bytes w32 view ++ phase ∷ d ++ length votes ∷ flat_map spell_signed votes
 
--- one that has no spelling is written as one of view 1 and no phase
+-- Votes without an encoding are written as view 1 and phase 0, which no reader accepts.
 abbrev pub no_certificate : List ℕ
 no_certificate = 0 ∷ 0 ∷ 0 ∷ 1 ∷ 0 ∷ []
 
 abbrev pub spell_certificate : ℕ → Certificate → List ℕ
 spell_certificate phases Root = root_row
-spell_certificate phases (Votes view phase d votes) = if fits phases view phase d votes then votes_row view phase d votes else no_certificate
+spell_certificate phases (Votes view phase d votes) =
+    if fits phases view phase d votes then votes_row view phase d votes else no_certificate
 
--- ---- the table as a relation between certificates and bytes
+-- ---- The encoding as a relation between certificates and bytes
 
 pub record AreSpelledVotes (phases view phase : ℕ) (d : List ℕ) (votes : List Signed) (bytes : List ℕ) : Type 0 where
   pub view_low : 1 ≤ view
@@ -81,9 +88,9 @@ abbrev pub IsSpelledCertificate : ℕ → Certificate → List ℕ → Type 0
 IsSpelledCertificate phases Root bytes = bytes ≡ root_row
 IsSpelledCertificate phases (Votes view phase d votes) bytes = AreSpelledVotes phases view phase d votes bytes
 
--- ---- reading
+-- ---- Decoding
 
--- what stands behind the view: nothing where it is the root's
+-- what follows the view: nothing if it is 0, the root's
 unfoldable pub parse_votes : ℕ → ℕ → Parser Certificate
 parse_votes phases zero = done Root
 parse_votes phases (suc less) = do

@@ -13,49 +13,52 @@ use Rattle.hs_tree.specs.declared.tree.Known.{Known}
 use Rattle.hs_tree.specs.declared.tree.Tree.{Tree}
 use Rattle.hs_tree.specs.Tree.{Node, filled, is_known, root, value_of, weight}
 
--- ---- branches as nodes
+-- ---- Branches as lists of nodes
 
--- the nodes from that of the digest up to the root
+-- the nodes from the one with this digest up to the root
 abbrev pub path : List Node → List ℕ → List Node
 path [] d = []
 path (k ∷ ks) d = if same_bytes k.digest d then k ∷ path ks k.parent else path ks d
 
+-- their contents
 abbrev pub whats : List Node → List Content
 whats [] = []
 whats (k ∷ ks) = k.what ∷ whats ks
 
--- what a branch holds for the slots, in their order. A mark holds no slot
+-- the values of a branch, by ascending slot; a mark fills no slot
 abbrev pub values : List Content → List Value
 values [] = []
 values (c ∷ cs) = values cs ++ one_or_none (value_of c)
 
--- whether one of the nodes stands on that of the digest
+-- whether the parent of one of the nodes has this digest
 abbrev pub meets : List ℕ → List Node → Bool
 meets e [] = false
 meets e (k ∷ ks) = same_bytes k.parent e || meets e ks
 
--- ---- the code's row
+-- ---- The code's vector of nodes
 
+-- the index of the newest node with this digest
 abbrev pub place : Tree → List ℕ → Option ℕ
 place t d = get (slice_cmp nat_cmp) t.places d
 
+-- the node at the index, if there is one
 abbrev pub known_at : List Known → Option ℕ → Option Known
 known_at nodes None = None
 known_at nodes (Some i) = slice_get nodes i
 
--- what is kept of the node k, which stands on these
+-- n represents node k, whose parent's branch is ks
 pub record IsKept (n : Known) (k : Node) (ks : List Node) : Type 0 where
   pub parent : n.parent ≡ k.parent
   pub what : n.what ≡ k.what
   pub depth : n.depth ≡ suc (length ks)
   pub slots : n.slots ≡ weight k.what + filled (whats ks)
 
--- from a place on these nodes stand one above the other
+-- from this index on, the parents are these nodes
 abbrev pub Leads : List Known → Option ℕ → List Node → Type 0
 Leads nodes o [] = o ≡ None
 Leads nodes o (k ∷ ks) = (n : Known) × (known_at nodes o ≡ Some n) × IsKept n k ks × Leads nodes n.above ks
 
--- the code keeps these nodes, the newest first
+-- the tree represents the list of known nodes, newest first
 -- rule: HotStuff: A branch is what its nodes hold, even where a digest repeats
 pub record Keeps (t : Tree) (ks : List Node) : Type 0 where
   pub leads : (d : List ℕ) → Leads t.nodes.items (place t d) (path ks d)

@@ -18,9 +18,9 @@ use Rattle.hs_tree.specs.declared.messages.Message.{Message}
 use Rattle.hs_tree.specs.declared.messages.Message.TheVariants.{NewView, Prepare, PreCommit, Commit, Decide, Vote}
 use Rattle.hs_tree.specs.Certificates.{IsSpelledCertificate, is_phase, parse_certificate, spell_certificate}
 
--- ---- what has a spelling
+-- ---- Which messages have an encoding
 
--- a node that passes one phase alone is decided with no PreCommit, Commit and Decide
+-- PreCommit, Commit and Decide exist only with three phases
 abbrev pub has_shows : ℕ → Bool
 has_shows phases = phases == 3
 
@@ -33,7 +33,7 @@ fits_shown phases view sig = has_shows phases && (is_view view && is_signature s
 abbrev pub fits_vote : ℕ → ℕ → ℕ → List ℕ → List ℕ → Bool
 fits_vote phases phase view d sig = is_phase phases phase && (is_view view && ((length d == 32) && is_signature sig))
 
--- ---- spelling. What has none is written as the number of no message
+-- ---- Encoding. A message without one is written as number 0, which no reader accepts
 
 abbrev pub new_view_row : ℕ → List ℕ → List ℕ → List ℕ
 new_view_row round certificate sig = 1 ∷ to_be_bytes w16 round ++ certificate ++ sig
@@ -51,19 +51,23 @@ abbrev pub no_message : List ℕ
 no_message = 0 ∷ []
 
 abbrev pub spell_shown : ℕ → ℕ → ℕ → Certificate → List ℕ → List ℕ
-spell_shown phases kind view shown sig = if fits_shown phases view sig then shown_row kind view (spell_certificate phases shown) sig else no_message
+spell_shown phases kind view shown sig =
+    if fits_shown phases view sig then shown_row kind view (spell_certificate phases shown) sig else no_message
 
 abbrev pub spell : ℕ → ℕ → Message → List ℕ
 spell phases version (NewView round high sig) =
-    if nat_lt round (2 ^ 16) && is_signature sig then new_view_row round (spell_certificate phases high) sig else no_message
+    if nat_lt round (2 ^ 16) && is_signature sig then new_view_row round (spell_certificate phases high) sig
+    else no_message
 spell phases version (Prepare view what just sig) =
-    if is_view view && is_signature sig then prepare_row view (spell_content version what) (spell_certificate phases just) sig else no_message
+    if is_view view && is_signature sig
+    then prepare_row view (spell_content version what) (spell_certificate phases just) sig else no_message
 spell phases version (PreCommit view shown sig) = spell_shown phases 3 view shown sig
 spell phases version (Commit view shown sig) = spell_shown phases 4 view shown sig
 spell phases version (Decide view shown sig) = spell_shown phases 5 view shown sig
-spell phases version (Vote phase view d sig) = if fits_vote phases phase view d sig then vote_row phase view d sig else no_message
+spell phases version (Vote phase view d sig) =
+    if fits_vote phases phase view d sig then vote_row phase view d sig else no_message
 
--- ---- the table as a relation between messages and bytes
+-- ---- The encoding as a relation between messages and bytes
 
 pub record IsSpelledNewView (phases round : ℕ) (high : Certificate) (sig bytes : List ℕ) : Type 0 where
   pub round_fits : round < 2 ^ 16
@@ -72,7 +76,8 @@ pub record IsSpelledNewView (phases round : ℕ) (high : Certificate) (sig bytes
   pub signed : is_signature sig ≡ true
   pub row : bytes ≡ new_view_row round certificate sig
 
-pub record IsSpelledPrepare (phases version view : ℕ) (what : Content) (just : Certificate) (sig bytes : List ℕ) : Type 0 where
+pub record IsSpelledPrepare (phases version view : ℕ) (what : Content) (just : Certificate)
+    (sig bytes : List ℕ) : Type 0 where
   pub view_fits : view < 2 ^ 32
   pub behind : List ℕ
   pub what_is : IsSpelledContent version what behind
@@ -100,13 +105,14 @@ pub record IsSpelledVote (phases phase view : ℕ) (d sig bytes : List ℕ) : Ty
 -- rule: HotStuff: A message has one encoding for its number of phases and version
 abbrev pub IsSpelledMessage : ℕ → ℕ → Message → List ℕ → Type 0
 IsSpelledMessage phases version (NewView round high sig) bytes = IsSpelledNewView phases round high sig bytes
-IsSpelledMessage phases version (Prepare view what just sig) bytes = IsSpelledPrepare phases version view what just sig bytes
+IsSpelledMessage phases version (Prepare view what just sig) bytes =
+    IsSpelledPrepare phases version view what just sig bytes
 IsSpelledMessage phases version (PreCommit view shown sig) bytes = IsSpelledShown phases 3 view shown sig bytes
 IsSpelledMessage phases version (Commit view shown sig) bytes = IsSpelledShown phases 4 view shown sig bytes
 IsSpelledMessage phases version (Decide view shown sig) bytes = IsSpelledShown phases 5 view shown sig bytes
 IsSpelledMessage phases version (Vote phase view d sig) bytes = IsSpelledVote phases phase view d sig bytes
 
--- ---- reading
+-- ---- Decoding
 
 unfoldable pub parse_new_view : ℕ → Parser Message
 parse_new_view phases = do
@@ -138,9 +144,11 @@ parse_vote phases = do
   sig ← parse_signature
   done (Vote phase view d sig)
 
+-- whether there is a message with this number
 abbrev pub is_message : ℕ → ℕ → Bool
 is_message phases n = ((n == 1) || (n == 2)) || ((n == 6) || (has_shows phases && (nat_le 3 n && nat_le n 5)))
 
+-- the fields of the message with this number
 abbrev pub fields_of : ℕ → ℕ → ℕ → Parser Message
 fields_of phases version n =
     if n == 1 then parse_new_view phases else
@@ -149,7 +157,7 @@ fields_of phases version n =
     (if n == 4 then parse_shown phases Commit else
     (if n == 5 then parse_shown phases Decide else parse_vote phases))))
 
--- the message's number says which fields follow
+-- the message's number, then its fields
 unfoldable pub parse : ℕ → ℕ → Parser Message
 parse phases version = do
   message ← such_that (is_message phases) byte

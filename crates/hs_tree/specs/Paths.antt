@@ -9,24 +9,25 @@ use Rattle.iss_sb.specs.declared.content.Content.{Content}
 use Rattle.iss_sb.specs.Content.{parse_content, spell_content}
 use Rattle.hs_tree.specs.Tree.{Node, is_known, plain_string, value_of}
 
--- the digest of the node that stands on the parent
+-- the digest of the node with this parent and content
 abbrev pub hash : ℕ → List ℕ → Content → List ℕ
 hash version parent what = digest (plain_string version 0 parent what)
 
--- a node on a parent, whose strings are among these
+-- this node was hashed: its strings are among the given ones
 pub record Has (version : ℕ) (Is : List ℕ → Type 0) (parent : List ℕ) (what : Content) : Type 0 where
   pub long : length parent ≡ 32
   pub read : IsReadAgain (spell_content version) (parse_content version) what
   pub node : Is (plain_string version 0 parent what)
   pub value : (v : Value) → value_of what ≡ Some v → Is (value_string version v)
 
--- from the node d down to e, these contents, the newest first
+-- a branch from node d down to its ancestor e, whose contents are these, newest first
 abbrev pub Path : ℕ → (List ℕ → Type 0) → List ℕ → List ℕ → List Content → Type 0
 Path version Is d e [] = d ≡ e
 Path version Is d e (c ∷ cs) = (a : List ℕ) × Has version Is a c × (hash version a c ≡ d) × Path version Is a e cs
 
--- known nodes of which each stands over its parent
+-- known nodes, newest first: each was hashed, and its parent is known before it
 abbrev pub IsTree : ℕ → (List ℕ → Type 0) → List Node → Type 0
 IsTree version Is [] = Unit {0}
 IsTree version Is (k ∷ ks) =
-    Has version Is k.parent k.what × (k.digest ≡ hash version k.parent k.what) × (is_known ks k.parent ≡ true) × IsTree version Is ks
+    Has version Is k.parent k.what × (k.digest ≡ hash version k.parent k.what) × (is_known ks k.parent ≡ true)
+    × IsTree version Is ks

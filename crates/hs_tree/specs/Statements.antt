@@ -14,14 +14,14 @@ use Rattle.hs_tree.specs.declared.messages.Message.TheVariants.{NewView, Prepare
 use Rattle.hs_tree.specs.Certificates.{digest_of, view_of}
 use Rattle.hs_tree.specs.Tree.{Form}
 
--- the string of the node that a proposal is of, and its digest
+-- the hashed string and the digest of the node that a proposal is for
 abbrev pub node_string : Form → Params → ℕ → Content → Certificate → List ℕ
 node_string form p view what just = form.string p.setup.version view (digest_of just) what
 
 abbrev pub node_digest : Form → Params → ℕ → Content → Certificate → List ℕ
 node_digest form p view what just = digest (node_string form p view what just)
 
--- ---- statements: the instance, the number of the message, its fields
+-- ---- Statements: the instance's head, the message's number, its fields
 
 abbrev pub statement : Form → Params → ℕ → List ℕ → List ℕ
 statement form p kind fields = statement_head p form.tag ++ kind ∷ fields
@@ -29,15 +29,17 @@ statement form p kind fields = statement_head p form.tag ++ kind ∷ fields
 abbrev pub vote_statement : Form → Params → ℕ → ℕ → List ℕ → List ℕ
 vote_statement form p phase view d = statement form p 6 (phase ∷ four_bytes view ++ d)
 
--- what the sender of a message signs
+-- the statement that the sender of a message signs
 abbrev pub own_statement : Form → Params → Message → List ℕ
 own_statement form p (NewView round high sig) = statement form p 1 (two_bytes round ++ four_bytes (view_of high))
-own_statement form p (Prepare view what just sig) = statement form p 2 (four_bytes view ++ node_digest form p view what just)
+own_statement form p (Prepare view what just sig) =
+    statement form p 2 (four_bytes view ++ node_digest form p view what just)
 own_statement form p (PreCommit view shown sig) = statement form p 3 (four_bytes view ++ digest_of shown)
 own_statement form p (Commit view shown sig) = statement form p 4 (four_bytes view ++ digest_of shown)
 own_statement form p (Decide view shown sig) = statement form p 5 (four_bytes view ++ digest_of shown)
 own_statement form p (Vote phase view d sig) = vote_statement form p phase view d
 
+-- the sender's signature
 abbrev pub signature_of : Message → List ℕ
 signature_of (NewView round high sig) = sig
 signature_of (Prepare view what just sig) = sig
@@ -46,6 +48,7 @@ signature_of (Commit view shown sig) = sig
 signature_of (Decide view shown sig) = sig
 signature_of (Vote phase view d sig) = sig
 
+-- the message with this signature instead of its own
 abbrev pub with_signature : List ℕ → Message → Message
 with_signature sig (NewView round high old) = NewView round high sig
 with_signature sig (Prepare view what just old) = Prepare view what just sig
@@ -54,7 +57,7 @@ with_signature sig (Commit view shown old) = Commit view shown sig
 with_signature sig (Decide view shown old) = Decide view shown sig
 with_signature sig (Vote phase view d old) = Vote phase view d sig
 
--- the certificate inside a message, the root's where there is none
+-- the certificate in the message, the root's if there is none
 abbrev pub inside : Message → Certificate
 inside (NewView round high sig) = high
 inside (Prepare view what just sig) = just
@@ -63,17 +66,20 @@ inside (Commit view shown sig) = shown
 inside (Decide view shown sig) = shown
 inside (Vote phase view d sig) = Root
 
--- ---- claims, in the order of the bytes
+-- ---- Claims, in the order of the bytes
 
+-- each signer signed the statement
 abbrev pub vote_claims : List ℕ → List Signed → List Claim
 vote_claims statement [] = []
 vote_claims statement (v ∷ vs) = claim v.by.0 statement v.sig ∷ vote_claims statement vs
 
+-- each vote of the certificate was signed
 abbrev pub certificate_claims : Form → Params → Certificate → List Claim
 certificate_claims form p Root = []
 certificate_claims form p (Votes view phase d votes) = vote_claims (vote_statement form p phase view d) votes
 
--- the votes of the certificate inside, then the message's own signature
+-- the votes of the certificate in the message, then the sender's own signature
 -- rule: HotStuff: A message claims the votes of its certificate, then its sender's signature
 abbrev pub claims : Form → Params → ℕ → Message → List Claim
-claims form p from msg = certificate_claims form p (inside msg) ++ claim from (own_statement form p msg) (signature_of msg) ∷ []
+claims form p from msg =
+    certificate_claims form p (inside msg) ++ claim from (own_statement form p msg) (signature_of msg) ∷ []

@@ -1,4 +1,4 @@
-//! Certificates: that so many nodes voted, and their bytes.
+//! Quorum certificates (HotStuff: QC), and their bytes.
 ghost use Rattle.std.specs.Prelude.{◌≡◌, ◌<◌, ◌≤◌, ℕ, List, length, IfOk, OnOk, Err};
 ghost use Rattle.iss_request.specs.Fields.{IsRead, IsUnreadable, and_bytes};
 ghost use Rattle.iss_request.specs.Parsing.{block, byte, such_that};
@@ -9,10 +9,11 @@ use iss_request::{DecodeError, Fields, NoMemory, Seq, Writer};
 use iss_sb::{Signed, are_signers, copy_signers, put_signers, read_signers};
 use std::alloc::Global;
 
-// What stands for a certificate without a spelling: view 1, and no phase.
+// What is written for a certificate without an encoding: view 1 and phase 0, which no reader accepts.
 const NO_CERTIFICATE: [u8; 5] = [0, 0, 0, 1, 0];
 
-/// That nodes voted for the tree node of this digest, in a view and a phase of it; or that it is the root, for which nobody votes.
+/// A quorum certificate: votes for a node, by its digest, in one phase of one view. `Root` certifies the tree's root
+/// without votes. The votes are not checked here.
 #[derive(Drop)]
 pub enum Certificate {
     Root,
@@ -25,7 +26,7 @@ pub enum Certificate {
 }
 
 impl Certificate {
-    /// The view in which the nodes voted, 0 for the root.
+    /// The view of the votes, 0 for the root.
     pub fn view(&self) -> u32
         ensures { result ≡ view_of self.now }
     {
@@ -35,7 +36,7 @@ impl Certificate {
         }
     }
 
-    /// The digest of the tree node.
+    /// The digest of the certified node.
     pub fn digest(&self) -> [u8; 32]
         ensures { result ≡ digest_of self.now }
     {
@@ -45,7 +46,7 @@ impl Certificate {
         }
     }
 
-    /// Another with equal content.
+    /// A copy. The only error is out of memory.
     pub fn copy(&self, alloc: Global) -> Result<Certificate, NoMemory>
         ensures { IfOk result (λ c. c ≡ self.now) }
     {
@@ -68,7 +69,8 @@ impl Certificate {
         }
     }
 
-    /// Whether it holds exactly a quorum's votes for this phase in this view.
+    /// Whether it has exactly a quorum's votes, by strictly ascending signers, for this phase and view. Signatures are
+    /// checked elsewhere, by the message's claims.
     pub fn is_quorum(&self, quorum: u32, in_phase: u8, in_view: u32) -> bool
         ensures { result ≡ is_quorum quorum in_phase in_view self.now }
     {
@@ -89,7 +91,7 @@ impl Certificate {
     }
 }
 
-/// Whether a vote is of one of so many phases.
+/// Whether the phase is one of 1 to `phases`.
 pub fn is_phase(phases: u8, phase: u8) -> bool
     ensures { result ≡ is_phase phases phase }
 {
@@ -98,7 +100,7 @@ pub fn is_phase(phases: u8, phase: u8) -> bool
 
 // ---- writing
 
-// Whether the nodes rise, none below the first number that is allowed.
+// Whether the signers are strictly ascending, from this number on.
 fn are_rising(from: u16, votes: &[Signed]) -> bool
     requires { from ≤ 256 }
     ensures { result ≡ is_rising from votes.now }
@@ -112,7 +114,7 @@ fn are_rising(from: u16, votes: &[Signed]) -> bool
     }
 }
 
-// Whether votes have a spelling in a certificate.
+// Whether a certificate with these votes has an encoding.
 fn has_spelling(phases: u8, view: u32, phase: u8, digest: &[u8; 32], votes: &[Signed]) -> bool
     ensures { result ≡ fits phases view phase digest.now votes.now }
 {
@@ -139,7 +141,8 @@ fn write_votes(
     put_signers(votes, out)
 }
 
-/// Writes a certificate, where nodes pass so many phases. One that has no spelling is written as bytes that no reader takes.
+/// Writes a certificate of a protocol with this many phases. One without an encoding is written as bytes that no reader
+/// accepts. The only error is out of memory.
 pub fn write_certificate(
     phases: u8,
     certificate: &Certificate,
@@ -166,10 +169,11 @@ pub fn write_certificate(
 
 // ---- reading
 
-/// Reads a phase.
+/// Reads a phase. `BadField` if it is not one of 1 to `phases`.
 pub fn read_phase(phases: u8, f: &mut Fields) -> Result<u8, DecodeError>
     ensures ok { IfOk result (λ n. IsRead (such_that (is_phase phases) byte) f.old f.new n) }
-    ensures bad { (at : ℕ) → result ≡ Err (DecodeError.BadField at) → IsUnreadable (such_that (is_phase phases) byte) f.old at }
+    ensures bad { (at : ℕ) → result ≡ Err (DecodeError.BadField at) →
+        IsUnreadable (such_that (is_phase phases) byte) f.old at }
 {
     let no_phase = f.bad_field();
     let phase = f.read_u8()?;
@@ -201,7 +205,7 @@ fn read_votes(
     })
 }
 
-/// Reads the certificate at the front, where nodes pass so many phases. `BadField` names the first field that does not fit.
+/// Reads a certificate of a protocol with this many phases. `BadField` has the position of the first bad field.
 pub fn read_certificate(
     alloc: Global,
     phases: u8,

@@ -1,4 +1,4 @@
-//! The digest of a node without memory: each piece of its string goes to the hasher as it stands.
+//! The digest of a node without allocation: the parts of its string go to the hasher one by one.
 ghost use Rattle.std.specs.Prelude.{◌≡◌, ℕ};
 ghost use Rattle.iss_request.specs.Digest.{digest};
 ghost use Rattle.hs_tree.specs.Tree.{plain_string, value_digest, value_of};
@@ -8,7 +8,7 @@ use iss_request::{Value, batch_digest, digest_of};
 use iss_sb::Content;
 use sha2::{Digest, Sha256};
 
-// The digest of the value that a node holds; zeros for a mark.
+// The digest of the content's value, zeros for a mark.
 fn value_digest(version: u8, what: &Content) -> [u8; 32]
     ensures { result ≡ value_digest version (value_of what.now) }
 {
@@ -19,7 +19,7 @@ fn value_digest(version: u8, what: &Content) -> [u8; 32]
     }
 }
 
-/// The digest of the node with this content on a parent.
+/// The digest of the node with this parent and content.
 // rule: HotStuff: A node's digest covers its parent, its kind and the digest of its value
 pub fn digest_of_node(version: u8, parent: &[u8; 32], what: &Content) -> [u8; 32]
     ensures { (view : ℕ) → result ≡ digest (plain_string version view parent.now what.now) }

@@ -1,5 +1,5 @@
-//! What HotStuff orders and says: the tree of nodes, certificates, and messages in bytes (Yin, Malkhi, Reiter, Golan Gueta
-//! and Abraham, "HotStuff: BFT Consensus with Linearity and Responsiveness").
+//! The data of HotStuff: the tree of nodes, quorum certificates, and messages with their bytes (Yin, Malkhi, Reiter,
+//! Golan Gueta and Abraham, "HotStuff: BFT Consensus with Linearity and Responsiveness").
 #![tactic(auto)]
 
 pub mod certificates;

@@ -3,8 +3,9 @@ use crate::certificates::Certificate;
 use iss_request::Bytes;
 use iss_sb::Content;
 
-/// What nodes say to each other, each under its sender's signature: that a round has begun, with the highest certificate
-/// that the sender knows; a proposal on the node of a certificate; the certificates of the three phases; and a vote.
+/// The messages of HotStuff, each with its sender's signature. `NewView` starts a round with the sender's highest
+/// prepareQC. `Prepare` proposes a node, whose parent is the one that `just` certifies. `PreCommit`, `Commit` and
+/// `Decide` broadcast the certificates of the three phases. `Vote` is a vote of a phase.
 #[derive(Drop)]
 pub enum Message {
     NewView {

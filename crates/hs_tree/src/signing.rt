@@ -1,4 +1,4 @@
-//! What is hashed of a node of the tree, and what is signed.
+//! The strings that are hashed for a node, and the statements that are signed.
 ghost use Rattle.std.specs.Prelude.{◌≡◌, ℕ, ◌++◌, IfOk, OnOk};
 ghost use Rattle.iss_sb.specs.Evidence.{one_or_none};
 ghost use Rattle.iss_sb.specs.Statements.{claim, four_bytes, two_bytes};
@@ -13,12 +13,12 @@ use iss_sb::{Claim, Content, Params, Signed, put_head};
 use sha2::{Digest, Sha256};
 use std::alloc::Global;
 
-// The byte before a node that is hashed.
+// The first byte of a node's hashed string.
 pub(crate) const NODE: u8 = 0x41;
 
 // ---- what is hashed
 
-/// The string of the value that a node holds; a mark has none.
+/// The string of the content's value; a mark has none. The only error is out of memory.
 pub fn held_string(alloc: Global, version: u8, what: &Content) -> Result<Option<Bytes>, NoMemory>
     ensures { IfOk result (λ s. one_or_none s ≡ strings_of version (value_of what.now)) }
 {
@@ -29,7 +29,7 @@ pub fn held_string(alloc: Global, version: u8, what: &Content) -> Result<Option<
     }
 }
 
-/// The digest of the value that a node holds, by its string; zeros for a mark. The directory remembers it, since each node asks
+/// The digest of the content's value, by its string; zeros for a mark. The directory caches it, since each replica asks
 /// for it more than once.
 pub fn held_digest(p: &Params, what: &Content, string: &Option<Bytes>) -> [u8; 32]
     requires { one_or_none string.now ≡ strings_of p.now.setup.version (value_of what.now) }
@@ -41,7 +41,7 @@ pub fn held_digest(p: &Params, what: &Content, string: &Option<Bytes>) -> [u8; 3
     }
 }
 
-// What a node holds, as a number.
+// The number of the content's kind in a node's string.
 pub(crate) fn kind_of(what: &Content) -> u8
     ensures { result ≡ kind_of what.now }
 {
@@ -52,7 +52,7 @@ pub(crate) fn kind_of(what: &Content) -> u8
     }
 }
 
-/// The string of the node with this content on a parent, by the digest of the content's value.
+/// The string of the node with this parent and content, by the digest of its value. The only error is out of memory.
 // rule: HotStuff: A node's digest covers its parent, its kind and the digest of its value
 pub fn node_string(
     alloc: Global,
@@ -72,14 +72,14 @@ pub fn node_string(
     Ok(out.into_bytes())
 }
 
-/// The strings that are hashed of a node, the value's before the node's own, and its digest.
+/// The strings that were hashed for a node, the value's before its own, and the node's digest.
 #[derive(Drop)]
 pub struct Hashed {
     pub strings: Seq<Bytes>,
     pub digest: [u8; 32],
 }
 
-/// Hashes the node with this content on a parent.
+/// Hashes the node with this parent and content. The only error is out of memory.
 pub fn hash_node(
     alloc: Global,
     p: &Params,
@@ -99,7 +99,7 @@ pub fn hash_node(
     Ok(Hashed { strings, digest })
 }
 
-// Puts a string, if there is one, behind others.
+// Appends the string, if there is one.
 fn put_string(string: Option<Bytes>, all: &mut Seq<Bytes>) -> Result<(), NoMemory>
     ensures { OnOk result (all.new ≡ all.old ++ one_or_none string) }
 {
@@ -109,9 +109,9 @@ fn put_string(string: Option<Bytes>, all: &mut Seq<Bytes>) -> Result<(), NoMemor
     }
 }
 
-// ---- what is signed, by the module of this number
+// ---- what is signed, for the module with this tag
 
-/// The statement of a vote.
+/// The statement of a vote. The only error is out of memory.
 pub fn vote_statement(
     alloc: Global,
     p: &Params,
@@ -120,7 +120,8 @@ pub fn vote_statement(
     view: u32,
     digest: &[u8; 32],
 ) -> Result<Bytes, NoMemory>
-    ensures { IfOk result (λ s. (form : Form) → form.tag ≡ module_tag → s ≡ vote_statement form p.now phase view digest.now) }
+    ensures { IfOk result (λ s. (form : Form) → form.tag ≡ module_tag →
+        s ≡ vote_statement form p.now phase view digest.now) }
 {
     let mut out = Writer::new(alloc, p.setup.version);
     put_head(p, module_tag, &mut out)?;
@@ -131,7 +132,8 @@ pub fn vote_statement(
     Ok(out.into_bytes())
 }
 
-/// The statement of a message of this kind on the node of a digest: a proposal, or one that shows a certificate.
+/// The statement of a proposal, or of a message that broadcasts a certificate: its number, view and node. The only
+/// error is out of memory.
 pub fn node_statement(
     alloc: Global,
     p: &Params,
@@ -140,7 +142,8 @@ pub fn node_statement(
     view: u32,
     digest: &[u8; 32],
 ) -> Result<Bytes, NoMemory>
-    ensures { IfOk result (λ s. (form : Form) → form.tag ≡ module_tag → s ≡ statement form p.now kind (four_bytes view ++ digest.now)) }
+    ensures { IfOk result (λ s. (form : Form) → form.tag ≡ module_tag →
+        s ≡ statement form p.now kind (four_bytes view ++ digest.now)) }
 {
     let mut out = Writer::new(alloc, p.setup.version);
     put_head(p, module_tag, &mut out)?;
@@ -150,7 +153,7 @@ pub fn node_statement(
     Ok(out.into_bytes())
 }
 
-/// The statement of a word on a new round, with a certificate of this view.
+/// The statement of a NewView: its round, and the view of its certificate. The only error is out of memory.
 pub fn round_statement(
     alloc: Global,
     p: &Params,
@@ -158,7 +161,8 @@ pub fn round_statement(
     round: u16,
     view: u32,
 ) -> Result<Bytes, NoMemory>
-    ensures { IfOk result (λ s. (form : Form) → form.tag ≡ module_tag → s ≡ statement form p.now 1 (two_bytes round ++ four_bytes view)) }
+    ensures { IfOk result (λ s. (form : Form) → form.tag ≡ module_tag →
+        s ≡ statement form p.now 1 (two_bytes round ++ four_bytes view)) }
 {
     let mut out = Writer::new(alloc, p.setup.version);
     put_head(p, module_tag, &mut out)?;
@@ -168,7 +172,7 @@ pub fn round_statement(
     Ok(out.into_bytes())
 }
 
-/// Puts what a certificate claims behind other claims: each of its votes.
+/// Appends the claims of a certificate, one for each of its votes. The only error is out of memory.
 pub fn put_certificate_claims(
     alloc: Global,
     p: &Params,
@@ -176,7 +180,8 @@ pub fn put_certificate_claims(
     certificate: &Certificate,
     all: &mut Seq<Claim>,
 ) -> Result<(), NoMemory>
-    ensures { OnOk result ((form : Form) → form.tag ≡ module_tag → all.new ≡ all.old ++ certificate_claims form p.now certificate.now) }
+    ensures { OnOk result ((form : Form) → form.tag ≡ module_tag →
+        all.new ≡ all.old ++ certificate_claims form p.now certificate.now) }
 {
     match certificate {
         Certificate::Root => Ok(()),

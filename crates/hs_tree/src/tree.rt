@@ -1,5 +1,5 @@
-//! The tree as a replica knows it: its nodes in a row, each with the place of its parent, and a map from digests to places.
-//! A branch is walked from its node up, no further than what is asked for.
+//! The tree as a replica knows it: a vector of nodes, each with its parent's index, and a map from digests to indices.
+//! A branch is walked from its node towards the root, only as far as needed.
 ghost use Rattle.std.specs.Prelude.{◌≡◌, ℕ, List, [], ◌∷◌, ◌++◌, drop, length, reverse, IfOk, OnOk};
 ghost use Rattle.std.specs.Option.{option_copied};
 ghost use Rattle.iss_base.specs.Lists.{same_bytes};
@@ -15,8 +15,8 @@ use std::collections::BTreeMap;
 // The root's digest.
 const ROOT: [u8; 32] = [0; 32];
 
-/// A node that is known: its parent, what it holds, where the parent stands if it is not the root, how many nodes there are
-/// from this one up, and how many slots they hold.
+/// A known node: its parent's digest, its content, and its parent's index (`None` if that is the root). Then the number
+/// of nodes on its branch, and of slots that they fill.
 #[derive(Drop)]
 pub struct Known {
     parent: [u8; 32],
@@ -26,7 +26,7 @@ pub struct Known {
     slots: usize,
 }
 
-/// The nodes that are known.
+/// The known nodes.
 #[derive(Drop)]
 pub struct Tree {
     nodes: Vec<Known>,
@@ -50,7 +50,7 @@ pub fn weight(what: &Content) -> usize
     }
 }
 
-// Puts the value that a node holds behind others; a mark has none.
+// Appends the content's value; a mark has none.
 fn put_value(what: &Content, found: &mut Vec<Value>) -> Result<(), NoMemory>
     ensures { OnOk result (found.new.items ≡ found.old.items ++ one_or_none (value_of what.now)) }
 {
@@ -62,7 +62,7 @@ fn put_value(what: &Content, found: &mut Vec<Value>) -> Result<(), NoMemory>
 }
 
 impl Tree {
-    /// The root alone.
+    /// Only the root.
     pub fn new(alloc: Global) -> Tree
         ensures { Keeps result [] }
     {
@@ -72,7 +72,7 @@ impl Tree {
         }
     }
 
-    // Where the newest node of the digest stands.
+    // The index of the newest node with this digest.
     fn place(&self, d: &[u8; 32]) -> Option<usize>
         ensures { result ≡ place self.now d.now }
     {
@@ -82,7 +82,7 @@ impl Tree {
         }
     }
 
-    // The node that stands at a place.
+    // The node at this index.
     fn at(&self, place: Option<usize>) -> Option<&Known>
         ensures { option_copied result ≡ known_at self.now.nodes.items place }
     {
@@ -92,7 +92,7 @@ impl Tree {
         }
     }
 
-    // How many nodes there are from a place up to the root.
+    // The number of nodes on the branch from this index up to the root.
     fn depth(&self, place: Option<usize>) -> usize
         ensures { (ks : List Node) → Leads self.now.nodes.items place ks → result ≡ length ks }
     {
@@ -102,7 +102,7 @@ impl Tree {
         }
     }
 
-    // How many slots the nodes from a place up to the root hold.
+    // The number of slots that this branch fills.
     fn slots_from(&self, place: Option<usize>) -> usize
         ensures { (ks : List Node) → Leads self.now.nodes.items place ks → result ≡ filled (whats ks) }
     {
@@ -112,7 +112,7 @@ impl Tree {
         }
     }
 
-    // Whether a node from a place up stands on one of the digest.
+    // Whether some node of this branch has a parent with digest `e`.
     fn stands_on(&self, place: Option<usize>, e: &[u8; 32]) -> bool
         ensures { (ks : List Node) → Leads self.now.nodes.items place ks → result ≡ meets e.now ks }
     {
@@ -129,14 +129,15 @@ impl Tree {
         false
     }
 
-    // What the nodes from a place up hold behind the first so many slots, from the last on.
+    // The values of this branch after its first `from` slots, newest first.
     fn gather(
         &self,
         alloc: Global,
         place: Option<usize>,
         from: usize,
     ) -> Result<Vec<Value>, NoMemory>
-        ensures { IfOk result (λ vs. (ks : List Node) → Leads self.now.nodes.items place ks → reverse vs.items ≡ drop from (values (whats ks))) }
+        ensures { IfOk result (λ vs. (ks : List Node) → Leads self.now.nodes.items place ks →
+            reverse vs.items ≡ drop from (values (whats ks))) }
     {
         let mut found = Vec::new(alloc);
         let mut here = place;
@@ -153,28 +154,29 @@ impl Tree {
         Ok(found)
     }
 
-    /// Whether the node of the digest is known.
+    /// Whether the digest is a known node's or the root's.
     pub fn has(&self, d: &[u8; 32]) -> bool
         ensures { (ks : List Node) → Keeps self.now ks → result ≡ is_known ks d.now }
     {
         self.places.contains_key(d) || same(d, &ROOT)
     }
 
-    /// How many slots the branch of the node holds.
+    /// How many slots the branch of the node fills.
     pub fn slots(&self, d: &[u8; 32]) -> usize
         ensures { (ks : List Node) → Keeps self.now ks → result ≡ filled (branch ks d.now) }
     {
         self.slots_from(self.place(d))
     }
 
-    /// Whether the node e is the node d or an ancestor of it.
+    /// Whether the node `e` is the node `d` or an ancestor of it.
     pub fn extends(&self, d: &[u8; 32], e: &[u8; 32]) -> bool
         ensures { (ks : List Node) → Keeps self.now ks → result ≡ extends ks d.now e.now }
     {
         same(d, e) || self.stands_on(self.place(d), e)
     }
 
-    /// What the branch of the node holds behind the first so many slots, in their order.
+    /// The values of the node's branch after its first `from` slots, by ascending slot. The only error is out of
+    /// memory.
     pub fn behind(&self, alloc: Global, d: &[u8; 32], from: usize) -> Result<Seq<Value>, NoMemory>
         ensures { IfOk result (λ vs. (ks : List Node) → Keeps self.now ks → vs ≡ drop from (values (branch ks d.now))) }
     {
@@ -183,7 +185,7 @@ impl Tree {
         Ok(Seq::of(found))
     }
 
-    /// One node more, which stands on the newest of its parent's digest.
+    /// Adds a node. Its parent is the newest node with the parent's digest. The only error is out of memory.
     // rule: HotStuff: A branch is what its nodes hold, even where a digest repeats
     pub fn add(&mut self, digest: [u8; 32], parent: [u8; 32], what: Content) -> Result<(), NoMemory>
         ensures { OnOk result ((k : Node) (ks : List Node) → k.digest ≡ digest → k.parent ≡ parent → k.what ≡ what →

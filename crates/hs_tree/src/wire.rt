@@ -13,28 +13,28 @@ use std::alloc::Global;
 
 const NO_MESSAGE: u8 = 0;
 
-/// The number of a word on a new round, in bytes and in statements.
+/// The number of a NewView, in bytes and in statements.
 pub const NEW_VIEW: u8 = 1;
 
-/// The number of a proposal, in bytes and in statements.
+/// The number of a Prepare, in bytes and in statements.
 pub const PREPARE: u8 = 2;
 
-/// The number of a certificate of the first phase, in bytes and in statements.
+/// The number of a PreCommit, in bytes and in statements.
 pub const PRE_COMMIT: u8 = 3;
 
-/// The number of a certificate of the second phase, in bytes and in statements.
+/// The number of a Commit, in bytes and in statements.
 pub const COMMIT: u8 = 4;
 
-/// The number of a certificate of the third phase, in bytes and in statements.
+/// The number of a Decide, in bytes and in statements.
 pub const DECIDE: u8 = 5;
 
-/// The number of a vote, in bytes and in statements.
+/// The number of a Vote, in bytes and in statements.
 pub const VOTE: u8 = 6;
 
 // ---- writing
 
-/// Writes a message, where nodes pass so many phases: its number, its fields, its signature. One that has no spelling is
-/// written as bytes that no reader takes.
+/// Writes a message of a protocol with this many phases: its number, its fields, its signature. One without an encoding
+/// is written as bytes that no reader accepts. The only error is out of memory.
 // rule: HotStuff: A message has one encoding for its number of phases and version
 pub fn write(phases: u8, msg: &Message, out: &mut Writer) -> Result<(), NoMemory>
     ensures { OnOk result (out.new ≡ and_bytes out.old (spell phases out.old.version msg.now)) }
@@ -72,7 +72,8 @@ fn write_new_view(
     sig: &Bytes,
     out: &mut Writer,
 ) -> Result<(), NoMemory>
-    ensures { OnOk result (out.new ≡ and_bytes out.old (spell phases out.old.version (Message.NewView round high.now sig.now))) }
+    ensures { OnOk result (out.new ≡ and_bytes out.old
+        (spell phases out.old.version (Message.NewView round high.now sig.now))) }
 {
     let sig = sig.as_slice();
     if !has_shape(sig) {
@@ -92,7 +93,8 @@ fn write_prepare(
     sig: &Bytes,
     out: &mut Writer,
 ) -> Result<(), NoMemory>
-    ensures { OnOk result (out.new ≡ and_bytes out.old (spell phases out.old.version (Message.Prepare view what.now just.now sig.now))) }
+    ensures { OnOk result (out.new ≡ and_bytes out.old
+        (spell phases out.old.version (Message.Prepare view what.now just.now sig.now))) }
 {
     let sig = sig.as_slice();
     if !has_shape(sig) {
@@ -105,7 +107,7 @@ fn write_prepare(
     out.put_bytes(sig)
 }
 
-// A message that shows a certificate: only where nodes pass three phases.
+// Writes a PreCommit, Commit or Decide, which exist only with three phases.
 fn write_shown(
     phases: u8,
     kind: u8,
@@ -134,7 +136,8 @@ fn write_vote(
     sig: &Bytes,
     out: &mut Writer,
 ) -> Result<(), NoMemory>
-    ensures { OnOk result (out.new ≡ and_bytes out.old (spell phases out.old.version (Message.Vote phase view digest.now sig.now))) }
+    ensures { OnOk result (out.new ≡ and_bytes out.old
+        (spell phases out.old.version (Message.Vote phase view digest.now sig.now))) }
 {
     let sig = sig.as_slice();
     if !is_phase(phases, phase) || !has_shape(sig) {
@@ -149,7 +152,7 @@ fn write_vote(
 
 // ---- reading
 
-// Whether there is a message of this number.
+// Whether there is a message with this number.
 fn is_message(phases: u8, number: u8) -> bool
     ensures { result ≡ is_message phases number }
 {
@@ -160,10 +163,11 @@ fn is_message(phases: u8, number: u8) -> bool
     }
 }
 
-/// Reads the message at the front, where nodes pass so many phases. `BadField` names the first field that does not fit.
+/// Reads a message of a protocol with this many phases. `BadField` has the position of the first bad field.
 pub fn read(alloc: Global, phases: u8, f: &mut Fields) -> Result<Message, DecodeError>
     ensures ok { IfOk result (λ m. IsRead (parse phases f.old.version) f.old f.new m) }
-    ensures bad { (at : ℕ) → result ≡ Err (DecodeError.BadField at) → IsUnreadable (parse phases f.old.version) f.old at }
+    ensures bad { (at : ℕ) → result ≡ Err (DecodeError.BadField at) →
+        IsUnreadable (parse phases f.old.version) f.old at }
 {
     let no_message = f.bad_field();
     let number = f.read_u8()?;
@@ -213,7 +217,8 @@ fn read_new_view(alloc: Global, phases: u8, f: &mut Fields) -> Result<Message, D
 
 fn read_prepare(alloc: Global, phases: u8, f: &mut Fields) -> Result<Message, DecodeError>
     ensures ok { IfOk result (λ m. IsRead (parse_prepare phases f.old.version) f.old f.new m) }
-    ensures bad { (at : ℕ) → result ≡ Err (DecodeError.BadField at) → IsUnreadable (parse_prepare phases f.old.version) f.old at }
+    ensures bad { (at : ℕ) → result ≡ Err (DecodeError.BadField at) →
+        IsUnreadable (parse_prepare phases f.old.version) f.old at }
 {
     let view = f.read_u32()?;
     let what = read_content(alloc, f)?;
@@ -227,7 +232,7 @@ fn read_prepare(alloc: Global, phases: u8, f: &mut Fields) -> Result<Message, De
     })
 }
 
-// The fields of a message that shows a certificate.
+// The fields of a PreCommit, Commit or Decide.
 #[derive(Drop)]
 struct Shown {
     view: u32,

@@ -1,4 +1,4 @@
--- An entry has one spelling by each version.
+-- In each version an entry has at most one encoding.
 use Rattle.std.proofs.Common.{◌≡◌, ℕ, ◌^◌, ◌<◌, Bool, true, false, List, ◌∷◌, ◌++◌, append_assoc, refl, sym, ap, ◌∙◌, subst, inl, inr, arith}
 use Rattle.std.specs.Prelude.{nat_lt}
 use Rattle.std.specs.Int.{to_be_bytes, w16}
@@ -14,7 +14,7 @@ use Rattle.iss_sb.specs.Content.{parse_content, spell_content}
 use Rattle.raft_wire.specs.Entries.{no_entry, parse_entry, spell_entry}
 
 module _ (version : ℕ) where
-  -- ---- entries
+  -- ---- Entries
 
   abbrev made-entry : ℕ → Content → Parser Entry
   made-entry term what = done (record { term = term; what = what })
@@ -32,7 +32,7 @@ module _ (version : ℕ) where
   unspelled-entry : (e : Entry) → nat_lt e.term (2 ^ 16) ≡ false → spell_entry version e ≡ no_entry
   unspelled-entry e h = rw h refl
 
-  -- what was read of an entry: its term, and what stands behind
+  -- a decoded entry: its term and the rest
   pub record IsEntry (bytes rest : List ℕ) (e : Entry) : Type 0 where
     pub mid : List ℕ
     pub term : e.term < 2 ^ 16

@@ -1,4 +1,4 @@
--- What is read of an entry's bytes is what the table relates to them.
+-- Decoding an entry is the relation of its encoding.
 use Rattle.std.proofs.Common.{◌≡◌, ℕ, zero, suc, List, [], ◌∷◌, ◌++◌, length, append_assoc, append-nil, refl, sym, ap, ◌∙◌, subst}
 use Rattle.std.specs.Int.{to_be_bytes, w16}
 use Rattle.std.specs.List.{flat_map}
@@ -12,7 +12,7 @@ use Rattle.iss_sb.specs.Content.{spell_content}
 use Rattle.raft_wire.specs.Entries.{AreSpelledEntries, IsSpelledEntry, parse_entry, spell_entry}
 use Rattle.raft_wire.proofs.EntryGrammar.{entry-good, entry-grammar, entry-parts}
 
--- a thing that is read again from the bytes that the table gives for it
+-- the value is decoded again from the bytes that the relation gives
 abbrev pub Again : {A : Type 0} → Parser A → A → List ℕ → Type 0
 Again p x front = (rest : List ℕ) → p (front ++ rest) ≡ Good x rest
 
@@ -20,7 +20,7 @@ pub front-whole : {A : Type 0} (p : Parser A) (x : A) (front : List ℕ) → Aga
 front-whole p x front h = ap p (sym (append-nil front)) ∙ h []
 
 module _ (version : ℕ) where
-  -- ---- entries
+  -- ---- Entries
 
   entry-table : (e : Entry) (bytes : List ℕ) → IsSpelledEntry version e bytes → Again (parse_entry version) e bytes
   entry-table e bytes h rest =
@@ -39,7 +39,7 @@ module _ (version : ℕ) where
         is.parts ∙ ap (λ (x : List ℕ). to_be_bytes w16 e.term ++ x) parts ∙ sym (append_assoc (to_be_bytes w16 e.term) (spell_content version e.what) rest),
       )
 
-  -- ---- entries in a row
+  -- ---- Entries in sequence
 
   pub entries-table : (es : List Entry) (bytes : List ℕ) → AreSpelledEntries version es bytes → Again (times (length es) (parse_entry version)) es bytes
   unfolding times
@@ -64,7 +64,7 @@ module _ (version : ℕ) where
       let flat : bytes ≡ (first.0 ++ others.0) ++ rest = first.2 ∙ ap (λ (x : List ℕ). first.0 ++ x) (others.2 ∙ ap (λ (x : List ℕ). others.0 ++ x) ends.1) ∙ sym (append_assoc first.0 others.0 rest) in
       subst (λ (x : List Entry). (front : List ℕ) × AreSpelledEntries version x front × (bytes ≡ front ++ rest)) ends.0 (first.0 ++ others.0, (first.0, others.0, first.1, others.1, refl), flat)
 
-  -- the row is the entries' spellings, one behind the other
+  -- the bytes are the entries' encodings in sequence
   pub entries-bytes : (es : List Entry) (bytes : List ℕ) → AreSpelledEntries version es bytes → bytes ≡ flat_map (spell_entry version) es
   entries-bytes es bytes h =
       let row = times_parts (spell_entry version) (parse_entry version) (entry-grammar version) (length es) bytes [] es (front-whole (times (length es) (parse_entry version)) es bytes (entries-table es bytes h)) in

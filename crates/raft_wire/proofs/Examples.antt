@@ -1,4 +1,4 @@
--- The definitions of the messages, on rows of bytes.
+-- Worked examples of the encodings.
 use Rattle.std.proofs.Common.{◌≡◌, ℕ, true, false, List, [], ◌∷◌, refl}
 use Rattle.iss_request.specs.Fields.{Good, Bad}
 use Rattle.iss_request.specs.Formats.{count_field, parse_batch, parse_count, parse_rest, parse_value, spell_batch, spell_count, spell_value}
@@ -15,7 +15,7 @@ use Rattle.raft_wire.specs.Messages.{parse, parse_append, parse_flag, parse_vote
 abbrev entry : ℕ → Content → Entry
 entry term what = record { term = term; what = what }
 
--- behind index 258 of term 1: a mark of term 3 and an empty batch of it; committed up to 5
+-- after index 258 of term 1: a mark and an empty batch of term 3, with commit index 5
 abbrev sent : Message
 sent = Append 3 258 1 5 (entry 3 Mark ∷ entry 3 (Holds []) ∷ [])
 
@@ -30,7 +30,7 @@ append_read : parse 1 row ≡ Good sent []
 unfolding parse parse_append parse_entry parse_content parse_batch_content parse_value parse_rest parse_batch parse_count count_field such_that byte number times done ◌>>=◌
 append_read = refl
 
--- by the second version the empty batch inside is spelled otherwise
+-- version 2 encodes the empty batch differently
 second_spelled : spell 2 (Append 3 0 0 0 (entry 3 (Holds []) ∷ [])) ≡ 1 ∷ 0 ∷ 3 ∷ 0 ∷ 0 ∷ 0 ∷ 0 ∷ 0 ∷ 0 ∷ 0 ∷ 0 ∷ 0 ∷ 0 ∷ 0 ∷ 0 ∷ 0 ∷ 1 ∷ 0 ∷ 3 ∷ 1 ∷ 2 ∷ 0 ∷ 0 ∷ []
 unfolding spell_value spell_batch spell_count
 second_spelled = refl
@@ -48,7 +48,7 @@ vote_read : parse 1 (4 ∷ 0 ∷ 2 ∷ 1 ∷ 9 ∷ []) ≡ Good (Vote 2 true) (9
 unfolding parse parse_vote parse_flag such_that byte number done ◌>>=◌
 vote_read = refl
 
--- no message has the numbers 0 and 5, no flag is 2, no entry is of a fourth kind, none holds the value nil
+-- message numbers 0 and 5, the flag 2, a fourth kind of content, and the value nil in place of a batch are refused
 no_number : (parse 1 (0 ∷ 0 ∷ 2 ∷ 1 ∷ []) ≡ Bad 0) × (parse 1 (5 ∷ 0 ∷ 2 ∷ 1 ∷ []) ≡ Bad 0)
 unfolding parse such_that byte ◌>>=◌
 no_number = (refl, refl)
@@ -61,7 +61,7 @@ no_kind : (parse_entry 1 (0 ∷ 1 ∷ 3 ∷ []) ≡ Bad 2) × (parse_entry 1 (0 
 unfolding parse_entry parse_content parse_batch_content parse_value parse_rest such_that byte number done ◌>>=◌
 no_kind = (refl, refl)
 
--- what has no spelling is no message's bytes: a term above 65,535
+-- a term above 65,535 has no encoding
 no_spelling : (spell 1 (Vote 65536 true) ≡ 0 ∷ []) × (parse_entry 1 (0 ∷ 0 ∷ 255 ∷ []) ≡ Bad 2)
 unfolding parse_entry parse_content such_that byte number ◌>>=◌
 no_spelling = (refl, refl)

@@ -1,4 +1,4 @@
--- A message has one spelling by each version.
+-- In each version a message has at most one encoding.
 use Rattle.std.proofs.Common.{◌≡◌, ℕ, ◌^◌, ◌<◌, ◌≤◌, ◌==◌, ◌&&◌, Bool, true, false, zero, suc, List, [], ◌∷◌, ◌++◌, length, append_assoc, append-nil, refl, sym, ap, ◌∙◌, subst, inl, inr, true≢false, arith}
 use Rattle.std.specs.Prelude.{◌↔◌, nat_le}
 use Rattle.std.specs.List.{flat_map}
@@ -18,7 +18,7 @@ use Rattle.raft_wire.specs.Messages.{IsSpelledMessage, append_row, ask_row, fiel
 use Rattle.raft_wire.proofs.EntryGrammar.{entry-grammar}
 use Rattle.raft_wire.proofs.EntryTable.{entries-bytes, entries-related, entries-table}
 
--- ---- a number, and what stands behind it
+-- ---- A number and the rest of the bytes
 
 field-good : {A : Type 0} (w : Width) (limit : ℕ) (wide : IsWide w limit) (q : ℕ → Parser A) (n : ℕ) (text rest : List ℕ) (x : A) → n < limit → q n text ≡ Good x rest → (number w >>= q) (to_be_bytes w n ++ text) ≡ Good x rest
 field-good w limit wide q n text rest x lt h = then_good (number w) q (to_be_bytes w n ++ text) text rest n x (number_again w limit wide n text lt) h
@@ -39,7 +39,7 @@ field-parts w limit wide q bytes rest x h =
     let d = number_parts w limit wide bytes a.mid a.thing a.first in
     record { n = a.thing; mid = a.mid; below = d.below; parts = d.parts; behind = a.second }
 
--- ---- flags
+-- ---- Flags
 
 abbrev to_one : ℕ → Bool
 to_one n = nat_le n 1
@@ -68,7 +68,7 @@ flag-parts bytes rest b h =
     byte_parts bytes a.mid a.thing t.0 ∙ ap (λ (n : ℕ). n ∷ a.mid) (flag-is a.thing t.1 ∙ ap flag d.0) ∙ ap (λ (x : List ℕ). flag b ∷ x) d.1
 
 module _ (version : ℕ) where
-  -- ---- the parsers, field by field
+  -- ---- The parsers, field by field
 
   abbrev append6 : ℕ → ℕ → ℕ → ℕ → List Entry → Parser Message
   append6 t p pt c es = done (Append t p pt c es)
@@ -132,7 +132,7 @@ module _ (version : ℕ) where
   unfolding parse
   parse-is = refl
 
-  -- ---- what is spelled
+  -- ---- Encodings
 
   is16 : (n : ℕ) → n < 2 ^ 16 → is_term n ≡ true
   is16 n h = lt-ltb n (2 ^ 16) h
@@ -161,7 +161,7 @@ module _ (version : ℕ) where
   vote-flat : (t : ℕ) (g : Bool) (rest : List ℕ) → vote_row t g ++ rest ≡ 4 ∷ (to_be_bytes w16 t ++ (flag g ∷ rest))
   vote-flat t g rest = regroup-flag 4 (flag g) (to_be_bytes w16 t) [] rest
 
-  -- what the table gives is the spelling
+  -- the bytes that the relation gives are the encoding
   spelled-is : (msg : Message) (front : List ℕ) → IsSpelledMessage version msg front → front ≡ spell version msg
   spelled-is (Append t p pt c es) front h =
       let fits = both _ _ (both _ _ (is16 t h.term_fits) (is32 p h.previous_fits)) (both _ _ (is16 pt h.previous_term_fits) (both _ _ (is32 c h.commit_fits) (is32 (length es) h.count_fits))) in
@@ -171,7 +171,7 @@ module _ (version : ℕ) where
   spelled-is (AskVote t l lt) front h = rw (both _ _ (is16 t h.0) (both _ _ (is32 l h.1) (is16 lt h.2))) h.3
   spelled-is (Vote t g) front h = rw (is16 t h.0) h.1
 
-  -- ---- what is read is of the table
+  -- ---- What is decoded is in the relation
 
   record IsRow (msg : Message) (bytes rest : List ℕ) : Type 0 where
     front : List ℕ
@@ -257,7 +257,7 @@ module _ (version : ℕ) where
   only : (bytes rest : List ℕ) (msg : Message) → parse version bytes ≡ Good msg rest → bytes ≡ spell version msg ++ rest
   only bytes rest msg h = let r = message-parts bytes rest msg h in r.parts ∙ ap (λ (x : List ℕ). x ++ rest) (spelled-is msg r.front r.spelled)
 
-  -- ---- what is spelled is read
+  -- ---- An encoding is decoded
 
   none : (rest : List ℕ) → IsBad ((parse version) (0 ∷ rest))
   none rest = bad-by _ _ (0 ∷ rest) 0 parse-is (first_bad (such_that is_known byte) (fields_of version) (0 ∷ rest) 0 (test_failed is_known byte (0 ∷ rest) rest 0 (byte_again 0 rest) refl))
@@ -274,7 +274,7 @@ module _ (version : ℕ) where
   bad-is : {A : Type 0} (p q : Parser A) (bytes : List ℕ) → p ≡ q → IsBad (q bytes) → IsBad (p bytes)
   bad-is p q bytes e h = bad-by p q bytes h.0 e h.1
 
-  -- fields in their ranges, and the entries where they are read again
+  -- fields in range, and entries that can be decoded
   append-good : (t p pt c : ℕ) (es : List Entry) (text rest : List ℕ) → t < 2 ^ 16 → p < 2 ^ 32 → pt < 2 ^ 16 → c < 2 ^ 32 → length es < 2 ^ 32 →
       times (length es) (parse_entry version) (text ++ rest) ≡ Good es rest → parse version (append_row t p pt c (length es) text ++ rest) ≡ Good (Append t p pt c es) rest
   append-good t p pt c es text rest a b d e g h =
@@ -322,7 +322,7 @@ module _ (version : ℕ) where
       let f1 = field-good w16 (2 ^ 16) wide16 vote1 t (flag g ∷ rest) rest msg a f2 in
       ap (parse version) (vote-flat t g rest) ∙ message-good 4 _ rest msg refl (good-is parse_vote _ _ rest msg parse_vote-is f1)
 
-  -- ---- each message, whether it has a spelling or none
+  -- ---- Each message, with or without an encoding
 
   append-spelled : (t p pt c : ℕ) (es : List Entry) → fits_append t p pt c (length es) ≡ true → spell version (Append t p pt c es) ≡ append_row t p pt c (length es) (flat_map (spell_entry version) es)
   append-spelled t p pt c es q = rw q refl
@@ -369,7 +369,7 @@ module _ (version : ℕ) where
   pub message-grammar : IsGrammar (spell version) (parse version)
   message-grammar = record { only = only; whole = whole }
 
-  -- ---- the table
+  -- ---- The relation
 
   table-good : (msg : Message) (bytes : List ℕ) → IsSpelledMessage version msg bytes → parse version (bytes ++ []) ≡ Good msg []
   table-good (Append t p pt c es) bytes h = rw h.row (append-good t p pt c es h.entries [] h.term_fits h.previous_fits h.previous_term_fits h.commit_fits h.count_fits (entries-table version es h.entries h.spelled []))
@@ -377,7 +377,7 @@ module _ (version : ℕ) where
   table-good (AskVote t l lt) bytes h = rw h.3 (ask-good t l lt [] h.0 h.1 h.2)
   table-good (Vote t g) bytes h = rw h.1 (vote-good t g [] h.0)
 
-  -- what is read of bytes, and all of them, is what the table relates to them
+  -- decoding all of the bytes is the relation of the encoding
   pub message-related : (msg : Message) (bytes : List ℕ) → (parse version bytes ≡ Good msg []) ↔ IsSpelledMessage version msg bytes
   message-related msg bytes = (
     (λ h. let r = message-parts bytes [] msg h in subst (λ (x : List ℕ). IsSpelledMessage version msg x) (sym (r.parts ∙ append-nil r.front)) r.spelled),

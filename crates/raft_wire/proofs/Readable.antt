@@ -1,4 +1,4 @@
--- What the table relates to some bytes is read again, and what is read again it relates to some.
+-- A value can be decoded exactly if the relation gives it some bytes.
 use Rattle.std.proofs.Common.{◌<◌, ◌^◌, ℕ, List, [], ◌∷◌, ◌++◌, refl, sym, subst, inl, inr}
 use Rattle.iss_base.specs.Lists.{In}
 use Rattle.iss_request.specs.Fields.{IsReadAgain}
@@ -18,7 +18,7 @@ use Rattle.raft_wire.proofs.EntryTable.{front-whole}
 use Rattle.raft_wire.proofs.MessageGrammar.{message-grammar, message-related}
 
 module _ (version : ℕ) where
-  -- ---- messages
+  -- ---- Messages
 
   pub spelled-read : (msg : Message) (bytes : List ℕ) → IsSpelledMessage version msg bytes → IsReadAgain (spell version) (parse version) msg
   spelled-read msg bytes h = read-again (spell version) (parse version) (message-grammar version) bytes [] msg ((message-related version msg bytes).1 h)
@@ -26,7 +26,7 @@ module _ (version : ℕ) where
   pub read-spelled : (msg : Message) → IsReadAgain (spell version) (parse version) msg → IsSpelledMessage version msg (spell version msg)
   read-spelled msg h = (message-related version msg (spell version msg)).0 (front-whole (parse version) msg (spell version msg) h)
 
-  -- ---- entries
+  -- ---- Entries
 
   pub record HasBytes (e : Entry) : Type 0 where
     pub bytes : List ℕ
@@ -56,6 +56,6 @@ module _ (version : ℕ) where
   pub mark-has : (term : ℕ) → term < 2 ^ 16 → HasBytes (record { term = term; what = Mark })
   mark-has term lt = entry-has term Mark (2 ∷ []) lt refl
 
-  -- a batch that is read again
+  -- a batch that can be decoded
   pub batch-has : (term : ℕ) (b : Batch) → term < 2 ^ 16 → IsReadAgain (spell_value version) (parse_value version) (Value_batch b) → HasBytes (record { term = term; what = Holds b })
   batch-has term b lt h = let row = batch-table version b h in entry-has term (Holds b) row.0 lt row.1

@@ -1,4 +1,4 @@
--- What is read field by field is what the parsers find.
+-- Reading field by field is what the parsers do.
 use Rattle.std.proofs.Common.{◌≡◌, ◌≢◌, ◌<◌, ◌≤◌, ℕ, Bool, false, ◌==◌, refl, inl, inr, ◌⊎◌, arith}
 use Rattle.std.proofs.lemmas.Bool.{cases_lt, le-leb, lt-leb}
 use Rattle.std.specs.Prelude.{nat_le}
@@ -7,7 +7,7 @@ use Rattle.iss_request.specs.Parsing.{Parser, byte, done, such_that}
 use Rattle.iss_request.proofs.Readings.{read_done, read_passed, read_then, unread_failed, unread_first, unread_tested}
 use Rattle.raft_wire.specs.Messages.{is_known, parse_flag}
 
--- ---- flags
+-- ---- Flags
 
 abbrev to_one : ℕ → Bool
 to_one n = nat_le n 1
@@ -27,7 +27,7 @@ pub no-flag : {a b : Reading} (n : ℕ) → 1 < n → IsRead byte a b n → IsUn
 unfolding parse_flag
 no-flag n lt h = unread_first (such_that to_one byte) made-flag (unread_failed to_one byte h (lt-leb n 1 lt))
 
--- ---- what is none of them
+-- ---- Unknown numbers
 
 pub not-known : (n : ℕ) → n ≢ 1 → n ≢ 2 → n ≢ 3 → n ≢ 4 → is_known n ≡ false
 not-known n a b c d = go (cases_lt n 1)

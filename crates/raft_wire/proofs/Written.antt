@@ -1,4 +1,4 @@
--- Fields that are written one after the other are the entries and messages.
+-- The fields that the code writes in sequence are the encodings.
 use Rattle.std.proofs.Common.{◌≡◌, ℕ, List, [], ◌∷◌, append_assoc}
 use Rattle.std.specs.Int.{to_be_bytes, w16, w32}
 use Rattle.iss_request.specs.Fields.{Written, and_bytes}

@@ -15,7 +15,7 @@ use Rattle.raft_wire.specs.declared.messages.Message.{Message}
 use Rattle.raft_wire.specs.declared.messages.Message.TheVariants.{Append, Reply, AskVote, Vote}
 use Rattle.raft_wire.specs.Entries.{AreSpelledEntries, parse_entry, spell_entry}
 
--- ---- what has a spelling
+-- ---- Which messages have an encoding
 
 abbrev pub is_term : ℕ → Bool
 is_term term = nat_lt term (2 ^ 16)
@@ -23,11 +23,12 @@ is_term term = nat_lt term (2 ^ 16)
 abbrev pub is_index : ℕ → Bool
 is_index index = nat_lt index (2 ^ 32)
 
--- an Append's fields before its entries, and their count
+-- the fields of an Append before its entries, and the number of entries
 abbrev pub fits_append : ℕ → ℕ → ℕ → ℕ → ℕ → Bool
-fits_append term previous previous_term commit count = (is_term term && is_index previous) && (is_term previous_term && (is_index commit && is_index count))
+fits_append term previous previous_term commit count = (is_term term && is_index previous) &&
+    (is_term previous_term && (is_index commit && is_index count))
 
--- ---- spelling. What has none is written as the number of no message
+-- ---- Encoding. A message without one is written as number 0, which no reader accepts
 
 abbrev pub flag : Bool → ℕ
 flag true = 1
@@ -35,7 +36,8 @@ flag false = 0
 
 abbrev pub append_row : ℕ → ℕ → ℕ → ℕ → ℕ → List ℕ → List ℕ
 append_row term previous previous_term commit count entries =
-    1 ∷ to_be_bytes w16 term ++ to_be_bytes w32 previous ++ to_be_bytes w16 previous_term ++ to_be_bytes w32 commit ++ to_be_bytes w32 count ++ entries
+    1 ∷ to_be_bytes w16 term ++ to_be_bytes w32 previous ++ to_be_bytes w16 previous_term ++ to_be_bytes w32 commit
+    ++ to_be_bytes w32 count ++ entries
 
 abbrev pub reply_row : ℕ → Bool → ℕ → List ℕ
 reply_row term ok index = 2 ∷ to_be_bytes w16 term ++ flag ok ∷ to_be_bytes w32 index
@@ -55,12 +57,14 @@ spell version (Append term previous previous_term commit es) =
     then append_row term previous previous_term commit (length es) (flat_map (spell_entry version) es)
     else no_message
 spell version (Reply term ok index) = if is_term term && is_index index then reply_row term ok index else no_message
-spell version (AskVote term last last_term) = if is_term term && (is_index last && is_term last_term) then ask_row term last last_term else no_message
+spell version (AskVote term last last_term) =
+    if is_term term && (is_index last && is_term last_term) then ask_row term last last_term else no_message
 spell version (Vote term granted) = if is_term term then vote_row term granted else no_message
 
--- ---- the table as a relation between messages and bytes
+-- ---- The encoding as a relation between messages and bytes
 
-pub record IsSpelledAppend (version term previous previous_term commit : ℕ) (es : List Entry) (bytes : List ℕ) : Type 0 where
+pub record IsSpelledAppend (version term previous previous_term commit : ℕ) (es : List Entry)
+    (bytes : List ℕ) : Type 0 where
   pub term_fits : term < 2 ^ 16
   pub previous_fits : previous < 2 ^ 32
   pub previous_term_fits : previous_term < 2 ^ 16
@@ -72,13 +76,15 @@ pub record IsSpelledAppend (version term previous previous_term commit : ℕ) (e
 
 -- rule: Raft: A message has one encoding, and an error names the first field that does not fit
 abbrev pub IsSpelledMessage : ℕ → Message → List ℕ → Type 0
-IsSpelledMessage version (Append term previous previous_term commit es) bytes = IsSpelledAppend version term previous previous_term commit es bytes
-IsSpelledMessage version (Reply term ok index) bytes = (term < 2 ^ 16) × (index < 2 ^ 32) × (bytes ≡ reply_row term ok index)
+IsSpelledMessage version (Append term previous previous_term commit es) bytes =
+    IsSpelledAppend version term previous previous_term commit es bytes
+IsSpelledMessage version (Reply term ok index) bytes = (term < 2 ^ 16) × (index < 2 ^ 32)
+    × (bytes ≡ reply_row term ok index)
 IsSpelledMessage version (AskVote term last last_term) bytes =
     (term < 2 ^ 16) × (last < 2 ^ 32) × (last_term < 2 ^ 16) × (bytes ≡ ask_row term last last_term)
 IsSpelledMessage version (Vote term granted) bytes = (term < 2 ^ 16) × (bytes ≡ vote_row term granted)
 
--- ---- reading
+-- ---- Decoding
 
 unfoldable pub parse_flag : Parser Bool
 parse_flag = do
@@ -119,9 +125,12 @@ abbrev pub is_known : ℕ → Bool
 is_known n = nat_le 1 n && nat_le n 4
 
 abbrev pub fields_of : ℕ → ℕ → Parser Message
-fields_of version n = if n == 1 then parse_append version else (if n == 2 then parse_reply else (if n == 3 then parse_ask else parse_vote))
+fields_of version n =
+    if n == 1
+    then parse_append version
+    else (if n == 2 then parse_reply else (if n == 3 then parse_ask else parse_vote))
 
--- the message's number says which fields follow
+-- the message's number, then its fields
 unfoldable pub parse : ℕ → Parser Message
 parse version = do
   message ← such_that is_known byte

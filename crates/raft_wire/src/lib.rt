@@ -1,4 +1,5 @@
-//! The messages of Raft and the entries of its logs, in bytes.
+//! The messages and log entries of Raft, in bytes (Ongaro and Ousterhout, "In Search of an Understandable Consensus
+//! Algorithm").
 #![tactic(auto)]
 
 pub mod entries;

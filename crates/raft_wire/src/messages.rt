@@ -2,7 +2,9 @@
 use crate::entries::Entry;
 use iss_request::Seq;
 
-/// A leader's entries behind the previous one, a follower's answer to them, a candidate's question, and a vote.
+/// The messages of Raft. `Append` is AppendEntries: entries after the previous index and term, with the leader's commit
+/// index. `Reply` answers it: with `ok` the index up to which the log matches, else the refused previous index.
+/// `AskVote` is RequestVote, with the candidate's last index and term. `Vote` answers that.
 #[derive(Drop)]
 pub enum Message {
     Append {

@@ -21,7 +21,8 @@ const ASK_VOTE: u8 = 3;
 
 const VOTE: u8 = 4;
 
-/// Writes a message: its number, then its fields. One that has no spelling is written as the number of no message.
+/// Writes a message: its number, then its fields. One without an encoding is written as number 0, which no reader
+/// accepts. The only error is out of memory.
 // rule: Raft: A message has one encoding, and an error names the first field that does not fit
 pub fn write(msg: &Message, out: &mut Writer) -> Result<(), NoMemory>
     ensures { OnOk result (out.new ≡ and_bytes out.old (spell out.old.version msg.now)) }
@@ -60,7 +61,8 @@ fn write_append(
 ) -> Result<(), NoMemory>
     requires { length entries.now < 2 ^ 32 }
     ensures { OnOk result (out.new ≡ and_bytes out.old
-        (append_row term previous previous_term commit (length entries.now) (flat_map (spell_entry out.old.version) entries.now))) }
+        (append_row term previous previous_term commit (length entries.now)
+        (flat_map (spell_entry out.old.version) entries.now))) }
 {
     out.put_u8(APPEND)?;
     out.put_u16(term)?;
@@ -97,7 +99,7 @@ fn write_vote(term: u16, granted: bool, out: &mut Writer) -> Result<(), NoMemory
     out.put_u8(granted as u8)
 }
 
-/// Reads the message at the front. `BadField` names the first field that does not fit.
+/// Reads a message. `BadField` has the position of the first bad field.
 pub fn read(alloc: Global, f: &mut Fields) -> Result<Message, DecodeError>
     ensures ok { IfOk result (λ m. IsRead (parse f.old.version) f.old f.new m) }
     ensures bad { (at : ℕ) → result ≡ Err (DecodeError.BadField at) → IsUnreadable (parse f.old.version) f.old at }
@@ -115,7 +117,8 @@ pub fn read(alloc: Global, f: &mut Fields) -> Result<Message, DecodeError>
 
 fn read_append(alloc: Global, f: &mut Fields) -> Result<Message, DecodeError>
     ensures ok { IfOk result (λ m. IsRead (parse_append f.old.version) f.old f.new m) }
-    ensures bad { (at : ℕ) → result ≡ Err (DecodeError.BadField at) → IsUnreadable (parse_append f.old.version) f.old at }
+    ensures bad { (at : ℕ) → result ≡ Err (DecodeError.BadField at) →
+        IsUnreadable (parse_append f.old.version) f.old at }
 {
     let term = f.read_u16()?;
     let previous = f.read_u32()?;

@@ -1,4 +1,4 @@
--- Small facts: what stands behind a test, the cases of a state, statements told apart.
+-- Basic lemmas: tests as records, the fields of a state, and statements of different messages differ.
 use Rattle.std.proofs.Common.{◌≡◌, ◌≤◌, ℕ, ◌%◌, ◌==◌, ◌&&◌, not, Bool, true, false, if◌then◌else◌, List, ◌∷◌, ◌++◌, Option, Some, None, refl, sym, subst, true≢false, arith}
 use Rattle.std.specs.Prelude.{nat_le}
 use Rattle.std.proofs.lemmas.Bool.{leb-true}
@@ -51,7 +51,7 @@ is-same a b h = (Decides-eqb a b).0 h
 pub same-is : (a b : ℕ) → a ≡ b → (a == b) ≡ true
 same-is a b h = (Decides-eqb a b).1 h
 
--- ---- good certificates
+-- ---- Valid certificates
 
 pub record IsGood (p : Params) (phase view : ℕ) (c : Certificate) : Type 0 where
   pub turn : 1 ≤ turn_of view
@@ -72,7 +72,7 @@ good-is p phase view c h =
     let t = leb-true 1 (turn_of view) a.0 in
     record { turn = t; some = some-view view t; view_is = quorum-view p.setup.quorum phase view c a.1; quorum = a.1 }
 
--- ---- certificates of the own view
+-- ---- Certificates of the replica's own view
 
 pub record IsShown (p : Params) (s : State) (phase view : ℕ) (c : Certificate) : Type 0 where
   pub good : is_good p phase view c ≡ true
@@ -90,7 +90,7 @@ second-is p s view c h = shown-is p s 1 view c (and-true (is_shown p s 1 view c)
 pub third-is : (p : Params) (s : State) (view : ℕ) (c : Certificate) → may_third p s view c ≡ true → IsShown p s 2 view c
 third-is p s view c h = shown-is p s 2 view c (and-true (is_shown p s 2 view c) (not s.third) h).0
 
--- ---- what a statement tells
+-- ---- Statements of different messages differ
 
 pub behind : (p : Params) (k l : ℕ) (xs ys : List ℕ) → statement_head p 4 ++ k ∷ xs ≡ statement_head p 4 ++ l ∷ ys → k ∷ xs ≡ l ∷ ys
 behind p k l xs ys h = (head-same p.setup.tag p.setup.tag p.epoch.0 p.leader.0 4 p.epoch.0 p.leader.0 4 (k ∷ xs) (l ∷ ys) refl h).behind
@@ -126,7 +126,7 @@ own-vote p (Vote q v e sig) phase view d h =
     let z = s.digest_is in
     record { sig = sig; is = cc }
 
--- one whose own statement is a proposal's is a proposal of that view and node
+-- a message whose own statement is a proposal's is a proposal of that view and node
 pub record IsProposal (p : Params) (msg : Message) (view : ℕ) (d : List ℕ) : Type 0 where
   pub what : Content
   pub just : Certificate

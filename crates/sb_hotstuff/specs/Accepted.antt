@@ -8,17 +8,19 @@ use Rattle.iss_request.specs.declared.requests.Batch.{Batch}
 use Rattle.sb_hotstuff.specs.declared.accepted.Accepted.{Accepted}
 use Rattle.sb_hotstuff.specs.HotStuff.{same_batch, was_accepted}
 
+-- whether the batch is in the list
 abbrev pub is_among : Batch → List Batch → Bool
 is_among b cs = list_any (λ c. same_batch c b) cs
 
+-- the list, empty if there is none
 abbrev pub batches_in : Option (List Batch) → List Batch
 batches_in None = []
 batches_in (Some cs) = cs
 
--- the batches that are kept at a slot
+-- the batches kept for a slot
 abbrev pub batches_at : Accepted → ℕ → List Batch
 batches_at m s = batches_in (get nat_cmp m.all s)
 
--- the code tells the batches that were accepted at each slot
+-- the map represents the list of accepted batches with their slots
 abbrev pub AreAccepted : Accepted → List (Slot × Batch) → Type 0
 AreAccepted m old = (s : ℕ) (b : Batch) → is_among b (batches_at m s) ≡ was_accepted s b old

@@ -11,21 +11,22 @@ use Rattle.sb_hotstuff.specs.declared.signing.Recipient.{Recipient}
 use Rattle.sb_hotstuff.specs.declared.signing.Recipient.TheVariants.{All as Recipient_all, Leader}
 use Rattle.sb_hotstuff.specs.HotStuff.{to_leader}
 
--- the nodes that are meant
+-- the recipients: all replicas, or the leader of a round
 abbrev pub to_nodes : Params → Recipient → To
 to_nodes p Recipient_all = To_all
 to_nodes p (Leader round) = to_leader p round
 
+-- how many signatures the draft needs: none or one
 abbrev pub count_of : Option Draft → ℕ
 count_of None = 0
 count_of (Some d) = 1
 
--- a draft is of this message, and of what its sender signs
+-- the draft is this one message with its recipient, and has the statement that its sender signs
 pub record IsDraft (p : Params) (d : Draft) (xs : List (To × Message)) : Type 0 where
   pub message : xs ≡ (to_nodes p d.to, d.msg) ∷ []
   pub statement : d.statement ≡ own_statement basic p d.msg
 
--- these messages, at most one
+-- the optional draft is this list of unsigned messages, which has at most one
 abbrev pub AreDrafts : Params → Option Draft → List (To × Message) → Type 0
 AreDrafts p None xs = xs ≡ []
 AreDrafts p (Some d) xs = IsDraft p d xs

@@ -26,97 +26,118 @@ use Rattle.hs_tree.specs.Statements.{claims, node_string, own_statement, with_si
 use Rattle.hs_tree.specs.Tree.{basic, branch, is_known, strings_of, value_at_slot, value_of}
 use Rattle.sb_hotstuff.specs.Rules.{State, Turn, after, certificate, is_good, is_reached, keeps_vote, kept, leader_of, may_cast, may_end, may_prepare, may_second, may_third, node_digest, proposed, round_of, slots_below, start}
 
--- the state of a node that took these inputs
+-- the state of a replica with this history
 abbrev pub state : Params → ℕ → List (Item Message) → State
 state p me [] = start
 state p me (x ∷ xs) = after p me (state p me xs) x.input
 
--- ---- what is accepted: a cast that is taken, and the batch of a proposal that is, where it was not accepted there already
+-- ---- Accepted batches: a valid cast, or the batch of a valid proposal, unless it was accepted at that slot before
 
+-- whether two requests are equal, byte by byte
 abbrev pub same_request : Request → Request → Bool
-same_request a b = ((a.id.client == b.id.client) && (a.id.number == b.id.number)) && (same_bytes a.payload b.payload && same_bytes a.sig b.sig)
+same_request a b = ((a.id.client == b.id.client) && (a.id.number == b.id.number)) &&
+    (same_bytes a.payload b.payload && same_bytes a.sig b.sig)
 
+-- whether two batches are equal
 abbrev pub same_batch : List Request → List Request → Bool
 same_batch [] [] = true
 same_batch [] (y ∷ ys) = false
 same_batch (x ∷ xs) [] = false
 same_batch (x ∷ xs) (y ∷ ys) = same_request x y && same_batch xs ys
 
+-- whether the batch was accepted at the slot
 abbrev pub was_accepted : ℕ → Batch → List (Slot × Batch) → Bool
 was_accepted s b [] = false
 was_accepted s b (a ∷ old) = ((a.0.0 == s) && same_batch a.1 b) || was_accepted s b old
 
+-- the batch with its slot, if there is one and the batch was not accepted there
 -- rule: HotStuff: A batch is accepted once at a slot
 abbrev pub unless_accepted : List (Slot × Batch) → Batch → Option Slot → Option (Slot × Batch)
 unless_accepted old b None = None
 unless_accepted old b (Some s) = if was_accepted s.0 b old then None else Some (s, b)
 
--- the batch stands at the slot behind those of the branch below it
+-- the batch of a proposal, at the slot after those of its parent's branch
 abbrev pub offered : Params → State → List (Slot × Batch) → Content → Certificate → Option (Slot × Batch)
 offered p s old Nil just = None
 offered p s old (Holds b) just = unless_accepted old b (nth p.slots (slots_below s just))
 offered p s old Mark just = None
 
+-- the batch that the replica accepts with a message
 abbrev pub asked_by : Params → State → List (Slot × Batch) → ℕ → Message → Option (Slot × Batch)
 asked_by p s old from (NewView round high sig) = None
-asked_by p s old from (Prepare view what just sig) = if may_prepare p s from view what just then offered p s old what just else None
+asked_by p s old from (Prepare view what just sig) =
+    if may_prepare p s from view what just then offered p s old what just else None
 asked_by p s old from (PreCommit view shown sig) = None
 asked_by p s old from (Commit view shown sig) = None
 asked_by p s old from (Decide view shown sig) = None
 asked_by p s old from (Vote phase view d sig) = None
 
+-- the batch that the replica accepts with an input
 abbrev pub asks : Params → ℕ → List (Item Message) → Input Message → Option (Slot × Batch)
 asks p me xs (Cast slot batch) = if may_cast p me (state p me xs) slot.0 then Some (slot, batch) else None
 asks p me xs (Receive from msg) = asked_by p (state p me xs) (accepts xs) from.0 msg
 asks p me xs Timeout = None
 
--- ---- what is sent, not yet signed. Each answer before the proposal that the input leads to
+-- ---- Unsigned messages: first the answer, then the proposal that the input triggers
 
 abbrev pub to_leader : Params → ℕ → To
 to_leader p round = To_one (record { 0 = leader_of p round })
 
+-- a vote, to the leader of the view's round
 abbrev pub voted : Params → ℕ → ℕ → List ℕ → List (To × Message)
 voted p phase view d = (to_leader p (round_of view), Vote phase view d []) ∷ []
 
--- a quorum of votes is shown to all
+-- the message that broadcasts a quorum certificate of a phase: PreCommit, Commit or Decide
 abbrev pub shows : ℕ → ℕ → Certificate → Message
-shows phase view c = if phase == 1 then PreCommit view c [] else (if phase == 2 then Commit view c [] else Decide view c [])
+shows phase view c =
+    if phase == 1 then PreCommit view c [] else (if phase == 2 then Commit view c [] else Decide view c [])
 
+-- the answer to a message: a vote, a new certificate, or nothing
 abbrev pub answers_heard : Params → State → State → ℕ → Message → List (To × Message)
 answers_heard p s k from (NewView round high sig) = []
-answers_heard p s k from (Prepare view what just sig) = if may_prepare p s from view what just then voted p 1 view (node_digest p view what just) else []
-answers_heard p s k from (PreCommit view shown sig) = if may_second p s view shown then voted p 2 view (digest_of shown) else []
-answers_heard p s k from (Commit view shown sig) = if may_third p s view shown then voted p 3 view (digest_of shown) else []
+answers_heard p s k from (Prepare view what just sig) =
+    if may_prepare p s from view what just then voted p 1 view (node_digest p view what just) else []
+answers_heard p s k from (PreCommit view shown sig) =
+    if may_second p s view shown then voted p 2 view (digest_of shown) else []
+answers_heard p s k from (Commit view shown sig) =
+    if may_third p s view shown then voted p 3 view (digest_of shown) else []
 answers_heard p s k from (Decide view shown sig) = []
 answers_heard p s k from (Vote phase view d sig) =
-    if keeps_vote p s from phase view d && is_reached p k phase view d then (To_all, shows phase view (certificate p k phase view d)) ∷ [] else []
+    if keeps_vote p s from phase view d && is_reached p k phase view d
+    then (To_all, shows phase view (certificate p k phase view d)) ∷ [] else []
 
+-- the answer to an input
 -- rule: HotStuff: A timeout enters the next round and tells its leader the highest certificate
 abbrev pub answers : Params → State → State → Input Message → List (To × Message)
 answers p s k (Cast slot batch) = []
 answers p s k (Receive from msg) = answers_heard p s k from.0 msg
-answers p s k Timeout = if may_end s then (to_leader p (suc (round_of s.view)), NewView (suc (round_of s.view)) s.high []) ∷ [] else []
+answers p s k Timeout =
+    if may_end s then (to_leader p (suc (round_of s.view)), NewView (suc (round_of s.view)) s.high []) ∷ [] else []
 
+-- the Prepare message of a turn
 abbrev pub proposals : Option Turn → List (To × Message)
 proposals None = []
 proposals (Some t) = (To_all, Prepare t.view t.what t.just []) ∷ []
 
+-- all unsigned messages of a step
 abbrev pub drafts : Params → ℕ → State → Input Message → List (To × Message)
 drafts p me s i = answers p s (kept p me s i) i ++ proposals (proposed p me s (kept p me s i) i)
 
--- each message takes the next leaf
+-- signs each message with the next leaf, from this one on
 abbrev pub sign_all : Params → ℕ → ℕ → List (To × Message) → List (To × Message)
 sign_all p me leaf [] = []
-sign_all p me leaf (x ∷ xs) = (x.0, with_signature (signature p me leaf (own_statement basic p x.1)) x.1) ∷ sign_all p me (suc leaf) xs
+sign_all p me leaf (x ∷ xs) =
+    (x.0, with_signature (signature p me leaf (own_statement basic p x.1)) x.1) ∷ sign_all p me (suc leaf) xs
 
--- ---- what is hashed: of the node that is taken, and of the one that is proposed, the value's string and the node's
+-- ---- Hashed strings: for a node that is taken or proposed, its value's string and its own
 
 abbrev pub strings_at : Params → ℕ → Content → Certificate → List (List ℕ)
 strings_at p view what just = strings_of p.setup.version (value_of what) ++ node_string basic p view what just ∷ []
 
 abbrev pub taken_strings : Params → State → ℕ → Message → List (List ℕ)
 taken_strings p s from (NewView round high sig) = []
-taken_strings p s from (Prepare view what just sig) = if may_prepare p s from view what just then strings_at p view what just else []
+taken_strings p s from (Prepare view what just sig) =
+    if may_prepare p s from view what just then strings_at p view what just else []
 taken_strings p s from (PreCommit view shown sig) = []
 taken_strings p s from (Commit view shown sig) = []
 taken_strings p s from (Decide view shown sig) = []
@@ -142,30 +163,34 @@ makes p me xs input leaf = record {
   used = length (drafts p me (state p me xs) input);
 }
 
--- ---- what is decided: the branch of a known node with a good certificate of the third phase
+-- ---- Decisions: a valid commitQC of a known node decides its branch
 
+-- the value that a message decides at slot n
 abbrev pub decides_heard : Params → State → Message → ℕ → Option Value
 decides_heard p s (NewView round high sig) n = None
 decides_heard p s (Prepare view what just sig) n = None
 decides_heard p s (PreCommit view shown sig) n = None
 decides_heard p s (Commit view shown sig) n = None
 decides_heard p s (Decide view shown sig) n =
-    if is_good p 3 view shown && is_known s.tree (digest_of shown) then value_at_slot (branch s.tree (digest_of shown)) 0 p.slots n else None
+    if is_good p 3 view shown && is_known s.tree (digest_of shown)
+    then value_at_slot (branch s.tree (digest_of shown)) 0 p.slots n else None
 decides_heard p s (Vote phase view d sig) n = None
 
+-- the value that an input decides at slot n
 -- rule: HotStuff: A certificate of the third phase delivers its node's branch, each slot once
 abbrev pub decides : Params → State → Input Message → ℕ → Option Value
 decides p s (Cast slot batch) n = None
 decides p s (Receive from msg) n = decides_heard p s msg n
 decides p s Timeout n = None
 
+-- the value at slot n that was decided first
 abbrev pub decided : Params → ℕ → List (Item Message) → ℕ → Option Value
 decided p me [] n = None
 decided p me (x ∷ xs) n = first_of (decided p me xs n) (decides p (state p me xs) x.input n)
 
--- ---- the module
+-- ---- The module
 
--- f Byzantine nodes of 3f+1
+-- for f Byzantine replicas of 3f+1; a step signs at most two messages
 abbrev pub hotstuff : Module Message
 hotstuff = record {
   nodes = nodes_of_kind Byzantine;

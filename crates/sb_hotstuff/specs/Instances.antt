@@ -21,30 +21,34 @@ use Rattle.sb_hotstuff.specs.Drafts.{AreDrafts, count_of}
 use Rattle.sb_hotstuff.specs.HotStuff.{decided, sign_all, state}
 use Rattle.sb_hotstuff.specs.Refines.{RefinesState}
 
--- the value stands for the list: it keeps its state and its batches, and has delivered the first slots, all that are decided
+-- The value refines the history: it represents the state and the accepted batches. The first `delivered` slots of the
+-- segment are exactly those that are decided.
 pub record Refines (m : HotStuff) (p : Params) (me : ℕ) (xs : List (Item Message)) : Type 0 where
   pub node : m.node.me.0 ≡ me
   pub keeps : RefinesState m.node (state p me xs)
   pub batches : AreAccepted m.accepted (accepts xs)
   pub reached : (n : ℕ) → is_some (decided p me xs n) ≡ has_slot n (take m.delivered p.slots)
 
--- a batch, where there is a slot for it
+-- the batch with the slot, if there is one
 abbrev pub at_slot : Batch → Option Slot → Option (Slot × Batch)
 at_slot b None = None
 at_slot b (Some s) = Some (s, b)
 
+-- the batch that the node holds, with the slot, if there are both
 abbrev pub what_at : Content → Option Slot → Option (Slot × Batch)
 what_at Nil o = None
 what_at (Holds b) o = at_slot b o
 what_at Mark o = None
 
--- these batches were kept in front of the older ones
+-- these batches are added to those accepted before
 abbrev pub Adds : Accepted → Accepted → List (Slot × Batch) → Type 0
 Adds old new more = (before : List (Slot × Batch)) → AreAccepted old before → AreAccepted new (more ++ before)
 
--- an outcome's messages, each signed with the next leaf
-pub record IsSigned (p : Params) (o : Outcome) (accepted : Option (Slot × Batch)) (before later : KeyState) (e : Effects Message) : Type 0 where
-  pub sends : (me : ℕ) (xs ys : List (To × Message)) → AreKeysOf me p.setup.keys before → AreDrafts p o.answer xs → AreDrafts p o.proposal ys →
+-- The effects of an outcome: its messages signed with the next leaves, the answer first. Nothing is delivered.
+pub record IsSigned (p : Params) (o : Outcome) (accepted : Option (Slot × Batch)) (before later : KeyState)
+    (e : Effects Message) : Type 0 where
+  pub sends : (me : ℕ) (xs ys : List (To × Message)) → AreKeysOf me p.setup.keys before → AreDrafts p o.answer xs →
+      AreDrafts p o.proposal ys →
       e.sends ≡ sign_all p me before.used (xs ++ ys)
   pub addressed : AreToNodes p.setup.n e.sends
   pub accepts : e.accepted ≡ accepted

@@ -8,12 +8,13 @@ use Rattle.sb_hotstuff.specs.declared.turns.Last.{Last}
 use Rattle.sb_hotstuff.specs.Rules.{State, is_reached, round_of}
 use Rattle.sb_hotstuff.specs.Tallies.{AreNews, AreTurns, AreVotes}
 
--- each turn of a round fills a slot but the first, and those of the first round all do: so views stay within their round
+-- Bounds of a turn by the slots of its branch, which keep its view within its round. In each round every turn but the
+-- first fills a slot; in round 0 the first one does, too.
 pub record IsLow (t : Last) : Type 0 where
   pub turn : t.view % 65536 ≤ t.slots + 1
   pub first : t.view / 65536 ≡ 0 → t.slots ≤ t.view
 
--- the code keeps what this state is
+-- the replica's value represents the state
 pub record RefinesState (m : Node) (s : State) : Type 0 where
   pub view : m.view ≡ s.view
   pub tree : Keeps m.tree s.tree
@@ -27,6 +28,7 @@ pub record RefinesState (m : Node) (s : State) : Type 0 where
   pub votes : AreVotes m.votes s.votes
   pub news : AreNews m.news s.news
 
--- the last turn has shown the first quorum and the last one, and the node is in no later round
+-- the last turn's prepareQC and commitQC were broadcast, and the replica is in no later round
 abbrev pub is_last_ready : Params → State → Last → Bool
-is_last_ready p s t = (is_reached p s 1 t.view t.digest && is_reached p s basic.phases t.view t.digest) && nat_le (round_of s.view) (round_of t.view)
+is_last_ready p s t = (is_reached p s 1 t.view t.digest && is_reached p s basic.phases t.view t.digest) &&
+    nat_le (round_of s.view) (round_of t.view)

@@ -21,7 +21,7 @@ use Rattle.hs_tree.specs.Certificates.{digest_of, is_phase, is_quorum, view_of}
 use Rattle.hs_tree.specs.Statements as Statements
 use Rattle.hs_tree.specs.Tree.{Node, basic, branch, extends, filled, is_known, weight}
 
--- ---- views. One is a round and a turn in it, from 1 on
+-- ---- Views: a view is a round and a turn in it, view = round * 65536 + turn. Proposals have turns from 1 on
 
 abbrev pub round_of : ℕ → ℕ
 round_of view = view / 65536
@@ -29,25 +29,27 @@ round_of view = view / 65536
 abbrev pub turn_of : ℕ → ℕ
 turn_of view = view % 65536
 
+-- the leaders of the rounds rotate, beginning with the segment's leader
 abbrev pub leader_of : Params → ℕ → ℕ
 leader_of p round = (p.leader.0 + round) % p.setup.n
 
+-- the digest of the node that the proposal is for
 abbrev pub node_digest : Params → ℕ → Content → Certificate → List ℕ
 node_digest p view what just = Statements.node_digest basic p view what just
 
--- a certificate of a quorum's votes for this phase in this view, which is that of a turn
+-- a valid quorum certificate: exactly a quorum's votes for this phase in this view, which has a turn
 -- rule: HotStuff: A certificate has the votes of exactly a quorum
 abbrev pub is_good : Params → ℕ → ℕ → Certificate → Bool
 is_good p phase view c = nat_le 1 (turn_of view) && is_quorum p.setup.quorum phase view c
 
--- what a proposal may stand on: the root's certificate, or a good one of the first phase of a view below the proposal's
+-- a valid justification (HotStuff: justify): the root's certificate, or a prepareQC of an earlier view
 abbrev pub is_just : Params → ℕ → Certificate → Bool
 is_just p view Root = true
 is_just p view (Votes w q d votes) = is_good p 1 w (Votes w q d votes) && nat_lt w view
 
--- ---- what a node keeps
+-- ---- A replica's state
 
--- a node of the tree that it proposed: its slots are those of its branch, its own one with them
+-- A proposal that the leader made. `slots` counts the slots of its branch, its own included.
 pub record Turn : Type 0 where
   pub view : ℕ
   pub digest : List ℕ
@@ -55,7 +57,7 @@ pub record Turn : Type 0 where
   pub what : Content
   pub slots : ℕ
 
--- a vote for one of these, and a word on the start of a round
+-- a vote that the leader received for one of its turns
 pub record Kept : Type 0 where
   pub by : ℕ
   pub phase : ℕ
@@ -63,6 +65,7 @@ pub record Kept : Type 0 where
   pub digest : List ℕ
   pub sig : List ℕ
 
+-- a NewView message that the leader of the round received
 pub record News : Type 0 where
   pub by : ℕ
   pub round : ℕ
@@ -71,63 +74,86 @@ pub record News : Type 0 where
 pub record State : Type 0 where
   pub view : ℕ
   pub tree : List Node
-  -- the highest certificate of the first phase, and the lock, which is one of the second
+  -- the highest prepareQC, and the lock, which is a precommitQC (HotStuff: lockedQC)
   pub high : Certificate
   pub lock : Certificate
-  -- whether it voted in the second and in the third phase of the view
+  -- whether it cast its pre-commit vote and its commit vote in this view
   pub second : Bool
   pub third : Bool
-  -- a leader's: casts, the oldest first; turns, votes and words, the newest first
+  -- A leader's batches, oldest first; then its turns, and the votes and NewView messages received, all newest first.
   pub casts : List Batch
   pub turns : List Turn
   pub votes : List Kept
   pub news : List News
 
 abbrev pub start : State
-start = record { view = 0; tree = []; high = Root; lock = Root; second = false; third = false; casts = []; turns = []; votes = []; news = [] }
+start = record {
+  view = 0;
+  tree = [];
+  high = Root;
+  lock = Root;
+  second = false;
+  third = false;
+  casts = [];
+  turns = [];
+  votes = [];
+  news = [];
+}
 
--- ---- votes that a leader keeps: of each node the first for a phase of a turn, up to a quorum of them
+-- ---- Votes that a leader counts: each replica's first for a phase of a turn, up to a quorum
 
+-- whether it is replica k's vote for this phase, view and digest
 abbrev pub is_for : ℕ → ℕ → List ℕ → ℕ → Kept → Bool
 is_for phase view d k v = ((v.by == k) && (v.phase == phase)) && ((v.view == view) && same_bytes v.digest d)
 
+-- replica k's vote, as part of a certificate
 abbrev pub vote_of : List Kept → ℕ → ℕ → List ℕ → ℕ → Option Signed
 vote_of [] phase view d k = None
-vote_of (v ∷ vs) phase view d k = if is_for phase view d k v then Some (record { by = record { 0 = k }; sig = v.sig }) else vote_of vs phase view d k
+vote_of (v ∷ vs) phase view d k =
+    if is_for phase view d k v then Some (record { by = record { 0 = k }; sig = v.sig }) else vote_of vs phase view d k
 
--- of the nodes below n, ascending
+-- the votes of the replicas below n, by ascending replica
 abbrev pub votes_of : ℕ → List Kept → ℕ → ℕ → List ℕ → List Signed
 votes_of zero vs phase view d = []
 votes_of (suc k) vs phase view d = votes_of k vs phase view d ++ one_or_none (vote_of vs phase view d k)
 
+-- the quorum certificate of the votes received
 abbrev pub certificate : Params → State → ℕ → ℕ → List ℕ → Certificate
 certificate p s phase view d = Votes view phase d (votes_of p.setup.n s.votes phase view d)
 
+-- whether exactly a quorum's votes were received
 abbrev pub is_reached : Params → State → ℕ → ℕ → List ℕ → Bool
 is_reached p s phase view d = length (votes_of p.setup.n s.votes phase view d) == p.setup.quorum
 
+-- whether the leader proposed this digest in this view
 abbrev pub is_own_turn : List Turn → ℕ → List ℕ → Bool
 is_own_turn [] view d = false
 is_own_turn (t ∷ ts) view d = ((t.view == view) && same_bytes t.digest d) || is_own_turn ts view d
 
+-- whether the vote is counted: for a turn of its own, the sender's first, and below a quorum
 abbrev pub keeps_vote : Params → State → ℕ → ℕ → ℕ → List ℕ → Bool
 keeps_vote p s from phase view d =
     (is_phase basic.phases phase && is_own_turn s.turns view d) &&
-    (not (is_some (vote_of s.votes phase view d from)) && nat_lt (length (votes_of p.setup.n s.votes phase view d)) p.setup.quorum)
+    (not (is_some (vote_of s.votes phase view d from)) &&
+    nat_lt (length (votes_of p.setup.n s.votes phase view d)) p.setup.quorum)
 
 abbrev pub with_vote : State → ℕ → ℕ → ℕ → List ℕ → List ℕ → State
-with_vote s from phase view d sig = record s { votes = record { by = from; phase = phase; view = view; digest = d; sig = sig } ∷ s.votes }
+with_vote s from phase view d sig =
+    record s { votes = record { by = from; phase = phase; view = view; digest = d; sig = sig } ∷ s.votes }
 
--- ---- words on the start of a round that the node leads: of each node the first good one, up to a quorum of them
+-- ---- NewView messages that a leader counts: each replica's first valid one for a round that it leads, up to a quorum
 
+-- replica k's certificate for the round
 abbrev pub news_of : List News → ℕ → ℕ → Option Certificate
 news_of [] round k = None
 news_of (w ∷ ws) round k = if (w.by == k) && (w.round == round) then Some w.high else news_of ws round k
 
+-- the certificates of the replicas below n, by ascending replica
 abbrev pub all_news : ℕ → List News → ℕ → List Certificate
 all_news zero ws round = []
 all_news (suc k) ws round = all_news k ws round ++ one_or_none (news_of ws round k)
 
+-- whether the NewView message is counted
 abbrev pub keeps_news : Params → ℕ → State → ℕ → ℕ → Certificate → Bool
 keeps_news p me s from round high =
     ((nat_le 1 round && (me == leader_of p round)) && is_just p (round * 65536) high) &&
@@ -136,12 +162,12 @@ keeps_news p me s from round high =
 abbrev pub with_news : State → ℕ → ℕ → Certificate → State
 with_news s from round high = record s { news = record { by = from; round = round; high = high } ∷ s.news }
 
--- the first of those with the highest view
+-- the first certificate with the highest view (HotStuff: highQC)
 abbrev pub best : Certificate → List Certificate → Certificate
 best c [] = c
 best c (d ∷ ds) = if nat_lt (view_of c) (view_of d) then best d ds else best c ds
 
--- ---- a cast at the leader in the first round, at the next slot
+-- ---- A cast: at the segment's leader, in round 0, at the next slot
 
 abbrev pub may_cast : Params → ℕ → State → ℕ → Bool
 may_cast p me s slot = ((me == p.leader.0) && (round_of s.view == 0)) && is_slot slot (nth p.slots (length s.casts))
@@ -149,44 +175,56 @@ may_cast p me s slot = ((me == p.leader.0) && (round_of s.view == 0)) && is_slot
 abbrev pub with_cast : State → Batch → State
 with_cast s b = record s { casts = s.casts ++ b ∷ [] }
 
--- ---- a proposal
+-- ---- A proposal
 
--- the node extends the lock's, or its justification is above the lock
+-- HotStuff's safeNode: the node extends the locked one (safety rule), or its justification is above the lock (liveness
+-- rule).
 -- rule: HotStuff: A proposal is safe if it extends the lock or its certificate is above the lock
 abbrev pub is_safe : Params → State → ℕ → Content → Certificate → Bool
 is_safe p s view what just =
-    (same_bytes (node_digest p view what just) (digest_of s.lock) || extends s.tree (digest_of just) (digest_of s.lock)) ||
+    (same_bytes (node_digest p view what just) (digest_of s.lock) ||
+    extends s.tree (digest_of just) (digest_of s.lock)) ||
     nat_lt (view_of s.lock) (view_of just)
 
--- what may stand behind so many slots: batches in the first round alone, then nil, and marks once all slots are filled
+-- What may follow a branch that fills this many slots. In round 0 a batch; in later rounds nil, and a mark once all
+-- slots are filled.
 -- rule: HotStuff: Batches are proposed in round 0 only; later rounds propose nil, then marks
 abbrev pub is_allowed : Params → ℕ → ℕ → Content → Bool
 is_allowed p round slots Nil = nat_le 1 round && nat_lt slots (length p.slots)
 is_allowed p round slots (Holds b) = (round == 0) && nat_lt slots (length p.slots)
 is_allowed p round slots Mark = nat_le 1 round && not (nat_lt slots (length p.slots))
 
--- from the view's leader, in a view above the own
+-- whether the proposal is by the leader of its view, in a view above the replica's own
 -- rule: HotStuff: A proposal is taken only in a view above the replica's own
 abbrev pub is_timely : Params → State → ℕ → ℕ → Bool
 is_timely p s from view = (from == leader_of p (round_of view)) && (nat_lt s.view view && nat_le 1 (turn_of view))
 
+-- how many slots the branch of the justification's node fills
 abbrev pub slots_below : State → Certificate → ℕ
 slots_below s just = filled (branch s.tree (digest_of just))
 
+-- whether the proposal is taken and gets a prepare vote
 abbrev pub may_prepare : Params → State → ℕ → ℕ → Content → Certificate → Bool
 may_prepare p s from view what just =
     (is_timely p s from view && (is_just p view just && is_known s.tree (digest_of just))) &&
     (is_safe p s view what just && is_allowed p (round_of view) (slots_below s just) what)
 
+-- the node is now known, in a new view without pre-commit and commit votes
 abbrev pub with_node : Params → State → ℕ → Content → Certificate → State
 with_node p s view what just = record s {
   view = view;
-  tree = record { view = view; digest = node_digest p view what just; from = view_of just; parent = digest_of just; what = what } ∷ s.tree;
+  tree = record {
+    view = view;
+    digest = node_digest p view what just;
+    from = view_of just;
+    parent = digest_of just;
+    what = what;
+  } ∷ s.tree;
   second = false;
   third = false;
 }
 
--- ---- a good certificate of the own view on a known node: of the first phase it becomes the highest, of the second the lock
+-- ---- Certificates of the own view, for a known node: a prepareQC becomes the highest, a precommitQC the lock
 
 abbrev pub is_shown : Params → State → ℕ → ℕ → Certificate → Bool
 is_shown p s phase view shown = (is_good p phase view shown && (view == s.view)) && is_known s.tree (digest_of shown)
@@ -197,7 +235,7 @@ may_second p s view shown = is_shown p s 1 view shown && not s.second
 abbrev pub may_third : Params → State → ℕ → Certificate → Bool
 may_third p s view shown = is_shown p s 2 view shown && not s.third
 
--- ---- the round ends
+-- ---- A timeout enters the next round, unless this is the last one
 
 abbrev pub may_end : State → Bool
 may_end s = nat_lt (round_of s.view) 65535
@@ -205,73 +243,89 @@ may_end s = nat_lt (round_of s.view) 65535
 abbrev pub with_round : State → State
 with_round s = record s { view = suc (round_of s.view) * 65536; second = false; third = false }
 
--- ---- what is kept of an input, but for the turn that it leads to
+-- ---- The state after an input, without the turn that it triggers
 
 -- rule: HotStuff: Only a certificate of the second phase becomes the lock, which never decreases
 abbrev pub heard : Params → ℕ → State → ℕ → Message → State
-heard p me s from (NewView round high sig) = if keeps_news p me s from round high then with_news s from round high else s
-heard p me s from (Prepare view what just sig) = if may_prepare p s from view what just then with_node p s view what just else s
-heard p me s from (PreCommit view shown sig) = if may_second p s view shown then record s { high = shown; second = true } else s
-heard p me s from (Commit view shown sig) = if may_third p s view shown then record s { lock = shown; third = true } else s
+heard p me s from (NewView round high sig) =
+    if keeps_news p me s from round high then with_news s from round high else s
+heard p me s from (Prepare view what just sig) =
+    if may_prepare p s from view what just then with_node p s view what just else s
+heard p me s from (PreCommit view shown sig) =
+    if may_second p s view shown then record s { high = shown; second = true } else s
+heard p me s from (Commit view shown sig) =
+    if may_third p s view shown then record s { lock = shown; third = true } else s
 heard p me s from (Decide view shown sig) = s
-heard p me s from (Vote phase view d sig) = if keeps_vote p s from phase view d then with_vote s from phase view d sig else s
+heard p me s from (Vote phase view d sig) =
+    if keeps_vote p s from phase view d then with_vote s from phase view d sig else s
 
 abbrev pub kept : Params → ℕ → State → Input Message → State
 kept p me s (Cast slot batch) = if may_cast p me s slot.0 then with_cast s batch else s
 kept p me s (Receive from msg) = heard p me s from.0 msg
 kept p me s Timeout = if may_end s then with_round s else s
 
--- ---- the next turn, on the certificate of the last one
+-- ---- The leader's next turn, which extends its last one by that one's prepareQC
 
 abbrev pub turn : Params → ℕ → Certificate → Content → ℕ → Turn
-turn p view just what slots = record { view = view; digest = node_digest p view what just; just = just; what = what; slots = weight what + slots }
+turn p view just what slots =
+    record { view = view; digest = node_digest p view what just; just = just; what = what; slots = weight what + slots }
 
+-- the turn that proposes this batch, if there is one
 abbrev pub cast_turn : Params → ℕ → Certificate → ℕ → Option Batch → Option Turn
 cast_turn p view just slots None = None
 cast_turn p view just slots (Some b) = Some (turn p view just (Holds b) slots)
 
--- the last own turn has shown the first quorum and the last one, and the node is in no later round
+-- the turn's prepareQC and commitQC were broadcast, and the replica is in no later round
 abbrev pub is_ready : Params → State → Turn → Bool
-is_ready p s t = (is_reached p s 1 t.view t.digest && is_reached p s basic.phases t.view t.digest) && nat_le (round_of s.view) (round_of t.view)
+is_ready p s t = (is_reached p s 1 t.view t.digest && is_reached p s basic.phases t.view t.digest) &&
+    nat_le (round_of s.view) (round_of t.view)
 
--- in the first round turn k proposed cast k - 1, and the next one is proposed; then nil while the branch is not full
+-- In round 0 turn k proposed cast k - 1, so the next cast is proposed, if there is one. In later rounds nil is proposed
+-- until the branch is full.
 abbrev pub turn_after : Params → State → Turn → Option Turn
 turn_after p s t =
-    if round_of t.view == 0 then cast_turn p (suc t.view) (certificate p s 1 t.view t.digest) t.slots (nth s.casts t.view) else
-    (if nat_lt t.slots (length p.slots) then Some (turn p (suc t.view) (certificate p s 1 t.view t.digest) Nil t.slots) else None)
+    if round_of t.view == 0
+    then cast_turn p (suc t.view) (certificate p s 1 t.view t.digest) t.slots (nth s.casts t.view) else
+    (if nat_lt t.slots (length p.slots)
+    then Some (turn p (suc t.view) (certificate p s 1 t.view t.digest) Nil t.slots) else None)
 
--- the newest turn is the last
+-- turns are listed newest first; the first turn of round 0 needs no predecessor
 -- rule: HotStuff: The next turn extends the last one, once its first and last quorum were shown
 abbrev pub next_turn : Params → State → List Turn → Option Turn
 next_turn p s [] = if round_of s.view == 0 then cast_turn p 1 Root 0 (nth s.casts 0) else None
 next_turn p s (t ∷ ts) = if is_ready p s t then turn_after p s t else None
 
--- ---- the first turn of a round, on the best certificate of a quorum's words
+-- ---- The first turn of a round, on the highest certificate of a quorum of NewView messages
 
+-- nil if a slot is open, else a mark
 abbrev pub nil_or_mark : Params → ℕ → Content
 nil_or_mark p slots = if nat_lt slots (length p.slots) then Nil else Mark
 
+-- the turn on this certificate, if its node is known
 abbrev pub turn_on : Params → State → ℕ → Certificate → Option Turn
 turn_on p s round high =
     if is_known s.tree (digest_of high)
     then Some (turn p (round * 65536 + 1) high (nil_or_mark p (slots_below s high)) (slots_below s high)) else None
 
+-- the first turn, once exactly a quorum's NewView messages were received and the replica is in no later round
 -- rule: HotStuff: A round begins on the highest certificate of a quorum of NewViews
 abbrev pub first_turn : Params → State → ℕ → Option Turn
 first_turn p s round =
     if (length (all_news p.setup.n s.news round) == p.setup.quorum) && nat_le (round_of s.view) round
     then turn_on p s round (best Root (all_news p.setup.n s.news round)) else None
 
--- ---- the turn that an input leads to, where k is what was kept of it
+-- ---- The turn that an input triggers; k is the state after the input without that turn
 
 abbrev pub proposed_on : Params → ℕ → State → State → ℕ → Message → Option Turn
-proposed_on p me s k from (NewView round high sig) = if keeps_news p me s from round high then first_turn p k round else None
+proposed_on p me s k from (NewView round high sig) =
+    if keeps_news p me s from round high then first_turn p k round else None
 proposed_on p me s k from (Prepare view what just sig) = None
 proposed_on p me s k from (PreCommit view shown sig) = None
 proposed_on p me s k from (Commit view shown sig) = None
 proposed_on p me s k from (Decide view shown sig) = None
 proposed_on p me s k from (Vote phase view d sig) =
-    if keeps_vote p s from phase view d && (is_reached p k phase view d && not (phase == 2)) then next_turn p k k.turns else None
+    if keeps_vote p s from phase view d && (is_reached p k phase view d && not (phase == 2))
+    then next_turn p k k.turns else None
 
 abbrev pub proposed : Params → ℕ → State → State → Input Message → Option Turn
 proposed p me s k (Cast slot batch) = if may_cast p me s slot.0 then next_turn p k k.turns else None
@@ -282,7 +336,7 @@ abbrev pub with_turn : State → Option Turn → State
 with_turn s None = s
 with_turn s (Some t) = record s { turns = t ∷ s.turns }
 
--- ---- the state after an input
+-- ---- The state after an input
 
 abbrev pub after : Params → ℕ → State → Input Message → State
 after p me s i = with_turn (kept p me s i) (proposed p me s (kept p me s i) i)

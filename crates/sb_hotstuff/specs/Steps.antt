@@ -12,17 +12,19 @@ use Rattle.sb_hotstuff.specs.HotStuff.{answers, proposals, strings, turn_strings
 use Rattle.sb_hotstuff.specs.Rules.{State, Turn, after, kept, proposed, with_turn}
 use Rattle.sb_hotstuff.specs.Refines.{RefinesState}
 
+-- nothing is sent and nothing is hashed
 pub record IsQuiet (o : Outcome) : Type 0 where
   pub answer : o.answer ≡ None
   pub proposal : o.proposal ≡ None
   pub hashed : o.hashed ≡ []
 
+-- the answer is the only effect
 pub record IsAnswer (d : Draft) (o : Outcome) : Type 0 where
   pub answer : o.answer ≡ Some d
   pub proposal : o.proposal ≡ None
   pub hashed : o.hashed ≡ []
 
--- a turn, if there is one, was added to the state k
+-- the turn, if there is one, was added to state k and proposed
 pub record Proposes (p : Params) (old new : Node) (k : State) (t : Option Turn) (o : Outcome) : Type 0 where
   pub node : new.me ≡ old.me
   pub state : RefinesState new (with_turn k t)
@@ -30,7 +32,7 @@ pub record Proposes (p : Params) (old new : Node) (k : State) (t : Option Turn) 
   pub proposal : AreDrafts p o.proposal (proposals t)
   pub hashed : o.hashed ≡ turn_strings p t
 
--- the input was taken in the state s
+-- the replica took the input in state s, as the model says
 pub record Does (p : Params) (old new : Node) (s : State) (i : Input Message) (o : Outcome) : Type 0 where
   pub node : new.me ≡ old.me
   pub state : RefinesState new (after p old.me.0 s i)

@@ -21,24 +21,25 @@ use Rattle.sb_hotstuff.specs.contracts.news.SenderOrd.TheImpl as sender_ord
 use Rattle.sb_hotstuff.specs.contracts.turns.OwnOrd.TheImpl as own_ord
 use Rattle.sb_hotstuff.specs.Rules.{Kept, News, Turn, is_own_turn, news_of, vote_of}
 
--- ---- votes
+-- ---- Votes
 
 abbrev pub ballot_order : Ballot → Ballot → Ordering
 ballot_order = (ballot_ord.ghosts).cmp
 
+-- the signature kept for a vote
 abbrev pub vote_at : Ballots → ℕ → ℕ → ℕ → List ℕ → Option (List ℕ)
 vote_at m by phase view d = get ballot_order m.all (record { by = by; phase = phase; view = view; digest = d })
 
--- a node's vote, by its signature
+-- a replica's vote with this signature
 abbrev pub signed : ℕ → Option (List ℕ) → Option Signed
 signed by None = None
 signed by (Some sig) = Some (record { by = record { 0 = by }; sig = sig })
 
--- the code keeps these votes
+-- the map represents the list of votes
 abbrev pub AreVotes : Ballots → List Kept → Type 0
 AreVotes m vs = (by phase view : ℕ) (d : List ℕ) → vote_of vs phase view d by ≡ signed by (vote_at m by phase view d)
 
--- how many of the nodes below n voted so, and their votes
+-- how many of the replicas below n cast this vote, and their votes
 abbrev pub count_at : Ballots → ℕ → ℕ → ℕ → List ℕ → ℕ
 count_at m n phase view d = count_below (λ k. is_some (vote_at m k phase view d)) n
 
@@ -46,43 +47,49 @@ abbrev pub votes_at : Ballots → ℕ → ℕ → ℕ → List ℕ → List Sign
 votes_at m zero phase view d = []
 votes_at m (suc k) phase view d = votes_at m k phase view d ++ one_or_none (signed k (vote_at m k phase view d))
 
--- ---- words
+-- ---- NewView messages
 
 abbrev pub sender_order : Sender → Sender → Ordering
 sender_order = (sender_ord.ghosts).cmp
 
+-- the certificate kept for a replica and a round
 abbrev pub word_at : Words → ℕ → ℕ → Option Certificate
 word_at m by round = get sender_order m.all (record { by = by; round = round })
 
+-- the map represents the list of NewView messages
 abbrev pub AreNews : Words → List News → Type 0
 AreNews m ws = (by round : ℕ) → news_of ws round by ≡ word_at m by round
 
--- the one with the higher view, the first where both have one
+-- the certificate with the higher view, the first if they are equal
 abbrev pub better : Certificate → Option Certificate → Certificate
 better c None = c
 better c (Some d) = if nat_lt (view_of c) (view_of d) then d else c
 
+-- how many of the replicas below n sent one for the round
 abbrev pub words_at : Words → ℕ → ℕ → ℕ
 words_at m n round = count_below (λ k. is_some (word_at m k round)) n
 
--- the best of the nodes below n
+-- the highest certificate of the replicas below n
 abbrev pub best_at : Words → ℕ → ℕ → Certificate
 best_at m zero round = Root
 best_at m (suc k) round = better (best_at m k round) (word_at m k round)
 
--- ---- turns
+-- ---- Turns
 
 abbrev pub own_order : Own → Own → Ordering
 own_order = (own_ord.ghosts).cmp
 
+-- a turn without its justification and content
 abbrev pub own_of : Turn → Last
 own_of t = record { view = t.view; digest = t.digest; slots = t.slots }
 
+-- the newest turn
 abbrev pub last_of : List Turn → Option Last
 last_of [] = None
 last_of (t ∷ ts) = Some (own_of t)
 
--- the code keeps these turns, the newest first
+-- the set represents the list of turns
 pub record AreTurns (m : Turns) (ts : List Turn) : Type 0 where
-  pub has : (view : ℕ) (d : List ℕ) → contains own_order m.all (record { view = view; digest = d }) ≡ is_own_turn ts view d
+  pub has : (view : ℕ) (d : List ℕ) →
+      contains own_order m.all (record { view = view; digest = d }) ≡ is_own_turn ts view d
   pub last : m.last ≡ last_of ts

@@ -1,4 +1,4 @@
-//! The batches that a node accepted, by their slots.
+//! The batches that a replica accepted, by slot.
 ghost use Rattle.std.specs.Prelude.{◌≡◌, ◌∷◌, List, [], OnOk};
 ghost use Rattle.iss_base.specs.Lists.{same_bytes};
 ghost use Rattle.iss_request.specs.declared.ids.Slot.{Slot};
@@ -10,7 +10,7 @@ use iss_request::{Batch, NoMemory, Request, Seq, Slot};
 use std::alloc::Global;
 use std::collections::BTreeMap;
 
-/// At each slot the batches that were accepted there.
+/// For each slot, the batches accepted there.
 #[derive(Drop)]
 pub struct Accepted {
     all: BTreeMap<u64, Seq<Batch>>,
@@ -22,7 +22,7 @@ fn same(a: &[u8], b: &[u8]) -> bool
     a == b
 }
 
-// Whether two requests are equal.
+// Whether two requests are equal, byte by byte.
 fn same_request(a: &Request, b: &Request) -> bool
     ensures { result ≡ same_request a.now b.now }
 {
@@ -45,7 +45,7 @@ fn same_batch(a: &[Request], b: &[Request]) -> bool
     }
 }
 
-// Whether the batch is one of these.
+// Whether the batch is in the list.
 fn is_among(batches: &[Batch], batch: &Batch) -> bool
     ensures { result ≡ is_among batch.now batches.now }
 {
@@ -55,7 +55,7 @@ fn is_among(batches: &[Batch], batch: &Batch) -> bool
         .any(|there| same_batch(there.as_slice(), wanted))
 }
 
-// The batches, none where there is no row of them.
+// The list, empty if there is none.
 fn batches_in(alloc: Global, batches: Option<Seq<Batch>>) -> Seq<Batch>
     ensures { result ≡ batches_in batches }
 {
@@ -66,7 +66,7 @@ fn batches_in(alloc: Global, batches: Option<Seq<Batch>>) -> Seq<Batch>
 }
 
 impl Accepted {
-    /// No batches.
+    /// No accepted batches.
     pub fn new(alloc: Global) -> Accepted
         ensures { AreAccepted result [] }
     {
@@ -85,9 +85,10 @@ impl Accepted {
         }
     }
 
-    /// One batch more.
+    /// Adds a batch accepted at the slot. The only error is out of memory.
     pub fn keep(&mut self, alloc: Global, slot: Slot, batch: Batch) -> Result<(), NoMemory>
-        ensures { OnOk result ((old : List (Slot × Batch)) → AreAccepted self.old old → AreAccepted self.new ((slot, batch) ∷ old)) }
+        ensures { OnOk result ((old : List (Slot × Batch)) → AreAccepted self.old old →
+            AreAccepted self.new ((slot, batch) ∷ old)) }
     {
         let before = self.all.insert(slot.0, Seq::new(alloc))?;
         let mut batches = batches_in(alloc, before);

@@ -1,4 +1,4 @@
-//! What a node accepts: the batch of a proposal, where it was not accepted there.
+//! Which batch a replica accepts: that of a valid cast or proposal, unless it was accepted at the same slot before.
 ghost use Rattle.std.specs.Prelude.{◌≡◌, List, Some, None, IfOk, IfSome, OnOk, if◌then◌else◌};
 ghost use Rattle.iss_base.specs.Lists.{In, nth};
 ghost use Rattle.iss_request.specs.declared.ids.Slot.{Slot};
@@ -17,7 +17,7 @@ use iss_request::{Batch, NoMemory, Slot};
 use iss_sb::{Content, Params};
 use std::alloc::Global;
 
-// The slot at this place of the segment, unless the batch was accepted there.
+// The slot at this index of the segment, unless the batch was accepted there.
 fn free_slot(accepted: &Accepted, p: &Params, place: usize, batch: &Batch) -> Option<Slot>
     ensures free { (old : List (Slot × Batch)) → AreAccepted accepted.now old →
         at_slot batch.now result ≡ unless_accepted old batch.now (nth p.now.slots place) }
@@ -32,7 +32,7 @@ fn free_slot(accepted: &Accepted, p: &Params, place: usize, batch: &Batch) -> Op
     Some(*slot)
 }
 
-/// The slot of a cast that may be taken.
+/// The slot of a cast, if the cast is valid now.
 pub fn cast_slot(node: &Node, p: &Params, slot: Slot) -> Option<Slot>
     ensures cast { (s : State) (batch : Batch) → RefinesState node.now s →
         at_slot batch result ≡ (if may_cast p.now node.now.me.0 s slot.0 then Some (slot, batch) else None) }
@@ -44,7 +44,8 @@ pub fn cast_slot(node: &Node, p: &Params, slot: Slot) -> Option<Slot>
     Some(slot)
 }
 
-/// The slot behind the branch of the certificate's node, where a batch is to stand there that was not accepted there.
+/// The slot of a proposal's batch: the one after the branch of its justification. `None` if the proposal holds no
+/// batch, no slot is left, or the batch was accepted there before.
 // rule: HotStuff: A batch is accepted once at a slot
 // rule: HotStuff: A correct leader accepts one batch a slot
 pub fn offered_slot(
@@ -65,7 +66,7 @@ pub fn offered_slot(
     free_slot(accepted, p, place, batch)
 }
 
-/// Keeps a batch, where there is a slot for it, and gives both.
+/// Records the batch as accepted at the slot, if there is one. Returns both. The only error is out of memory.
 pub fn keep_at(
     accepted: &mut Accepted,
     alloc: Global,
@@ -84,7 +85,8 @@ pub fn keep_at(
     Ok(Some((slot, given)))
 }
 
-/// Keeps the batch that a node holds, where there is a slot for it.
+/// Records the proposed batch as accepted at the slot, if there are both. Returns both. The only error is out of
+/// memory.
 pub fn keep_what(
     accepted: &mut Accepted,
     alloc: Global,

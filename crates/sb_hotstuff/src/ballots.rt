@@ -1,4 +1,4 @@
-//! The votes that a leader keeps, each by who gave it and for what.
+//! The votes that a leader received.
 ghost use Rattle.std.specs.Prelude.{◌≡◌, ◌∷◌, ◌++◌, ℕ, List, [], length, is_some, IfOk, OnOk};
 ghost use Rattle.std.specs.Option.{option_copied};
 ghost use Rattle.iss_sb.specs.Evidence.{one_or_none};
@@ -13,7 +13,7 @@ use iss_sb::Signed;
 use std::alloc::Global;
 use std::collections::BTreeMap;
 
-/// Who votes, and for what: a phase of a view, and the node of a digest.
+/// The key of a vote: the voter, and what the vote is for (phase, view and the node's digest).
 #[derive(PartialEq, Eq, PartialOrd, Ord, Drop)]
 pub struct Ballot {
     pub by: u8,
@@ -22,13 +22,13 @@ pub struct Ballot {
     pub digest: [u8; 32],
 }
 
-/// The signature of each vote that is kept.
+/// The signature of each vote received.
 #[derive(Drop)]
 pub struct Ballots {
     all: BTreeMap<Ballot, Bytes>,
 }
 
-// Puts a vote, if there is one, behind others.
+// Appends the voter's vote, if there is a signature.
 fn put_vote(by: u8, sig: Option<&Bytes>, votes: &mut Seq<Signed>) -> Result<(), NoMemory>
     ensures { OnOk result (votes.new ≡ votes.old ++ one_or_none (signed by (option_copied sig.entry))) }
 {
@@ -54,7 +54,7 @@ impl Ballots {
         }
     }
 
-    // The signature of a node's vote.
+    // The signature of this vote, if it was received.
     fn at(&self, by: u8, phase: u8, view: u32, digest: &[u8; 32]) -> Option<&Bytes>
         ensures { option_copied result ≡ vote_at self.now by phase view digest.now }
     {
@@ -67,14 +67,15 @@ impl Ballots {
         self.all.get(&ballot)
     }
 
-    /// Whether the node's vote is kept.
+    /// Whether this vote was received.
     pub fn has(&self, by: u8, phase: u8, view: u32, digest: &[u8; 32]) -> bool
         ensures { (vs : List Kept) → AreVotes self.now vs → result ≡ is_some (vote_of vs phase view digest.now by) }
     {
         self.at(by, phase, view, digest).is_some()
     }
 
-    /// The votes of the first `n` nodes, ascending.
+    /// The votes of replicas 0 to `n` - 1 for this phase, view and digest, by ascending replica. The only error is out
+    /// of memory.
     pub fn votes(
         &self,
         alloc: Global,
@@ -83,7 +84,8 @@ impl Ballots {
         view: u32,
         digest: &[u8; 32],
     ) -> Result<Seq<Signed>, NoMemory>
-        ensures { IfOk result (λ all. (vs : List Kept) → AreVotes self.now vs → all ≡ votes_of n vs phase view digest.now) }
+        ensures { IfOk result (λ all. (vs : List Kept) → AreVotes self.now vs →
+            all ≡ votes_of n vs phase view digest.now) }
     {
         let mut votes = Seq::new(alloc);
         for by in 0..n {
@@ -92,7 +94,7 @@ impl Ballots {
         Ok(votes)
     }
 
-    /// How many of the first `n` nodes voted so.
+    /// How many of replicas 0 to `n` - 1 cast this vote.
     pub fn count(&self, n: u8, phase: u8, view: u32, digest: &[u8; 32]) -> u32
         ensures { (vs : List Kept) → AreVotes self.now vs → result ≡ length (votes_of n vs phase view digest.now) }
     {
@@ -105,7 +107,8 @@ impl Ballots {
         count
     }
 
-    /// The certificate of the votes of the first `n` nodes.
+    /// The quorum certificate of the votes of replicas 0 to `n` - 1. The caller checks that they are a quorum. The only
+    /// error is out of memory.
     pub fn certificate(
         &self,
         alloc: Global,
@@ -114,7 +117,8 @@ impl Ballots {
         view: u32,
         digest: &[u8; 32],
     ) -> Result<Certificate, NoMemory>
-        ensures { IfOk result (λ c. (vs : List Kept) → AreVotes self.now vs → c ≡ Votes view phase digest.now (votes_of n vs phase view digest.now)) }
+        ensures { IfOk result (λ c. (vs : List Kept) → AreVotes self.now vs →
+            c ≡ Votes view phase digest.now (votes_of n vs phase view digest.now)) }
     {
         let votes = self.votes(alloc, n, phase, view, digest)?;
         Ok(Certificate::Votes {
@@ -125,7 +129,7 @@ impl Ballots {
         })
     }
 
-    /// One vote more.
+    /// Adds a vote, or replaces its signature. The only error is out of memory.
     pub fn keep(
         &mut self,
         by: u8,
@@ -134,7 +138,8 @@ impl Ballots {
         digest: [u8; 32],
         sig: Bytes,
     ) -> Result<(), NoMemory>
-        ensures { OnOk result ((v : Kept) (vs : List Kept) → v ≡ record { by = by; phase = phase; view = view; digest = digest; sig = sig } →
+        ensures { OnOk result ((v : Kept) (vs : List Kept) →
+            v ≡ record { by = by; phase = phase; view = view; digest = digest; sig = sig } →
             AreVotes self.old vs → AreVotes self.new (v ∷ vs)) }
     {
         let ballot = Ballot {

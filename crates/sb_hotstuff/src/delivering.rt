@@ -1,11 +1,12 @@
-//! Slots with the values that stand there.
+//! Decided values with their slots.
 ghost use Rattle.std.specs.Prelude.{◌≡◌, drop, IfOk};
 ghost use Rattle.iss_sb.specs.Paired.{paired};
 
 use iss_request::{NoMemory, Seq, Slot, Value};
 use std::alloc::Global;
 
-/// The slots from this place of the segment on, each with a value, as long as there are both.
+/// Pairs the slots of the segment, from index `from` on, with the values, up to the shorter of both. The only error is
+/// out of memory.
 pub fn pair(
     alloc: Global,
     slots: &[Slot],

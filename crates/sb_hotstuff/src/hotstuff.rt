@@ -1,4 +1,4 @@
-//! A node's part in an instance of HotStuff, and that HotStuff is an ordering module.
+//! A replica's part in an instance of HotStuff, as an ordering module (ISS: Sequenced Broadcast).
 ghost use Rattle.std.specs.Prelude.{◌≡◌, ◌≤◌, ℕ, List, IfOk, None, if◌then◌else◌};
 ghost use Rattle.iss_keys.specs.KeyStates.{KeyState, left_of};
 ghost use Rattle.iss_request.specs.declared.ids.Slot.{Slot};
@@ -25,7 +25,7 @@ use iss_request::{
 use iss_sb::{Claim, Content, Effects, Input, Params, Sequenced, asks_if};
 use std::alloc::Global;
 
-/// A node's part in one instance: what it keeps for its rules, the batches that it accepted, and how many slots of the
+/// A replica's part in one instance: the protocol's state, the batches that it accepted, and how many slots of the
 /// segment it delivered.
 #[derive(Drop)]
 pub struct HotStuff {
@@ -35,7 +35,8 @@ pub struct HotStuff {
 }
 
 impl HotStuff {
-    // The batch of a proposal that is to be taken, where it was not accepted there.
+    // The batch that the replica would accept with a proposal, with its slot: if the proposal is valid and the batch
+    // was not accepted there before.
     fn offered<'a>(
         &'a self,
         p: &Params,
@@ -45,8 +46,10 @@ impl HotStuff {
         just: &'a Certificate,
     ) -> Option<(Slot, &'a Batch)>
         requires { IsGoodParams hotstuff p.now }
-        ensures { (s : State) (old : List (Slot × Batch)) → RefinesState self.now.node s → AreAccepted self.now.accepted old →
-            named result ≡ (if may_prepare p.now s from.0 view what.now just.now then offered p.now s old what.now just.now else None) }
+        ensures { (s : State) (old : List (Slot × Batch)) → RefinesState self.now.node s →
+            AreAccepted self.now.accepted old →
+            named result ≡ (if may_prepare p.now s from.0 view what.now just.now
+            then offered p.now s old what.now just.now else None) }
     {
         if !self.node.may_prepare(p, from, view, what, just) {
             return None;
@@ -60,10 +63,11 @@ impl HotStuff {
         Some((slot, batch))
     }
 
-    // The batch that a message would have the node accept.
+    // The batch that the replica would accept with a message, with its slot.
     fn asked<'a>(&'a self, p: &Params, from: NodeId, msg: &'a Message) -> Option<(Slot, &'a Batch)>
         requires { IsGoodParams hotstuff p.now }
-        ensures { (s : State) (old : List (Slot × Batch)) → RefinesState self.now.node s → AreAccepted self.now.accepted old →
+        ensures { (s : State) (old : List (Slot × Batch)) → RefinesState self.now.node s →
+            AreAccepted self.now.accepted old →
             named result ≡ asked_by p.now s old from.0 msg.now }
     {
         match msg {
@@ -77,7 +81,7 @@ impl HotStuff {
         }
     }
 
-    // The leader takes a batch that is cast to it.
+    // The leader takes a cast. It proposes the batch at once if its last turn is complete.
     fn cast(
         &mut self,
         alloc: Global,
@@ -88,7 +92,8 @@ impl HotStuff {
     ) -> Result<Effects<Message>, NoMemory>
         requires good { IsGoodParams hotstuff p.now }
         requires enough { 2 ≤ left_of keys.old }
-        ensures { IfOk result (λ e. IsTrueStep hotstuff Refines p.now self.old self.new (Input.Cast slot batch) keys.old keys.new e) }
+        ensures { IfOk result (λ e. IsTrueStep hotstuff Refines p.now self.old self.new
+            (Input.Cast slot batch) keys.old keys.new e) }
     {
         let free = cast_slot(&self.node, p, slot);
         let accepted = keep_at(&mut self.accepted, alloc, free, &batch)?;
@@ -96,7 +101,7 @@ impl HotStuff {
         outcome.sign(alloc, p, accepted, keys)
     }
 
-    // A proposal that passes its test is taken, and its batch accepted.
+    // Takes a proposal, if it is valid: accepts its batch and casts a prepare vote.
     fn prepare(
         &mut self,
         alloc: Global,
@@ -110,7 +115,8 @@ impl HotStuff {
         requires good { IsGoodParams hotstuff p.now }
         requires enough { 2 ≤ left_of keys.old }
         ensures { IfOk result (λ e. (sig : List ℕ) →
-            IsTrueStep hotstuff Refines p.now self.old self.new (Input.Receive from (Prepare view what just sig)) keys.old keys.new e) }
+            IsTrueStep hotstuff Refines p.now self.old self.new
+            (Input.Receive from (Prepare view what just sig)) keys.old keys.new e) }
     {
         if !self.node.may_prepare(p, from, view, &what, &just) {
             return Ok(Effects::nothing(alloc));
@@ -121,7 +127,7 @@ impl HotStuff {
         outcome.sign(alloc, p, accepted, keys)
     }
 
-    // What the branch of a decided node holds for slots that are not delivered is delivered.
+    // Takes a Decide. A valid commitQC of a known node delivers the slots of its branch that are not yet delivered.
     // rule: HotStuff: A certificate of the third phase delivers its node's branch, each slot once
     // rule: Modules: A step delivers exactly what the module's definition delivers
     fn decide(
@@ -133,7 +139,8 @@ impl HotStuff {
     ) -> Result<Effects<Message>, NoMemory>
         requires { IsGoodParams hotstuff p.now }
         ensures { IfOk result (λ e. (from : NodeId) (sig : List ℕ) (keys : KeyState) → 2 ≤ left_of keys →
-            IsTrueStep hotstuff Refines p.now self.old self.new (Input.Receive from (Decide view shown sig)) keys keys e) }
+            IsTrueStep hotstuff Refines p.now self.old self.new
+            (Input.Receive from (Decide view shown sig)) keys keys e) }
     {
         let mut effects = Effects::nothing(alloc);
         if !self.node.may_deliver(p, view, &shown) {
@@ -150,7 +157,7 @@ impl HotStuff {
         Ok(effects)
     }
 
-    // A word on the start of a round.
+    // Takes a NewView. A quorum of them makes the round's leader propose.
     fn new_view(
         &mut self,
         alloc: Global,
@@ -163,13 +170,14 @@ impl HotStuff {
         requires good { IsGoodParams hotstuff p.now }
         requires enough { 2 ≤ left_of keys.old }
         ensures { IfOk result (λ e. (sig : List ℕ) →
-            IsTrueStep hotstuff Refines p.now self.old self.new (Input.Receive from (NewView round high sig)) keys.old keys.new e) }
+            IsTrueStep hotstuff Refines p.now self.old self.new
+            (Input.Receive from (NewView round high sig)) keys.old keys.new e) }
     {
         let outcome = self.node.take_new_view(alloc, p, from, round, high)?;
         outcome.sign(alloc, p, None, keys)
     }
 
-    // A certificate of the first phase.
+    // Takes a PreCommit: its prepareQC, if valid, gets a pre-commit vote.
     fn pre_commit(
         &mut self,
         alloc: Global,
@@ -182,13 +190,14 @@ impl HotStuff {
         requires good { IsGoodParams hotstuff p.now }
         requires enough { 2 ≤ left_of keys.old }
         ensures { IfOk result (λ e. (sig : List ℕ) →
-            IsTrueStep hotstuff Refines p.now self.old self.new (Input.Receive from (PreCommit view shown sig)) keys.old keys.new e) }
+            IsTrueStep hotstuff Refines p.now self.old self.new
+            (Input.Receive from (PreCommit view shown sig)) keys.old keys.new e) }
     {
         let outcome = self.node.take_pre_commit(alloc, p, view, shown)?;
         outcome.sign(alloc, p, None, keys)
     }
 
-    // A certificate of the second phase.
+    // Takes a Commit: its precommitQC, if valid, becomes the lock and gets a commit vote.
     fn commit(
         &mut self,
         alloc: Global,
@@ -201,13 +210,14 @@ impl HotStuff {
         requires good { IsGoodParams hotstuff p.now }
         requires enough { 2 ≤ left_of keys.old }
         ensures { IfOk result (λ e. (sig : List ℕ) →
-            IsTrueStep hotstuff Refines p.now self.old self.new (Input.Receive from (Commit view shown sig)) keys.old keys.new e) }
+            IsTrueStep hotstuff Refines p.now self.old self.new
+            (Input.Receive from (Commit view shown sig)) keys.old keys.new e) }
     {
         let outcome = self.node.take_commit(alloc, p, view, shown)?;
         outcome.sign(alloc, p, None, keys)
     }
 
-    // A vote.
+    // Takes a vote for one of the leader's own turns. A quorum of them is broadcast as a certificate.
     fn vote(
         &mut self,
         alloc: Global,
@@ -221,7 +231,8 @@ impl HotStuff {
     ) -> Result<Effects<Message>, NoMemory>
         requires good { IsGoodParams hotstuff p.now }
         requires enough { 2 ≤ left_of keys.old }
-        ensures { IfOk result (λ e. IsTrueStep hotstuff Refines p.now self.old self.new (Input.Receive from (Vote phase view digest sig)) keys.old keys.new e) }
+        ensures { IfOk result (λ e. IsTrueStep hotstuff Refines p.now self.old self.new
+            (Input.Receive from (Vote phase view digest sig)) keys.old keys.new e) }
     {
         let outcome = self
             .node
@@ -229,7 +240,7 @@ impl HotStuff {
         outcome.sign(alloc, p, None, keys)
     }
 
-    // A message.
+    // Takes a message.
     fn receive(
         &mut self,
         alloc: Global,
@@ -240,7 +251,8 @@ impl HotStuff {
     ) -> Result<Effects<Message>, NoMemory>
         requires good { IsGoodParams hotstuff p.now }
         requires enough { 2 ≤ left_of keys.old }
-        ensures { IfOk result (λ e. IsTrueStep hotstuff Refines p.now self.old self.new (Input.Receive from msg) keys.old keys.new e) }
+        ensures { IfOk result (λ e. IsTrueStep hotstuff Refines p.now self.old self.new
+            (Input.Receive from msg) keys.old keys.new e) }
     {
         match msg {
             Message::NewView { round, high, .. } => self.new_view(
@@ -266,7 +278,7 @@ impl HotStuff {
         }
     }
 
-    // The round ends.
+    // The round times out: enters the next one and sends its leader a NewView.
     fn time_out(
         &mut self,
         alloc: Global,
@@ -275,7 +287,8 @@ impl HotStuff {
     ) -> Result<Effects<Message>, NoMemory>
         requires good { IsGoodParams hotstuff p.now }
         requires enough { 2 ≤ left_of keys.old }
-        ensures { IfOk result (λ e. IsTrueStep hotstuff Refines p.now self.old self.new Input.Timeout keys.old keys.new e) }
+        ensures { IfOk result (λ e.
+            IsTrueStep hotstuff Refines p.now self.old self.new Input.Timeout keys.old keys.new e) }
     {
         let outcome = self.node.time_out(alloc, p)?;
         outcome.sign(alloc, p, None, keys)

@@ -1,7 +1,7 @@
-//! HotStuff, an ordering module for f Byzantine nodes of 3f+1 over any number of rounds, as definitions, laws and rules: a leader
-//! proposes nodes of a tree one after another, three phases of 2f+1 votes decide a node with its branch, and a node that
-//! voted in the third keeps a lock (Yin, Malkhi, Reiter, Golan Gueta and Abraham, "HotStuff: BFT Consensus with Linearity and
-//! Responsiveness"; ISS, "Sequenced Broadcast").
+//! HotStuff, an ordering module for f Byzantine replicas of 3f+1, over any number of rounds: definitions, laws and
+//! rules. A leader proposes nodes of a tree, one after another. Three phases of 2f+1 votes (prepare, pre-commit,
+//! commit) decide a node with its branch, and a commit vote locks the replica. (Yin, Malkhi, Reiter, Golan Gueta and
+//! Abraham, "HotStuff: BFT Consensus with Linearity and Responsiveness"; ISS, "Sequenced Broadcast".)
 #![tactic(auto)]
 
 pub mod accepted;

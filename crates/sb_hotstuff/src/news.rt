@@ -1,4 +1,4 @@
-//! The words on the start of a round that a leader keeps, each by its sender.
+//! The NewView messages that the leader of a round received.
 ghost use Rattle.std.specs.Prelude.{◌≡◌, ◌∷◌, List, [], length, is_some, IfOk, OnOk};
 ghost use Rattle.std.specs.Option.{option_copied};
 ghost use Rattle.hs_tree.specs.declared.certificates.Certificate.TheVariants.{Root};
@@ -10,20 +10,20 @@ use iss_request::NoMemory;
 use std::alloc::Global;
 use std::collections::BTreeMap;
 
-/// Whose word it is, and on which round.
+/// The key of a NewView message: its sender and its round.
 #[derive(PartialEq, Eq, PartialOrd, Ord, Drop)]
 pub struct Sender {
     pub by: u8,
     pub round: u16,
 }
 
-/// The certificate in each word that is kept.
+/// The certificate of each NewView message received.
 #[derive(Drop)]
 pub struct Words {
     all: BTreeMap<Sender, Certificate>,
 }
 
-// The one with the higher view of two, the first where they are equal.
+// The certificate with the higher view, `found` if they are equal. The only error is out of memory.
 fn better(
     alloc: Global,
     found: Certificate,
@@ -41,7 +41,7 @@ fn better(
 }
 
 impl Words {
-    /// No words.
+    /// No messages.
     pub fn new(alloc: Global) -> Words
         ensures { AreNews result [] }
     {
@@ -50,7 +50,7 @@ impl Words {
         }
     }
 
-    // The certificate in a node's word.
+    // The certificate of this replica's message for the round, if one was received.
     fn at(&self, by: u8, round: u16) -> Option<&Certificate>
         ensures { option_copied result ≡ word_at self.now by round }
     {
@@ -58,14 +58,14 @@ impl Words {
         self.all.get(&sender)
     }
 
-    /// Whether the node's word is kept.
+    /// Whether this replica's message for the round was received.
     pub fn has(&self, by: u8, round: u16) -> bool
         ensures { (ws : List News) → AreNews self.now ws → result ≡ is_some (news_of ws round by) }
     {
         self.at(by, round).is_some()
     }
 
-    /// How many of the first `n` nodes sent a word on the round.
+    /// How many of replicas 0 to `n` - 1 sent a message for the round.
     pub fn count(&self, n: u8, round: u16) -> u32
         ensures { (ws : List News) → AreNews self.now ws → result ≡ length (all_news n ws round) }
     {
@@ -78,7 +78,8 @@ impl Words {
         count
     }
 
-    /// The certificate with the highest view in the words of the first `n` nodes, that of the least node of several.
+    /// The certificate with the highest view in the messages of replicas 0 to `n` - 1 (HotStuff: highQC). Ties go to
+    /// the lowest replica; without messages it is the root's. The only error is out of memory.
     pub fn best(&self, alloc: Global, n: u8, round: u16) -> Result<Certificate, NoMemory>
         ensures { IfOk result (λ c. (ws : List News) → AreNews self.now ws → c ≡ best Root (all_news n ws round)) }
     {
@@ -89,7 +90,7 @@ impl Words {
         Ok(found)
     }
 
-    /// One word more.
+    /// Adds a message, or replaces its certificate. The only error is out of memory.
     pub fn keep(&mut self, by: u8, round: u16, high: Certificate) -> Result<(), NoMemory>
         ensures { OnOk result ((w : News) (ws : List News) → w ≡ record { by = by; round = round; high = high } →
             AreNews self.old ws → AreNews self.new (w ∷ ws)) }

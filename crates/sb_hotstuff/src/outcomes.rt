@@ -1,4 +1,4 @@
-//! What a rule makes.
+//! The outcome of a rule, not yet signed.
 ghost use Rattle.std.specs.Prelude.{◌≡◌, ◌≤◌, Some, IfOk};
 ghost use Rattle.iss_keys.specs.KeyStates.{left_of};
 ghost use Rattle.iss_sb.specs.Calls.{IsGoodParams};
@@ -13,7 +13,7 @@ use iss_request::{Batch, Bytes, NoMemory, Seq, Slot};
 use iss_sb::{Effects, Params};
 use std::alloc::Global;
 
-/// An answer and a proposal, each as it is before it is signed, and the strings that were hashed.
+/// The answer and the proposal of a step, both unsigned, and the strings that were hashed.
 #[derive(Drop)]
 pub struct Outcome {
     pub answer: Option<Draft>,
@@ -22,7 +22,7 @@ pub struct Outcome {
 }
 
 impl Outcome {
-    /// Nothing at all.
+    /// No effects.
     pub fn nothing(alloc: Global) -> Outcome
         ensures { IsQuiet result }
     {
@@ -33,7 +33,7 @@ impl Outcome {
         }
     }
 
-    /// An answer alone.
+    /// Only this answer.
     pub fn of(alloc: Global, answer: Draft) -> Outcome
         ensures { IsAnswer answer result }
     {
@@ -44,7 +44,8 @@ impl Outcome {
         }
     }
 
-    /// The messages, each signed with the next leaf, the answer first, with the batch that was accepted.
+    /// The effects: the answer, then the proposal, each signed with the next leaf; and the batch that was accepted. The
+    /// only error is out of memory.
     pub fn sign(
         self,
         alloc: Global,

@@ -1,4 +1,5 @@
-//! The test of a proposal. It takes no memory: a host asks before it takes the input.
+//! The test of a proposal (HotStuff: safeNode, and the checks of sender, view and content). It allocates nothing, since
+//! the host asks for it before it takes the input.
 ghost use Rattle.std.specs.Prelude.{◌≡◌, ◌&&◌, ℕ};
 ghost use Rattle.iss_sb.specs.Calls.{IsGoodParams};
 ghost use Rattle.sb_hotstuff.specs.HotStuff.{hotstuff};
@@ -16,15 +17,17 @@ use iss_request::NodeId;
 use iss_sb::{Content, Params};
 
 impl Node {
-    // Whether the proposal's node is the lock's: one that is proposed again.
+    // Whether the proposal's node is the locked one, proposed again.
     fn is_locked(&self, p: &Params, what: &Content, just: &Certificate) -> bool
-        ensures { (s : State) (view : ℕ) → RefinesState self.now s → result ≡ same_bytes (node_digest p.now view what.now just.now) (digest_of s.lock) }
+        ensures { (s : State) (view : ℕ) → RefinesState self.now s →
+            result ≡ same_bytes (node_digest p.now view what.now just.now) (digest_of s.lock) }
     {
         let node = digest_of_node(p.setup.version, &just.digest(), what);
         same(&node, &self.lock.digest())
     }
 
-    // Whether the node extends the lock's, or its justification is above the lock. Only a node on none of these is hashed.
+    // HotStuff's safeNode: the node extends the locked one, or its justification is above the lock. The node is hashed
+    // only if the cheaper tests fail.
     // rule: HotStuff: A proposal is safe if it extends the lock or its certificate is above the lock
     fn is_safe(&self, p: &Params, what: &Content, just: &Certificate) -> bool
         ensures { (s : State) (view : ℕ) → RefinesState self.now s → result ≡ is_safe p.now s view what.now just.now }
@@ -38,21 +41,23 @@ impl Node {
         self.is_locked(p, what, just)
     }
 
-    // Whether what is proposed may stand behind the branch of the certificate's node.
+    // Whether the content may follow the branch of the justification's node.
     fn is_fit(&self, p: &Params, view: u32, what: &Content, just: &Certificate) -> bool
-        ensures { (s : State) → RefinesState self.now s → result ≡ is_allowed p.now (round_of view) (slots_below s just.now) what.now }
+        ensures { (s : State) → RefinesState self.now s →
+            result ≡ is_allowed p.now (round_of view) (slots_below s just.now) what.now }
     {
         is_allowed(p, round_of(view), self.tree.slots(&just.digest()), what)
     }
 
-    // Whether a proposal in the view may stand on the certificate's node.
+    // Whether the justification is valid for this view, and its node known.
     fn is_founded(&self, p: &Params, view: u32, just: &Certificate) -> bool
-        ensures { (s : State) → RefinesState self.now s → result ≡ (is_just p.now view just.now && is_known s.tree (digest_of just.now)) }
+        ensures { (s : State) → RefinesState self.now s →
+            result ≡ (is_just p.now view just.now && is_known s.tree (digest_of just.now)) }
     {
         is_just(p, view, just) && self.tree.has(&just.digest())
     }
 
-    /// Whether the proposal is to be taken and voted for.
+    /// Whether the proposal is taken and gets a prepare vote.
     pub fn may_prepare(
         &self,
         p: &Params,

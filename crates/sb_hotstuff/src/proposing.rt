@@ -1,4 +1,4 @@
-//! A leader's proposals.
+//! The leader's proposals.
 ghost use Rattle.std.specs.Prelude.{◌≡◌, ◌≤◌, ◌<◌, ◌+◌, ◌^◌, ◌%◌, Some, IfOk};
 ghost use Rattle.std.specs.Option.{option_copied};
 ghost use Rattle.iss_base.specs.Lists.{nth};
@@ -20,7 +20,7 @@ use iss_request::{Batch, NoMemory};
 use iss_sb::{Content, Params};
 use std::alloc::Global;
 
-// What is proposed behind so many slots where nothing is left to cast.
+// The first content of a later round on a branch that fills this many slots: nil if a slot is open, else a mark.
 fn nil_or_mark(p: &Params, slots: usize) -> Content
     ensures { result ≡ nil_or_mark p.now slots }
 {
@@ -32,7 +32,8 @@ fn nil_or_mark(p: &Params, slots: usize) -> Content
 }
 
 impl Node {
-    // Proposes a node on a certificate, behind so many slots.
+    // Proposes a node in this view. Its parent is the justification's node, whose branch fills `slots` slots. The only
+    // error is out of memory.
     fn propose(
         &mut self,
         alloc: Global,
@@ -62,14 +63,14 @@ impl Node {
         })
     }
 
-    // The cast of this place.
+    // The cast at this index.
     fn cast_at(&self, place: usize) -> Option<&Batch>
         ensures { option_copied result ≡ nth self.now.casts place }
     {
         self.casts.as_slice().get(place)
     }
 
-    // Proposes the cast of this place, if there is one.
+    // Proposes the cast at this index, if there is one.
     fn propose_cast(
         &mut self,
         alloc: Global,
@@ -79,7 +80,8 @@ impl Node {
         slots: usize,
         place: usize,
     ) -> Result<Outcome, NoMemory>
-        ensures { IfOk result (λ o. (k : State) → slots < 2 ^ 63 → view % 65536 ≤ slots + 2 → slots + 1 ≤ view → RefinesState self.old k →
+        ensures { IfOk result (λ o. (k : State) → slots < 2 ^ 63 → view % 65536 ≤ slots + 2 → slots + 1 ≤ view →
+            RefinesState self.old k →
             Proposes p.now self.old self.new k (cast_turn p.now view just slots (nth k.casts place)) o) }
     {
         let Some(batch) = self.cast_at(place) else {
@@ -89,7 +91,7 @@ impl Node {
         self.propose(alloc, p, view, just, what, slots)
     }
 
-    // Whether the last turn has shown the first quorum and the last one, and the node is in no later round.
+    // Whether the last turn's prepareQC and commitQC were broadcast, and the replica is in no later round.
     fn is_ready(&self, p: &Params, last: &Last) -> bool
         requires { IsGoodParams hotstuff p.now }
         ensures { (s : State) → RefinesState self.now s → result ≡ is_last_ready p.now s last.now }
@@ -99,11 +101,13 @@ impl Node {
             && round_of(self.view) <= round_of(last.view)
     }
 
-    /// The turn behind the last one, if it is ready.
+    /// Proposes the turn after the last one, if that is complete. In round 0 the first turn needs no predecessor. The
+    /// only error is out of memory.
     // rule: HotStuff: The next turn extends the last one, once its first and last quorum were shown
     pub(crate) fn next(&mut self, alloc: Global, p: &Params) -> Result<Outcome, NoMemory>
         requires { IsGoodParams hotstuff p.now }
-        ensures { IfOk result (λ o. (k : State) → RefinesState self.old k → Proposes p.now self.old self.new k (next_turn p.now k k.turns) o) }
+        ensures { IfOk result (λ o. (k : State) → RefinesState self.old k →
+            Proposes p.now self.old self.new k (next_turn p.now k k.turns) o) }
     {
         let Some(last) = self.turns.last() else {
             if round_of(self.view) != 0 {
@@ -117,7 +121,7 @@ impl Node {
         self.turn_after(alloc, p, last)
     }
 
-    // The turn behind one that is ready.
+    // Proposes the turn after a complete one: in round 0 the next cast, in later rounds nil until the branch is full.
     fn turn_after(&mut self, alloc: Global, p: &Params, last: Last) -> Result<Outcome, NoMemory>
         requires { IsGoodParams hotstuff p.now }
         ensures { IfOk result (λ o. (k : State) (t : Turn) → own_of t ≡ last → IsLow last → RefinesState self.old k →
@@ -137,7 +141,8 @@ impl Node {
         self.propose(alloc, p, view, just, Content::Nil, last.slots)
     }
 
-    /// The first turn of a round, once a quorum's words on it are kept.
+    /// Proposes the first turn of a round, once exactly a quorum's NewView messages were received. Nothing is proposed
+    /// if the replica is in a later round or the certificate's node is unknown. The only error is out of memory.
     // rule: HotStuff: A round begins on the highest certificate of a quorum of NewViews
     pub(crate) fn first(
         &mut self,
@@ -147,7 +152,8 @@ impl Node {
     ) -> Result<Outcome, NoMemory>
         requires good { IsGoodParams hotstuff p.now }
         requires round { 1 ≤ round }
-        ensures { IfOk result (λ o. (k : State) → RefinesState self.old k → Proposes p.now self.old self.new k (first_turn p.now k round) o) }
+        ensures { IfOk result (λ o. (k : State) → RefinesState self.old k →
+            Proposes p.now self.old self.new k (first_turn p.now k round) o) }
     {
         let n = p.setup.n as u8;
         if self.news.count(n, round) != p.setup.quorum || round_of(self.view) > round {

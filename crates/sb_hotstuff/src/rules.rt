@@ -1,4 +1,4 @@
-//! The rules of HotStuff, a function a rule: what an input makes of a node's state, and what is answered and proposed.
+//! The rules of HotStuff, one function each: the next state, and what is sent.
 ghost use Rattle.std.specs.Prelude.{◌≡◌, List, ℕ, true, IfOk};
 ghost use Rattle.iss_request.specs.declared.ids.NodeId.{NodeId};
 ghost use Rattle.iss_sb.specs.Calls.{IsGoodParams};
@@ -17,11 +17,12 @@ use iss_request::{Batch, Bytes, NoMemory, NodeId, Slot};
 use iss_sb::{Content, Input, Params};
 use std::alloc::Global;
 
-/// The last round that there is.
+/// The last round: a view has 16 bits for it.
 const LAST_ROUND: u16 = 65_535;
 
 impl Node {
-    /// A cast at the leader in the first round, at the next slot: it is proposed once the last turn is done.
+    /// A cast, if it is valid: it waits until the turns before it are complete, and then is proposed. The only error is
+    /// out of memory.
     pub fn take_cast(
         &mut self,
         alloc: Global,
@@ -30,7 +31,8 @@ impl Node {
         batch: Batch,
     ) -> Result<Outcome, NoMemory>
         requires { IsGoodParams hotstuff p.now }
-        ensures { IfOk result (λ o. (s : State) → RefinesState self.old s → Does p.now self.old self.new s (Input.Cast slot batch) o) }
+        ensures { IfOk result (λ o. (s : State) → RefinesState self.old s →
+            Does p.now self.old self.new s (Input.Cast slot batch) o) }
     {
         if !self.may_cast(p, slot) {
             return Ok(Outcome::nothing(alloc));
@@ -39,7 +41,8 @@ impl Node {
         self.next(alloc, p)
     }
 
-    /// A proposal that passed its test: the node is known from then on, and voted for in the first phase.
+    /// A proposal that passed `may_prepare`: its node becomes known, its view the replica's own, and the answer is a
+    /// prepare vote. The only error is out of memory.
     pub fn take_node(
         &mut self,
         alloc: Global,
@@ -49,7 +52,8 @@ impl Node {
         just: &Certificate,
     ) -> Result<Outcome, NoMemory>
         requires { IsGoodParams hotstuff p.now }
-        ensures { IfOk result (λ o. (s : State) (from : NodeId) (sig : List ℕ) → RefinesState self.old s → may_prepare p.now s from.0 view what just.now ≡ true →
+        ensures { IfOk result (λ o. (s : State) (from : NodeId) (sig : List ℕ) → RefinesState self.old s →
+            may_prepare p.now s from.0 view what just.now ≡ true →
             Does p.now self.old self.new s (Input.Receive from (Prepare view what just.now sig)) o) }
     {
         let parent = just.digest();
@@ -67,7 +71,8 @@ impl Node {
         })
     }
 
-    /// A certificate of the first phase: it becomes the highest, and the node is voted for in the second.
+    /// A PreCommit of the replica's own view: its prepareQC becomes the highest one, and the answer is a pre-commit
+    /// vote. Otherwise nothing changes. The only error is out of memory.
     pub fn take_pre_commit(
         &mut self,
         alloc: Global,
@@ -89,7 +94,8 @@ impl Node {
         Ok(Outcome::of(alloc, draft))
     }
 
-    /// A certificate of the second phase: it becomes the lock, and the node is voted for in the third.
+    /// A Commit of the replica's own view: its precommitQC becomes the lock, and the answer is a commit vote. Otherwise
+    /// nothing changes. The only error is out of memory.
     // rule: HotStuff: Only a certificate of the second phase becomes the lock, which never decreases
     pub fn take_commit(
         &mut self,
@@ -112,7 +118,8 @@ impl Node {
         Ok(Outcome::of(alloc, draft))
     }
 
-    /// A vote for a turn of the own: a quorum's are shown to all, and behind the first and the last phase comes the next turn.
+    /// A vote for one of the leader's own turns. Exactly a quorum is broadcast as a certificate. After the first and
+    /// the last phase the next turn is tried. The only error is out of memory.
     pub fn take_vote(
         &mut self,
         alloc: Global,
@@ -145,7 +152,8 @@ impl Node {
         Ok(outcome)
     }
 
-    /// A word on the start of a round that the node leads: a quorum's lead to the first turn.
+    /// A NewView for a round that the replica leads. Exactly a quorum leads to the round's first turn. The only error
+    /// is out of memory.
     pub fn take_new_view(
         &mut self,
         alloc: Global,
@@ -168,11 +176,13 @@ impl Node {
         self.first(alloc, p, round)
     }
 
-    /// The round ends, if there is another: its leader is told the highest certificate.
+    /// The round times out. The replica enters the next round, if there is one, and sends its leader the highest
+    /// prepareQC. The only error is out of memory.
     // rule: HotStuff: A timeout enters the next round and tells its leader the highest certificate
     pub fn time_out(&mut self, alloc: Global, p: &Params) -> Result<Outcome, NoMemory>
         requires { IsGoodParams hotstuff p.now }
-        ensures { IfOk result (λ o. (s : State) → RefinesState self.old s → Does p.now self.old self.new s Input.Timeout o) }
+        ensures { IfOk result (λ o. (s : State) → RefinesState self.old s →
+            Does p.now self.old self.new s Input.Timeout o) }
     {
         let round = round_of(self.view);
         if round >= LAST_ROUND {

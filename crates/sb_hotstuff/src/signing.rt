@@ -1,4 +1,4 @@
-//! What nodes of HotStuff sign, and what messages claim that they signed.
+//! What replicas of HotStuff sign, and what their messages claim that replicas signed.
 ghost use Rattle.std.specs.Prelude.{◌≡◌, ◌<◌, ◌+◌, ◌==◌, ◌++◌, ◌∷◌, [], ℕ, List, Some, length, IfOk, OnOk, if◌then◌else◌};
 ghost use Rattle.iss_keys.specs.Directories.{AreKeysOf};
 ghost use Rattle.iss_keys.specs.KeyStates.{left_of};
@@ -25,17 +25,17 @@ use iss_request::{Bytes, NoMemory, NodeId, Seq};
 use iss_sb::{Claim, Content, Params, To, sign};
 use std::alloc::Global;
 
-/// The number of the module.
+/// The module's number in statements and packets.
 pub const TAG: u8 = 4;
 
-/// Whom a message goes to: all nodes, or who leads a round.
+/// The recipient of a message: all replicas, or the leader of a round.
 #[derive(Clone, Copy, Debug)]
 pub enum Recipient {
     All,
     Leader(u16),
 }
 
-/// A message before it is signed: to whom it goes, and what its sender is to sign.
+/// An unsigned message, with its recipient and the statement that its sender signs.
 #[derive(Drop)]
 pub struct Draft {
     pub to: Recipient,
@@ -43,7 +43,7 @@ pub struct Draft {
     pub statement: Bytes,
 }
 
-/// Who leads a round.
+/// The leader of a round: leaders rotate, beginning with the segment's leader.
 pub fn leader_of(p: &Params, round: u16) -> NodeId
     requires { IsGoodParams hotstuff p.now }
     ensures leader { result.0 ≡ leader_of p.now round }
@@ -53,7 +53,7 @@ pub fn leader_of(p: &Params, round: u16) -> NodeId
     NodeId((sum % p.setup.n) as u8)
 }
 
-// The nodes that are meant.
+// The recipient as a replica's number.
 fn to_nodes(p: &Params, to: Recipient) -> To
     requires { IsGoodParams hotstuff p.now }
     ensures to { result ≡ to_nodes p.now to }
@@ -67,7 +67,7 @@ fn to_nodes(p: &Params, to: Recipient) -> To
 
 // ---- drafts
 
-/// A vote, to the leader of the view's round.
+/// A vote, to the leader of the view's round. The only error is out of memory.
 pub fn vote_draft(
     alloc: Global,
     p: &Params,
@@ -92,7 +92,7 @@ pub fn vote_draft(
     })
 }
 
-// The message that shows a quorum of votes, without its signature.
+// The message that broadcasts a certificate of this phase, not yet signed.
 fn shown_message(alloc: Global, phase: u8, view: u32, shown: Certificate) -> Message
     ensures { result ≡ shows phase view shown }
 {
@@ -115,7 +115,7 @@ fn shown_kind(phase: u8) -> u8
     }
 }
 
-/// A quorum of votes, to all.
+/// A quorum certificate, to all: a PreCommit, Commit or Decide. The only error is out of memory.
 pub fn shown_draft(
     alloc: Global,
     p: &Params,
@@ -135,7 +135,7 @@ pub fn shown_draft(
     })
 }
 
-/// A proposal, to all, by the digest of its node.
+/// A proposal, to all. `digest` is the digest of its node. The only error is out of memory.
 pub fn proposal_draft(
     alloc: Global,
     p: &Params,
@@ -144,7 +144,8 @@ pub fn proposal_draft(
     just: Certificate,
     digest: &[u8; 32],
 ) -> Result<Draft, NoMemory>
-    ensures { IfOk result (λ d. digest.now ≡ node_digest p.now view what just → AreDrafts p.now (Some d) ((To_all, Prepare view what just []) ∷ [])) }
+    ensures { IfOk result (λ d. digest.now ≡ node_digest p.now view what just →
+        AreDrafts p.now (Some d) ((To_all, Prepare view what just []) ∷ [])) }
 {
     let statement = node_statement(alloc, p, TAG, PREPARE, view, digest)?;
     let sig = Bytes::new(alloc);
@@ -160,7 +161,7 @@ pub fn proposal_draft(
     })
 }
 
-/// A word on the start of a round, to its leader.
+/// A NewView with the highest prepareQC, to the leader of the round. The only error is out of memory.
 pub fn round_draft(
     alloc: Global,
     p: &Params,
@@ -180,7 +181,7 @@ pub fn round_draft(
 
 // ---- signing
 
-// The message with another signature.
+// The message with this signature instead of its own.
 fn with_signature(msg: Message, new: Bytes) -> Message
     ensures { result ≡ with_signature new msg }
 {
@@ -230,7 +231,7 @@ fn with_signature(msg: Message, new: Bytes) -> Message
     }
 }
 
-/// Signs a message, if there is one, with the next leaf, and puts it behind others.
+/// Signs the message, if there is one, with the next leaf, and appends it. The only error is out of memory.
 pub fn send(
     p: &Params,
     draft: Option<Draft>,
@@ -239,7 +240,8 @@ pub fn send(
 ) -> Result<(), NoMemory>
     requires good { IsGoodParams hotstuff p.now }
     requires left { 0 < left_of keys.old }
-    ensures sends { OnOk result ((me : ℕ) (xs : List (To × Message)) → AreKeysOf me p.now.setup.keys keys.old → AreDrafts p.now draft xs →
+    ensures sends { OnOk result ((me : ℕ) (xs : List (To × Message)) → AreKeysOf me p.now.setup.keys keys.old →
+        AreDrafts p.now draft xs →
         sends.new ≡ sends.old ++ sign_all p.now me keys.old.used xs) }
     ensures used { OnOk result (keys.new ≡ record keys.old { used = keys.old.used + count_of draft }) }
     ensures addressed { OnOk result (AreToNodes p.now.setup.n sends.old → AreToNodes p.now.setup.n sends.new) }
@@ -255,7 +257,7 @@ pub fn send(
 
 // ---- claims
 
-// What the sender of a message signs.
+// The statement that the sender of the message signs.
 fn own_statement(alloc: Global, p: &Params, m: &Message) -> Result<Bytes, NoMemory>
     ensures { IfOk result (λ s. s ≡ own_statement basic p.now m.now) }
 {
@@ -288,7 +290,7 @@ fn own_statement(alloc: Global, p: &Params, m: &Message) -> Result<Bytes, NoMemo
     }
 }
 
-// The signature of a message.
+// The sender's signature.
 fn signature_of(m: &Message) -> &Bytes
     ensures { result.now ≡ signature_of m.now }
 {
@@ -302,7 +304,7 @@ fn signature_of(m: &Message) -> &Bytes
     }
 }
 
-// Puts what the certificate inside a message claims behind other claims.
+// Appends the claims of the certificate in the message.
 fn put_inside(alloc: Global, p: &Params, m: &Message, all: &mut Seq<Claim>) -> Result<(), NoMemory>
     ensures { OnOk result (all.new ≡ all.old ++ certificate_claims basic p.now (inside m.now)) }
 {
@@ -316,7 +318,7 @@ fn put_inside(alloc: Global, p: &Params, m: &Message, all: &mut Seq<Claim>) -> R
     }
 }
 
-// That the sender of a message signed it.
+// The claim that the sender signed the message.
 fn own_claim(alloc: Global, p: &Params, from: NodeId, m: &Message) -> Result<Claim, NoMemory>
     ensures { IfOk result (λ c. c ≡ claim from.0 (own_statement basic p.now m.now) (signature_of m.now)) }
 {
@@ -329,7 +331,8 @@ fn own_claim(alloc: Global, p: &Params, from: NodeId, m: &Message) -> Result<Cla
     })
 }
 
-/// What a message claims that nodes signed: the votes of the certificate in it, then its sender's own signature.
+/// The claims of a message: the votes of its certificate, then the sender's own signature. The only error is out of
+/// memory.
 // rule: HotStuff: A message claims the votes of its certificate, then its sender's signature
 pub fn claims(alloc: Global, p: &Params, from: NodeId, m: &Message) -> Result<Seq<Claim>, NoMemory>
     ensures { IfOk result (λ all. all ≡ claims basic p.now from.0 m.now) }

@@ -1,4 +1,4 @@
-//! What a node of HotStuff keeps, and the tests of its rules.
+//! The state of a replica of HotStuff, and the tests of its rules.
 ghost use Rattle.std.specs.Prelude.{◌≡◌, ◌/◌, ◌&&◌, IsTrue};
 ghost use Rattle.iss_base.specs.Lists.{In};
 ghost use Rattle.hs_tree.specs.Certificates.{digest_of};
@@ -18,36 +18,37 @@ use iss_request::{Batch, NodeId, Seq, Slot};
 use iss_sb::{Content, Params, is_next};
 use std::alloc::Global;
 
-/// How many phases a node passes.
+/// The number of voting phases: prepare, pre-commit and commit.
 pub const PHASES: u8 = 3;
 
-/// A node's part in one instance.
+/// The protocol's state of one replica in one instance.
 #[derive(Drop)]
 pub struct Node {
     pub(crate) me: NodeId,
     pub(crate) view: u32,
     pub(crate) tree: Tree,
-    // the highest certificate of the first phase, and the lock
+    // the highest prepareQC, and the lock, which is a precommitQC (HotStuff: lockedQC)
     pub(crate) high: Certificate,
     pub(crate) lock: Certificate,
-    // whether it voted in the second and in the third phase of the view
+    // whether it cast its pre-commit vote and its commit vote in this view
     pub(crate) second: bool,
     pub(crate) third: bool,
-    // a leader's casts, turns, and the votes and words that it keeps
+    // a leader's casts and turns, and the votes and NewView messages that it received
     pub(crate) casts: Seq<Batch>,
     pub(crate) turns: Turns,
     pub(crate) votes: Ballots,
     pub(crate) news: Words,
 }
 
-/// The round of a view.
+/// The round of a view: its upper 16 bits. The lower 16 bits are the turn.
 pub fn round_of(view: u32) -> u16
     ensures { result ≡ view / 65536 }
 {
     (view / 65536) as u16
 }
 
-/// Whether a certificate is one of a quorum's votes for this phase in this view, which is that of a turn.
+/// Whether this is a valid quorum certificate: exactly a quorum's votes for this phase in this view, which has a turn.
+/// The signatures are checked by the host.
 // rule: HotStuff: A certificate has the votes of exactly a quorum
 pub fn is_good(p: &Params, phase: u8, view: u32, c: &Certificate) -> bool
     ensures { result ≡ is_good p.now phase view c.now }
@@ -55,7 +56,7 @@ pub fn is_good(p: &Params, phase: u8, view: u32, c: &Certificate) -> bool
     view % 65536 >= 1 && c.is_quorum(p.setup.quorum, phase, view)
 }
 
-/// Whether a proposal in the view may stand on the certificate.
+/// Whether the certificate may justify a proposal in this view: the root's, or a prepareQC of an earlier view.
 pub fn is_just(p: &Params, view: u32, c: &Certificate) -> bool
     ensures { result ≡ is_just p.now view c.now }
 {
@@ -65,7 +66,8 @@ pub fn is_just(p: &Params, view: u32, c: &Certificate) -> bool
     }
 }
 
-/// What may stand behind so many slots.
+/// Whether the content may follow a branch that fills this many slots. In round 0 a batch; in later rounds nil, and a
+/// mark once all slots are filled.
 // rule: HotStuff: Batches are proposed in round 0 only; later rounds propose nil, then marks
 pub fn is_allowed(p: &Params, round: u16, slots: usize, what: &Content) -> bool
     ensures { result ≡ is_allowed p.now round slots what.now }
@@ -78,7 +80,7 @@ pub fn is_allowed(p: &Params, round: u16, slots: usize, what: &Content) -> bool
 }
 
 impl Node {
-    /// One that has taken nothing.
+    /// The initial state.
     pub fn start(alloc: Global, me: NodeId) -> Node
         ensures me { result.me ≡ me }
         ensures state { RefinesState result start }
@@ -98,7 +100,7 @@ impl Node {
         }
     }
 
-    /// Whether a batch may be cast at the slot: by the leader in the first round, at the next one.
+    /// Whether a cast at this slot is valid: at the segment's leader, in round 0, at the next slot.
     pub fn may_cast(&self, p: &Params, slot: Slot) -> bool
         ensures may { (s : State) → RefinesState self.now s → result ≡ may_cast p.now self.now.me.0 s slot.0 }
         ensures inside { IsTrue result → In slot p.now.slots }
@@ -109,7 +111,7 @@ impl Node {
         is_next(p, self.casts.len(), slot)
     }
 
-    /// Whether a proposal is its view's leader's, in a view above the own.
+    /// Whether the proposal is by the leader of its view, in a view above the replica's own that has a turn.
     // rule: HotStuff: A proposal is taken only in a view above the replica's own
     pub fn is_timely(&self, p: &Params, from: NodeId, view: u32) -> bool
         requires { IsGoodParams hotstuff p.now }
@@ -118,14 +120,14 @@ impl Node {
         from == leader_of(p, round_of(view)) && self.view < view && view % 65536 >= 1
     }
 
-    // Whether a certificate of the own view is good for the phase, and on a known node.
+    // Whether the certificate is valid for this phase in the replica's own view, and its node known.
     fn is_shown(&self, p: &Params, phase: u8, view: u32, shown: &Certificate) -> bool
         ensures { (s : State) → RefinesState self.now s → result ≡ is_shown p.now s phase view shown.now }
     {
         is_good(p, phase, view, shown) && view == self.view && self.tree.has(&shown.digest())
     }
 
-    /// Whether the node is to vote in the second phase of the view.
+    /// Whether a PreCommit with this prepareQC gets a pre-commit vote.
     // rule: HotStuff: A replica votes once for a phase of a view, in views that never decrease
     pub fn may_second(&self, p: &Params, view: u32, shown: &Certificate) -> bool
         ensures { (s : State) → RefinesState self.now s → result ≡ may_second p.now s view shown.now }
@@ -133,21 +135,22 @@ impl Node {
         self.is_shown(p, 1, view, shown) && !self.second
     }
 
-    /// Whether the node is to vote in the third phase of the view.
+    /// Whether a Commit with this precommitQC gets a commit vote.
     pub fn may_third(&self, p: &Params, view: u32, shown: &Certificate) -> bool
         ensures { (s : State) → RefinesState self.now s → result ≡ may_third p.now s view shown.now }
     {
         self.is_shown(p, 2, view, shown) && !self.third
     }
 
-    /// Whether the certificate decides the branch of its node.
+    /// Whether the certificate is a valid commitQC of a known node, which decides the node's branch.
     pub fn may_deliver(&self, p: &Params, view: u32, shown: &Certificate) -> bool
-        ensures { (s : State) → RefinesState self.now s → result ≡ (is_good p.now 3 view shown.now && is_known s.tree (digest_of shown.now)) }
+        ensures { (s : State) → RefinesState self.now s →
+            result ≡ (is_good p.now 3 view shown.now && is_known s.tree (digest_of shown.now)) }
     {
         is_good(p, PHASES, view, shown) && self.tree.has(&shown.digest())
     }
 
-    /// Whether a vote is to be kept: for a turn of the own, the first of its sender, up to a quorum.
+    /// Whether the vote is counted: for one of the replica's own turns, the sender's first, and below a quorum.
     pub fn keeps_vote(
         &self,
         p: &Params,
@@ -165,7 +168,7 @@ impl Node {
             && self.votes.count(p.setup.n as u8, phase, view, digest) < p.setup.quorum
     }
 
-    /// Whether just a quorum's votes are kept.
+    /// Whether exactly a quorum's votes were received.
     pub fn is_reached(&self, p: &Params, phase: u8, view: u32, digest: &[u8; 32]) -> bool
         requires { IsGoodParams hotstuff p.now }
         ensures { (s : State) → RefinesState self.now s → result ≡ is_reached p.now s phase view digest.now }
@@ -173,11 +176,12 @@ impl Node {
         self.votes.count(p.setup.n as u8, phase, view, digest) == p.setup.quorum
     }
 
-    /// Whether a word on the start of a round is to be kept: of a round that the node leads, the first of its sender, up to
-    /// a quorum.
+    /// Whether the NewView message is counted: for a round that the replica leads, with a valid justification, the
+    /// sender's first, and below a quorum.
     pub fn keeps_news(&self, p: &Params, from: NodeId, round: u16, high: &Certificate) -> bool
         requires { IsGoodParams hotstuff p.now }
-        ensures { (s : State) → RefinesState self.now s → result ≡ keeps_news p.now self.now.me.0 s from.0 round high.now }
+        ensures { (s : State) → RefinesState self.now s →
+            result ≡ keeps_news p.now self.now.me.0 s from.0 round high.now }
     {
         round >= 1
             && self.me == leader_of(p, round)

@@ -1,4 +1,4 @@
-//! A leader's own turns.
+//! The turns of a leader: the proposals that it made.
 ghost use Rattle.std.specs.Prelude.{◌≡◌, ◌∷◌, List, [], OnOk};
 ghost use Rattle.sb_hotstuff.specs.Rules.{Turn, is_own_turn};
 ghost use Rattle.sb_hotstuff.specs.Tallies.{AreTurns, last_of, own_of};
@@ -7,14 +7,14 @@ use iss_request::NoMemory;
 use std::alloc::Global;
 use std::collections::BTreeSet;
 
-/// The view of a turn, and the digest of the node that was proposed in it.
+/// The key of a turn: its view, and the digest of the node proposed in it.
 #[derive(PartialEq, Eq, PartialOrd, Ord, Drop)]
 pub struct Own {
     pub view: u32,
     pub digest: [u8; 32],
 }
 
-/// The last turn, and how many slots the branch of its node holds.
+/// The last turn, and how many slots the branch of its node fills.
 #[derive(Clone, Copy)]
 pub struct Last {
     pub view: u32,
@@ -22,7 +22,7 @@ pub struct Last {
     pub slots: usize,
 }
 
-/// The turns that were made.
+/// All turns of a leader.
 #[derive(Drop)]
 pub struct Turns {
     all: BTreeSet<Own>,
@@ -40,7 +40,7 @@ impl Turns {
         }
     }
 
-    /// Whether the node of the digest was proposed in the view.
+    /// Whether this digest was proposed in this view.
     pub fn has(&self, view: u32, digest: &[u8; 32]) -> bool
         ensures { (ts : List Turn) → AreTurns self.now ts → result ≡ is_own_turn ts view digest.now }
     {
@@ -51,16 +51,17 @@ impl Turns {
         self.all.contains(&own)
     }
 
-    /// The turn that was made last.
+    /// The newest turn.
     pub fn last(&self) -> Option<Last>
         ensures { (ts : List Turn) → AreTurns self.now ts → result ≡ last_of ts }
     {
         self.last
     }
 
-    /// One turn more.
+    /// Adds a turn, which becomes the newest. The only error is out of memory.
     pub fn add(&mut self, turn: Last) -> Result<(), NoMemory>
-        ensures { OnOk result ((t : Turn) (ts : List Turn) → own_of t ≡ turn → AreTurns self.old ts → AreTurns self.new (t ∷ ts)) }
+        ensures { OnOk result ((t : Turn) (ts : List Turn) → own_of t ≡ turn → AreTurns self.old ts →
+            AreTurns self.new (t ∷ ts)) }
     {
         let digest = turn.digest;
         let own = Own {

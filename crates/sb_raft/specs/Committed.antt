@@ -17,31 +17,36 @@ use Rattle.sb_raft.specs.Logs.{term_at}
 use Rattle.sb_raft.specs.Raft.{makes, raft_log, state}
 use Rattle.sb_raft.specs.Rules.{Leader, is_leader, to}
 
--- ---- answers
+-- ---- Replies
 
--- node k's answer of that term, at or above index i and within a log of that length
+-- node k's ok Reply of term t, with an index from i to the log's length
 abbrev pub is_answer : ℕ → ℕ → ℕ → ℕ → Input Message → Bool
 is_answer t i k long (Cast slot batch) = false
 is_answer t i k long (Receive from (Append term previous previous_term commit es)) = false
-is_answer t i k long (Receive from (Reply term ok index)) = ok && ((from.0 == k) && ((term == t) && (nat_le i index && nat_le index long)))
+is_answer t i k long (Receive from (Reply term ok index)) = ok &&
+    ((from.0 == k) && ((term == t) && (nat_le i index && nat_le index long)))
 is_answer t i k long (Receive from (AskVote term last last_term)) = false
 is_answer t i k long (Receive from (Vote term granted)) = false
 is_answer t i k long Timeout = false
 
+-- whether the node leads term t after this history
 abbrev pub leads_term : Params → ℕ → List (Item Message) → ℕ → Bool
 leads_term p me xs t = is_leader (state p me xs).role && ((state p me xs).term == t)
 
--- such an answer came while the node led the term
+-- whether such a Reply was received while the node led the term
 abbrev pub has_answered : Params → ℕ → ℕ → ℕ → List (Item Message) → ℕ → Bool
 has_answered p me t i [] k = false
-has_answered p me t i (x ∷ xs) k = (leads_term p me xs t && is_answer t i k (length (raft_log p me xs)) x.input) || has_answered p me t i xs k
+has_answered p me t i (x ∷ xs) k = (leads_term p me xs t && is_answer t i k (length (raft_log p me xs)) x.input) ||
+    has_answered p me t i xs k
 
+-- the same for a node other than me
 abbrev pub another_answered : Params → ℕ → ℕ → ℕ → List (Item Message) → ℕ → Bool
 another_answered p me t i xs k = not (k == me) && has_answered p me t i xs k
 
--- ---- what may be committed
+-- ---- What may be committed
 
--- the node answered an Append with ok: the committed index that was sent, as far as the Append covers it
+-- The node answered an Append with ok. Then i is the leader's commit index, but at most the last index that the Append
+-- covers.
 pub record IsTold (p : Params) (me : ℕ) (xs : List (Item Message)) (i : ℕ) : Type 0 where
   pub item : Item Message
   pub before : List (Item Message)
@@ -53,10 +58,12 @@ pub record IsTold (p : Params) (me : ℕ) (xs : List (Item Message)) (i : ℕ) :
   pub commit : ℕ
   pub entries : List Entry
   pub came : item.input ≡ Receive from (Append term previous previous_term commit entries)
-  pub answered : In {A = To × Message} (to from.0 (Reply term true (previous + length entries))) (makes p me before item.input item.leaf).sends
+  pub answered : In {A = To × Message} (to from.0 (Reply term true (previous + length entries)))
+      (makes p me before item.input item.leaf).sends
   pub is : i ≡ min commit (previous + length entries)
 
--- at a moment while the node led a term, the entry was of that term, and f other nodes had answered at or above it
+-- At some time the node led a term, entry i of its log was of that term, and f other nodes had replied ok at or above
+-- i.
 pub record IsCounted (p : Params) (me : ℕ) (xs : List (Item Message)) (i : ℕ) : Type 0 where
   pub now : List (Item Message)
   pub moment : Front now xs
@@ -66,6 +73,7 @@ pub record IsCounted (p : Params) (me : ℕ) (xs : List (Item Message)) (i : ℕ
   pub own : term_at (raft_log p me now) i ≡ (state p me now).term
   pub others : p.setup.f ≤ count_below (another_answered p me (state p me now).term i now) p.setup.n
 
+-- index 0, and the indices of both kinds
 pub data MayBeCommitted (p : Params) (me : ℕ) (xs : List (Item Message)) : ℕ → Type 0 where
   nothing : MayBeCommitted p me xs 0
   told : {i : ℕ} → IsTold p me xs i → MayBeCommitted p me xs i

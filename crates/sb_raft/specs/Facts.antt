@@ -18,63 +18,70 @@ use Rattle.sb_raft.specs.Logs.{filled, term_at}
 use Rattle.sb_raft.specs.Raft.{commit, raft, raft_log, state}
 use Rattle.sb_raft.specs.Rules.{Leader}
 
--- at that moment node i led the term
+-- node i led term t when a was its history
 pub record Leads (p : Params) (w : World Message) (i : ℕ) (a : List (Item Message)) (t : ℕ) : Type 0 where
   pub moment : Front a (w i)
   pub leads : (state p i a).role ≡ Leader
   pub term : (state p i a).term ≡ t
 
--- no two nodes lead one term
+-- election safety: at most one leader in a term
 abbrev pub HaveOneLeader : Params → World Message → Type 0
 HaveOneLeader p w = (i j t : ℕ) (a b : List (Item Message)) → Leads p w i a t → Leads p w j b t → i ≡ j
 
--- two logs, at any moments, that have the same term at an index are equal up to it
+-- log matching: two logs, at any times, with entries of one term at an index are equal up to that index
 abbrev pub AreMatching : Params → World Message → Type 0
 AreMatching p w = (i j k : ℕ) (a b : List (Item Message)) → Front a (w i) → Front b (w j) →
-    k ≤ length (raft_log p i a) → k ≤ length (raft_log p j b) → term_at (raft_log p i a) k ≡ term_at (raft_log p j b) k →
+    k ≤ length (raft_log p i a) → k ≤ length (raft_log p j b) →
+    term_at (raft_log p i a) k ≡ term_at (raft_log p j b) k →
     take k (raft_log p i a) ≡ take k (raft_log p j b)
 
--- what a node has committed stands in the log of each leader of a later term than the node's
+-- leader completeness: what a node has committed is in the log of each leader of a later term
 abbrev pub AreKept : Params → World Message → Type 0
 AreKept p w = (i j t : ℕ) (a b : List (Item Message)) → Front a (w i) → Leads p w j b t → (state p i a).term < t →
     take (commit p i a) (raft_log p i a) ≡ take (commit p i a) (raft_log p j b)
 
--- ---- batches
+-- ---- Batches
 
--- a node that accepts a batch is the segment's leader, in term 1
+-- the node is the segment's leader and leads term 1
 pub record IsByFirst (p : Params) (i : ℕ) (before : List (Item Message)) : Type 0 where
   pub own : i ≡ p.leader.0
   pub leads : (state p i before).role ≡ Leader
   pub term : (state p i before).term ≡ 1
 
--- a batch behind that front of a log was accepted by the segment's leader, at the slot that its place holds
+-- the segment's leader accepted the batch at the slot that follows the prefix
 pub record IsOwned (p : Params) (w : World Message) (front : List Entry) (b : Batch) : Type 0 where
   pub slot : Slot
   pub place : nth p.slots (filled front) ≡ Some slot
   pub taken : In {A = Slot × Batch} (slot, b) (accepts (w p.leader.0))
 
+-- only the segment's leader, in term 1, accepts batches; and each batch in a log was accepted so
 pub record AreByFirst (p : Params) (w : World Message) : Type 0 where
   pub accepted : (i : ℕ) (x : Item Message) (before : List (Item Message)) (a : Slot × Batch) →
       Front (x ∷ before) (w i) → x.made.accepted ≡ Some a → IsByFirst p i before
-  pub owned : (i : ℕ) (a : List (Item Message)) (front : List Entry) (e : Entry) (rest : List Entry) (b : Batch) → Front a (w i) →
+  pub owned : (i : ℕ) (a : List (Item Message)) (front : List Entry) (e : Entry) (rest : List Entry) (b : Batch) →
+      Front a (w i) →
       raft_log p i a ≡ front ++ (e ∷ rest) → e.what ≡ Holds b → IsOwned p w front b
 
--- a node accepts one batch at a slot
+-- a node accepts at most one batch at a slot
 -- rule: Raft: A node accepts one batch a slot
 abbrev pub AreOnce : Params → World Message → Type 0
-AreOnce p w = (i : ℕ) (s : Slot) (b c : Batch) → In {A = Slot × Batch} (s, b) (accepts (w i)) → In {A = Slot × Batch} (s, c) (accepts (w i)) → b ≡ c
+AreOnce p w = (i : ℕ) (s : Slot) (b c : Batch) → In {A = Slot × Batch} (s, b) (accepts (w i)) →
+    In {A = Slot × Batch} (s, c) (accepts (w i)) → b ≡ c
 
--- ---- what is delivered
+-- ---- What is delivered
 
+-- agreement: two nodes that deliver a slot deliver the same value
 abbrev pub AreAgreed : Params → World Message → Type 0
-AreAgreed p w = (i j s : ℕ) (x y : Value) → delivered raft p i (w i) s ≡ Some x → delivered raft p j (w j) s ≡ Some y → x ≡ y
+AreAgreed p w = (i j s : ℕ) (x y : Value) → delivered raft p i (w i) s ≡ Some x →
+    delivered raft p j (w j) s ≡ Some y → x ≡ y
 
--- any two batches that are delivered, at whatever slots and nodes, one node accepted at their slots
+-- for any two delivered batches, some node accepted both at their slots
 abbrev pub HaveSharedAcceptor : Params → World Message → Type 0
 HaveSharedAcceptor p w = (i j : ℕ) (s t : Slot) (b c : Batch) →
-    delivered raft p i (w i) s.0 ≡ Some (Value_batch b) → delivered raft p j (w j) t.0 ≡ Some (Value_batch c) → SharedAcceptor p w s b t c
+    delivered raft p i (w i) s.0 ≡ Some (Value_batch b) → delivered raft p j (w j) t.0 ≡ Some (Value_batch c) →
+    SharedAcceptor p w s b t c
 
--- a batch that is delivered the segment's leader accepted at that slot
+-- the segment's leader accepted each delivered batch at its slot
 abbrev pub AreFromLeader : Params → World Message → Type 0
 AreFromLeader p w = (i : ℕ) (s : Slot) (b : Batch) → delivered raft p i (w i) s.0 ≡ Some (Value_batch b) →
     In {A = Slot × Batch} (s, b) (accepts (w p.leader.0))

@@ -17,33 +17,34 @@ use Rattle.raft_wire.specs.Messages.{parse, spell}
 use Rattle.sb_raft.specs.Logs.{contents}
 use Rattle.sb_raft.specs.Rules.{State, may_cast, start, step}
 
--- the state of a node that took these inputs
+-- the state of a node with this history
 abbrev pub state : Params → ℕ → List (Item Message) → State
 state p me [] = start p me
 state p me (x ∷ xs) = (step p me (state p me xs) x.input).state
 
--- casts alone are asked for
+-- only a cast offers a batch
 abbrev pub asks : Params → ℕ → List (Item Message) → Input Message → Option (Slot × Batch)
 asks p me xs (Cast slot batch) = if may_cast p (state p me xs) slot.0 then Some (slot, batch) else None
 asks p me xs (Receive from msg) = None
 asks p me xs Timeout = None
 
--- nothing is hashed, and nothing signed
+-- nothing is hashed and nothing is signed
 abbrev pub makes : Params → ℕ → List (Item Message) → Input Message → ℕ → Made Message
-makes p me xs input leaf = record { sends = (step p me (state p me xs) input).sends; accepted = asks p me xs input; strings = []; used = 0 }
+makes p me xs input leaf =
+    record { sends = (step p me (state p me xs) input).sends; accepted = asks p me xs input; strings = []; used = 0 }
 
--- the log, and how much of it is committed
+-- the log, and its commit index
 abbrev pub raft_log : Params → ℕ → List (Item Message) → List Entry
 raft_log p me xs = (state p me xs).log
 
 abbrev pub commit : Params → ℕ → List (Item Message) → ℕ
 commit p me xs = (state p me xs).commit
 
--- what the committed part of the log holds at the slot
+-- the value that the committed part of the log has for slot s
 abbrev pub decided : Params → ℕ → List (Item Message) → ℕ → Option Value
 decided p me xs s = value_with s p.slots (contents (take (commit p me xs) (raft_log p me xs)))
 
--- f stopped nodes of 2f+1
+-- for f crash-stop nodes of 2f+1
 abbrev pub raft : Module Message
 raft = record {
   nodes = nodes_of_kind Stopping;

@@ -29,7 +29,7 @@ role_of Role_follower = Follower
 role_of Role_candidate = Candidate
 role_of Role_leader = Leader
 
--- the state that the code holds
+-- the state that the code's value represents
 abbrev pub held : Raft → State
 held m = record {
   term = m.term;
@@ -42,44 +42,44 @@ held m = record {
   granted = kept m.granted;
 }
 
--- the code holds the state of a node that took that list
+-- the value refines the history
 pub record Refines (m : Raft) (p : Params) (me : ℕ) (xs : List (Item Message)) : Type 0 where
   pub node : m.me.0 ≡ me
   pub state : held m ≡ state p me xs
 
--- ---- what a rule does
+-- ---- The effects of a rule
 
--- the slots behind those that the committed part of a log filled, with what more of the log fills
+-- the slots that become filled by committed entries between two states, with their values
 abbrev pub newly : Params → State → State → List (Slot × Value)
 newly p s v = paired (drop (filled (take s.commit s.log)) p.slots) (contents (drop s.commit (take v.commit v.log)))
 
--- ---- indices in the range of the messages' fields
+-- ---- Bounds, so that indices fit into the messages' fields
 
 -- a step adds at most a mark and 64 nils
 abbrev pub HasRoom : State → Type 0
 HasRoom s = length s.log + 65 < 2 ^ 32
 
--- what a leader holds of each node is within its log
+-- a leader's next and match indices are within its log
 pub record IsLow (s : State) : Type 0 where
   pub room : HasRoom s
   pub next : s.role ≡ Leader → (k : ℕ) → s.next k - 1 ≤ length s.log
   pub matched : s.role ≡ Leader → (k : ℕ) → s.matched k ≤ length s.log
 
--- all that is sent from such a state fits
+-- every index that this state can send fits its field
 pub record Fits (s : State) : Type 0 where
   pub log : length s.log < 2 ^ 32
   pub next : (k : ℕ) → s.next k - 1 ≤ length s.log
 
--- ---- effects of the code's parts
+-- ---- The effects of the code's functions
 
--- these messages, and nothing else
+-- only these messages
 pub record OnlySends (sends : List (To × Message)) (e : Effects Message) : Type 0 where
   pub sends_is : e.sends ≡ sends
   pub accepted : e.accepted ≡ None
   pub delivers : e.delivers ≡ []
   pub hashed : e.hashed ≡ []
 
--- an answer to node k, right if its index is in range
+-- only a Reply to node k, with the index if it fits its field
 pub record IsReply (k term : ℕ) (ok : Bool) (index : ℕ) (e : Effects Message) : Type 0 where
   pub sends : index < 2 ^ 32 → e.sends ≡ to k (Reply term ok index) ∷ []
   pub addressed : (n : ℕ) → k < n → AreToNodes n e.sends
@@ -87,7 +87,8 @@ pub record IsReply (k term : ℕ) (ok : Bool) (index : ℕ) (e : Effects Message
   pub delivers : e.delivers ≡ []
   pub hashed : e.hashed ≡ []
 
--- the code did what the definition of its rule does, where that can be said in messages. `from` is the state before
+-- The code did what the model's step does, from state `from`. The state and the messages agree if `can` holds, the
+-- bound on indices.
 pub record Does (p : Params) (me : NodeId) (can : Type 0) (from : State) (new : Raft) (step : Step)
     (accepted : Option (Slot × Batch)) (e : Effects Message) : Type 0 where
   pub node : new.me ≡ me
@@ -98,7 +99,7 @@ pub record Does (p : Params) (me : NodeId) (can : Type 0) (from : State) (new : 
   pub hashed : e.hashed ≡ []
   pub addressed : AreToNodes p.setup.n e.sends
 
--- a node alone, if it is another
+-- k as a list, empty if k is the node itself
 abbrev pub other : ℕ → ℕ → List ℕ
 other me k = cond (k == me) [] (k ∷ [])
 
@@ -106,21 +107,23 @@ other me k = cond (k == me) [] (k ∷ [])
 abbrev pub cast_of : Params → State → Slot → Batch → Option (Slot × Batch)
 cast_of p s slot batch = if may_cast p s slot.0 then Some (slot, batch) else None
 
--- an Append whose previous entry is there
+-- an Append that passed the consistency check
 abbrev pub merges : State → ℕ → ℕ → ℕ → List Entry → Step
 merges s from previous commit es =
-    if may_merge s previous es then answer (appended s previous commit es) from (Reply s.term true (previous + length es)) else quiet s
+    if may_merge s previous es
+    then answer (appended s previous commit es) from (Reply s.term true (previous + length es)) else quiet s
 
--- ---- how far a quorum holds the log
+-- ---- Up to which index a quorum holds the log
 
--- how far a node is known to hold it
+-- up to which index node k is known to hold the log
 abbrev pub far : ℕ → State → ℕ → ℕ
 far me s k = if k == me then length s.log else min (s.matched k) (length s.log)
 
+-- a quorum is known to hold the log up to index i
 abbrev pub IsHeld : Params → ℕ → State → ℕ → Type 0
 IsHeld p me s i = p.setup.quorum ≤ count_below (holds me s i) p.setup.n
 
--- the greatest index of the log that a quorum holds
+-- the greatest index up to which a quorum holds the log
 pub record IsMost (p : Params) (me : ℕ) (s : State) (most : ℕ) : Type 0 where
   pub within : most ≤ length s.log
   pub held_so : 1 ≤ most → IsHeld p me s most

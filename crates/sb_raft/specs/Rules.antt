@@ -17,7 +17,7 @@ use Rattle.raft_wire.specs.declared.messages.Message.{Message}
 use Rattle.raft_wire.specs.declared.messages.Message.TheVariants.{Append, Reply, AskVote, Vote}
 use Rattle.sb_raft.specs.Logs.{entry, filled, fits_behind, last_term, merged, nils, stay, term_at, up_to_date}
 
--- ---- states
+-- ---- States
 
 pub data Role : Type 0 where
   Follower : Role
@@ -36,23 +36,23 @@ is_candidate Leader = false
 
 pub record State : Type 0 where
   pub term : ℕ
-  -- whom it voted for in the term
+  -- whom it voted for in this term (Raft: votedFor)
   pub vote : Option ℕ
   pub role : Role
   pub log : List Entry
   pub commit : ℕ
-  -- of a leader, for each other node: the index to send from, and how far the node is known to hold the log
+  -- a leader's nextIndex and matchIndex of each other node
   pub next : ℕ → ℕ
   pub matched : ℕ → ℕ
-  -- who granted a candidate its term, itself included
+  -- which nodes granted a candidate their vote, itself included
   pub granted : ℕ → Bool
 
--- what an input makes of a state, and what is sent, in order
+-- the state after an input, and the messages sent, in order
 pub record Step : Type 0 where
   pub state : State
   pub sends : List (To × Message)
 
--- every node has term 1 and has voted for the segment's leader, which leads it
+-- term 1 needs no election: each node has voted for the segment's leader, which leads it
 abbrev pub start : Params → ℕ → State
 start p me = record {
   term = 1;
@@ -65,30 +65,34 @@ start p me = record {
   granted = λ k. false;
 }
 
+-- nothing is sent
 abbrev pub quiet : State → Step
 quiet s = record { state = s; sends = [] }
 
 abbrev pub to : ℕ → Message → To × Message
 to k msg = (To_one (record { 0 = k }), msg)
 
+-- one message to node k
 abbrev pub answer : State → ℕ → Message → Step
 answer s k msg = record { state = s; sends = to k msg ∷ [] }
 
--- the numbers below n without me, ascending
+-- the numbers below n except me, ascending
 abbrev pub others : ℕ → ℕ → List ℕ
 others me zero = []
 others me (suc n) = others me n ++ cond (n == me) [] (n ∷ [])
 
+-- a message to each of these nodes
 abbrev pub to_each : (ℕ → Message) → List ℕ → List (To × Message)
 to_each msg [] = []
 to_each msg (k ∷ ks) = to k (msg k) ∷ to_each msg ks
 
--- the greatest number above low and at most k that passes the test, low where there is none
+-- the greatest number from low + 1 to k that passes the test, low if there is none
 abbrev pub greatest : (ℕ → Bool) → ℕ → ℕ → ℕ
 greatest test low zero = low
 greatest test low (suc k) = if nat_lt low (suc k) && test (suc k) then suc k else greatest test low k
 
--- ---- a leader sends each other node the entries from its next on, with what stands before them
+-- ---- AppendEntries: a leader sends each other node the entries from its nextIndex on, with the previous index and
+-- term
 
 abbrev pub append_behind : State → ℕ → Message
 append_behind s previous = Append s.term previous (term_at s.log previous) s.commit (drop previous s.log)
@@ -99,36 +103,43 @@ append_to s k = append_behind s (s.next k - 1)
 abbrev pub appends : Params → ℕ → State → List (To × Message)
 appends p me s = to_each (append_to s) (others me p.setup.n)
 
--- ---- the greatest index of an entry of the own term that a quorum holds becomes commit, and if it rose all are told
+-- ---- Committing: the greatest index of an entry of its own term that a quorum holds. A leader tells all others at
+-- once
 
+-- whether node k is known to hold the log up to index i
 abbrev pub holds : ℕ → State → ℕ → ℕ → Bool
 holds me s i k = (k == me) || nat_le i (s.matched k)
 
+-- whether the entry at i is of the leader's term, and a quorum holds it
 abbrev pub may_commit : Params → ℕ → State → ℕ → Bool
 may_commit p me s i = (term_at s.log i == s.term) && nat_le p.setup.quorum (count_below (holds me s i) p.setup.n)
 
+-- the leader sends the new commit index to all others
 abbrev pub risen : Params → ℕ → State → List (To × Message) → Step
 risen p me s sends = record { state = s; sends = sends ++ appends p me s }
 
+-- the step with this commit index, if it is higher
 abbrev pub with_commit : Params → ℕ → Step → ℕ → Step
-with_commit p me made i = if nat_lt made.state.commit i then risen p me (record made.state { commit = i }) made.sends else made
+with_commit p me made i =
+    if nat_lt made.state.commit i then risen p me (record made.state { commit = i }) made.sends else made
 
--- after what a rule made
+-- the step, followed by committing
 -- rule: Raft: A leader commits by counting an entry of its own term, and all entries before it
 abbrev pub advanced : Params → ℕ → Step → Step
-advanced p me made = with_commit p me made (greatest (may_commit p me made.state) made.state.commit (length made.state.log))
+advanced p me made = with_commit p me made
+    (greatest (may_commit p me made.state) made.state.commit (length made.state.log))
 
--- what a rule makes that sends the log to all others before
+-- sending the log to all others, followed by committing
 abbrev pub spread : Params → ℕ → State → Step
 spread p me s = advanced p me (record { state = s; sends = appends p me s })
 
--- ---- a message of a higher term: the node takes the term, has given no vote in it, and follows
+-- ---- A message of a higher term: the node becomes a follower in that term, and has voted for nobody in it
 
 -- rule: Raft: A higher term makes a node a follower of that term, with no vote given in it
 abbrev pub raised : State → ℕ → State
 raised s t = if nat_lt s.term t then record s { term = t; vote = None; role = Follower } else s
 
--- ---- casts: the leader of term 1 takes them in that term, each at the next slot
+-- ---- Casts: the leader of term 1 takes them in that term, each at the next slot
 
 abbrev pub may_cast : Params → State → ℕ → Bool
 may_cast p s slot = (is_leader s.role && (s.term == 1)) && is_slot slot (nth p.slots (filled s.log))
@@ -140,25 +151,29 @@ on_cast p me s slot batch =
     then spread p me (record s { log = s.log ++ entry s.term (Holds batch) ∷ [] })
     else quiet s
 
--- ---- Appends. One of a lower term, or whose previous entry is not there, is answered not ok
+-- ---- AppendEntries: refused if the term is lower, or if the consistency check fails
 
 abbrev pub log_limit : ℕ
 log_limit = 65600
 
--- nothing that is committed goes, and the log stays short enough. Else there is no answer
+-- no committed entry is removed, and the log stays within its limit; otherwise there is no reply
 -- rule: Raft: A log has at most 65,600 entries after an Append
 abbrev pub may_merge : State → ℕ → List Entry → Bool
-may_merge s previous es = nat_le s.commit (previous + stay (drop previous s.log) es) && nat_le (length (merged s.log previous es)) log_limit
+may_merge s previous es = nat_le s.commit (previous + stay (drop previous s.log) es) &&
+    nat_le (length (merged s.log previous es)) log_limit
 
+-- the log with the entries merged, committed up to the leader's commit index as far as they reach
 -- rule: Raft: An Append commits only entries that it covers
 abbrev pub appended : State → ℕ → ℕ → List Entry → State
-appended s previous commit es = record s { log = merged s.log previous es; commit = max s.commit (min commit (previous + length es)) }
+appended s previous commit es =
+    record s { log = merged s.log previous es; commit = max s.commit (min commit (previous + length es)) }
 
--- an Append of the own term at a follower
+-- an Append of the node's own term
 abbrev pub taken : State → ℕ → ℕ → ℕ → ℕ → List Entry → Step
 taken s from previous previous_term commit es =
     if fits_behind s.log previous previous_term
-    then (if may_merge s previous es then answer (appended s previous commit es) from (Reply s.term true (previous + length es)) else quiet s)
+    then (if may_merge s previous es
+    then answer (appended s previous commit es) from (Reply s.term true (previous + length es)) else quiet s)
     else answer s from (Reply s.term false previous)
 
 -- rule: Raft: An Append keeps committed entries and removes entries that differ in term
@@ -169,17 +184,19 @@ on_append s from term previous previous_term commit es =
     then taken (record s { role = Follower }) from previous previous_term commit es
     else answer s from (Reply s.term false previous)
 
--- ---- replies of other nodes at the leader, of its term
+-- ---- Replies of other nodes in the leader's term
 
--- an ok within the log: the match rises
+-- node j holds the log up to index i
 abbrev pub matched_at : State → ℕ → ℕ → State
 matched_at s j i = record s { matched = set_at s.matched j i; next = set_at s.next j (i + 1) }
 
+-- an ok within the log raises the matchIndex, followed by committing
 -- rule: Raft: A follower's match index never decreases within a term
 abbrev pub on_ok : Params → ℕ → State → ℕ → ℕ → Step
-on_ok p me s from i = if nat_le i (length s.log) then advanced p me (quiet (matched_at s from (max (s.matched from) i))) else quiet s
+on_ok p me s from i =
+    if nat_le i (length s.log) then advanced p me (quiet (matched_at s from (max (s.matched from) i))) else quiet s
 
--- not ok, of the Append that was sent last: one entry more is sent
+-- a refusal of the last Append decrements nextIndex, and one more entry is sent
 -- rule: Raft: After a refused Append the leader sends one entry more
 abbrev pub on_not_ok : State → ℕ → ℕ → Step
 on_not_ok s from i =
@@ -193,8 +210,9 @@ on_reply p me s from term ok i =
     then (if ok then on_ok p me s from i else on_not_ok s from i)
     else quiet s
 
--- ---- votes: one a term, and only for an asker whose log is not behind the own
+-- ---- RequestVote: one vote a term, only for a candidate whose log is at least as up to date
 
+-- whether the node has no other vote in this term
 abbrev pub free_for : Option ℕ → ℕ → Bool
 free_for None j = true
 free_for (Some k) j = k == j
@@ -209,17 +227,18 @@ on_ask s from term last last_term =
     then answer (record s { vote = Some from }) from (Vote s.term true)
     else answer s from (Vote s.term false)
 
--- ---- a candidate that a quorum granted its term leads it
+-- ---- A candidate with the votes of a quorum becomes leader
 
--- the mark of the term, and nil for each missing slot
+-- a mark of the new term, and nil for each open slot
 abbrev pub filling : Params → State → List Entry
 filling p s = entry s.term Mark ∷ nils s.term (length p.slots - filled s.log)
 
--- what is sent next stands behind the old log
+-- nextIndex is the index after the old log
 -- rule: Raft: A new leader fills the rest of its segment with a mark and nil entries
 abbrev pub won : Params → State → State
 won p s = record s { role = Leader; log = s.log ++ filling p s; next = λ k. length s.log + 1; matched = λ k. 0 }
 
+-- the step of a candidate after a vote: it leads if a quorum granted it theirs
 abbrev pub counted : Params → ℕ → State → List (To × Message) → Step
 counted p me s sends =
     if nat_le p.setup.quorum (count_below s.granted p.setup.n)
@@ -232,14 +251,16 @@ on_vote p me s from term granted =
     then counted p me (record s { granted = set_at s.granted from true }) []
     else quiet s
 
--- ---- timeouts: a leader sends the log once more, another node stands for the next term, if there is one
+-- ---- Timeouts: a leader sends its log again; another node becomes a candidate of the next term, if there is one
 
 abbrev pub last_timed_term : ℕ
 last_timed_term = 65535
 
+-- it votes for itself
 abbrev pub candidate : ℕ → State → State
 candidate me s = record s { term = s.term + 1; vote = Some me; role = Candidate; granted = λ k. k == me }
 
+-- RequestVote, with the last index and term
 abbrev pub ask_vote : State → ℕ → Message
 ask_vote s k = AskVote s.term (length s.log) (last_term s.log)
 
@@ -254,10 +275,11 @@ on_timeout p me s =
     then record { state = s; sends = appends p me s }
     else (if nat_lt s.term last_timed_term then stands_up p me (candidate me s) else quiet s)
 
--- ---- one input
+-- ---- One input
 
 abbrev pub on_message : Params → ℕ → State → ℕ → Message → Step
-on_message p me s from (Append term previous previous_term commit es) = on_append (raised s term) from term previous previous_term commit es
+on_message p me s from (Append term previous previous_term commit es) =
+    on_append (raised s term) from term previous previous_term commit es
 on_message p me s from (Reply term ok i) = on_reply p me (raised s term) from term ok i
 on_message p me s from (AskVote term last last_term) = on_ask (raised s term) from term last last_term
 on_message p me s from (Vote term granted) = on_vote p me (raised s term) from term granted

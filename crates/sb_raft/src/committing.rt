@@ -1,4 +1,4 @@
-//! Committing by counting who holds the log.
+//! Committing by counting how many nodes hold an entry.
 ghost use Rattle.std.specs.Prelude.{◌≡◌, length, None, IfOk};
 ghost use Rattle.iss_base.specs.Quorum.{count_below};
 ghost use Rattle.iss_sb.specs.Calls.{AreToNodes, IsGoodParams};
@@ -14,14 +14,14 @@ use raft_wire::Message;
 use std::alloc::Global;
 
 impl Raft {
-    // Whether a node is known to hold the log up to an index.
+    // Whether the node is known to hold the log up to this index.
     fn is_held(&self, node: NodeId, index: usize) -> bool
         ensures { result ≡ holds self.now.me.0 (held self.now) index node.0 }
     {
         node == self.me || index <= self.matched.at(node)
     }
 
-    // How many nodes hold the log up to an index.
+    // How many nodes are known to hold the log up to this index.
     fn holders(&self, p: &Params, index: usize) -> u32
         requires { IsGoodParams raft p.now }
         ensures { result ≡ count_below (holds self.now.me.0 (held self.now) index) p.now.setup.n }
@@ -35,7 +35,7 @@ impl Raft {
         count
     }
 
-    // How far a node is known to hold the log.
+    // Up to which index the node is known to hold the log.
     fn far(&self, node: NodeId) -> usize
         ensures { result ≡ far self.now.me.0 (held self.now) node.0 }
     {
@@ -46,7 +46,8 @@ impl Raft {
         }
     }
 
-    // The greatest index of the log that a quorum holds. Some node holds the log just so far.
+    // The greatest index up to which a quorum holds the log. It is the length of some node's known prefix, so only
+    // these are tried.
     fn held_by_quorum(&self, p: &Params) -> usize
         requires { IsGoodParams raft p.now }
         ensures { IsMost p.now self.now.me.0 (held self.now) result }
@@ -61,11 +62,13 @@ impl Raft {
         most
     }
 
-    // The greatest index above commit of an entry of the own term that a quorum holds, commit where there is none.
+    // The greatest index above the commit index whose entry is of the leader's term and held by a quorum, else the
+    // commit index.
     // rule: Raft: The commit index is the greatest that may be committed
     fn reach(&self, p: &Params) -> usize
         requires { IsGoodParams raft p.now }
-        ensures { result ≡ greatest (may_commit p.now self.now.me.0 (held self.now)) self.now.log.commit (length self.now.log.entries) }
+        ensures { result ≡ greatest (may_commit p.now self.now.me.0 (held self.now)) self.now.log.commit
+            (length self.now.log.entries) }
     {
         let commit = self.log.commit();
         let mut index = self.held_by_quorum(p);
@@ -78,7 +81,8 @@ impl Raft {
         commit
     }
 
-    // Commits what a quorum holds, and if that is more than before tells all others, behind what is sent.
+    // Commits what a quorum holds. If the commit index rises, the leader appends its log to all others to `sends`. The
+    // only error is out of memory.
     // rule: Raft: A leader commits by counting an entry of its own term, and all entries before it
     // rule: Modules: A step delivers exactly what the module's definition delivers
     pub(crate) fn advance(

@@ -1,5 +1,5 @@
-//! Raft, an ordering module for f stopped nodes of 2f+1 over any number of leaders (Ongaro and Ousterhout, "In Search of
-//! an Understandable Consensus Algorithm"; ISS, "Sequenced Broadcast").
+//! Raft, an ordering module for f crash-stop nodes of 2f+1, over any number of leaders (Ongaro and Ousterhout, "In
+//! Search of an Understandable Consensus Algorithm"; ISS, "Sequenced Broadcast").
 #![tactic(auto)]
 
 pub mod committing;

@@ -1,4 +1,4 @@
-//! A node's log, and how much of it is committed.
+//! A node's log and its commit index. The first entry has index 1.
 ghost use Rattle.std.specs.Prelude.{◌≡◌, ◌<◌, ◌≤◌, ◌+◌, ◌-◌, ◌^◌, ◌++◌, ◌∷◌, [], length, take, drop, max, option_to_list, IfOk, OnOk, if◌then◌else◌};
 ghost use Rattle.iss_request.specs.declared.requests.Value.{Value};
 ghost use Rattle.iss_sb.specs.Paired.{paired};
@@ -11,10 +11,10 @@ use raft_wire::Entry;
 use std::alloc::Global;
 use std::marker::Model;
 
-/// A log has at most so many entries after a merge.
+/// The most entries that a log may have after a merge.
 const LOG_LIMIT: usize = 65_600;
 
-/// The entries, how many slots they fill, the committed index, and how many slots are filled up to it.
+/// The entries, the number of slots that they fill, the commit index, and the number of slots filled up to it.
 #[derive(Drop)]
 pub struct Log {
     entries: Vec<Entry>,
@@ -33,7 +33,7 @@ impl Model for Log {
     ghost invariant = { λ l. AreCounted l.entries.items l.filled l.commit l.passed };
 }
 
-// What an entry holds for a slot, if it holds one.
+// The value that a content has for a slot; a mark has none.
 fn content_of(what: &Content) -> Result<Option<Value>, NoMemory>
     ensures { IfOk result (λ v. option_to_list v ≡ content what.now) }
 {
@@ -44,7 +44,7 @@ fn content_of(what: &Content) -> Result<Option<Value>, NoMemory>
     }
 }
 
-// How many slots an entry fills.
+// How many slots a content fills.
 fn fills(what: &Content) -> usize
     ensures { result ≡ length (content what.now) }
 {
@@ -54,7 +54,7 @@ fn fills(what: &Content) -> usize
     }
 }
 
-// Puts the slot at this place of the segment, if there is one, with a value.
+// Appends the slot at this index of the segment with the value, if there is such a slot.
 fn put_slot(
     slots: &[Slot],
     place: usize,
@@ -70,7 +70,7 @@ fn put_slot(
 }
 
 impl Log {
-    /// No entries.
+    /// The empty log.
     pub fn new(alloc: Global) -> Log
         ensures { result ≡ no_log }
     {
@@ -82,7 +82,7 @@ impl Log {
         }
     }
 
-    /// How many entries there are.
+    /// The number of entries, which is the index of the last one.
     pub fn len(&self) -> usize
         ensures value { result ≡ length self.now.entries }
         ensures small { result < 2 ^ 63 }
@@ -90,7 +90,7 @@ impl Log {
         self.entries.len()
     }
 
-    /// The committed index, which the log reaches.
+    /// The commit index, at most the log's length.
     pub fn commit(&self) -> usize
         ensures value { result ≡ self.now.commit }
         ensures within { result ≤ length self.now.entries }
@@ -105,7 +105,7 @@ impl Log {
         self.filled
     }
 
-    /// The term at an index, that of the last entry past the log, and 0 at the front.
+    /// The term of the entry at this index. It is 0 at index 0, and the last entry's term after the log's end.
     pub fn term_at(&self, index: usize) -> u16
         ensures { result ≡ term_at self.now.entries index }
     {
@@ -116,14 +116,14 @@ impl Log {
         self.entries[last - 1].term
     }
 
-    /// The term of the last entry, 0 where there is none.
+    /// The term of the last entry, 0 for the empty log.
     pub fn last_term(&self) -> u16
         ensures { result ≡ last_term self.now.entries }
     {
         self.term_at(self.entries.len())
     }
 
-    /// Copies of the entries behind an index.
+    /// Copies of the entries after this index. The only error is out of memory.
     pub fn behind(&self, alloc: Global, index: usize) -> Result<Seq<Entry>, NoMemory>
         ensures { IfOk result (λ es. es ≡ drop index self.now.entries) }
     {
@@ -135,7 +135,7 @@ impl Log {
         Ok(copies)
     }
 
-    /// One entry more.
+    /// Appends an entry. The only error is out of memory.
     pub fn push(&mut self, entry: Entry) -> Result<(), NoMemory>
         ensures log { OnOk result (self.new ≡ record self.old { entries = self.old.entries ++ entry ∷ [] }) }
         ensures within { self.old.commit ≤ length self.old.entries }
@@ -146,14 +146,14 @@ impl Log {
         Ok(())
     }
 
-    // Whether an entry of the term stands behind an index.
+    // Whether the entry after this index exists and has this term.
     fn has_term(&self, index: usize, term: u16) -> bool
         ensures { result ≡ starts_with (drop index self.now.entries) term }
     {
         index < self.entries.len() && self.entries[index].term == term
     }
 
-    /// How many of the entries have the terms of those behind the index, from the first on.
+    /// How many of the given entries agree in term with those after this index, from the first on.
     pub fn same(&self, index: usize, entries: &[Entry]) -> usize
         requires { index ≤ length self.now.entries }
         ensures { result ≡ same (drop index self.now.entries) entries.now }
@@ -167,7 +167,7 @@ impl Log {
         entries.len()
     }
 
-    // Takes the last entry off.
+    // Removes the last entry.
     fn pop(&mut self)
         requires { self.old.commit < length self.old.entries }
         ensures { self.new ≡ record self.old { entries = take (length self.old.entries - 1) self.old.entries } }
@@ -178,7 +178,7 @@ impl Log {
         self.filled -= fills(&entry.what);
     }
 
-    /// Takes off the entries behind an index, none of which is committed.
+    /// Removes the entries after this index, none of which is committed.
     pub fn cut(&mut self, index: usize)
         requires { self.old.commit ≤ index }
         ensures { self.new ≡ record self.old { entries = take index self.old.entries } }
@@ -188,7 +188,7 @@ impl Log {
         }
     }
 
-    // The entries behind the first so many.
+    // Appends these entries except the first `skip`.
     fn append(&mut self, entries: Vec<Entry>, skip: usize) -> Result<(), NoMemory>
         ensures { OnOk result (self.new ≡ record self.old { entries = self.old.entries ++ drop skip entries.items }) }
     {
@@ -198,7 +198,7 @@ impl Log {
         Ok(())
     }
 
-    /// So many entries of nil.
+    /// Appends `count` entries of nil in this term. The only error is out of memory.
     pub fn push_nils(&mut self, term: u16, count: usize) -> Result<(), NoMemory>
         ensures { OnOk result (self.new ≡ record self.old { entries = self.old.entries ++ nils term count }) }
     {
@@ -209,8 +209,9 @@ impl Log {
         Ok(())
     }
 
-    /// Puts entries behind an index: those that stand there go from the first on that differs in term. Nothing is changed
-    /// where a committed one would go, or the log would be too long; the answer tells.
+    /// Merges entries after this index (Raft: AppendEntries). The log's own entries are removed from the first one on
+    /// that differs in term. Returns false, and changes nothing, if a committed entry would be removed or the log would
+    /// exceed its limit. The only error is out of memory.
     // rule: Raft: A log has at most 65,600 entries after an Append
     pub fn merge(&mut self, index: usize, entries: Seq<Entry>) -> Result<bool, NoMemory>
         requires { index ≤ length self.old.entries }
@@ -233,11 +234,12 @@ impl Log {
         Ok(true)
     }
 
-    // Commits one entry more, and puts the slot that it fills with its value.
+    // Commits the next entry, and appends the slot that it fills with its value.
     fn pass(&mut self, slots: &[Slot], fresh: &mut Seq<(Slot, Value)>) -> Result<(), NoMemory>
         requires { self.old.commit < length self.old.entries }
         ensures log { OnOk result (self.new ≡ record self.old { commit = self.old.commit + 1 }) }
-        ensures fresh { OnOk result (fresh.new ≡ fresh.old ++ paired (drop (filled (take self.old.commit self.old.entries)) slots.now)
+        ensures fresh { OnOk result
+            (fresh.new ≡ fresh.old ++ paired (drop (filled (take self.old.commit self.old.entries)) slots.now)
             (contents (take 1 (drop self.old.commit self.old.entries)))) }
     {
         let value = content_of(&self.entries[self.commit].what)?;
@@ -250,7 +252,8 @@ impl Log {
         put_slot(slots, place, value, fresh)
     }
 
-    /// Commits what stands up to an index, if it is not yet, and gives the slots that this fills, each with its value.
+    /// Commits up to this index, if the commit index is lower. Returns the slots that this fills, with their values.
+    /// The only error is out of memory.
     pub fn commit_to(
         &mut self,
         alloc: Global,
@@ -259,7 +262,8 @@ impl Log {
     ) -> Result<Seq<(Slot, Value)>, NoMemory>
         requires { index ≤ length self.old.entries }
         ensures log { OnOk result (self.new ≡ record self.old { commit = max self.old.commit index }) }
-        ensures filled { IfOk result (λ ds. ds ≡ paired (drop (filled (take self.old.commit self.old.entries)) slots.now)
+        ensures filled { IfOk result
+            (λ ds. ds ≡ paired (drop (filled (take self.old.commit self.old.entries)) slots.now)
             (contents (drop self.old.commit (take index self.old.entries)))) }
     {
         let mut fresh = Seq::new(alloc);

@@ -1,4 +1,4 @@
-//! What is kept for each node.
+//! A value for each node.
 ghost use Rattle.std.specs.Prelude.{◌≡◌, ℕ, OnOk};
 ghost use Rattle.iss_base.specs.Lists.{set_at};
 ghost use Rattle.iss_base.specs.Quorum.{count_below};
@@ -8,7 +8,7 @@ use iss_request::{NoMemory, NodeId};
 use std::alloc::Global;
 use std::collections::BTreeMap;
 
-/// A thing for each node, the same for all but those that were set.
+/// A value for each node: `others` for all nodes that are not in the map.
 #[derive(Drop)]
 pub struct PerPeer<T> {
     pub(crate) set: BTreeMap<u8, T>,
@@ -16,7 +16,7 @@ pub struct PerPeer<T> {
 }
 
 impl<T: Copy + Drop> PerPeer<T> {
-    /// The same for all.
+    /// The same value for all nodes.
     pub fn all(alloc: Global, others: T) -> PerPeer<T>
         ensures { (k : ℕ) → kept result k ≡ others }
     {
@@ -26,7 +26,7 @@ impl<T: Copy + Drop> PerPeer<T> {
         }
     }
 
-    /// What is kept for the node.
+    /// The node's value.
     pub fn at(&self, node: NodeId) -> T
         ensures { result ≡ kept self.now node.0 }
     {
@@ -36,7 +36,7 @@ impl<T: Copy + Drop> PerPeer<T> {
         }
     }
 
-    /// Keeps another thing for the node.
+    /// Sets the node's value. The only error is out of memory.
     pub fn put(&mut self, node: NodeId, thing: T) -> Result<(), NoMemory>
         ensures { OnOk result ((k : ℕ) → kept self.new k ≡ set_at (kept self.old) node.0 thing k) }
     {
@@ -45,7 +45,7 @@ impl<T: Copy + Drop> PerPeer<T> {
     }
 }
 
-/// How many of the first `n` nodes are marked.
+/// How many of nodes 0 to `n` - 1 are marked.
 pub fn count(marks: &PerPeer<bool>, n: u8) -> u32
     ensures { result ≡ count_below (kept marks.now) n }
 {

@@ -1,4 +1,4 @@
-//! A node's part in an instance of Raft, and that Raft is an ordering module.
+//! A node's part in an instance of Raft, as an ordering module (ISS: Sequenced Broadcast).
 ghost use Rattle.std.specs.Prelude.{◌≡◌, ◌<◌, ◌≤◌, None, IfOk};
 ghost use Rattle.iss_keys.specs.KeyStates.{left_of};
 ghost use Rattle.iss_sb.specs.Calls.{IsGoodInput, IsGoodParams, IsTrueStep};
@@ -16,7 +16,7 @@ use iss_sb::{Claim, Effects, Input, Params, Sequenced, asks_if};
 use raft_wire::Message;
 use std::alloc::Global;
 
-/// What a node is in its term.
+/// A node's role in its term.
 #[derive(Clone, Copy, Debug)]
 pub enum Role {
     Follower,
@@ -25,7 +25,7 @@ pub enum Role {
 }
 
 impl Role {
-    /// Whether it leads.
+    /// Whether it is the leader.
     pub fn is_leader(self) -> bool
         ensures { result ≡ is_leader (role_of self) }
     {
@@ -35,7 +35,7 @@ impl Role {
         }
     }
 
-    /// Whether it stands for the term.
+    /// Whether it is a candidate.
     pub fn is_candidate(self) -> bool
         ensures { result ≡ is_candidate (role_of self) }
     {
@@ -51,26 +51,26 @@ impl Role {
 pub struct Raft {
     pub(crate) me: NodeId,
     pub(crate) term: u16,
-    // whom it voted for in the term
+    // whom it voted for in this term (Raft: votedFor)
     pub(crate) vote: Option<u8>,
     pub(crate) part: Role,
     pub(crate) log: Log,
-    // of a leader, for each other node: the index to send from, and how far the node is known to hold the log
+    // a leader's nextIndex and matchIndex of each other node
     pub(crate) next: PerPeer<usize>,
     pub(crate) matched: PerPeer<usize>,
-    // who granted a candidate its term, itself included
+    // which nodes granted a candidate their vote, itself included
     pub(crate) granted: PerPeer<bool>,
 }
 
 impl Raft {
-    // The term, which is in the range of its type.
+    // The term. Its type bounds it, which proofs use.
     fn term(&self) -> u16
         ensures { result ≡ self.now.term }
     {
         self.term
     }
 
-    // A message: a node that it shows a higher term takes the term first.
+    // Takes a message. A higher term is taken over first.
     fn receive(
         &mut self,
         alloc: Global,

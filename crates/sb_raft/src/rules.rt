@@ -1,4 +1,4 @@
-//! The rules of Raft, a function a rule.
+//! The rules of Raft, one function each.
 ghost use Rattle.std.specs.Prelude.{◌≡◌, ◌<◌, ◌≤◌, ◌-◌, ◌^◌, ◌==◌, ◌&&◌, true, not, nat_le, OnOk, None, IfOk, length};
 ghost use Rattle.iss_sb.specs.Calls.{AreToNodes, IsGoodParams};
 ghost use Rattle.sb_raft.specs.Kept.{kept};
@@ -16,11 +16,11 @@ use iss_sb::{Content, Effects, Params, To, is_next};
 use raft_wire::{Entry, Message};
 use std::alloc::Global;
 
-/// The last term that there is.
+/// The last term: terms have 16 bits.
 const LAST_TERM: u16 = 65_535;
 
 impl Raft {
-    // ---- a message of a higher term: the node takes the term, has given no vote in it, and follows
+    // ---- a message of a higher term: the node becomes a follower in that term, and has voted for nobody in it
 
     // rule: Raft: A higher term makes a node a follower of that term, with no vote given in it
     pub(crate) fn raise(&mut self, term: u16)
@@ -68,7 +68,7 @@ impl Raft {
         Ok(effects)
     }
 
-    // ---- Appends. One of a lower term, or whose previous entry is not there, is answered not ok
+    // ---- AppendEntries: refused if the term is lower, or if the consistency check fails
 
     // rule: Raft: An Append of a lower term is refused with the node's own term
     pub(crate) fn take_append(
@@ -96,15 +96,15 @@ impl Raft {
         self.merge(alloc, p, from, previous as usize, commit as usize, entries)
     }
 
-    // Whether the log reaches so far, and has that term there.
+    // The consistency check: whether the log has an entry of this term at the previous index.
     fn fits_behind(&self, previous: usize, term: u16) -> bool
         ensures { result ≡ fits_behind self.now.log.entries previous term }
     {
         previous <= self.log.len() && self.log.term_at(previous) == term
     }
 
-    // The entries behind an index that is there: those that differ in term from what was sent go. Nothing that is committed
-    // goes, and the log stays short enough; else there is no answer.
+    // Merges the entries of an Append that passed the consistency check, and commits as far as they reach. There is no
+    // reply if a committed entry would be removed, or the log would exceed its limit.
     // rule: Raft: An Append keeps committed entries and removes entries that differ in term
     // rule: Raft: An Append commits only entries that it covers
     fn merge(
@@ -133,10 +133,11 @@ impl Raft {
         Ok(effects)
     }
 
-    // ---- replies of other nodes at the leader, of its term
+    // ---- replies of other nodes in the leader's term
 
     fn hears(&self, from: NodeId, term: u16) -> bool
-        ensures { result ≡ ((is_leader (role_of self.now.part) && (term == self.now.term)) && not (from.0 == self.now.me.0)) }
+        ensures { result ≡ ((is_leader (role_of self.now.part) && (term == self.now.term)) &&
+            not (from.0 == self.now.me.0)) }
     {
         self.part.is_leader() && term == self.term && from != self.me
     }
@@ -165,7 +166,7 @@ impl Raft {
         }
     }
 
-    // An ok within the log: the match rises.
+    // An ok within the log raises the node's matchIndex.
     // rule: Raft: A follower's match index never decreases within a term
     fn take_ok(
         &mut self,
@@ -194,7 +195,7 @@ impl Raft {
         index == self.next.at(node).saturating_sub(1) && 1 <= index
     }
 
-    // Not ok, of the Append that was sent last: one entry more is sent.
+    // A refusal of the last Append decrements the node's nextIndex, and one more entry is sent.
     // rule: Raft: After a refused Append the leader sends one entry more
     fn take_not_ok(
         &mut self,
@@ -216,7 +217,7 @@ impl Raft {
         one(alloc, from, msg)
     }
 
-    // ---- votes: one a term, and only for an asker whose log is not behind the own
+    // ---- RequestVote: one vote a term, only for a candidate whose log is at least as up to date
 
     fn is_up_to_date(&self, last: u32, last_term: u16) -> bool
         ensures { result ≡ up_to_date self.now.log.entries last last_term }
@@ -270,7 +271,7 @@ impl Raft {
         one(alloc, from, vote)
     }
 
-    // ---- a candidate that a quorum granted its term leads it
+    // ---- a candidate with the votes of a quorum becomes leader
 
     fn counts(&self, term: u16, granted: bool) -> bool
         ensures { result ≡ ((is_candidate (role_of self.now.part) && granted) && (term == self.now.term)) }
@@ -297,7 +298,8 @@ impl Raft {
         self.count_votes(alloc, p, Seq::new(alloc))
     }
 
-    // Leads if a quorum granted the term, and sends the log then, behind what is sent.
+    // Becomes leader if a quorum granted its vote. The log is then appended for all others to `sends`. The only error
+    // is out of memory.
     fn count_votes(
         &mut self,
         alloc: Global,
@@ -318,7 +320,7 @@ impl Raft {
         self.advance(alloc, p, sends)
     }
 
-    // Leads, with a mark of the term, and nil for each missing slot. What is sent next stands behind the old log.
+    // Becomes leader: appends a mark of the term, and nil for each open slot. nextIndex is the index after the old log.
     // rule: Raft: A new leader fills the rest of its segment with a mark and nil entries
     fn lead(&mut self, alloc: Global, p: &Params) -> Result<(), NoMemory>
         ensures within { self.old.log.commit ≤ length self.old.log.entries }
@@ -335,7 +337,7 @@ impl Raft {
         self.log.push_nils(term, missing)
     }
 
-    // ---- timeouts: a leader sends the log once more, another node stands for the next term, if there is one
+    // ---- timeouts: a leader sends its log again; another node becomes a candidate of the next term, if there is one
 
     // rule: Raft: A timeout makes a node a candidate of the next term, up to the last term
     // rule: Raft: A leader that times out sends its log to all others again

@@ -1,4 +1,4 @@
-//! What a node sends.
+//! The messages that a node sends.
 ghost use Rattle.std.specs.Prelude.{◌≡◌, ◌<◌, ◌≤◌, ◌^◌, ◌++◌, ◌∷◌, [], ℕ, length, IfOk, OnOk};
 ghost use Rattle.iss_sb.specs.Calls.{AreToNodes, IsGoodParams};
 ghost use Rattle.sb_raft.specs.Raft.{raft};
@@ -11,7 +11,7 @@ use iss_sb::{Effects, Params, To};
 use raft_wire::Message;
 use std::alloc::Global;
 
-// An index as a field of a message. Each index that is sent fits.
+// An index as a message's field. Every index that is sent fits; a larger one would become the greatest.
 fn field_of(index: usize) -> u32
     ensures { index < 2 ^ 32 → result ≡ index }
 {
@@ -21,7 +21,7 @@ fn field_of(index: usize) -> u32
     index as u32
 }
 
-/// These messages, and nothing else.
+/// Only these messages.
 pub fn only(alloc: Global, sends: Seq<(To, Message)>) -> Effects<Message>
     ensures { OnlySends sends result }
 {
@@ -30,7 +30,7 @@ pub fn only(alloc: Global, sends: Seq<(To, Message)>) -> Effects<Message>
     effects
 }
 
-/// One message to one node.
+/// Only this message, to one node. The only error is out of memory.
 pub fn one(alloc: Global, node: NodeId, msg: Message) -> Result<Effects<Message>, NoMemory>
     ensures { IfOk result (λ e. OnlySends (to node.0 msg ∷ []) e) }
 {
@@ -39,7 +39,7 @@ pub fn one(alloc: Global, node: NodeId, msg: Message) -> Result<Effects<Message>
     Ok(only(alloc, sends))
 }
 
-/// An answer that an index of the log is there or not, to one node.
+/// Only a Reply (AppendEntries result), to one node. The only error is out of memory.
 pub fn reply(
     alloc: Global,
     node: NodeId,
@@ -54,7 +54,7 @@ pub fn reply(
 }
 
 impl Raft {
-    // The entries behind an index, with what stands before them.
+    // An Append with the entries after this index. The only error is out of memory.
     pub(crate) fn append_behind(&self, alloc: Global, previous: usize) -> Result<Message, NoMemory>
         ensures { IfOk result (λ m. length self.now.log.entries < 2 ^ 32 → previous ≤ length self.now.log.entries →
             m ≡ append_behind (held self.now) previous) }
@@ -69,7 +69,7 @@ impl Raft {
         })
     }
 
-    // To each other node, behind the messages that are there, the entries from its next on.
+    // Appends to `sends` an Append for each other node, from its nextIndex on. The only error is out of memory.
     pub(crate) fn append_to_others(
         &self,
         alloc: Global,
@@ -77,7 +77,8 @@ impl Raft {
         sends: &mut Seq<(To, Message)>,
     ) -> Result<(), NoMemory>
         requires { IsGoodParams raft p.now }
-        ensures appends { OnOk result (Fits (held self.now) → sends.new ≡ sends.old ++ appends p.now self.now.me.0 (held self.now)) }
+        ensures appends { OnOk result
+            (Fits (held self.now) → sends.new ≡ sends.old ++ appends p.now self.now.me.0 (held self.now)) }
         ensures addressed { OnOk result (AreToNodes p.now.setup.n sends.old → AreToNodes p.now.setup.n sends.new) }
     {
         for k in 0..p.setup.n as u8 {
@@ -86,14 +87,16 @@ impl Raft {
         Ok(())
     }
 
-    // The entries from a node's next on, if it is another.
+    // Appends to `sends` an Append for this node, unless it is the node itself.
     fn append_to(
         &self,
         alloc: Global,
         node: NodeId,
         sends: &mut Seq<(To, Message)>,
     ) -> Result<(), NoMemory>
-        ensures appends { OnOk result (Fits (held self.now) → sends.new ≡ sends.old ++ to_each (append_to (held self.now)) (other self.now.me.0 node.0)) }
+        ensures appends { OnOk result
+            (Fits (held self.now) → sends.new ≡ sends.old ++ to_each (append_to (held self.now))
+            (other self.now.me.0 node.0)) }
         ensures addressed { OnOk result ((n : ℕ) → node.0 < n → AreToNodes n sends.old → AreToNodes n sends.new) }
     {
         if node == self.me {
@@ -105,7 +108,7 @@ impl Raft {
         Ok(())
     }
 
-    // To each other node a candidate's question.
+    // A RequestVote for each other node. The only error is out of memory.
     pub(crate) fn ask_others(
         &self,
         alloc: Global,
@@ -123,7 +126,7 @@ impl Raft {
         Ok(sends)
     }
 
-    // A candidate's question to a node, if it is another.
+    // Appends to `sends` a RequestVote for this node, unless it is the node itself.
     fn ask(&self, node: NodeId, sends: &mut Seq<(To, Message)>) -> Result<(), NoMemory>
         ensures asks { OnOk result (length self.now.log.entries < 2 ^ 32 →
             sends.new ≡ sends.old ++ to_each (ask_vote (held self.now)) (other self.now.me.0 node.0)) }

@@ -1,4 +1,4 @@
-//! Nodes of HotStuff that take what they say to each other, in the order in which it is said.
+//! A cluster of HotStuff replicas whose messages are delivered in the order of sending, encoded and decoded.
 ghost use Rattle.std.specs.Prelude.{◌<◌};
 ghost use Rattle.iss_sb.specs.Calls.{IsGoodInput, IsGoodParams};
 ghost use Rattle.sb_hotstuff.specs.HotStuff.{hotstuff};
@@ -13,7 +13,7 @@ use std::alloc::Global;
 use std::collections::VecDeque;
 use std::test::Fail;
 
-// A message on its way, in bytes.
+// An encoded message in transit.
 #[derive(Drop)]
 struct Packet {
     from: u8,
@@ -21,7 +21,8 @@ struct Packet {
     bytes: Bytes,
 }
 
-// A node with its keys, how often it accepted a batch, and what it delivered: slots, and of each whether it is a batch.
+// A replica with its keys, how often it accepted a batch, and the slots that it delivered, each with whether its value
+// is a batch.
 #[derive(Drop)]
 struct Core {
     node: HotStuff,
@@ -30,7 +31,7 @@ struct Core {
     delivered: Vec<(u64, bool)>,
 }
 
-/// The nodes, and what they said and nobody took yet, the oldest first.
+/// The replicas, and the undelivered packets, oldest first.
 #[derive(Drop)]
 pub struct Cluster {
     nodes: u8,
@@ -38,12 +39,12 @@ pub struct Cluster {
     said: VecDeque<Packet>,
 }
 
-// A node's keys: the secret follows from its number.
+// A replica's keys; the secret is a function of its number.
 fn keys_of(alloc: Global, node: u8) -> Result<Keys, Fail> {
     Ok(Keys::make(alloc, Sha256::digest([0x20u8, node]), 4)?)
 }
 
-// A node that has taken nothing.
+// A replica in its initial state.
 fn new_core(alloc: Global, p: &Params, node: u8) -> Result<Core, Fail>
     requires good { IsGoodParams hotstuff p.now }
     requires node { node < p.now.setup.n }
@@ -56,7 +57,7 @@ fn new_core(alloc: Global, p: &Params, node: u8) -> Result<Core, Fail>
     })
 }
 
-// Notes what a step accepted and delivered.
+// Records what a step accepted and delivered.
 fn note(core: &mut Core, effects: &Effects<Message>) -> Result<(), Fail> {
     if effects.accepted.is_some() {
         core.accepted = core.accepted.saturating_add(1);
@@ -68,20 +69,20 @@ fn note(core: &mut Core, effects: &Effects<Message>) -> Result<(), Fail> {
     Ok(())
 }
 
-// A message in bytes.
+// The encoding of the message.
 fn bytes_of(alloc: Global, msg: &Message) -> Result<Bytes, Fail> {
     let mut out = Writer::new(alloc, 1);
     HotStuff::encode(msg, &mut out)?;
     Ok(out.into_bytes())
 }
 
-// The message that is read from bytes.
+// The message decoded from the bytes.
 fn message_of(alloc: Global, bytes: &Bytes) -> Result<Message, Fail> {
     let mut fields = Fields::over(1, bytes.as_slice());
     Ok(HotStuff::decode(alloc, &mut fields)?)
 }
 
-// The message that these bytes are, if they are one.
+// The message, if the bytes are exactly one.
 fn whole(alloc: Global, bytes: &[u8]) -> Option<Message> {
     let mut fields = Fields::over(1, bytes);
     let Ok(msg) = HotStuff::decode(alloc, &mut fields) else {
@@ -93,7 +94,7 @@ fn whole(alloc: Global, bytes: &[u8]) -> Option<Message> {
     Some(msg)
 }
 
-// Whether each signature that a message claims verifies.
+// Whether each signature that the message claims is valid.
 fn is_signed(alloc: Global, p: &Params, from: u8, msg: &Message) -> Result<bool, Fail>
     requires { IsGoodParams hotstuff p.now }
 {
@@ -111,7 +112,7 @@ fn is_signed(alloc: Global, p: &Params, from: u8, msg: &Message) -> Result<bool,
     Ok(true)
 }
 
-// The same bytes, but for a bit of the one at this place.
+// The bytes with the lowest bit of the byte at this index flipped.
 fn with_a_bit_changed(alloc: Global, bytes: &[u8], place: usize) -> Result<Bytes, Fail> {
     let mut changed = Vec::new(alloc);
     for at in 0..bytes.len() {
@@ -121,7 +122,7 @@ fn with_a_bit_changed(alloc: Global, bytes: &[u8], place: usize) -> Result<Bytes
     Ok(Bytes::of(changed))
 }
 
-// Whether the bytes of a packet, with a bit changed at this place, are a message whose claims all verify.
+// Whether the packet, with a bit flipped at this index, is still a message whose claimed signatures are all valid.
 fn passes_damaged(alloc: Global, p: &Params, packet: &Packet, place: usize) -> Result<bool, Fail>
     requires { IsGoodParams hotstuff p.now }
 {
@@ -132,8 +133,8 @@ fn passes_damaged(alloc: Global, p: &Params, packet: &Packet, place: usize) -> R
     }
 }
 
-// Where a bit is changed: in each field before the votes' signatures, and in the parts of the last signature, by the distance
-// from its end.
+// The indices of the flipped bits: in each field before the votes' signatures; then in the parts of the last signature,
+// by distance from the end.
 const FRONT: [usize; 24] = [
     0, 1, 2, 3, 4, 5, 6, 7, 8, 9, 10, 11, 12, 13, 14, 20, 40, 43, 44, 45, 46, 47, 51, 60,
 ];
@@ -141,7 +142,7 @@ const FRONT: [usize; 24] = [
 const BACK: [usize; 5] = [2277, 2276, 2273, 2272, 1];
 
 impl Cluster {
-    /// The nodes of an instance, which took nothing.
+    /// The replicas of an instance, in their initial states.
     pub(crate) fn new(alloc: Global, p: &Params) -> Result<Cluster, Fail>
         requires { IsGoodParams hotstuff p.now }
     {
@@ -161,7 +162,7 @@ impl Cluster {
         Ok(())
     }
 
-    // A message waits for each node that it goes to.
+    // Queues a message once for each recipient.
     fn say(&mut self, alloc: Global, from: u8, to: To, msg: &Message) -> Result<(), Fail> {
         let bytes = bytes_of(alloc, msg)?;
         let To::One(node) = to else {
@@ -188,7 +189,7 @@ impl Cluster {
         Ok(())
     }
 
-    /// An empty batch is cast to the leader at the slot.
+    /// Casts an empty batch at the slot, at the leader.
     pub(crate) fn cast(&mut self, alloc: Global, p: &Params, slot: u64) -> Result<(), Fail>
         requires { IsGoodParams hotstuff p.now }
     {
@@ -199,7 +200,7 @@ impl Cluster {
         self.take(alloc, p, 0, cast)
     }
 
-    /// Whether the leader would take a batch at the slot, and asks for it.
+    /// Whether the leader would accept a batch cast at the slot.
     pub(crate) fn asks(&self, alloc: Global, p: &Params, slot: u64) -> bool
         requires { IsGoodParams hotstuff p.now }
     {
@@ -213,7 +214,7 @@ impl Cluster {
         core.node.casts(p, Slot(slot)) && core.node.asks(p, &cast).is_some()
     }
 
-    /// The round ends at each node.
+    /// Each replica times out.
     pub(crate) fn time_out(&mut self, alloc: Global, p: &Params) -> Result<(), Fail>
         requires { IsGoodParams hotstuff p.now }
     {
@@ -234,7 +235,7 @@ impl Cluster {
         self.take(alloc, p, packet.to, Input::Receive { from, msg })
     }
 
-    /// So many messages are taken, or as many as there are.
+    /// Delivers up to `most` messages, oldest first.
     pub(crate) fn hear(&mut self, alloc: Global, p: &Params, most: u32) -> Result<(), Fail>
         requires { IsGoodParams hotstuff p.now }
     {
@@ -247,17 +248,17 @@ impl Cluster {
         Ok(())
     }
 
-    /// All that was said and not taken is lost.
+    /// Drops all undelivered messages.
     pub(crate) fn lose_all(&mut self) {
         self.said.clear();
     }
 
-    /// How many messages wait.
+    /// The number of undelivered messages.
     pub(crate) fn waiting(&self) -> usize {
         self.said.len()
     }
 
-    /// How many of the messages that wait claim signatures which all verify.
+    /// How many undelivered messages claim only valid signatures.
     pub(crate) fn signed(&self, alloc: Global, p: &Params) -> Result<usize, Fail>
         requires { IsGoodParams hotstuff p.now }
     {
@@ -271,8 +272,8 @@ impl Cluster {
         Ok(count)
     }
 
-    /// How many bits of the next message may be changed, and it is still one whose claims all verify. It has to be such a one of
-    /// this kind as it is.
+    /// How many of the bits may be flipped in the next message without an invalid signature or a decoding error. The
+    /// message must be of this kind and valid; otherwise the result is 1.
     pub(crate) fn unseen(&self, alloc: Global, p: &Params, kind: u8) -> Result<usize, Fail>
         requires { IsGoodParams hotstuff p.now }
     {
@@ -300,7 +301,7 @@ impl Cluster {
         Ok(count)
     }
 
-    /// How many nodes accepted so many batches, and delivered just these slots in this order.
+    /// How many replicas accepted this many batches and delivered exactly these slots, in this order.
     pub(crate) fn agree(&self, accepted: usize, delivered: &[(u64, bool)]) -> usize {
         let mut count = 0usize;
         for core in self.cores.as_slice() {

@@ -1,5 +1,5 @@
-//! Instances in which node 0 leads the slots 0 and 4. The set-up is a parameter, since of literal counts the tactics list
-//! each key.
+//! Instances in which replica 0 leads the slots 0 and 4. The set-up is a parameter: with literal counts the tactics
+//! would enumerate each key.
 ghost use Rattle.std.specs.Prelude.{◌≡◌, ◌≤◌, ◌+◌, ◌*◌, [], ◌∷◌, IfOk};
 ghost use Rattle.iss_keys.specs.Directories.{directory_of};
 ghost use Rattle.iss_request.specs.Setup.{IsGoodSetup};
@@ -12,7 +12,7 @@ use iss_request::{Epoch, Kind, NoMemory, NodeId, Nodes, Policy, Seq, Setup, Slot
 use iss_sb::Params;
 use std::alloc::Global;
 
-// The slots that node 0 leads.
+// The slots that replica 0 leads.
 fn slots(alloc: Global) -> Result<Seq<Slot>, NoMemory>
     ensures { IfOk result (λ slots. slots ≡ record { 0 = 0 } ∷ record { 0 = 4 } ∷ []) }
 {
@@ -22,7 +22,7 @@ fn slots(alloc: Global) -> Result<Seq<Slot>, NoMemory>
     Ok(slots)
 }
 
-// The directory of the set-up's nodes and clients.
+// The public keys of the set-up's replicas and clients.
 fn directory(alloc: Global, setup: &Setup) -> Result<SharedDirectory, NoMemory>
     requires good { IsGoodSetup setup.now }
     requires nodes { setup.now.n ≤ 256 }
@@ -52,7 +52,7 @@ fn instance(alloc: Global, setup: Setup) -> Result<Params, NoMemory>
     })
 }
 
-// A set-up of these counts.
+// A set-up with these counts.
 fn setup(alloc: Global, f: u32, n: u32, quorum: u32) -> Setup
     requires few { f ≤ 3 }
     requires nodes { n ≡ 3 * f + 1 }
@@ -83,7 +83,7 @@ fn setup(alloc: Global, f: u32, n: u32, quorum: u32) -> Setup
     }
 }
 
-/// The instance that withstands so many faults.
+/// The instance that tolerates `f` faults.
 pub fn withstands(alloc: Global, f: u32) -> Result<Params, NoMemory>
     requires { f ≤ 3 }
     ensures good { IfOk result (λ p. IsGoodParams hotstuff p) }

@@ -1,5 +1,5 @@
-//! Tests of HotStuff over public calls: its messages in bytes, what is bad, and runs of one, four and seven nodes. They stand
-//! here since a crate with tests of its own is proved twice.
+//! Tests of HotStuff through its public interface: encodings, bad input, and runs of one, four and seven replicas. They
+//! are a crate of their own, since a crate that has tests is proved twice.
 #![tactic(auto)]
 
 #[cfg(test)]

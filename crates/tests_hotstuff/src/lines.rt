@@ -1,4 +1,4 @@
-//! One node that takes what is made by hand, good and bad, and what it answers: a table says both.
+//! One replica that takes scripted input, good and bad, and the expected effects: a table has both.
 ghost use Rattle.std.specs.Prelude.{◌<◌, IfOk};
 ghost use Rattle.iss_sb.specs.Calls.{IsGoodInput, IsGoodParams};
 ghost use Rattle.sb_hotstuff.specs.HotStuff.{hotstuff};
@@ -13,7 +13,7 @@ use sb_hotstuff::HotStuff;
 use std::alloc::Global;
 use std::test::Fail;
 
-/// A node of the tree: a batch on the root, one on that, a nil on the root, and one that nobody knows.
+/// A node of the tree: a batch on the root, a batch on that, nil on the root, and an unknown node.
 #[derive(Clone, Copy)]
 pub enum At {
     First,
@@ -22,7 +22,7 @@ pub enum At {
     Unknown,
 }
 
-/// Who voted, of four nodes.
+/// The signers of a certificate, of four replicas.
 #[derive(Clone, Copy)]
 pub enum By {
     Quorum,
@@ -32,14 +32,14 @@ pub enum By {
     Twice,
 }
 
-/// A certificate: that of the root, or one of votes for a phase of a view.
+/// A certificate: the root's, or votes for a node in a phase and a view.
 #[derive(Clone, Copy)]
 pub enum Shown {
     Root,
     Votes(u8, u32, At, By),
 }
 
-/// What comes: a message, a cast at a slot, or the round's end. `Shows` is the message that shows a quorum of a phase.
+/// An input: a message, a cast at a slot, or a timeout. `Shows` is the PreCommit, Commit or Decide of a phase.
 #[derive(Clone, Copy)]
 pub enum Said {
     Cast(u64),
@@ -52,26 +52,27 @@ pub enum Said {
     Timeout,
 }
 
-/// What comes and from whom, how many messages are sent then, how many slots delivered, and whether a batch is accepted.
+/// An input and its sender, and the expected effects: how many messages are sent, how many slots delivered, and whether
+/// a batch is accepted.
 #[derive(Clone, Copy)]
 pub struct Line(pub Said, pub u8, pub usize, pub usize, pub bool);
 
-/// A line of what leads to nothing.
+/// A line whose input has no effect.
 pub(crate) fn no(said: Said, from: u8) -> Line {
     Line(said, from, 0, 0, false)
 }
 
-/// A line of what is answered by one message.
+/// A line whose input is answered by one message.
 pub(crate) fn answered(said: Said, from: u8) -> Line {
     Line(said, from, 1, 0, false)
 }
 
-/// A quorum's votes of a phase of a view.
+/// A quorum certificate of a phase and a view.
 pub(crate) fn good(phase: u8, view: u32, at: At) -> Shown {
     Shown::Votes(phase, view, at, By::Quorum)
 }
 
-// A batch on a node.
+// A node with a batch on this parent.
 fn batch_on(alloc: Global, parent: &[u8; 32]) -> [u8; 32] {
     digest_of_node(1, parent, &Content::Holds(Batch::new(alloc)))
 }
@@ -85,7 +86,7 @@ fn digest(alloc: Global, at: At) -> [u8; 32] {
     }
 }
 
-// A node stands on its own signature, which none but its host looks at: it is left empty.
+// The sender's own signature is checked only by the host, so it is left empty here.
 fn votes(alloc: Global, nodes: &[u8]) -> Result<Seq<Signed>, NoMemory> {
     let mut votes = Seq::new(alloc);
     for node in nodes {
@@ -177,7 +178,7 @@ fn input(alloc: Global, p: &Params, said: Said, from: u8) -> Result<Input<Messag
     }
 }
 
-// Whether a line goes as it says.
+// Whether the line's input has the expected effects.
 fn goes(
     alloc: Global,
     p: &Params,
@@ -197,14 +198,14 @@ fn goes(
     Ok(are_as_many && effects.accepted.is_some() == accepts)
 }
 
-/// A node of four that has taken some lines.
+/// One of four replicas, in the middle of a script.
 #[derive(Drop)]
 pub struct Taker {
     node: HotStuff,
     keys: Keys,
 }
 
-/// One that has taken nothing.
+/// The replica in its initial state.
 pub(crate) fn new_taker(alloc: Global, p: &Params, me: u8) -> Result<Taker, Fail>
     requires good { IsGoodParams hotstuff p.now }
     requires node { me < p.now.setup.n }
@@ -215,7 +216,7 @@ pub(crate) fn new_taker(alloc: Global, p: &Params, me: u8) -> Result<Taker, Fail
     })
 }
 
-/// The first of the lines, one after the other, that does not go as it says at a node of four.
+/// The index of the first line without its expected effects, at one of four replicas that takes them in order.
 pub(crate) fn first_wrong(alloc: Global, me: u8, lines: &[Line]) -> Result<Option<usize>, Fail> {
     let p = withstands(alloc, 1)?;
     if me as u32 >= p.setup.n {

@@ -1,4 +1,4 @@
-//! The instance that the tests run.
+//! The instance of the tests.
 ghost use Rattle.std.specs.Prelude.{◌≡◌, IfOk};
 ghost use Rattle.iss_sb.specs.Calls.{IsGoodParams};
 ghost use Rattle.sb_raft.specs.Raft.{raft};
@@ -8,7 +8,7 @@ use iss_request::{Epoch, Kind, NoMemory, NodeId, Nodes, Policy, Seq, Setup, Slot
 use iss_sb::Params;
 use std::alloc::Global;
 
-/// Three nodes, of which one may stop. Node 0 leads the slots 0 and 3.
+/// Three nodes, which tolerate one crash. Node 0 leads the slots 0 and 3.
 pub fn instance(alloc: Global) -> Result<Params, NoMemory>
     ensures good { IfOk result (λ p. IsGoodParams raft p) }
     ensures nodes { IfOk result (λ p. p.setup.n ≡ 3) }

@@ -1,4 +1,5 @@
-//! Tests of Raft through the calls of the trait. They stand here since a crate with tests of its own is proved twice.
+//! Tests of Raft through the ordering module's interface. They are a crate of their own, since a crate that has tests
+//! is proved twice.
 #![tactic(auto)]
 
 pub mod instances;

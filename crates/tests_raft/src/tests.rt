@@ -1,4 +1,4 @@
-//! Runs of Raft through the calls of the trait: three nodes, of which node 0 leads the slots 0 and 3.
+//! Runs of Raft through the ordering module's interface: three nodes; node 0 leads the slots 0 and 3.
 ghost use Rattle.std.specs.Prelude.{◌<◌, IfOk};
 ghost use Rattle.iss_sb.specs.Calls.{IsGoodInput, IsGoodParams};
 ghost use Rattle.sb_raft.specs.Raft.{raft};
@@ -12,7 +12,7 @@ use sb_raft::Raft;
 use std::alloc::Global;
 use std::test::Fail;
 
-// The message once more, by way of its bytes.
+// The message after encoding and decoding.
 fn again(alloc: Global, msg: &Message) -> Result<Message, Fail> {
     let mut out = Writer::new(alloc, 1);
     Raft::encode(msg, &mut out)?;
@@ -20,7 +20,8 @@ fn again(alloc: Global, msg: &Message) -> Result<Message, Fail> {
     Ok(Raft::decode(alloc, &mut fields)?)
 }
 
-// What comes: a cast at a slot, an Append of so many entries of a kind, an answer of a term and index, time that has run out.
+// An input: a cast at a slot; an Append with one batch, no entry or one mark; a Reply; a RequestVote or a vote; or a
+// timeout.
 #[derive(Clone, Copy)]
 enum Said {
     Cast(u64),
@@ -33,7 +34,7 @@ enum Said {
     Timeout,
 }
 
-// An Append behind an index of a term, with a committed index.
+// An Append after this previous index and term, with this commit index.
 fn append(
     alloc: Global,
     term: u16,
@@ -108,11 +109,11 @@ fn input(alloc: Global, p: &Params, said: &Said, from: u8) -> Result<Input<Messa
     }
 }
 
-// What comes and from whom, how many messages are sent then, and how many slots delivered.
+// An input and its sender, and the expected effects: how many messages are sent, and how many slots delivered.
 #[derive(Clone, Copy)]
 struct Line(Said, u8, usize, usize);
 
-// Whether a line goes as it says.
+// Whether the line's input has the expected effects.
 fn goes(
     alloc: Global,
     p: &Params,
@@ -131,7 +132,7 @@ fn goes(
     Ok(effects.sends.len() == *sends && effects.delivers.len() == *delivers)
 }
 
-// How many of the lines, one after the other, go as they say at a node.
+// How many of the lines have their expected effects, at a node that takes them in order.
 fn right(alloc: Global, me: u8, lines: &[Line]) -> Result<usize, Fail> {
     let p = instance(alloc)?;
     if me >= 3 {
@@ -148,7 +149,8 @@ fn right(alloc: Global, me: u8, lines: &[Line]) -> Result<usize, Fail> {
     Ok(right)
 }
 
-// A follower copies and delivers, refuses a vote, says nothing where a committed entry would go, and is repaired.
+// A follower copies and delivers, refuses a vote, does not reply if a committed entry would be removed, and has its log
+// repaired.
 #[test]
 fn a_follower_is_repaired(rt: HostRuntime) -> Result<(), Fail> {
     let lines = [
@@ -163,7 +165,8 @@ fn a_follower_is_repaired(rt: HostRuntime) -> Result<(), Fail> {
     Ok(())
 }
 
-// The leader of term 1 casts, commits, sends again and gives way; it casts no more, and wins a later term.
+// The leader of term 1 takes a cast, commits, sends again and steps down. It takes no more casts, and wins a later
+// term.
 #[test]
 fn a_leader_gives_way_and_wins(rt: HostRuntime) -> Result<(), Fail> {
     let lines = [

@@ -1,15 +1,15 @@
-//! Bad input: of each message and each of its fields something that does not fit. It leads to nothing, and what is good is
-//! answered behind it as before.
+//! Bad input: for each message and each of its fields, values that are refused without effect. Good input is then
+//! answered as usual.
 use crate::lines::{At, By, Line, Said, Shown, answered, first_wrong, good, no};
 use std::alloc::Global;
 use std::test::Fail;
 
-// A batch is voted for and accepted.
+// A valid proposal of a batch: it is voted for, and the batch accepted.
 fn taken(view: u32, just: Shown) -> Line {
     Line(Said::Batch(view, just), 0, 1, 0, true)
 }
 
-// What is wrong before the first proposal: what it holds, its sender, its view, and what it stands on.
+// Bad first proposals: a wrong content, sender, view or justification.
 #[test]
 fn a_first_proposal_fits_in_each_field(rt: HostRuntime) -> Result<(), Fail> {
     let lines = [
@@ -27,7 +27,7 @@ fn a_first_proposal_fits_in_each_field(rt: HostRuntime) -> Result<(), Fail> {
     Ok(())
 }
 
-// What is wrong of the certificate on which the second proposal stands.
+// Bad justifications of the second proposal.
 #[test]
 fn a_proposal_stands_on_a_good_certificate(rt: HostRuntime) -> Result<(), Fail> {
     let on = |shown: Shown| no(Said::Batch(2, shown), 0);
@@ -48,7 +48,8 @@ fn a_proposal_stands_on_a_good_certificate(rt: HostRuntime) -> Result<(), Fail> 
     Ok(())
 }
 
-// Behind two slots there is no third, in no round; a mark stands there and nowhere else. A certificate of turn 0 is none.
+// A branch of two slots is full in every round. Then only a mark may follow, and a mark may follow nowhere else. A
+// certificate of turn 0 is invalid.
 #[test]
 fn a_full_branch_takes_a_mark_alone(rt: HostRuntime) -> Result<(), Fail> {
     let lines = [
@@ -67,7 +68,7 @@ fn a_full_branch_takes_a_mark_alone(rt: HostRuntime) -> Result<(), Fail> {
     Ok(())
 }
 
-// What is wrong of a certificate that is shown in turn 1, of a phase and the one that is not it.
+// Bad certificates of turn 1 in a PreCommit, Commit or Decide of this phase; `other` is another phase.
 fn wrong_shows(phase: u8, other: u8) -> [Line; 11] {
     let shows = |view: u32, shown: Shown| no(Said::Shows(phase, view, shown), 0);
     [
@@ -85,7 +86,7 @@ fn wrong_shows(phase: u8, other: u8) -> [Line; 11] {
     ]
 }
 
-// The node took the lines before, then those that are wrong, then a good one, and that again.
+// The replica takes the lines `before`, then bad certificates, then a good one, and that again.
 fn showing(alloc: Global, before: &[Line], phase: u8, other: u8, last: Line) -> Result<bool, Fail> {
     let mut lines = Vec::new(alloc);
     lines.push(taken(1, Shown::Root))?;
@@ -122,7 +123,7 @@ fn a_last_quorum_fits_in_each_field(rt: HostRuntime) -> Result<(), Fail> {
     Ok(())
 }
 
-// Node 1 leads round 1: a quorum of words makes it propose, once. Words that are not good use up no place.
+// Replica 1 leads round 1: a quorum of NewView messages makes it propose, once. Invalid ones do not count.
 #[test]
 fn a_word_fits_in_each_field(rt: HostRuntime) -> Result<(), Fail> {
     let word = |shown: Shown| no(Said::NewView(1, shown), 3);
@@ -147,7 +148,7 @@ fn a_word_fits_in_each_field(rt: HostRuntime) -> Result<(), Fail> {
     Ok(())
 }
 
-// It leads round 5 as well. A certificate of turn 0 is no word; one of a node that is not known leads to no proposal.
+// It leads round 5, too. A certificate of turn 0 is invalid, and one of an unknown node leads to no proposal.
 #[test]
 fn words_of_later_rounds_are_tested_alike(rt: HostRuntime) -> Result<(), Fail> {
     let lines = [
@@ -164,7 +165,7 @@ fn words_of_later_rounds_are_tested_alike(rt: HostRuntime) -> Result<(), Fail> {
     Ok(())
 }
 
-// The leader casts at its next slot, and counts the votes of different nodes on its turn, of phases that there are.
+// The leader takes a cast at its next slot, and counts the votes of different replicas for its turn, in valid phases.
 #[test]
 fn a_vote_fits_in_each_field(rt: HostRuntime) -> Result<(), Fail> {
     let lines = [
@@ -189,7 +190,7 @@ fn a_vote_fits_in_each_field(rt: HostRuntime) -> Result<(), Fail> {
     Ok(())
 }
 
-// Votes of the last phase may come first. The next cast is proposed once both quorums were shown.
+// Commit votes may come first. The next cast is proposed once both quorum certificates were broadcast.
 #[test]
 fn later_votes_may_come_first(rt: HostRuntime) -> Result<(), Fail> {
     let lines = [
@@ -206,7 +207,7 @@ fn later_votes_may_come_first(rt: HostRuntime) -> Result<(), Fail> {
     Ok(())
 }
 
-// Where the second quorum was shown, a proposal beside it is not safe; where the first one alone was, it is.
+// After a precommitQC a conflicting proposal is refused; after a prepareQC alone it is taken.
 #[test]
 fn a_lock_is_set_by_the_second_quorum(rt: HostRuntime) -> Result<(), Fail> {
     let alloc = rt.alloc();
@@ -227,7 +228,7 @@ fn a_lock_is_set_by_the_second_quorum(rt: HostRuntime) -> Result<(), Fail> {
     Ok(())
 }
 
-// A quorum of an earlier turn comes late: the lock stays above it. A certificate above the lock frees the node.
+// A late precommitQC of an earlier turn does not lower the lock. A prepareQC above the lock unlocks the replica.
 #[test]
 fn a_lock_does_not_fall(rt: HostRuntime) -> Result<(), Fail> {
     let lines = [
@@ -243,7 +244,8 @@ fn a_lock_does_not_fall(rt: HostRuntime) -> Result<(), Fail> {
     Ok(())
 }
 
-// The last turn of a round, the last round, and the last turn in it: nothing stands above that, and no round ends there.
+// The last turn of a round, the last round, and the last turn in it: no view follows, and the last round has no
+// timeout.
 #[test]
 fn views_end_with_their_rounds(rt: HostRuntime) -> Result<(), Fail> {
     let lines = [
@@ -263,7 +265,7 @@ fn views_end_with_their_rounds(rt: HostRuntime) -> Result<(), Fail> {
     Ok(())
 }
 
-// Node 3 leads the last round.
+// Replica 3 leads the last round.
 #[test]
 fn the_last_round_begins_like_others(rt: HostRuntime) -> Result<(), Fail> {
     let lines = [

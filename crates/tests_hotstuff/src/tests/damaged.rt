@@ -1,12 +1,12 @@
-//! Damaged bytes: in a message of each kind one bit of each field is changed. It is then no message, or it claims a signature
-//! that does not verify.
+//! Damaged bytes: in a message of each kind one bit of each field is flipped. It then fails to decode, or claims an
+//! invalid signature.
 use crate::cluster::Cluster;
 use crate::instances::withstands;
 use std::alloc::Global;
 use std::test::Fail;
 
-// Of four nodes slot 0 is cast, and so many messages are heard. How many bits of the next one, which is of this
-// kind, may change unseen.
+// Four replicas, a cast at slot 0, and `heard` delivered messages. Returns how many flipped bits of the next message,
+// which is of this kind, go unnoticed.
 fn unseen_after(alloc: Global, heard: u32, kind: u8) -> Result<usize, Fail> {
     let p = withstands(alloc, 1)?;
     let mut cluster = Cluster::new(alloc, &p)?;
@@ -15,7 +15,7 @@ fn unseen_after(alloc: Global, heard: u32, kind: u8) -> Result<usize, Fail> {
     cluster.unseen(alloc, &p, kind)
 }
 
-// The batch has its first certificate when the round ends, and so many messages are heard of the next one.
+// The same in round 1, after a timeout when the batch had a prepareQC.
 fn unseen_in_round(alloc: Global, heard: u32, kind: u8) -> Result<usize, Fail> {
     let p = withstands(alloc, 1)?;
     let mut cluster = Cluster::new(alloc, &p)?;
@@ -63,7 +63,7 @@ fn a_damaged_word_is_seen(rt: HostRuntime) -> Result<(), Fail> {
     Ok(())
 }
 
-// A nil on a certificate.
+// nil, justified by a prepareQC
 #[test]
 fn a_damaged_proposal_of_a_round_is_seen(rt: HostRuntime) -> Result<(), Fail> {
     assert_eq!(rt; unseen_in_round(rt.alloc(), 4, 2)?, 0);

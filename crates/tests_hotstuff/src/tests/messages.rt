@@ -1,4 +1,4 @@
-//! Messages in bytes: rows that were written by hand, every cut of a message, and the field that does not fit.
+//! Encodings written by hand, every truncation of a message, and the position of a bad field.
 use crate::instances::withstands;
 use hs_tree::signing::{
     held_digest, held_string, node_statement, node_string, put_certificate_claims, round_statement,
@@ -13,7 +13,7 @@ use std::test::Fail;
 
 const SIGNATURE: usize = 2213;
 
-// By another program: the digests of a nil on the root, of a mark on that, and of an empty batch on the digest of nines.
+// Digests computed by an independent program: nil on the root, a mark on that, and an empty batch on a digest of nines.
 const NIL_NODE: [u8; 32] = [
     0x33, 0x14, 0xb2, 0x49, 0xe7, 0x2a, 0xaa, 0x69, 0x24, 0xf8, 0xf9, 0x7c, 0x96, 0x81, 0x28, 0x5b,
     0x3b, 0x1a, 0x05, 0xc2, 0x51, 0x29, 0xd2, 0xa1, 0xa4, 0xfa, 0xd8, 0x8f, 0xd5, 0xa6, 0x78, 0x12,
@@ -29,7 +29,7 @@ const BATCH_NODE: [u8; 32] = [
     0x35, 0x10, 0x3c, 0xd7, 0x96, 0x26, 0x62, 0x8f, 0xa2, 0xa3, 0x2f, 0x58, 0x3c, 0x22, 0x03, 0x63,
 ];
 
-// A signature of height 2 that nobody made.
+// A signature of height 2 that no replica made.
 fn sig(alloc: Global) -> Result<Bytes, Fail> {
     let mut all = Vec::new(alloc);
     all.push(2u8)?;
@@ -39,7 +39,7 @@ fn sig(alloc: Global) -> Result<Bytes, Fail> {
     Ok(Bytes::of(all))
 }
 
-// A certificate of these nodes' votes for the digest of nines, in turn 1 of round 1.
+// A certificate of these replicas' votes for a digest of nines, in turn 1 of round 1.
 fn votes(alloc: Global, phase: u8, nodes: &[u8]) -> Result<Certificate, Fail> {
     let mut votes = Seq::new(alloc);
     for node in nodes {
@@ -70,7 +70,7 @@ fn fault(alloc: Global, phases: u8, bytes: &[u8]) -> Option<u64> {
     }
 }
 
-// Whether a message is so long, begins so, and is read and written again as it was.
+// Whether the message has this length and these first bytes, and decodes to the same message.
 fn is_exact(alloc: Global, msg: &Message, front: &[u8], length: usize) -> Result<bool, Fail> {
     let bytes = bytes_of(alloc, 3, msg)?;
     let all = bytes.as_slice();
@@ -121,7 +121,7 @@ fn a_proposal_is_exact(rt: HostRuntime) -> Result<(), Fail> {
     Ok(())
 }
 
-// How long a message is that shows two votes.
+// The length of a PreCommit, Commit or Decide with two votes.
 const SHOWN: usize = 43 + 2 * (1 + SIGNATURE) + SIGNATURE;
 
 #[test]
@@ -178,7 +178,7 @@ fn each_cut_of_a_vote_is_refused(rt: HostRuntime) -> Result<(), Fail> {
     for cut in 0..all.len() {
         let at = fault(alloc, 3, &all[..cut]);
         assert!(rt; at.is_some());
-        // The digest begins at 6, and is cut.
+        // The digest begins at index 6, and is truncated.
         if cut == 37 {
             assert_eq!(rt; at, Some(6));
         }
@@ -186,7 +186,7 @@ fn each_cut_of_a_vote_is_refused(rt: HostRuntime) -> Result<(), Fail> {
     Ok(())
 }
 
-// A PreCommit whose certificate has votes of these nodes, written by hand.
+// A PreCommit with these replicas' votes, written by hand.
 fn shown_by_hand(alloc: Global, nodes: &[u8]) -> Result<Bytes, Fail> {
     let sig = sig(alloc)?;
     let mut out = Writer::new(alloc, 1);
@@ -217,7 +217,7 @@ fn a_node_that_does_not_rise_is_named(rt: HostRuntime) -> Result<(), Fail> {
         fault(alloc, 3, shown_by_hand(alloc, &[3, 0])?.as_slice()),
         Some(second)
     );
-    // Node 255 may stand last.
+    // replica 255 may be the last signer
     assert_eq!(rt;
         fault(alloc, 3, shown_by_hand(alloc, &[0, 255])?.as_slice()),
         None
@@ -233,7 +233,7 @@ fn phases_and_numbers_that_are_none_are_named(rt: HostRuntime) -> Result<(), Fai
     assert_eq!(rt; fault(alloc, 3, &[6, 0]), Some(1));
     assert_eq!(rt; fault(alloc, 3, &[6, 4]), Some(1));
     assert_eq!(rt; fault(alloc, 3, &[3, 0, 0, 0, 1, 0, 0, 0, 1, 4]), Some(9));
-    // Where nodes pass one phase.
+    // with one phase
     assert_eq!(rt; fault(alloc, 1, &[5, 0]), Some(0));
     assert_eq!(rt; fault(alloc, 1, &[6, 2]), Some(1));
     Ok(())

@@ -1,4 +1,4 @@
-//! Runs through the calls of the trait: each message goes by way of its bytes.
+//! Runs through the ordering module's interface: each message is encoded and decoded.
 ghost use Rattle.std.specs.Prelude.{◌≤◌};
 
 use crate::cluster::Cluster;
@@ -8,7 +8,7 @@ use sb_hotstuff::HotStuff;
 use std::alloc::Global;
 use std::test::Fail;
 
-// Both slots are cast to one node alone, and so many of its messages are heard.
+// Both slots are cast at a single replica, which takes `heard` of its messages.
 fn alone(alloc: Global, heard: u32) -> Result<Cluster, Fail> {
     let p = withstands(alloc, 0)?;
     let mut cluster = Cluster::new(alloc, &p)?;
@@ -18,8 +18,8 @@ fn alone(alloc: Global, heard: u32) -> Result<Cluster, Fail> {
     Ok(cluster)
 }
 
-// A proposal, three votes and the certificates on them: the last certificate delivers. Both batches are accepted when they are
-// cast, and not again with their proposals.
+// A proposal, three votes and three certificates: the commitQC delivers. Both batches are accepted when they are cast,
+// and not again with their proposals.
 #[test]
 fn four_phases_deliver(rt: HostRuntime) -> Result<(), Fail> {
     let alloc = rt.alloc();
@@ -31,7 +31,7 @@ fn four_phases_deliver(rt: HostRuntime) -> Result<(), Fail> {
     Ok(())
 }
 
-// The second slot is proposed once the first one has its last certificate.
+// The second slot is proposed once the first has a commitQC.
 #[test]
 fn slots_follow_each_other(rt: HostRuntime) -> Result<(), Fail> {
     let all = alone(rt.alloc(), 100)?;
@@ -40,8 +40,8 @@ fn slots_follow_each_other(rt: HostRuntime) -> Result<(), Fail> {
     Ok(())
 }
 
-// Slot 0 is cast among nodes of which f may be faulty, and so many messages are heard. What is said then is lost, the round
-// ends, and so many are heard of the next one.
+// Slot 0 is cast, with up to f faults tolerated, and `before` messages are delivered. The others are lost, all replicas
+// time out, and `later` messages of the next round are delivered.
 fn changed(alloc: Global, f: u32, before: u32, later: u32) -> Result<Cluster, Fail>
     requires { f ≤ 3 }
 {
@@ -55,7 +55,7 @@ fn changed(alloc: Global, f: u32, before: u32, later: u32) -> Result<Cluster, Fa
     Ok(cluster)
 }
 
-// The batch was decided, and the next round fills the slot behind it with nil.
+// The batch was decided, and the next round fills the open slot with nil.
 #[test]
 fn a_round_fills_what_is_open(rt: HostRuntime) -> Result<(), Fail> {
     let cluster = changed(rt.alloc(), 1, 28, 100)?;
@@ -64,7 +64,7 @@ fn a_round_fills_what_is_open(rt: HostRuntime) -> Result<(), Fail> {
     Ok(())
 }
 
-// The batch has the first certificate alone when the round ends: the next leader proposes on it, and it is delivered.
+// The batch has only a prepareQC at the timeout. The next leader's proposal extends it, and it is delivered.
 #[test]
 fn a_certificate_is_carried_over(rt: HostRuntime) -> Result<(), Fail> {
     let cluster = changed(rt.alloc(), 1, 12, 100)?;
@@ -72,7 +72,7 @@ fn a_certificate_is_carried_over(rt: HostRuntime) -> Result<(), Fail> {
     Ok(())
 }
 
-// The same among seven nodes.
+// The same with seven replicas.
 #[test]
 fn seven_nodes_carry_a_certificate_over(rt: HostRuntime) -> Result<(), Fail> {
     let cluster = changed(rt.alloc(), 2, 21, 200)?;
@@ -81,7 +81,7 @@ fn seven_nodes_carry_a_certificate_over(rt: HostRuntime) -> Result<(), Fail> {
     Ok(())
 }
 
-// The batch was proposed and has no certificate when the round ends: its slot gets nil.
+// The batch was proposed but has no certificate at the timeout: its slot becomes nil.
 #[test]
 fn a_proposal_alone_is_left_out(rt: HostRuntime) -> Result<(), Fail> {
     let cluster = changed(rt.alloc(), 1, 4, 32)?;
@@ -89,7 +89,7 @@ fn a_proposal_alone_is_left_out(rt: HostRuntime) -> Result<(), Fail> {
     Ok(())
 }
 
-// Whether the leader asks for a batch at each of the two slots, before and after the first one is cast.
+// Whether the leader offers to accept a batch at each of the two slots, before and after a cast at the first.
 fn asked(alloc: Global) -> Result<[bool; 4], Fail> {
     let p = withstands(alloc, 1)?;
     let mut cluster = Cluster::new(alloc, &p)?;
@@ -110,7 +110,8 @@ fn casts_come_in_order(rt: HostRuntime) -> Result<(), Fail> {
     Ok(())
 }
 
-// How many messages wait among four nodes once so many were heard, and of how many each claim verifies.
+// With four replicas: the number of undelivered messages after `heard` deliveries, and how many of them claim only
+// valid signatures.
 fn signed(alloc: Global, heard: u32) -> Result<(usize, usize), Fail> {
     let p = withstands(alloc, 1)?;
     let mut cluster = Cluster::new(alloc, &p)?;
@@ -119,7 +120,7 @@ fn signed(alloc: Global, heard: u32) -> Result<(usize, usize), Fail> {
     Ok((cluster.waiting(), cluster.signed(alloc, &p)?))
 }
 
-// Of a message with a certificate its sender's signature, and each vote.
+// A message with a certificate claims its sender's signature and each vote.
 #[test]
 fn claims_verify(rt: HostRuntime) -> Result<(), Fail> {
     assert_eq!(rt; signed(rt.alloc(), 8)?, (4, 4));

@@ -2,7 +2,7 @@ use Rattle.std.proofs.Common.{List, sym, subst}
 use Rattle.std.proofs.lemmas.Bool.{ltb-true}
 use Rattle.iss_base.specs.Lists.{In}
 use Rattle.iss_request.specs.declared.ids.Slot.{Slot}
-use Rattle.sb_hotstuff.proofs.Paired.{slot-inside}
+use Rattle.sb_hotstuff.proofs.Refinement.DeliveredSlotsAgree.{slot-inside}
 use Rattle.sb_hotstuff.proofs.accepting.free_slot.Goals as goal
 
 pub returns-clause-inside : goal.returns-clause-inside

@@ -1,4 +1,4 @@
-use Rattle.sb_hotstuff.proofs.Paired.{no-more, no-values}
+use Rattle.sb_hotstuff.proofs.Refinement.DeliveredSlotsAgree.{no-more, no-values}
 use Rattle.sb_hotstuff.proofs.delivering.pair.Goals as goal
 
 pub returns : goal.returns

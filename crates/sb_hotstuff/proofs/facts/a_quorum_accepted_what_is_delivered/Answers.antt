@@ -1,4 +1,4 @@
-use Rattle.sb_hotstuff.proofs.Safe.{backed}
+use Rattle.sb_hotstuff.proofs.Safety.WorldsAreBroadcasts.{backed}
 use Rattle.sb_hotstuff.proofs.facts.a_quorum_accepted_what_is_delivered.Goals as goal
 
 pub returns : goal.returns

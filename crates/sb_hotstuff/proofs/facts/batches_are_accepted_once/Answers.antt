@@ -1,4 +1,4 @@
-use Rattle.sb_hotstuff.proofs.Once.{accepted-once}
+use Rattle.sb_hotstuff.proofs.LeaderProposals.OneBatchASlot.{accepted-once}
 use Rattle.sb_hotstuff.proofs.facts.batches_are_accepted_once.Goals as goal
 
 pub returns : goal.returns

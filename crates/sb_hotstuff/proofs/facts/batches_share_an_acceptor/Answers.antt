@@ -1,4 +1,4 @@
-use Rattle.sb_hotstuff.proofs.Safe.{shared}
+use Rattle.sb_hotstuff.proofs.Safety.WorldsAreBroadcasts.{shared}
 use Rattle.sb_hotstuff.proofs.facts.batches_share_an_acceptor.Goals as goal
 
 pub returns : goal.returns

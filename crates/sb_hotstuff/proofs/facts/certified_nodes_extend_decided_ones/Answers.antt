@@ -1,4 +1,4 @@
-use Rattle.sb_hotstuff.proofs.Safe.{extending}
+use Rattle.sb_hotstuff.proofs.Safety.WorldsAreBroadcasts.{extending}
 use Rattle.sb_hotstuff.proofs.facts.certified_nodes_extend_decided_ones.Goals as goal
 
 pub returns : goal.returns

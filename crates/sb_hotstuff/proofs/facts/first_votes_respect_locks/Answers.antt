@@ -1,4 +1,4 @@
-use Rattle.sb_hotstuff.proofs.Safe.{safe-votes}
+use Rattle.sb_hotstuff.proofs.Safety.WorldsAreBroadcasts.{safe-votes}
 use Rattle.sb_hotstuff.proofs.facts.first_votes_respect_locks.Goals as goal
 
 pub returns : goal.returns

@@ -1,4 +1,4 @@
-use Rattle.sb_hotstuff.proofs.Safe.{rested}
+use Rattle.sb_hotstuff.proofs.Safety.WorldsAreBroadcasts.{rested}
 use Rattle.sb_hotstuff.proofs.facts.later_votes_rest_on_certificates.Goals as goal
 
 pub returns : goal.returns

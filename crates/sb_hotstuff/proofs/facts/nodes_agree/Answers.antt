@@ -1,4 +1,4 @@
-use Rattle.sb_hotstuff.proofs.Safe.{agreed}
+use Rattle.sb_hotstuff.proofs.Safety.WorldsAreBroadcasts.{agreed}
 use Rattle.sb_hotstuff.proofs.facts.nodes_agree.Goals as goal
 
 pub returns : goal.returns

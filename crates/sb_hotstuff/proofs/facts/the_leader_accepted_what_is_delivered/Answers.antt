@@ -1,4 +1,4 @@
-use Rattle.sb_hotstuff.proofs.Safe.{from-leader}
+use Rattle.sb_hotstuff.proofs.Safety.WorldsAreBroadcasts.{from-leader}
 use Rattle.sb_hotstuff.proofs.facts.the_leader_accepted_what_is_delivered.Goals as goal
 
 pub returns : goal.returns

@@ -1,4 +1,4 @@
-use Rattle.sb_hotstuff.proofs.Safe.{one-node-view}
+use Rattle.sb_hotstuff.proofs.Safety.WorldsAreBroadcasts.{one-node-view}
 use Rattle.sb_hotstuff.proofs.facts.views_have_one_node.Goals as goal
 
 pub returns : goal.returns

@@ -1,4 +1,4 @@
-use Rattle.sb_hotstuff.proofs.Safe.{vote-once}
+use Rattle.sb_hotstuff.proofs.Safety.WorldsAreBroadcasts.{vote-once}
 use Rattle.sb_hotstuff.proofs.facts.votes_are_once_in_rising_views.Goals as goal
 
 pub returns : goal.returns

@@ -1,4 +1,4 @@
-use Rattle.sb_hotstuff.proofs.Safe.{hotstuff-safe}
+use Rattle.sb_hotstuff.proofs.Safety.WorldsAreBroadcasts.{hotstuff-safe}
 use Rattle.sb_hotstuff.proofs.laws.hotstuff_is_safe.Goals as goal
 
 pub returns : goal.returns

@@ -1,6 +1,6 @@
 use Rattle.std.proofs.Common.{refl}
 use Rattle.hs_tree.specs.Tree.{basic}
-use Rattle.sb_hotstuff.proofs.Drafting.{proposal-drafted}
+use Rattle.sb_hotstuff.proofs.Refinement.DraftsAgree.{proposal-drafted}
 use Rattle.sb_hotstuff.proofs.signing.proposal_draft.Goals as goal
 
 pub returns : goal.returns

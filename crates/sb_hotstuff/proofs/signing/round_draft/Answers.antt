@@ -1,6 +1,6 @@
 use Rattle.std.proofs.Common.{refl}
 use Rattle.hs_tree.specs.Tree.{basic}
-use Rattle.sb_hotstuff.proofs.Drafting.{round-drafted}
+use Rattle.sb_hotstuff.proofs.Refinement.DraftsAgree.{round-drafted}
 use Rattle.sb_hotstuff.proofs.signing.round_draft.Goals as goal
 
 pub returns : goal.returns

@@ -1,5 +1,5 @@
 use Rattle.std.proofs.lemmas.Result.{on_ok_weaker}
-use Rattle.sb_hotstuff.proofs.Drafting.{one-addressed}
+use Rattle.sb_hotstuff.proofs.Refinement.DraftsAgree.{one-addressed}
 use Rattle.sb_hotstuff.proofs.signing.send.Goals as goal
 
 pub returns-clause-addressed : goal.returns-clause-addressed

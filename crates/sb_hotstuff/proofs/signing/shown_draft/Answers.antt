@@ -1,6 +1,6 @@
 use Rattle.std.proofs.Common.{refl}
 use Rattle.hs_tree.specs.Tree.{basic}
-use Rattle.sb_hotstuff.proofs.Drafting.{shown-drafted}
+use Rattle.sb_hotstuff.proofs.Refinement.DraftsAgree.{shown-drafted}
 use Rattle.sb_hotstuff.proofs.signing.shown_draft.Goals as goal
 
 pub returns : goal.returns

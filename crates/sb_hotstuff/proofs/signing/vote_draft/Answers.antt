@@ -1,6 +1,6 @@
 use Rattle.std.proofs.Common.{refl}
 use Rattle.hs_tree.specs.Tree.{basic}
-use Rattle.sb_hotstuff.proofs.Drafting.{vote-drafted}
+use Rattle.sb_hotstuff.proofs.Refinement.DraftsAgree.{vote-drafted}
 use Rattle.sb_hotstuff.proofs.signing.vote_draft.Goals as goal
 
 pub returns : goal.returns

@@ -1,4 +1,4 @@
-use Rattle.sb_raft.proofs.Once.{accepted-once}
+use Rattle.sb_raft.proofs.AcceptedBatches.OneBatchASlot.{accepted-once}
 use Rattle.sb_raft.proofs.facts.batches_are_accepted_once.Goals as goal
 
 pub returns : goal.returns

@@ -1,4 +1,4 @@
-use Rattle.sb_raft.proofs.Worlds.{logs-match}
+use Rattle.sb_raft.proofs.Safety.FactsOfWorlds.{logs-match}
 use Rattle.sb_raft.proofs.facts.logs_match.Goals as goal
 
 pub returns : goal.returns

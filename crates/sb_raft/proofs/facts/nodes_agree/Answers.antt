@@ -1,4 +1,4 @@
-use Rattle.sb_raft.proofs.Worlds.{agreed}
+use Rattle.sb_raft.proofs.Safety.FactsOfWorlds.{agreed}
 use Rattle.sb_raft.proofs.facts.nodes_agree.Goals as goal
 
 pub returns : goal.returns

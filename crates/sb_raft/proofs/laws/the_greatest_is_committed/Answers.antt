@@ -1,4 +1,4 @@
-use Rattle.sb_raft.proofs.Greatest.{commit-greatest}
+use Rattle.sb_raft.proofs.CommitIndex.CommitIsGreatest.{commit-greatest}
 use Rattle.sb_raft.proofs.laws.the_greatest_is_committed.Goals as goal
 
 pub returns : goal.returns

@@ -3,7 +3,7 @@ use Rattle.std.proofs.lemmas.Bool.{ltb-true}
 use Rattle.std.proofs.lemmas.Result.{on_ok_weaker}
 use Rattle.iss_request.specs.declared.ids.Slot.{Slot}
 use Rattle.iss_request.specs.declared.requests.Value.{Value}
-use Rattle.sb_raft.proofs.Newly.{paired-at}
+use Rattle.sb_raft.proofs.Refinement.DeliveredSlotsAgree.{paired-at}
 use Rattle.sb_raft.proofs.log.put_slot.Goals as goal
 
 pub returns : goal.returns

@@ -1,6 +1,6 @@
 use Rattle.std.proofs.Common.{◌≡◌, ◌∙◌, arith}
 use Rattle.sb_hotstuff.specs.Tallies.{count_at}
-use Rattle.sb_hotstuff.proofs.Tallying.{count-is}
+use Rattle.sb_hotstuff.proofs.Refinement.CountsAgree.{count-is}
 use Rattle.sb_hotstuff.proofs.ballots.Ballots.count.Goals as goal
 
 pub returns : goal.returns

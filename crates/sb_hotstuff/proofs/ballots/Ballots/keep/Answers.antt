@@ -4,7 +4,7 @@ use Rattle.sb_hotstuff.specs.declared.ballots.Ballot.{Ballot}
 use Rattle.sb_hotstuff.specs.declared.ballots.Ballots.{Ballots}
 use Rattle.sb_hotstuff.specs.Rules.{Kept}
 use Rattle.sb_hotstuff.specs.Tallies.{ballot_order, vote_at}
-use Rattle.sb_hotstuff.proofs.Tallying.{votes-more}
+use Rattle.sb_hotstuff.proofs.Refinement.CountsAgree.{votes-more}
 use Rattle.sb_hotstuff.proofs.ballots.Ballots.keep.Goals as goal
 
 pub returns : goal.returns

@@ -1,6 +1,6 @@
 use Rattle.std.proofs.Common.{◌≡◌, ◌∙◌, arith}
 use Rattle.sb_hotstuff.specs.Tallies.{votes_at}
-use Rattle.sb_hotstuff.proofs.Tallying.{votes-are}
+use Rattle.sb_hotstuff.proofs.Refinement.CountsAgree.{votes-are}
 use Rattle.sb_hotstuff.proofs.ballots.Ballots.votes.Goals as goal
 
 pub returns : goal.returns

@@ -1,5 +1,5 @@
 use Rattle.std.proofs.lemmas.Result.{IfOk-weaker}
-use Rattle.sb_hotstuff.proofs.Standing.{cast-step}
+use Rattle.sb_hotstuff.proofs.Refinement.StepEffectsAgree.{cast-step}
 use Rattle.sb_hotstuff.proofs.hotstuff.HotStuff.cast.Goals as goal
 
 pub returns : goal.returns

@@ -1,6 +1,6 @@
 use Rattle.std.proofs.Common.{◌∙◌, drop}
 use Rattle.iss_sb.specs.Paired.{paired}
-use Rattle.sb_hotstuff.proofs.Standing.{high-step, low-step, undecided-step}
+use Rattle.sb_hotstuff.proofs.Refinement.StepEffectsAgree.{high-step, low-step, undecided-step}
 use Rattle.sb_hotstuff.proofs.hotstuff.HotStuff.decide.Goals as goal
 
 pub returns-then-not-may_deliver : goal.returns-then-not-may_deliver

@@ -2,7 +2,7 @@ use Rattle.std.proofs.Common.{refl}
 use Rattle.std.proofs.lemmas.Result.{IfOk-weaker}
 use Rattle.iss_sb.specs.declared.effects.Input.TheVariants.{Receive}
 use Rattle.hs_tree.specs.declared.messages.Message.TheVariants.{NewView}
-use Rattle.sb_hotstuff.proofs.Standing.{plain-step}
+use Rattle.sb_hotstuff.proofs.Refinement.StepEffectsAgree.{plain-step}
 use Rattle.sb_hotstuff.proofs.hotstuff.HotStuff.new_view.Goals as goal
 
 pub returns : goal.returns

@@ -1,5 +1,5 @@
 use Rattle.std.proofs.lemmas.Result.{IfOk-weaker}
-use Rattle.sb_hotstuff.proofs.Standing.{prepare-step, unprepared-step}
+use Rattle.sb_hotstuff.proofs.Refinement.StepEffectsAgree.{prepare-step, unprepared-step}
 use Rattle.sb_hotstuff.proofs.hotstuff.HotStuff.prepare.Goals as goal
 
 pub returns-then-not-may_prepare : goal.returns-then-not-may_prepare

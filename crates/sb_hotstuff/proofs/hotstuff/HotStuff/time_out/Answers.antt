@@ -1,7 +1,7 @@
 use Rattle.std.proofs.Common.{refl}
 use Rattle.std.proofs.lemmas.Result.{IfOk-weaker}
 use Rattle.iss_sb.specs.declared.effects.Input.TheVariants.{Timeout}
-use Rattle.sb_hotstuff.proofs.Standing.{plain-step}
+use Rattle.sb_hotstuff.proofs.Refinement.StepEffectsAgree.{plain-step}
 use Rattle.sb_hotstuff.proofs.hotstuff.HotStuff.time_out.Goals as goal
 
 pub returns : goal.returns

@@ -1,4 +1,4 @@
-use Rattle.sb_hotstuff.proofs.Standing.{casts-means}
+use Rattle.sb_hotstuff.proofs.Refinement.StepEffectsAgree.{casts-means}
 use Rattle.sb_hotstuff.proofs.hotstuff.HotStuffSequenced.casts.Goals as goal
 
 pub returns : goal.returns

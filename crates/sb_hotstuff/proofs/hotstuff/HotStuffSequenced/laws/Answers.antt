@@ -1,7 +1,7 @@
 use Rattle.hs_tree.proofs.MessageGrammar.{message-grammar}
-use Rattle.sb_hotstuff.proofs.Claims.{hotstuff-once}
-use Rattle.sb_hotstuff.proofs.Lawful.{hotstuff-lawful}
-use Rattle.sb_hotstuff.proofs.Safe.{hotstuff-safe}
+use Rattle.sb_hotstuff.proofs.Safety.VotesSentWereReceived.{hotstuff-once}
+use Rattle.sb_hotstuff.proofs.ModuleLaws.StepsAreLawful.{hotstuff-lawful}
+use Rattle.sb_hotstuff.proofs.Safety.WorldsAreBroadcasts.{hotstuff-safe}
 use Rattle.sb_hotstuff.proofs.hotstuff.HotStuffSequenced.laws.Goals as goal
 
 pub returns-clause-grammar : goal.returns-clause-grammar

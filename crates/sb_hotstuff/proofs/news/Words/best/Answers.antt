@@ -1,6 +1,6 @@
 use Rattle.std.proofs.Common.{◌≡◌, ◌∙◌, arith}
 use Rattle.sb_hotstuff.specs.Tallies.{best_at}
-use Rattle.sb_hotstuff.proofs.Tallying.{best-is}
+use Rattle.sb_hotstuff.proofs.Refinement.CountsAgree.{best-is}
 use Rattle.sb_hotstuff.proofs.news.Words.best.Goals as goal
 
 pub returns : goal.returns

@@ -1,6 +1,6 @@
 use Rattle.std.proofs.Common.{◌≡◌, ◌∙◌, arith}
 use Rattle.sb_hotstuff.specs.Tallies.{words_at}
-use Rattle.sb_hotstuff.proofs.Tallying.{words-are}
+use Rattle.sb_hotstuff.proofs.Refinement.CountsAgree.{words-are}
 use Rattle.sb_hotstuff.proofs.news.Words.count.Goals as goal
 
 pub returns : goal.returns

@@ -5,7 +5,7 @@ use Rattle.sb_hotstuff.specs.declared.news.Sender.{Sender}
 use Rattle.sb_hotstuff.specs.declared.news.Words.{Words}
 use Rattle.sb_hotstuff.specs.Rules.{News}
 use Rattle.sb_hotstuff.specs.Tallies.{sender_order, word_at}
-use Rattle.sb_hotstuff.proofs.Tallying.{news-more}
+use Rattle.sb_hotstuff.proofs.Refinement.CountsAgree.{news-more}
 use Rattle.sb_hotstuff.proofs.news.Words.keep.Goals as goal
 
 pub returns : goal.returns

@@ -1,5 +1,5 @@
 use Rattle.std.proofs.Common.{subst, sym, List}
-use Rattle.sb_hotstuff.proofs.Signed.{both-signed, left-enough}
+use Rattle.sb_hotstuff.proofs.Refinement.SignedMessagesAgree.{both-signed, left-enough}
 use Rattle.iss_sb.specs.Calls.{AreToNodes}
 use Rattle.iss_sb.specs.declared.effects.To.{To}
 use Rattle.hs_tree.specs.declared.messages.Message.{Message}

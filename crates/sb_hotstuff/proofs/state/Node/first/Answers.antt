@@ -1,5 +1,5 @@
 use Rattle.std.proofs.lemmas.Result.{IfOk-weaker}
-use Rattle.sb_hotstuff.proofs.Turning.{first-one}
+use Rattle.sb_hotstuff.proofs.Refinement.TurnRefines.{first-one}
 use Rattle.sb_hotstuff.proofs.state.Node.first.Goals as goal
 
 pub returns : goal.returns

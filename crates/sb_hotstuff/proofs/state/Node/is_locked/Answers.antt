@@ -1,4 +1,4 @@
-use Rattle.sb_hotstuff.proofs.Testing.{locked}
+use Rattle.sb_hotstuff.proofs.Refinement.ProposalTestAgrees.{locked}
 use Rattle.sb_hotstuff.proofs.state.Node.is_locked.Goals as goal
 
 pub returns : goal.returns

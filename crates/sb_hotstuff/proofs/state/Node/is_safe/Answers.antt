@@ -1,5 +1,5 @@
 use Rattle.std.proofs.lemmas.Bool.{le-ltb}
-use Rattle.sb_hotstuff.proofs.Testing.{safe-locked}
+use Rattle.sb_hotstuff.proofs.Refinement.ProposalTestAgrees.{safe-locked}
 use Rattle.sb_hotstuff.proofs.state.Node.is_safe.Goals as goal
 
 pub returns : goal.returns

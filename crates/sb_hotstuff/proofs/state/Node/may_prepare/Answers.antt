@@ -1,4 +1,4 @@
-use Rattle.sb_hotstuff.proofs.Testing.{prepared}
+use Rattle.sb_hotstuff.proofs.Refinement.ProposalTestAgrees.{prepared}
 use Rattle.sb_hotstuff.proofs.state.Node.may_prepare.Goals as goal
 
 pub returns : goal.returns

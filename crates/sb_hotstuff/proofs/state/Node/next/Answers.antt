@@ -1,6 +1,6 @@
 use Rattle.std.proofs.Common.{arith}
 use Rattle.std.proofs.lemmas.Result.{IfOk-weaker}
-use Rattle.sb_hotstuff.proofs.Turning.{next-after, next-cast, next-idle}
+use Rattle.sb_hotstuff.proofs.Refinement.TurnRefines.{next-after, next-cast, next-idle}
 use Rattle.sb_hotstuff.proofs.state.Node.next.Goals as goal
 
 pub returns-in_default : goal.returns-in_default

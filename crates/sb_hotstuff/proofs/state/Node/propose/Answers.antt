@@ -1,5 +1,5 @@
 use Rattle.hs_tree.proofs.Branches.{weight-few}
-use Rattle.sb_hotstuff.proofs.Turning.{last-is, node-is, proposes-one}
+use Rattle.sb_hotstuff.proofs.Refinement.TurnRefines.{last-is, node-is, proposes-one}
 use Rattle.std.proofs.Common.{refl, sym, subst, ℕ, ◌≤◌}
 use Rattle.sb_hotstuff.proofs.state.Node.propose.Goals as goal
 

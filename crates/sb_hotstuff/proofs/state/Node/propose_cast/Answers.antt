@@ -1,6 +1,6 @@
 use Rattle.std.proofs.Common.{sym}
 use Rattle.std.proofs.lemmas.Result.{IfOk-weaker}
-use Rattle.sb_hotstuff.proofs.Turning.{cast-none, cast-some}
+use Rattle.sb_hotstuff.proofs.Refinement.TurnRefines.{cast-none, cast-some}
 use Rattle.sb_hotstuff.proofs.state.Node.propose_cast.Goals as goal
 
 pub returns-in_default : goal.returns-in_default

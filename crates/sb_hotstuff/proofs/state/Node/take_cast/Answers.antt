@@ -1,7 +1,7 @@
 use Rattle.std.proofs.Common.{refl}
 use Rattle.std.proofs.lemmas.Result.{IfOk-weaker}
 use Rattle.sb_hotstuff.specs.declared.state.Node.{Node}
-use Rattle.sb_hotstuff.proofs.Taking.{cast-led}
+use Rattle.sb_hotstuff.proofs.Refinement.InputRefines.{cast-led}
 use Rattle.sb_hotstuff.proofs.state.Node.take_cast.Goals as goal
 
 pub returns : goal.returns

@@ -1,6 +1,6 @@
 use Rattle.std.proofs.Common.{refl}
 use Rattle.std.proofs.lemmas.Result.{IfOk-weaker}
-use Rattle.sb_hotstuff.proofs.Taking.{news-led}
+use Rattle.sb_hotstuff.proofs.Refinement.InputRefines.{news-led}
 use Rattle.sb_hotstuff.proofs.state.Node.take_new_view.Goals as goal
 
 pub returns : goal.returns

@@ -1,4 +1,4 @@
-use Rattle.sb_hotstuff.proofs.Taking.{node-taken}
+use Rattle.sb_hotstuff.proofs.Refinement.InputRefines.{node-taken}
 use Rattle.sb_hotstuff.proofs.state.Node.take_node.Goals as goal
 
 pub returns : goal.returns

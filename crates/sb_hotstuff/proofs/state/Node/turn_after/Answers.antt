@@ -1,6 +1,6 @@
 use Rattle.std.proofs.Common.{refl, arith}
 use Rattle.std.proofs.lemmas.Result.{IfOk-weaker}
-use Rattle.sb_hotstuff.proofs.Turning.{after-cast, after-nil}
+use Rattle.sb_hotstuff.proofs.Refinement.TurnRefines.{after-cast, after-nil}
 use Rattle.sb_hotstuff.proofs.state.Node.turn_after.Goals as goal
 
 pub returns-then-round_of-eq0 : goal.returns-then-round_of-eq0

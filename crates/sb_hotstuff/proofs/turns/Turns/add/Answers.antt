@@ -1,6 +1,6 @@
 use Rattle.std.proofs.Common.{Some, refl}
 use Rattle.sb_hotstuff.specs.declared.turns.Turns.{Turns}
-use Rattle.sb_hotstuff.proofs.Tallying.{turns-more}
+use Rattle.sb_hotstuff.proofs.Refinement.CountsAgree.{turns-more}
 use Rattle.sb_hotstuff.proofs.turns.Turns.add.Goals as goal
 
 pub returns : goal.returns

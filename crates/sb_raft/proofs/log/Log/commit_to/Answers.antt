@@ -1,6 +1,6 @@
 use Rattle.std.proofs.Common.{◌∙◌, refl, ap, sym, arith}
 use Rattle.sb_raft.specs.Held.{LogState}
-use Rattle.sb_raft.proofs.Passing.{since-none, up-next}
+use Rattle.sb_raft.proofs.Refinement.CommittedEntryFillsSlot.{since-none, up-next}
 use Rattle.sb_raft.proofs.log.Log.commit_to.Goals as goal
 
 pub up-init : goal.up-init

@@ -1,7 +1,7 @@
 use Rattle.std.proofs.Common.{◌≡◌, ◌∙◌, length, ap, sym, arith}
 use Rattle.std.specs.Prelude.{nat_le}
 use Rattle.sb_raft.specs.Held.{LogState}
-use Rattle.sb_raft.proofs.Merging.{merge-all-is, merge-all-log, merge-long-is, merge-low-is, merge-part-is, merge-part-log, same-of}
+use Rattle.sb_raft.proofs.Refinement.MergeAgrees.{merge-all-is, merge-all-log, merge-long-is, merge-low-is, merge-part-is, merge-part-log, same-of}
 use Rattle.sb_raft.proofs.log.Log.merge.Goals as goal
 
 pub returns-then-same-len-clause-tells : goal.returns-then-same-len-clause-tells

@@ -6,8 +6,8 @@ use Rattle.raft_wire.specs.declared.entries.Entry.{Entry}
 use Rattle.iss_sb.specs.Paired.{paired}
 use Rattle.sb_raft.specs.Held.{LogState}
 use Rattle.sb_raft.specs.Logs.{content, contents, filled}
-use Rattle.sb_raft.proofs.Few.{filled-low}
-use Rattle.sb_raft.proofs.Passing.{fresh-none, pass-none, pass-some}
+use Rattle.sb_raft.proofs.ModuleLaws.LogLengthIsBounded.{filled-low}
+use Rattle.sb_raft.proofs.Refinement.CommittedEntryFillsSlot.{fresh-none, pass-none, pass-some}
 use Rattle.sb_raft.proofs.log.Log.pass.Goals as goal
 
 pub invariant_of-self : goal.invariant_of-self

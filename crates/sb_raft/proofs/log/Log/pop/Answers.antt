@@ -1,5 +1,5 @@
 use Rattle.std.proofs.Common.{◌<◌, arith, ap, length}
-use Rattle.sb_raft.proofs.Counting.{counted-pop, pop-less}
+use Rattle.sb_raft.proofs.Refinement.LogCountersAgree.{counted-pop, pop-less}
 use Rattle.sb_raft.proofs.log.Log.pop.Goals as goal
 
 pub overflow_sub-self : goal.overflow_sub-self

@@ -2,8 +2,8 @@ use Rattle.std.proofs.Common.{◌+◌, ◌<◌, ◌^◌, List, w64, arith, subst
 use Rattle.std.proofs.Math.Facts.{Fits-of_lt}
 use Rattle.raft_wire.specs.declared.entries.Entry.{Entry}
 use Rattle.sb_raft.specs.Held.{AreCounted}
-use Rattle.sb_raft.proofs.Counting.{counted-push}
-use Rattle.sb_raft.proofs.Few.{content-low, filled-low}
+use Rattle.sb_raft.proofs.Refinement.LogCountersAgree.{counted-push}
+use Rattle.sb_raft.proofs.ModuleLaws.LogLengthIsBounded.{content-low, filled-low}
 use Rattle.sb_raft.proofs.log.Log.push.Goals as goal
 
 pub overflow_add-self : goal.overflow_add-self

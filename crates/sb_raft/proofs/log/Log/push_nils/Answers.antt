@@ -1,4 +1,4 @@
-use Rattle.sb_raft.proofs.Counting.{nils-pushed}
+use Rattle.sb_raft.proofs.Refinement.LogCountersAgree.{nils-pushed}
 use Rattle.sb_raft.proofs.log.Log.push_nils.Goals as goal
 
 pub loop-preserved : goal.loop-preserved

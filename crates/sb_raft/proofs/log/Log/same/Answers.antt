@@ -1,6 +1,6 @@
 use Rattle.std.proofs.Common.{◌<◌, ◌^◌, ◌+◌, ◌∙◌, ℕ, length, refl, subst, sym, w64, arith}
 use Rattle.std.proofs.Math.Facts.{Fits-of_lt}
-use Rattle.sb_raft.proofs.Counting.{IsRun, run-all, run-next, run-start, run-stop}
+use Rattle.sb_raft.proofs.Refinement.LogCountersAgree.{IsRun, run-all, run-next, run-start, run-stop}
 use Rattle.sb_raft.proofs.log.Log.same.Goals as goal
 
 pub overflow_add-index : goal.overflow_add-index

@@ -1,4 +1,4 @@
-use Rattle.sb_raft.proofs.Counting.{IsRun}
+use Rattle.sb_raft.proofs.Refinement.LogCountersAgree.{IsRun}
 use Rattle.sb_raft.proofs.log.Log.same.Given as goal
 
 abbrev pub invariant-loop-at : goal.invariant-loop-at

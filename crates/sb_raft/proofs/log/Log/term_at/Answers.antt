@@ -2,7 +2,7 @@ use Rattle.std.proofs.Common.{◌≡◌, ap, ◌∙◌, sym, length, arith}
 use Rattle.std.specs.Prelude.{min}
 use Rattle.raft_wire.specs.declared.entries.Entry.{Entry}
 use Rattle.sb_raft.specs.Logs.{term_at}
-use Rattle.sb_raft.proofs.Counting.{term-last}
+use Rattle.sb_raft.proofs.Refinement.LogCountersAgree.{term-last}
 use Rattle.sb_raft.proofs.log.Log.term_at.Goals as goal
 
 pub returns : goal.returns

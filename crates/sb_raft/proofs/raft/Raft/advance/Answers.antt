@@ -3,7 +3,7 @@ use Rattle.iss_request.specs.declared.ids.Slot.{Slot}
 use Rattle.sb_raft.specs.declared.raft.Raft.{Raft}
 use Rattle.iss_sb.specs.Paired.{paired}
 use Rattle.sb_raft.specs.Logs.{contents, filled}
-use Rattle.sb_raft.proofs.Leading.{advance-done, advance-idle, reach-within}
+use Rattle.sb_raft.proofs.Refinement.LeaderRulesRefine.{advance-done, advance-idle, reach-within}
 use Rattle.sb_raft.proofs.raft.Raft.advance.Goals as goal
 
 pub returns-then-index-commit : goal.returns-then-index-commit

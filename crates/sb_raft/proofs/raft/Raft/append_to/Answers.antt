@@ -2,7 +2,7 @@ use Rattle.std.proofs.Common.{List, subst, sym}
 use Rattle.iss_sb.specs.declared.effects.To.{To}
 use Rattle.iss_sb.specs.Calls.{AreToNodes}
 use Rattle.raft_wire.specs.declared.messages.Message.{Message}
-use Rattle.sb_raft.proofs.Sendings.{addressed-more}
+use Rattle.sb_raft.proofs.Refinement.SentMessagesAgree.{addressed-more}
 use Rattle.sb_raft.proofs.raft.Raft.append_to.Goals as goal
 
 pub returns-clause-addressed : goal.returns-clause-addressed

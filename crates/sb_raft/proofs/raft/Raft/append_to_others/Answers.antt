@@ -1,7 +1,7 @@
 use Rattle.std.proofs.Common.{◌<◌, arith}
 use Rattle.sb_raft.specs.Rules.{append_to}
 use Rattle.sb_raft.specs.Refines.{held}
-use Rattle.sb_raft.proofs.Sendings.{sent-next}
+use Rattle.sb_raft.proofs.Refinement.SentMessagesAgree.{sent-next}
 use Rattle.sb_raft.proofs.raft.Raft.append_to_others.Goals as goal
 
 pub loop-k-preserved : goal.loop-k-preserved

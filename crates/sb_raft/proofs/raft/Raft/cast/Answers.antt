@@ -4,7 +4,7 @@ use Rattle.raft_wire.specs.declared.messages.Message.{Message}
 use Rattle.sb_raft.specs.declared.raft.Raft.{Raft}
 use Rattle.sb_raft.specs.Rules.{appends}
 use Rattle.sb_raft.specs.Refines.{held}
-use Rattle.sb_raft.proofs.Leading.{cast-done, cast-idle, cast-state}
+use Rattle.sb_raft.proofs.Refinement.LeaderRulesRefine.{cast-done, cast-idle, cast-state}
 use Rattle.sb_raft.proofs.raft.Raft.cast.Goals as goal
 
 pub returns-then-not-may_cast : goal.returns-then-not-may_cast

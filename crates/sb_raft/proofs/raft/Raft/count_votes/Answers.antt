@@ -1,6 +1,6 @@
 use Rattle.std.proofs.Common.{arith}
 use Rattle.std.proofs.lemmas.Result.{IfOk-weaker}
-use Rattle.sb_raft.proofs.Leading.{votes-few, votes-won}
+use Rattle.sb_raft.proofs.Refinement.LeaderRulesRefine.{votes-few, votes-won}
 use Rattle.sb_raft.proofs.raft.Raft.count_votes.Goals as goal
 
 pub returns-then-count-p : goal.returns-then-count-p

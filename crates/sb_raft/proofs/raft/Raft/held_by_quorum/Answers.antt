@@ -1,6 +1,6 @@
 use Rattle.std.proofs.Common.{◌≤◌, ℕ, arith, subst}
 use Rattle.sb_raft.specs.Refines.{held}
-use Rattle.sb_raft.proofs.Reaching.{IsMostOf, most-of-all}
+use Rattle.sb_raft.proofs.CommitIndex.SearchFindsGreatest.{IsMostOf, most-of-all}
 use Rattle.sb_raft.proofs.raft.Raft.held_by_quorum.Goals as goal
 
 pub returns : goal.returns

@@ -1,5 +1,5 @@
 use Rattle.sb_raft.specs.Refines.{held}
-use Rattle.sb_raft.proofs.Reaching.{IsMostOf}
+use Rattle.sb_raft.proofs.CommitIndex.SearchFindsGreatest.{IsMostOf}
 use Rattle.sb_raft.proofs.raft.Raft.held_by_quorum.Given as goal
 
 abbrev pub invariant-loop-k : goal.invariant-loop-k

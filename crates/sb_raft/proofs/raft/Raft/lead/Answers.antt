@@ -2,7 +2,7 @@ use Rattle.std.proofs.Common.{refl, arith}
 use Rattle.std.proofs.lemmas.Result.{on_ok_weaker}
 use Rattle.sb_raft.specs.declared.raft.Role.TheVariants.{Leader}
 use Rattle.sb_raft.specs.declared.raft.Raft.{Raft}
-use Rattle.sb_raft.proofs.Leading.{lead-state}
+use Rattle.sb_raft.proofs.Refinement.LeaderRulesRefine.{lead-state}
 use Rattle.sb_raft.proofs.raft.Raft.lead.Goals as goal
 
 pub returns-clause-state : goal.returns-clause-state

@@ -5,7 +5,7 @@ use Rattle.iss_sb.specs.Paired.{paired}
 use Rattle.sb_raft.specs.Held.{with_merged}
 use Rattle.sb_raft.specs.Logs.{contents, filled}
 use Rattle.sb_raft.specs.Refines.{held}
-use Rattle.sb_raft.proofs.Handling.{merge-done, merge-idle, merged-told, when-false, when-true}
+use Rattle.sb_raft.proofs.Refinement.FollowerRulesRefine.{merge-done, merge-idle, merged-told, when-false, when-true}
 use Rattle.sb_raft.proofs.raft.Raft.merge.Goals as goal
 
 pub returns-then-not-branch : goal.returns-then-not-branch

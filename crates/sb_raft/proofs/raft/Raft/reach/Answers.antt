@@ -1,6 +1,6 @@
 use Rattle.std.proofs.Common.{sym, ◌∙◌}
 use Rattle.sb_raft.specs.Refines.{held}
-use Rattle.sb_raft.proofs.Reaching.{reached-at, reached-none}
+use Rattle.sb_raft.proofs.CommitIndex.SearchFindsGreatest.{reached-at, reached-none}
 use Rattle.sb_raft.proofs.raft.Raft.reach.Goals as goal
 
 pub returns-then-term_at-self : goal.returns-then-term_at-self

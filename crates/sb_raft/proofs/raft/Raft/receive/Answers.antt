@@ -1,6 +1,6 @@
 use Rattle.std.proofs.lemmas.Result.{IfOk-weaker}
 use Rattle.sb_raft.specs.Rules.{on_append, on_ask, on_reply, on_vote}
-use Rattle.sb_raft.proofs.Doing.{raised-does}
+use Rattle.sb_raft.proofs.Refinement.RulesCompose.{raised-does}
 use Rattle.sb_raft.proofs.raft.Raft.receive.Goals as goal
 
 pub returns-in-Append : goal.returns-in-Append

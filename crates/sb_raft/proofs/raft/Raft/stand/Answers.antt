@@ -3,7 +3,7 @@ use Rattle.std.proofs.lemmas.Result.{IfOk-weaker}
 use Rattle.sb_raft.specs.declared.raft.Role.TheVariants.{Candidate}
 use Rattle.sb_raft.specs.declared.raft.Raft.{Raft}
 use Rattle.sb_raft.specs.Kept.{kept}
-use Rattle.sb_raft.proofs.Leading.{own-vote, stand-done}
+use Rattle.sb_raft.proofs.Refinement.LeaderRulesRefine.{own-vote, stand-done}
 use Rattle.sb_raft.proofs.raft.Raft.stand.Goals as goal
 
 pub returns : goal.returns

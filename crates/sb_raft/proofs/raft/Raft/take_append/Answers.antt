@@ -2,7 +2,7 @@ use Rattle.std.proofs.Common.{◌<◌, ◌^◌, ◌∙◌, refl, sym, arith}
 use Rattle.std.proofs.lemmas.Result.{IfOk-weaker}
 use Rattle.sb_raft.specs.declared.raft.Role.TheVariants.{Follower}
 use Rattle.sb_raft.specs.declared.raft.Raft.{Raft}
-use Rattle.sb_raft.proofs.Handling.{append-fits, append-late, append-unfit}
+use Rattle.sb_raft.proofs.Refinement.FollowerRulesRefine.{append-fits, append-late, append-unfit}
 use Rattle.sb_raft.proofs.raft.Raft.take_append.Goals as goal
 
 pub returns-then-term-self : goal.returns-then-term-self

@@ -1,7 +1,7 @@
 use Rattle.std.proofs.Common.{Some, ◌∙◌, refl, sym}
 use Rattle.std.proofs.lemmas.Result.{IfOk-weaker}
 use Rattle.sb_raft.specs.declared.raft.Raft.{Raft}
-use Rattle.sb_raft.proofs.Leading.{grant-done, refuse-done}
+use Rattle.sb_raft.proofs.Refinement.LeaderRulesRefine.{grant-done, refuse-done}
 use Rattle.sb_raft.proofs.raft.Raft.take_ask.Goals as goal
 
 pub returns-then-not-grants : goal.returns-then-not-grants

@@ -6,8 +6,8 @@ use Rattle.sb_raft.specs.declared.raft.Raft.{Raft}
 use Rattle.sb_raft.specs.Kept.{kept}
 use Rattle.sb_raft.specs.Rules.{answer, append_behind}
 use Rattle.sb_raft.specs.Refines.{IsLow, held}
-use Rattle.sb_raft.proofs.Handling.{idle}
-use Rattle.sb_raft.proofs.Leading.{not-ok-done}
+use Rattle.sb_raft.proofs.Refinement.FollowerRulesRefine.{idle}
+use Rattle.sb_raft.proofs.Refinement.LeaderRulesRefine.{not-ok-done}
 use Rattle.sb_raft.proofs.raft.Raft.take_not_ok.Goals as goal
 
 pub returns-then-not-was_sent_last : goal.returns-then-not-was_sent_last

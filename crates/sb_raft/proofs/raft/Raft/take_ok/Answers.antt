@@ -5,9 +5,9 @@ use Rattle.std.proofs.lemmas.Result.{IfOk-weaker}
 use Rattle.sb_raft.specs.declared.raft.Raft.{Raft}
 use Rattle.sb_raft.specs.Rules.{advanced, quiet}
 use Rattle.sb_raft.specs.Refines.{IsLow, held}
-use Rattle.sb_raft.proofs.Handling.{idle}
-use Rattle.sb_raft.proofs.Leading.{ok-done}
-use Rattle.sb_raft.proofs.Steps.{with_match}
+use Rattle.sb_raft.proofs.Refinement.FollowerRulesRefine.{idle}
+use Rattle.sb_raft.proofs.Refinement.LeaderRulesRefine.{ok-done}
+use Rattle.sb_raft.proofs.StateChanges.StepCases.{with_match}
 use Rattle.sb_raft.proofs.raft.Raft.take_ok.Goals as goal
 
 pub returns-then-index-len : goal.returns-then-index-len

@@ -2,8 +2,8 @@ use Rattle.std.proofs.Common.{◌&&◌, ◌==◌, ◌∙◌, not, sym, None, if�
 use Rattle.std.proofs.lemmas.Result.{IfOk-weaker}
 use Rattle.sb_raft.specs.Rules.{is_leader, on_not_ok, on_ok}
 use Rattle.sb_raft.specs.Refines.{IsLow, held}
-use Rattle.sb_raft.proofs.Handling.{goes, goes_not, idle}
-use Rattle.sb_raft.proofs.Leading.{reply-done}
+use Rattle.sb_raft.proofs.Refinement.FollowerRulesRefine.{goes, goes_not, idle}
+use Rattle.sb_raft.proofs.Refinement.LeaderRulesRefine.{reply-done}
 use Rattle.sb_raft.proofs.raft.Raft.take_reply.Goals as goal
 
 pub returns-then-not-hears : goal.returns-then-not-hears

@@ -3,9 +3,9 @@ use Rattle.std.proofs.lemmas.Result.{IfOk-weaker}
 use Rattle.sb_raft.specs.declared.raft.Raft.{Raft}
 use Rattle.sb_raft.specs.Rules.{counted, is_candidate}
 use Rattle.sb_raft.specs.Refines.{IsLow, held}
-use Rattle.sb_raft.proofs.Handling.{idle}
-use Rattle.sb_raft.proofs.Leading.{vote-done}
-use Rattle.sb_raft.proofs.Steps.{with_granted}
+use Rattle.sb_raft.proofs.Refinement.FollowerRulesRefine.{idle}
+use Rattle.sb_raft.proofs.Refinement.LeaderRulesRefine.{vote-done}
+use Rattle.sb_raft.proofs.StateChanges.StepCases.{with_granted}
 use Rattle.sb_raft.proofs.raft.Raft.take_vote.Goals as goal
 
 pub returns-then-not-counts : goal.returns-then-not-counts

@@ -6,7 +6,7 @@ use Rattle.iss_sb.specs.Calls.{AreToNodes}
 use Rattle.raft_wire.specs.declared.messages.Message.{Message}
 use Rattle.sb_raft.specs.Rules.{appends}
 use Rattle.sb_raft.specs.Refines.{held}
-use Rattle.sb_raft.proofs.Leading.{timeout-last, timeout-leader, timeout-refines}
+use Rattle.sb_raft.proofs.Refinement.LeaderRulesRefine.{timeout-last, timeout-leader, timeout-refines}
 use Rattle.sb_raft.proofs.raft.Raft.time_out.Goals as goal
 
 pub returns-then-is_leader : goal.returns-then-is_leader

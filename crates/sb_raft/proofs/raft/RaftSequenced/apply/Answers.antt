@@ -2,7 +2,7 @@ use Rattle.std.proofs.Common.{None, refl, arith}
 use Rattle.std.proofs.lemmas.Result.{IfOk-weaker}
 use Rattle.iss_sb.specs.declared.effects.Input.TheVariants.{Cast, Receive, Timeout}
 use Rattle.sb_raft.specs.Refines.{cast_of, held}
-use Rattle.sb_raft.proofs.Standing.{cast-asked, cast-inside, true-step}
+use Rattle.sb_raft.proofs.Refinement.StepEffectsAgree.{cast-asked, cast-inside, true-step}
 use Rattle.sb_raft.proofs.raft.RaftSequenced.apply.Goals as goal
 
 pub returns-in-Cast : goal.returns-in-Cast

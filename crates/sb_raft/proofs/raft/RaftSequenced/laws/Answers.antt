@@ -1,6 +1,6 @@
 use Rattle.raft_wire.proofs.MessageGrammar.{message-grammar}
-use Rattle.sb_raft.proofs.Lawful.{raft-lawful, raft-once}
-use Rattle.sb_raft.proofs.Safe.{raft-safe}
+use Rattle.sb_raft.proofs.ModuleLaws.StepsAreLawful.{raft-lawful, raft-once}
+use Rattle.sb_raft.proofs.Safety.WorldsAreBroadcasts.{raft-safe}
 use Rattle.sb_raft.proofs.raft.RaftSequenced.laws.Goals as goal
 
 pub returns-clause-grammar : goal.returns-clause-grammar

@@ -1,0 +1,2 @@
+pub mod ReachableWorld
+pub mod Runs

@@ -1,0 +1,8 @@
+pub mod CountsAgree
+pub mod DeliveredSlotsAgree
+pub mod DraftsAgree
+pub mod InputRefines
+pub mod ProposalTestAgrees
+pub mod SignedMessagesAgree
+pub mod StepEffectsAgree
+pub mod TurnRefines

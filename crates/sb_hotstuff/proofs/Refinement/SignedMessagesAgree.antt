@@ -1,0 +1,81 @@
+-- The messages of an outcome are signed with the next leaves.
+use Rattle.std.proofs.Common.{◌≡◌, ℕ, suc, ◌+◌, ◌-◌, ◌^◌, ◌<◌, ◌≤◌, List, [], ◌∷◌, ◌++◌, length, Option, Some, None, refl, sym, ap, ◌∙◌, arith}
+use Rattle.iss_keys.specs.Directories.{AreKeysOf}
+use Rattle.iss_keys.specs.KeyStates.{KeyState, left_of}
+use Rattle.iss_request.specs.declared.ids.Slot.{Slot}
+use Rattle.iss_request.specs.declared.requests.Batch.{Batch}
+use Rattle.iss_request.specs.declared.requests.Value.{Value}
+use Rattle.iss_sb.specs.declared.effects.Params.{Params}
+use Rattle.iss_sb.specs.declared.effects.To.{To}
+use Rattle.iss_sb.specs.Calls.{AreToNodes}
+use Rattle.iss_sb.specs.Statements.{signature}
+use Rattle.hs_tree.specs.declared.messages.Message.{Message}
+use Rattle.hs_tree.specs.Statements.{own_statement, with_signature}
+use Rattle.hs_tree.specs.Tree.{basic}
+use Rattle.sb_hotstuff.specs.declared.outcomes.Outcome.{Outcome}
+use Rattle.sb_hotstuff.specs.declared.signing.Draft.{Draft}
+use Rattle.sb_hotstuff.specs.Drafts.{AreDrafts, count_of}
+use Rattle.sb_hotstuff.specs.HotStuff.{sign_all}
+use Rattle.sb_hotstuff.specs.Instances.{IsSigned}
+
+-- ---- The number of messages
+
+pub drafts-long : (p : Params) (d : Option Draft) (xs : List (To × Message)) → AreDrafts p d xs → count_of d ≡ length xs
+drafts-long p None xs h = ap (λ (z : List (To × Message)). length z) (sym h)
+drafts-long p (Some d) xs h = ap (λ (z : List (To × Message)). length z) (sym h.message)
+
+pub count-few : (d : Option Draft) → count_of d ≤ 1
+count-few None = omega arith
+count-few (Some d) = omega arith
+
+less : (n used c : ℕ) → 2 ≤ n - used → c ≤ 1 → 0 < n - (used + c)
+less n used c h few = omega (arith, h, few)
+
+pub left-enough : (k l : KeyState) (d : Option Draft) → 2 ≤ left_of k → l ≡ record k { used = k.used + count_of d } → 0 < left_of l
+left-enough k l d h e =
+    let few = less (2 ^ k.height) k.used (count_of d) h (count-few d) in
+    let left : left_of l ≡ 2 ^ k.height - (k.used + count_of d) = ap (λ (z : KeyState). left_of z) e in
+    omega (arith, few, left)
+
+-- ---- Signatures in sequence
+
+sign-both : (p : Params) (me leaf : ℕ) (xs ys : List (To × Message)) → sign_all p me leaf (xs ++ ys) ≡ sign_all p me leaf xs ++ sign_all p me (leaf + length xs) ys
+sign-both p me leaf [] ys = ap (λ (n : ℕ). sign_all p me n ys) (none leaf)
+  where
+    none : (n : ℕ) → n ≡ n + 0
+    none n = omega arith
+sign-both p me leaf (x ∷ xs) ys =
+    ap (λ (z : List (To × Message)). (x.0, with_signature (signature p me leaf (own_statement basic p x.1)) x.1) ∷ z)
+    (sign-both p me (suc leaf) xs ys ∙ ap (λ (n : ℕ). sign_all p me (suc leaf) xs ++ sign_all p me n ys) (next leaf (length xs)))
+  where
+    next : (n k : ℕ) → suc n + k ≡ n + suc k
+    next n k = omega arith
+
+same-owner : (me height : ℕ) (before mid : KeyState) (count : ℕ) → mid ≡ record before { used = before.used + count } → AreKeysOf me height before → AreKeysOf me height mid
+same-owner me height before mid count h own = record { own = ap (λ (k : KeyState). k.secret) h ∙ own.own; tall = ap (λ (k : KeyState). k.height) h ∙ own.tall }
+
+add : (a b c : ℕ) → a + b + c ≡ a + (b + c)
+add a b c = omega arith
+
+module _ (p : Params) (o : Outcome) (before mid later : KeyState) (empty first second : List (To × Message)) (e : empty ≡ [])
+    (one : (me : ℕ) (xs : List (To × Message)) → AreKeysOf me p.setup.keys before → AreDrafts p o.answer xs → first ≡ empty ++ sign_all p me before.used xs)
+    (two : (me : ℕ) (ys : List (To × Message)) → AreKeysOf me p.setup.keys mid → AreDrafts p o.proposal ys → second ≡ first ++ sign_all p me mid.used ys)
+    (used : mid ≡ record before { used = before.used + count_of o.answer }) (again : later ≡ record mid { used = mid.used + count_of o.proposal }) where
+  sends : (me : ℕ) (xs ys : List (To × Message)) → AreKeysOf me p.setup.keys before → AreDrafts p o.answer xs → AreDrafts p o.proposal ys → second ≡ sign_all p me before.used (xs ++ ys)
+  sends me xs ys own dx dy =
+      let leaf : mid.used ≡ before.used + length xs = ap (λ (k : KeyState). k.used) used ∙ ap (λ (n : ℕ). before.used + n) (drafts-long p o.answer xs dx) in
+      two me ys (same-owner me p.setup.keys before mid (count_of o.answer) used own) dy
+      ∙ ap (λ (z : List (To × Message)). z ++ sign_all p me mid.used ys) (one me xs own dx ∙ ap (λ (z : List (To × Message)). z ++ sign_all p me before.used xs) e)
+      ∙ ap (λ (n : ℕ). sign_all p me before.used xs ++ sign_all p me n ys) leaf
+      ∙ sym (sign-both p me before.used xs ys)
+
+  pub both-signed : (accepted : Option (Slot × Batch)) (delivers : List (Slot × Value)) → delivers ≡ [] → AreToNodes p.setup.n second →
+      IsSigned p o accepted before later (record { sends = second; accepted = accepted; delivers = delivers; hashed = o.hashed })
+  both-signed accepted delivers none to = record {
+    sends = sends;
+    addressed = to;
+    accepts = refl;
+    delivers = none;
+    hashed = refl;
+    used = again ∙ ap (λ (k : KeyState). record k { used = k.used + count_of o.proposal }) used ∙ ap (λ (n : ℕ). record before { used = n }) (add before.used (count_of o.answer) (count_of o.proposal));
+  }

@@ -1,0 +1,3 @@
+pub mod LeaderAcceptedBatches
+pub mod LogBatchesWereCast
+pub mod OneBatchASlot

@@ -1,0 +1,3 @@
+pub mod CommitIsGreatest
+pub mod MatchesWereReplied
+pub mod SearchFindsGreatest

@@ -1,0 +1,3 @@
+pub mod LogLengthIsBounded
+pub mod SentMessagesDecode
+pub mod StepsAreLawful

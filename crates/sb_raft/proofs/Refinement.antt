@@ -1,0 +1,9 @@
+pub mod CommittedEntryFillsSlot
+pub mod DeliveredSlotsAgree
+pub mod FollowerRulesRefine
+pub mod LeaderRulesRefine
+pub mod LogCountersAgree
+pub mod MergeAgrees
+pub mod RulesCompose
+pub mod SentMessagesAgree
+pub mod StepEffectsAgree

@@ -1,0 +1,13 @@
+pub mod BallotsArePreserved
+pub mod CommittedLogsAgree
+pub mod ElectionSafety
+pub mod FactsOfWorlds
+pub mod Invariant
+pub mod ListPrefixes
+pub mod LogPrefixes
+pub mod MatchingAndCompleteness
+pub mod MessagesHaveCauses
+pub mod NodeHistories
+pub mod NodesAgree
+pub mod VotesPrecedeAppends
+pub mod WorldsAreBroadcasts
