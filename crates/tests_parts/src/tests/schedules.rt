@@ -66,12 +66,12 @@ const WORKED: &str = "request 0 0 0 aa\npropose 0\ndrop 2\ncalm 10\n;\
      request 0 0 0 aa\nrequest 0 0 0 aa\npropose 0\nrequest 0 0 0 bb\ncalm 10\nrequest 0 0 0 cc\n;\
      request 0 0 0 aa\ntimeout 0 0\npropose 0\ntimeout 1 0\ncalm 10\n";
 
-fn why_of(word: &str) -> Why {
+fn why_of(word: &str) -> LineFault {
     match word {
-        "Faulty" => Why::Faulty,
-        "Injected" => Why::Injected,
-        "Range" => Why::Range,
-        _ => Why::Form,
+        "Faulty" => LineFault::Faulty,
+        "Injected" => LineFault::Injected,
+        "Range" => LineFault::Range,
+        _ => LineFault::Form,
     }
 }
 
@@ -119,7 +119,7 @@ fn lines_that_are_cut_and_bytes_that_are_no_text(rt: HostRuntime) -> Result<(), 
         ("iss 1\nmodule relay\nf 0\nepoch 3", 4),
     ] {
         let cut =
-            matches!(read(alloc, text.as_bytes()), Err(ReadError::BadLine { line, why: Why::Cut }) if line == number);
+            matches!(read(alloc, text.as_bytes()), Err(ReadError::BadLine { line, why: LineFault::Cut }) if line == number);
         assert!(rt; cut, "at {text}");
     }
     let mut text = String::from_str(alloc, HEADER)?;
@@ -129,7 +129,7 @@ fn lines_that_are_cut_and_bytes_that_are_no_text(rt: HostRuntime) -> Result<(), 
             read(alloc, text.as_bytes()),
             Err(ReadError::BadLine {
                 line: 13,
-                why: Why::Cut
+                why: LineFault::Cut
             })
         )
     );
@@ -140,7 +140,7 @@ fn lines_that_are_cut_and_bytes_that_are_no_text(rt: HostRuntime) -> Result<(), 
             read(alloc, &bytes),
             Err(ReadError::BadLine {
                 line: 12,
-                why: Why::Form
+                why: LineFault::Form
             })
         )
     );
@@ -215,7 +215,7 @@ fn a_twin_is_a_core_that_crashes_and_is_made_anew(rt: HostRuntime) -> Result<(),
         let mut text = String::from_str(alloc, TWIN_HEADER)?;
         text.push_str(event)?;
         let refused =
-            matches!(read(alloc, text.as_bytes()), Err(ReadError::BadLine { line, why: Why::Range }) if line == 12);
+            matches!(read(alloc, text.as_bytes()), Err(ReadError::BadLine { line, why: LineFault::Range }) if line == 12);
         assert!(rt; refused, "at {event}");
     }
     Ok(())
@@ -296,7 +296,7 @@ fn a_text_has_at_most_so_many_bytes(rt: HostRuntime) -> Result<(), Fail> {
             read(alloc, more.as_bytes()),
             Err(ReadError::BadLine {
                 line: 0,
-                why: Why::Size
+                why: LineFault::Size
             })
         )
     );
