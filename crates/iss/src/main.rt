@@ -6,7 +6,7 @@ use std::io::ErrorKind;
 use std::process::ExitCode;
 use std::{env, io};
 
-// The program's words, its name first. Where one of them is no text there are none, and so they are those of no call.
+// The program's words, its name first. If one of them is not valid text, returns no words, which are not a call.
 fn words(rt: &HostRuntime) -> io::Result<Vec<String>> {
     match env::args(rt) {
         Ok(words) => Ok(words.collect(rt.alloc())?),

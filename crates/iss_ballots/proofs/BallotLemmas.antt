@@ -1,4 +1,4 @@
--- What a vote, a certificate and a further place do to what is held, and to the lists that it stands for.
+-- The effect of a vote, of a certificate and of a new epoch on the state, and on the lists that it refines.
 use Rattle.std.proofs.Common.{arith, inl, inr, ◌≡◌, ◌≢◌, ◌⊎◌, ℕ, zero, suc, ◌<◌, Bool, true, false, ◌||◌, ◌==◌, cond, not, List, [], ◌∷◌, ◌++◌, Option, Some, None, Result, Ok, Err, IfOk, is_some, length, slice_get, slice_set, refl, sym, ap, ◌∙◌, subst, true≢false}
 use Rattle.std.specs.Prelude.{OnErr}
 use Rattle.iss_request.specs.declared.errors.NoMemory.{NoMemory}
@@ -18,9 +18,9 @@ use Rattle.iss_sb.specs.declared.signers.Signed.{Signed}
 use Rattle.iss_checkpoint.specs.declared.votes.Vote.{Vote}
 use Rattle.iss_rules.specs.Votes.{cert_on, keeping, vote_by}
 
--- ---- places
+-- ---- indices
 
--- a place more: it is the last one, or one that was there
+-- An index of the longer list is the last one, or was there before.
 pub place-more : {A : Type 0} (xs : List A) (x : A) (e : ℕ) → ((slice_get (xs ++ x ∷ []) e ≡ Some x) × (slice_get xs e ≡ None) × (e ≡ length xs)) ⊎ (slice_get (xs ++ x ∷ []) e ≡ slice_get xs e)
 place-more [] x zero = inl (refl, refl, refl)
 place-more [] x (suc e) = inr refl
@@ -39,7 +39,7 @@ set-there (y ∷ xs) zero (suc d) x ne = refl
 set-there (y ∷ xs) (suc e) zero x ne = refl
 set-there (y ∷ xs) (suc e) (suc d) x ne = set-there xs e d x (λ q. ne (ap suc q))
 
--- ---- a further place, with no vote
+-- ---- a new epoch without votes
 
 pub reached-tallied : (w : Voters) (all : List Ballot) (t : TallyState) → AreOpen w all → t.voters ≡ w → t.epoch ≡ length all → AreOpen w (all ++ Open t ∷ [])
 reached-tallied w all t tallied voters epoch e b h = elim (place-more all (Open t) e) [
@@ -61,7 +61,7 @@ reached-kept v t votes certs none h = record {
   ];
 }
 
--- ---- one place takes another ballot
+-- ---- the state of one epoch changes
 
 pub set-tallied : (w : Voters) (all : List Ballot) (e : ℕ) (now : Ballot) → e < length all → AreOpen w all → IsOpenAt w e now → AreOpen w (slice_set all e now)
 set-tallied w all e now lt tallied here d b h = elim (same_or_not d e) [
@@ -71,7 +71,7 @@ set-tallied w all e now lt tallied here d b h = elim (same_or_not d e) [
   | inr ne ↦ tallied d b (sym (set-there all e d now ne) ∙ h)
 ]
 
--- what no list says of the epoch stays
+-- If the lists do not change for this epoch, the state still refines them.
 pub set-kept : (v : BallotsState) (e : ℕ) (now : Ballot) (votes more : List Vote) (certs others : List Cert) → e < length v.all → AreKept v votes certs →
     ((d : ℕ) → d ≢ e → cert_on others d ≡ cert_on certs d) → ((d k : ℕ) → d ≢ e → vote_by more d k ≡ vote_by votes d k) →
     cert_in (Some now) ≡ cert_on others e → ((k : ℕ) → cert_on others e ≡ None → vote_in (Some now) k ≡ vote_by more e k) →
@@ -89,7 +89,7 @@ set-kept v e now votes more certs others lt h certs_stay votes_stay cert_here vo
   ];
 }
 
--- ---- a vote more, and a certificate more, in the lists
+-- ---- one more vote or certificate in the lists
 
 cert-here : (c : Cert) (certs : List Cert) → cert_on (c ∷ certs) c.epoch.0 ≡ Some c
 cert-here c certs = let q = eqb-same c.epoch.0 in rw q refl
@@ -103,7 +103,7 @@ vote-here v votes tally k h = let q = eqb-same v.epoch.0 in rw q (ap (λ (o : Op
 vote-there : (v : Vote) (votes : List Vote) (d k : ℕ) → d ≢ v.epoch.0 → vote_by (v ∷ votes) d k ≡ vote_by votes d k
 vote-there v votes d k ne = let q = eqb-other v.epoch.0 d (λ e. ne (sym e)) in rw q refl
 
--- ---- what a tally finds
+-- ---- the checks of a tally
 
 record IsFree (t : TallyState) (v : Vote) : Type 0 where
   signed : is_signed t.voters (statement_of t.voters v) v.by.0 v.sig ≡ true
@@ -143,7 +143,7 @@ twice-of t v h = go (v.epoch.0 == t.epoch) (is_signed t.voters (statement_of t.v
     go true false qs k qk r = absurd (unlike (clash Unsigned Twice r))
     go false s qs k qk r = absurd (apart (clash OtherEpoch Twice r))
 
--- a vote on the tally's epoch that is refused for its signature is not signed
+-- A vote on the tally's epoch that is refused for its signature is not signed.
 unsigned-of : (t : TallyState) (v : Vote) → v.epoch.0 ≡ t.epoch → (refusal t v ≡ Some Unsigned) ⊎ (refusal t v ≡ Some OtherEpoch) → is_signed t.voters (statement_of t.voters v) v.by.0 v.sig ≡ false
 unsigned-of t v same h = go (v.epoch.0 == t.epoch) own (is_signed t.voters (statement_of t.voters v) v.by.0 v.sig) refl (is_some (vote_at t.votes v.by.0)) h
   where
@@ -159,7 +159,7 @@ unsigned-of t v same h = go (v.epoch.0 == t.epoch) own (is_signed t.voters (stat
     go true qe true qs true (inl r) = let q = some-injective Twice Unsigned r in absurd (cc)
     go true qe true qs true (inr r) = let q = some-injective Twice OtherEpoch r in absurd (cc)
 
--- ---- the answers of a count
+-- ---- the results of a count
 
 pub counted-so : (t u : TallyState) (v : Vote) → IsCounted t v u → length (certificate u v).signers ≢ t.voters.quorum → IsCountedAt t v (Open u)
 counted-so t u v h few =
@@ -173,7 +173,7 @@ stable-so t u v c h many is =
     let test : (length (certificate u v).signers == u.voters.quorum) ≡ true = ap (λ (k : ℕ). length (certificate u v).signers == k) (sym (many ∙ sym (ap (λ (w : Voters). w.quorum) voters))) ∙ eqb-same _ in
     record { tally = u; counted = h; is = rw test (ap (λ (z : Cert). Stable z) is) }
 
--- ---- the ballot of a place stays one of it
+-- ---- the state of an epoch keeps its epoch
 
 module _ (b : BallotsState) (v : Vote) (lt : v.epoch.0 < length b.all) (tallied : AreOpen b.voters b.all) where
   counted-tallied : (t u : TallyState) → slice_get b.all v.epoch.0 ≡ Some (Open t) → IsCounted t v u → (now : Ballot) → now ≡ settled_by u v → IsOpenAt b.voters v.epoch.0 now
@@ -194,18 +194,18 @@ module _ (b : BallotsState) (v : Vote) (lt : v.epoch.0 < length b.all) (tallied 
   still-tallied (Open t) now BadSignature at h = set-tallied b.voters b.all v.epoch.0 now lt tallied (subst (λ (z : Ballot). IsOpenAt b.voters v.epoch.0 z) (sym h.1) (tallied v.epoch.0 (Open t) at))
   still-tallied (Open t) now Counted at h = set-tallied b.voters b.all v.epoch.0 now lt tallied (counted-tallied t h.tally at h.counted now h.is)
 
-  -- whatever the answer of a count
+  -- The same for each result of a count.
   pub any-tallied : (old now : Ballot) (r : Result Taking NoMemory) → slice_get b.all v.epoch.0 ≡ Some old → IfOk r (IsTakenAt old v now) → OnErr r (now ≡ old) → AreOpen b.voters (slice_set b.all v.epoch.0 now)
   any-tallied old now (Ok k) at h e = still-tallied old now k at h
   any-tallied old now (Err x) at h e = set-tallied b.voters b.all v.epoch.0 now lt tallied (subst (λ (z : Ballot). IsOpenAt b.voters v.epoch.0 z) (sym e) (tallied v.epoch.0 old at))
 
--- ---- a vote at the ballot of its epoch
+-- ---- a vote on its epoch
 
 module _ (b : BallotsState) (v : Vote) (votes : List Vote) (certs : List Cert) (kept : AreKept b votes certs) (lt : v.epoch.0 < length b.all) (tallied : AreOpen b.voters b.all) where
   abbrev pub set-at : Ballot → BallotsState
   set-at now = record b { all = slice_set b.all v.epoch.0 now }
 
-  -- nothing changes
+  -- Nothing changes.
   same-kept : (now : Ballot) → slice_get b.all v.epoch.0 ≡ Some now → AreKept (set-at now) votes certs
   same-kept now at = set-kept b v.epoch.0 now votes votes certs certs lt kept (λ d ne. refl) (λ d k ne. refl)
       (sym (ap (λ (o : Option Ballot). cert_in o) at) ∙ kept.certs_are v.epoch.0)
@@ -274,7 +274,7 @@ module _ (b : BallotsState) (v : Vote) (votes : List Vote) (certs : List Cert) (
             subst (λ (z : Ballot). AreKept (set-at z) (v ∷ votes) (stable_by b.voters (v ∷ votes) v ++ certs)) (sym (is ∙ now-is)) (after (length theirs.signers == b.voters.quorum) refl),
           )
 
-  -- what became of a vote at its ballot is what became of it
+  -- The effect on the epoch gives the effect on the lists.
   pub taken-so : (old now : Ballot) (k : Taking) → slice_get b.all v.epoch.0 ≡ Some old → (is_some (cert_in (Some old)) ≡ true → is_true b.voters v ≡ true) → IsTakenAt old v now k → IsTaken votes certs v (set-at now) k
   taken-so (Stable c) now Known at signed h = subst (λ (z : Ballot). IsTaken votes certs v (set-at z) Known) (sym h) (stable-known c at (signed refl))
   taken-so (Stable c) now Counted at signed h = absurd h
@@ -283,14 +283,14 @@ module _ (b : BallotsState) (v : Vote) (votes : List Vote) (certs : List Cert) (
   taken-so (Open t) now BadSignature at signed h = subst (λ (z : Ballot). IsTaken votes certs v (set-at z) BadSignature) (sym h.1) (tallied-unsigned t at h.0)
   taken-so (Open t) now Counted at signed h = tallied-counted t at h.tally h.counted now h.is
 
--- whatever the answer of a count at the ballot of a place that was reached
+-- The same for each result of a count, after the vector was extended.
 pub any-taken : (first b : BallotsState) (v : Vote) (old now : Ballot) (r : Result Taking NoMemory) → v.epoch.0 < length b.all → AreOpen b.voters b.all → ((votes : List Vote) (certs : List Cert) → AreKept first votes certs → AreKept b votes certs) →
     slice_get b.all v.epoch.0 ≡ Some old → (is_some (cert_in (Some old)) ≡ true → is_true b.voters v ≡ true) → IfOk r (IsTakenAt old v now) →
     IfOk r (λ (t : Taking). (votes : List Vote) (certs : List Cert) → AreKept first votes certs → IsTaken votes certs v (record b { all = slice_set b.all v.epoch.0 now }) t)
 any-taken first b v old now (Ok k) lt tallied kept at signed h = λ votes certs was. taken-so b v votes certs (kept votes certs was) lt tallied old now k at signed h
 any-taken first b v old now (Err x) lt tallied kept at signed h = tt
 
--- ---- a certificate that is kept where there is none
+-- ---- a certificate for an epoch that has none
 
 keeps-none : (b : BallotsState) (c : Cert) (t : TallyState) (votes : List Vote) (certs : List Cert) → c.epoch.0 < length b.all → slice_get b.all c.epoch.0 ≡ Some (Open t) → AreKept b votes certs →
     AreKept (record b { all = slice_set b.all c.epoch.0 (Stable c) }) votes (keeping certs c (cert_on certs c.epoch.0))

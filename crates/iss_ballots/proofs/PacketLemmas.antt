@@ -1,4 +1,4 @@
--- What packets hold, and what is claimed in them.
+-- The contents of packets, and the signatures that they claim.
 use Rattle.std.proofs.Common.{◌≡◌, ℕ, ◌+◌, ◌<◌, List, [], ◌∷◌, ◌++◌, Some, None, length, take, get_or, refl, sym, ap, ◌∙◌, add-one}
 use Rattle.std.proofs.Math.Seq.{take-suc}
 use Rattle.iss_sb.specs.declared.signers.Signed.{Signed}
@@ -13,7 +13,7 @@ all_of-good : {A : Type 0} (parse : Parser A) (bytes : List ℕ) (x : A) → par
 unfolding all_of parsing.◌>>=◌ parsing.at_end
 all_of-good parse bytes x e = rw e refl
 
--- what is not one thing is not one whole
+-- Bytes that do not decode are not whole.
 pub all-whole : {A : Type 0} (parse : Parser A) (bytes : List ℕ) → IsBad (all_of parse bytes) → whole (parse bytes) ≡ None
 all-whole {A} parse bytes h = go (parse bytes) refl
   where
@@ -22,7 +22,7 @@ all-whole {A} parse bytes h = go (parse bytes) refl
     go (Good thing (b ∷ rest)) e = refl
     go (Bad at) e = refl
 
--- what is one thing is one whole
+-- Bytes that decode with no rest are whole.
 pub good-whole : {A : Type 0} (p : Parsed A) (x : A) → p ≡ Good x [] → whole p ≡ Some x
 good-whole p x e = rw e refl
 
@@ -30,7 +30,7 @@ claims-append : (st : List ℕ) (xs ys : List Signed) → claims_by st (xs ++ ys
 claims-append st [] ys = refl
 claims-append st (x ∷ xs) ys = ap (λ (zs : List Claim). record { by = x.by; statement = st; sig = x.sig } ∷ zs) (claims-append st xs ys)
 
--- one signer more
+-- One more signer.
 pub claims-next : (st : List ℕ) (xs : List Signed) (i : ℕ) (x : Signed) → i < length xs → x ≡ get_or xs i x →
     claims_by st (take i xs) ++ record { by = x.by; statement = st; sig = x.sig } ∷ [] ≡ claims_by st (take (i + 1) xs)
 claims-next st xs i x lt is =

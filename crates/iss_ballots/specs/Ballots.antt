@@ -15,10 +15,10 @@ use Rattle.iss_rules.specs.Votes.{cert_on, vote_by}
 
 pub record BallotsState : Type 0 where
   pub voters : Voters
-  -- by epoch: its votes, or its certificate
+  -- By epoch: its votes, or its certificate.
   pub all : List Ballot
 
--- ---- what is held of an epoch
+-- ---- the state of one epoch
 
 abbrev pub cert_in : Option Ballot → Option Cert
 cert_in None = None
@@ -30,7 +30,7 @@ vote_in None k = None
 vote_in (Some (Open tally)) k = vote_at tally.votes k
 vote_in (Some (Stable cert)) k = None
 
--- a tally is of its epoch, and of the same voters as all others
+-- A tally has the right epoch, and the same voters as all others.
 abbrev pub IsOpenAt : Voters → ℕ → Ballot → Type 0
 IsOpenAt w e (Open tally) = (tally.voters ≡ w) × (tally.epoch ≡ e)
 IsOpenAt w e (Stable cert) = Unit {0}
@@ -38,14 +38,14 @@ IsOpenAt w e (Stable cert) = Unit {0}
 abbrev pub AreOpen : Voters → List Ballot → Type 0
 AreOpen w all = (e : ℕ) (b : Ballot) → slice_get all e ≡ Some b → IsOpenAt w e b
 
--- ---- the lists that it stands for
+-- ---- the votes and certificates that the state refines
 
--- of an epoch with a certificate no vote is asked for any more
+-- The state refines these votes and certificates. The votes of an epoch with a certificate do not matter.
 pub record AreKept (b : BallotsState) (votes : List Vote) (certs : List Cert) : Type 0 where
   pub certs_are : (e : ℕ) → cert_in (slice_get b.all e) ≡ cert_on certs e
   pub votes_are : (e k : ℕ) → cert_on certs e ≡ None → vote_in (slice_get b.all e) k ≡ vote_by votes e k
 
--- the certificates with that of all votes that say the same as v, as soon as they are of a quorum
+-- The certificate of all votes that agree with v, once they are a quorum.
 abbrev pub stable_by : Voters → List Vote → Vote → List Cert
 stable_by w votes v =
     let c = certificate_by (vote_by votes v.epoch.0) v w.n in
@@ -54,20 +54,22 @@ stable_by w votes v =
 abbrev pub is_true : Voters → Vote → Bool
 is_true w v = is_signed w (statement_of w v) v.by.0 v.sig
 
--- whether an epoch has a certificate, or the signer's vote on it was counted
+-- The epoch has a certificate, or the signer's vote was counted before.
 abbrev pub is_held : List Vote → List Cert → Vote → Bool
 is_held votes certs v = is_some (cert_on certs v.epoch.0) || is_some (vote_by votes v.epoch.0 v.by.0)
 
--- what becomes of a vote: the first test that fails, or the lists with it
+-- The result of a vote: the first test that fails, or the lists with the vote added.
 abbrev pub IsTaken : List Vote → List Cert → Vote → BallotsState → Taking → Type 0
 IsTaken votes certs v new BadSignature = (is_true new.voters v ≡ false) × AreKept new votes certs
-IsTaken votes certs v new Known = (is_true new.voters v ≡ true) × (is_held votes certs v ≡ true) × AreKept new votes certs
+IsTaken votes certs v new Known = (is_true new.voters v ≡ true) × (is_held votes certs v ≡ true)
+    × AreKept new votes certs
 IsTaken votes certs v new Counted =
-    (is_true new.voters v ≡ true) × (is_held votes certs v ≡ false) × AreKept new (v ∷ votes) (stable_by new.voters (v ∷ votes) v ++ certs)
+    (is_true new.voters v ≡ true) × (is_held votes certs v ≡ false)
+    × AreKept new (v ∷ votes) (stable_by new.voters (v ∷ votes) v ++ certs)
 
--- ---- what becomes of a vote at the ballot of its epoch
+-- ---- the effect of a vote on its epoch
 
--- as soon as those that say the same are of a quorum, their certificate is all that is held
+-- Once the votes that agree are a quorum, only their certificate is kept.
 abbrev pub settled_by : TallyState → Vote → Ballot
 settled_by t v = cond (length (certificate t v).signers == t.voters.quorum) (Stable (certificate t v)) (Open t)
 
@@ -80,11 +82,12 @@ abbrev pub IsTakenAt : Ballot → Vote → Ballot → Taking → Type 0
 IsTakenAt (Stable cert) v new Known = new ≡ Stable cert
 IsTakenAt (Stable cert) v new Counted = ⊥
 IsTakenAt (Stable cert) v new BadSignature = ⊥
-IsTakenAt (Open t) v new BadSignature = ((refusal t v ≡ Some Unsigned) ⊎ (refusal t v ≡ Some OtherEpoch)) × (new ≡ Open t)
+IsTakenAt (Open t) v new BadSignature = ((refusal t v ≡ Some Unsigned) ⊎ (refusal t v ≡ Some OtherEpoch))
+    × (new ≡ Open t)
 IsTakenAt (Open t) v new Known = (refusal t v ≡ Some Twice) × (new ≡ Open t)
 IsTakenAt (Open t) v new Counted = IsCountedAt t v new
 
--- a certificate is held where there was none
+-- The certificate is kept if there was none.
 abbrev pub closed_by : Ballot → Cert → Ballot
 closed_by (Open tally) c = Stable c
 closed_by (Stable other) c = Stable other

@@ -1,4 +1,4 @@
-//! Votes and certificates by epoch.
+//! Checkpoint votes and certificates, by epoch.
 ghost use Rattle.std.specs.Prelude.{◌≡◌, ◌<◌, ◌≤◌, [], List, IfOk, OnErr, OnOk, is_some, length, option_map, slice_get};
 ghost use Rattle.iss_ballots.specs.Ballots.{AreKept, IsTaken, IsTakenAt, cert_in, closed_by, is_true};
 ghost use Rattle.iss_checkpoint.specs.Votes.{voters_of};
@@ -13,31 +13,32 @@ use iss_request::{Epoch, NoMemory, Setup};
 use std::alloc::Global;
 use std::marker::Model;
 
-/// What is held of an epoch: the votes that were counted, until a quorum of them says the same, and then its certificate.
+/// The state of one epoch: `Open` with its votes, or, once a quorum agrees, `Stable` with its certificate (PBFT: stable
+/// checkpoint).
 #[derive(Drop)]
 pub enum Ballot {
     Open(Tally),
     Stable(Cert),
 }
 
-/// What became of a vote.
+/// The result of a vote.
 #[derive(Clone, Copy, Debug, PartialEq, Eq)]
 pub enum Taking {
-    /// It was counted.
+    /// The vote was counted.
     Counted,
-    /// Its signature is not true.
+    /// The signature is invalid.
     BadSignature,
-    /// Its signer's vote was counted before, or the epoch has its certificate.
+    /// The signer voted before, or the epoch already has a certificate.
     Known,
 }
 
-/// The votes on each epoch without a certificate, and the certificates of the others.
+/// The votes of each epoch without a certificate, and the certificates of the others.
 #[derive(Drop)]
 pub struct Ballots {
     alloc: Global,
     setup: Setup,
     directory: SharedDirectory,
-    // by epoch
+    // By epoch.
     all: Vec<Ballot>,
 }
 
@@ -54,7 +55,7 @@ impl Model for Ballots {
 }
 
 impl Ballots {
-    /// No vote was counted, and no certificate is kept.
+    /// No votes and no certificates. The only error is out of memory.
     pub fn new(
         alloc: Global,
         setup: &Setup,
@@ -71,8 +72,8 @@ impl Ballots {
         })
     }
 
-    /// Takes a vote: it is counted, unless its signature is not true, or its signer's vote was counted, or the epoch has its
-    /// certificate. The one that makes its like a quorum gives the epoch its certificate.
+    /// Counts a vote, unless its signature is invalid, its signer voted before, or the epoch has a certificate. If a
+    /// quorum then agrees, the epoch gets its certificate. The only error is out of memory.
     // rule: Checkpoints: The vote that completes a quorum gives the epoch's certificate; no later one does
     pub fn take(&mut self, vote: Vote) -> Result<Taking, NoMemory>
         ensures taken { IfOk result (λ t. (votes : List Voted) (certs : List Certificate) →
@@ -87,7 +88,7 @@ impl Ballots {
         count(&mut self.all[place], vote)
     }
 
-    /// Keeps a certificate, unless one of its epoch is kept.
+    /// Keeps a certificate, unless its epoch already has one. The only error is out of memory.
     // rule: Checkpoints: Of each epoch the first certificate is kept, counted or adopted
     pub fn keep(&mut self, cert: Cert) -> Result<(), NoMemory>
         ensures kept { OnOk result ((votes : List Voted) (certs : List Certificate) → AreKept self.old votes certs →
@@ -100,7 +101,7 @@ impl Ballots {
         Ok(())
     }
 
-    /// The certificate of an epoch, if one is kept.
+    /// The certificate of an epoch, if there is one.
     pub fn cert_at(&self, epoch: Epoch) -> Option<&Cert>
         ensures held { option_map (λ c. c.now) result ≡ cert_in (slice_get self.now.all epoch.0) }
         ensures kept { (votes : List Voted) (certs : List Certificate) → AreKept self.now votes certs →
@@ -112,7 +113,7 @@ impl Ballots {
         }
     }
 
-    // Whether the epoch of a place has its certificate.
+    // Whether the epoch at this index has a certificate.
     fn is_stable(&self, place: usize) -> bool
         ensures { result ≡ is_some (cert_in (slice_get self.now.all place)) }
     {
@@ -122,10 +123,11 @@ impl Ballots {
         }
     }
 
-    // There is a place for an epoch. Want of memory comes also where places would pass 2^64 - 1.
+    // Extends the vector up to this epoch. `NoMemory` also if the length would exceed 2^64 - 1.
     fn reach(&mut self, epoch: Epoch) -> Result<(), NoMemory>
         ensures there { OnOk result (epoch.0 < length self.new.all) }
-        ensures kept { (votes : List Voted) (certs : List Certificate) → AreKept self.old votes certs → AreKept self.new votes certs }
+        ensures kept { (votes : List Voted) (certs : List Certificate) → AreKept self.old votes certs →
+            AreKept self.new votes certs }
         ensures voters { self.new.voters ≡ self.old.voters }
     {
         let Some(end) = epoch.0.checked_add(1) else {
@@ -139,7 +141,7 @@ impl Ballots {
         Ok(())
     }
 
-    // Whether the node signed the vote.
+    // Whether the vote's signature is valid.
     fn is_true(&self, vote: &Vote) -> bool
         ensures { result ≡ is_true self.now.voters vote.now }
     {
@@ -156,7 +158,7 @@ impl Ballots {
     }
 }
 
-// Counts a true vote, where the epoch has no certificate and its signer's vote was not counted.
+// Counts a vote in its epoch. Here `Known` means that the epoch has a certificate or that the signer voted before.
 fn count(ballot: &mut Ballot, vote: Vote) -> Result<Taking, NoMemory>
     ensures counted { IfOk result (IsTakenAt ballot.old vote ballot.new) }
     ensures err { OnErr result (ballot.new ≡ ballot.old) }
@@ -175,7 +177,7 @@ fn count(ballot: &mut Ballot, vote: Vote) -> Result<Taking, NoMemory>
     }
 }
 
-// Closes an epoch with a certificate, unless it has one.
+// Makes an epoch stable with this certificate, unless it already has one.
 fn close(ballot: &mut Ballot, cert: Cert)
     ensures { ballot.new ≡ closed_by ballot.old cert }
 {

@@ -1,4 +1,4 @@
-//! What votes and certificates claim that nodes have signed.
+//! The signatures that votes and certificates claim.
 ghost use Rattle.std.specs.Prelude.{◌≡◌, IfOk};
 ghost use Rattle.iss_ballots.specs.Claims.{claim_by};
 ghost use Rattle.iss_checkpoint.specs.Votes.{vote_statement};
@@ -9,7 +9,7 @@ use iss_request::{Bytes, NoMemory, Seq};
 use iss_sb::{Claim, Signed};
 use std::alloc::Global;
 
-/// What a vote claims in the cluster of a tag.
+/// The signature that a vote claims, in the cluster with this tag.
 pub fn claim_of_vote(alloc: Global, tag: &[u8; 32], vote: &Vote) -> Result<Claim, NoMemory>
     ensures { IfOk result (λ c. c ≡ claim_by tag.now vote.now) }
 {
@@ -21,15 +21,16 @@ pub fn claim_of_vote(alloc: Global, tag: &[u8; 32], vote: &Vote) -> Result<Claim
     })
 }
 
-/// What a certificate claims: the vote of each of its signers.
+/// The signatures that a certificate claims: one vote for each of its signers.
 pub fn claims_of_cert(alloc: Global, tag: &[u8; 32], cert: &Cert) -> Result<Seq<Claim>, NoMemory>
-    ensures { IfOk result (λ cs. cs ≡ claims_by (vote_statement tag.now cert.now.epoch.0 cert.now.chain cert.now.requests) cert.now.signers) }
+    ensures { IfOk result (λ cs.
+        cs ≡ claims_by (vote_statement tag.now cert.now.epoch.0 cert.now.chain cert.now.requests) cert.now.signers) }
 {
     let statement = vote_statement(tag, cert.epoch.0, &cert.chain, cert.requests);
     claims_by(alloc, &statement, cert.signers.as_slice())
 }
 
-// The claims of signers on one statement.
+// The claims of several signers on one statement.
 fn claims_by(alloc: Global, statement: &[u8], signers: &[Signed]) -> Result<Seq<Claim>, NoMemory>
     ensures { IfOk result (λ cs. cs ≡ claims_by statement.now signers.now) }
 {

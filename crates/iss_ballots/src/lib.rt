@@ -1,4 +1,4 @@
-//! The votes that a node counts and the certificates that it keeps, over all epochs, and what of these goes into packets and
+//! The checkpoint votes that a node counts and the certificates that it keeps, for all epochs, with their packets and
 //! claims (PBFT and ISS: checkpoints).
 #![tactic(auto)]
 

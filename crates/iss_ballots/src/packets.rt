@@ -1,4 +1,4 @@
-//! Votes, asks and pieces in packets.
+//! Packets of votes, asks and pieces.
 ghost use Rattle.std.specs.Prelude.{◌≡◌, IfOk, []};
 ghost use Rattle.iss_checkpoint.specs.Bodies.{parse_vote, spell_vote};
 ghost use Rattle.iss_rules.specs.Formats.{whole};
@@ -12,10 +12,16 @@ use iss_sb::copy_signers;
 use iss_transfer::{Ask, Piece, decode_ask, decode_piece, encode_piece};
 use std::alloc::Global;
 
-/// The packet of a vote.
+/// The packet of a checkpoint vote.
 pub fn pack_vote(alloc: Global, version: u8, vote: &Vote) -> Result<Bytes, NoMemory>
     ensures { IfOk result (λ bytes. bytes ≡ spell_packet version
-        (record { kind = PacketKind.Vote; from = vote.now.by.0; epoch = vote.now.epoch; leader = 0; body = spell_vote vote.now })) }
+        (record {
+          kind = PacketKind.Vote;
+          from = vote.now.by.0;
+          epoch = vote.now.epoch;
+          leader = 0;
+          body = spell_vote vote.now;
+        })) }
 {
     let packet = Packet {
         kind: PacketKind::Vote,
@@ -27,7 +33,7 @@ pub fn pack_vote(alloc: Global, version: u8, vote: &Vote) -> Result<Bytes, NoMem
     packet.encode(alloc, version)
 }
 
-/// The packet of a node's ask for an epoch.
+/// The packet in which a node asks for an epoch.
 pub fn pack_ask(alloc: Global, version: u8, from: NodeId, epoch: Epoch) -> Result<Bytes, NoMemory>
     ensures { IfOk result (λ bytes. bytes ≡ spell_packet version
         (record { kind = PacketKind.Ask; from = from.0; epoch = epoch; leader = 0; body = [] })) }
@@ -42,7 +48,7 @@ pub fn pack_ask(alloc: Global, version: u8, from: NodeId, epoch: Epoch) -> Resul
     packet.encode(alloc, version)
 }
 
-/// The packet of a piece that a node hands out.
+/// The packet of a piece of state transfer.
 pub fn pack_piece(
     alloc: Global,
     version: u8,
@@ -50,7 +56,13 @@ pub fn pack_piece(
     piece: &Piece,
 ) -> Result<Bytes, NoMemory>
     ensures { IfOk result (λ bytes. bytes ≡ spell_packet version
-        (record { kind = PacketKind.Piece; from = from.0; epoch = piece.now.epoch; leader = 0; body = spell_piece version piece.now })) }
+        (record {
+          kind = PacketKind.Piece;
+          from = from.0;
+          epoch = piece.now.epoch;
+          leader = 0;
+          body = spell_piece version piece.now;
+        })) }
 {
     let packet = Packet {
         kind: PacketKind::Piece,
@@ -62,7 +74,7 @@ pub fn pack_piece(
     packet.encode(alloc, version)
 }
 
-/// The vote that a packet's body spells, if it does.
+/// Decodes the packet's body as a vote. `None` if it is not exactly one vote.
 pub fn vote_of(alloc: Global, packet: &Packet) -> Result<Option<Vote>, NoMemory>
     ensures { IfOk result (λ vote. vote ≡ whole (parse_vote packet.now.from packet.now.epoch.0 packet.now.body)) }
 {
@@ -78,7 +90,7 @@ pub fn vote_of(alloc: Global, packet: &Packet) -> Result<Option<Vote>, NoMemory>
     }
 }
 
-/// The ask that a packet's body spells, if it does.
+/// Decodes the packet's body as an ask. `None` if it is not exactly one ask.
 pub fn ask_of(packet: &Packet) -> Option<Ask>
     ensures { result ≡ whole (parse_ask packet.now.epoch.0 packet.now.body) }
 {
@@ -89,7 +101,7 @@ pub fn ask_of(packet: &Packet) -> Option<Ask>
     }
 }
 
-/// The piece that a packet's body spells, if it does.
+/// Decodes the packet's body as a piece. `None` if it is not exactly one piece.
 pub fn piece_of(alloc: Global, version: u8, packet: &Packet) -> Result<Option<Piece>, NoMemory>
     ensures { IfOk result (λ piece. piece ≡ whole (parse_piece version packet.now.epoch.0 packet.now.body)) }
 {
@@ -100,7 +112,7 @@ pub fn piece_of(alloc: Global, version: u8, packet: &Packet) -> Result<Option<Pi
     }
 }
 
-/// The same certificate once more.
+/// A copy of the certificate. The only error is out of memory.
 pub fn copy_of_cert(alloc: Global, cert: &Cert) -> Result<Cert, NoMemory>
     ensures { IfOk result (λ c. c ≡ cert.now) }
 {

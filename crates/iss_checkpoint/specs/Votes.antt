@@ -55,7 +55,7 @@ are_signed w statement from (x ∷ xs) =
 abbrev pub is_cert : Voters → Cert → Bool
 is_cert w c = (length c.signers == w.quorum) && are_signed w (cert_statement w c) 0 c.signers
 
--- ---- the same in words
+-- ---- the same as a relation
 
 abbrev pub HasSigned : Voters → List ℕ → ℕ → List ℕ → Type 0
 HasSigned w statement by sig = (by < w.n) × VerifiesBy w.keys by statement sig

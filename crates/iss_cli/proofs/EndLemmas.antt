@@ -1,4 +1,4 @@
--- Bytes that are taken and put piece by piece.
+-- Bytes that are read and written piece by piece.
 use Rattle.std.proofs.Common.{◌∙◌, ◌≡◌, inl, inr, ℕ, ◌+◌, ◌<◌, ◌≤◌, Option, None, Some, Ok, IsErrOf, List, [], ◌++◌, length, take, drop, refl, sym, ap, subst, arith, append_assoc, length-append, length-drop}
 use Rattle.std.proofs.Math.Seq.{take-add}
 use Rattle.std.proofs.lemmas.List.{append-nil, drop-drop, take_at, take_all, length-take, length-take-le}
@@ -12,16 +12,16 @@ pub and_more_more : (h : Option (List ℕ)) (a b : List ℕ) → and_more (and_m
 and_more_more None a b = refl
 and_more_more (Some held) a b = ap Some (append_assoc held a b)
 
--- one more piece is put
+-- One more piece is written.
 pub and_more_piece : (h now next : Option (List ℕ)) (put n : ℕ) (bytes : List ℕ) → now ≡ and_more h (take put bytes) → next ≡ and_more now (take n (drop put bytes)) → next ≡ and_more h (take (put + n) bytes)
 and_more_piece h now next put n bytes e f =
     f ∙ ap (λ o. and_more o (take n (drop put bytes))) e ∙ and_more_more h (take put bytes) (take n (drop put bytes)) ∙ ap (and_more h) (sym (take-add put n bytes))
 
--- a call that is Ok gave no error
+-- A result that is Ok is no error.
 pub no_error : {T E : Type 0} (x : T) (e : E) → IsErrOf {T = T} {E = E} (Ok x) e → ⊥
 no_error x e is = absurd (cc)
 
--- what was read so far of all that was left
+-- What was read so far of the remaining bytes.
 abbrev pub IsRead : Option (List ℕ) → Option (List ℕ) → List ℕ → Type 0
 IsRead None now bytes = now ≡ None
 IsRead (Some all) now bytes = (bytes ≡ take (length bytes) all) × (now ≡ Some (drop (length bytes) all))
@@ -36,7 +36,7 @@ read_nothing (Some all) = (sym (take_none all), ap Some (sym (drop_none all)))
     drop_none : (xs : List ℕ) → drop 0 xs ≡ xs
     drop_none xs = refl
 
--- one more piece is read
+-- One more piece is read.
 pub read_piece : (left now next : Option (List ℕ)) (bytes slice slice_now : List ℕ) (n : ℕ) → IsRead left now bytes → Takes n now next slice slice_now → IsRead left next (bytes ++ take n slice_now)
 read_piece None now next bytes slice slice_now n h t =
     let P : Option (List ℕ) → Type 0 = λ o. Takes n o next slice slice_now in subst P h t
@@ -51,14 +51,14 @@ read_piece (Some all) now next bytes slice slice_now n h t =
     length-append bytes (take n slice_now) ∙ ap (λ m. length bytes + m) (ap length piece ∙ length-take-le n (drop (length bytes) all) taken.within) in
     (whole ∙ ap (λ m. take m all) (sym size), taken.rest ∙ ap Some (drop-drop n (length bytes) all ∙ ap (λ m. drop m all) (sym size)))
 
--- a buffer whose front was written over is as long as before
+-- Overwriting the beginning of a buffer does not change its length.
 pub refilled : (n : ℕ) (front xs : List ℕ) → n ≡ length xs → length (take n (front ++ drop (length front) xs)) ≡ n
 refilled n front xs e = omega (arith, length-take n (front ++ drop (length front) xs), length-append front (drop (length front) xs), length-drop (length front) xs)
 
 pub longer : (xs ys zs : List ℕ) (n : ℕ) → zs ≡ xs ++ take n ys → length zs ≤ length xs + n
 longer xs ys zs n e = omega (arith, ap length e, length-append xs (take n ys), length-take n ys)
 
--- at the end all was read
+-- At the end everything was read.
 pub read_end :
     (most : ℕ) (left now next : Option (List ℕ)) (bytes bytes_now slice slice_now : List ℕ) (n : ℕ)
     → IsRead left now bytes → length bytes ≤ most → n ≡ 0 → 0 < length slice → Takes n now next slice slice_now → bytes_now ≡ bytes ++ take n slice_now
@@ -83,7 +83,7 @@ pub read_drains : (most : ℕ) (left now : Option (List ℕ)) (bytes : List ℕ)
 read_drains most None now bytes h l = h
 read_drains most (Some all) now bytes h l = (length bytes, l, h.1)
 
--- a call that fails may take what it had room for
+-- A call that fails read at most what it had room for.
 pub drains_more : (most room : ℕ) (left now next : Option (List ℕ)) (bytes : List ℕ) → IsRead left now bytes → length bytes + room ≤ most → Drains room now next → Drains most left next
 drains_more most room None now next bytes h l d = let P : Option (List ℕ) → Type 0 = λ o. Drains room o next in subst P h d
 drains_more most room (Some all) now next bytes h l d =

@@ -1,4 +1,4 @@
--- A schedule that was read is one for a module that has a word. The leaders of each accept one batch a slot.
+-- A schedule that was read names an existing module. The correct leaders of each module accept one batch for each slot.
 use Rattle.std.proofs.Common.{◌≡◌, ◌∙◌, ◌⊎◌, inl, inr, ℕ, ◌==◌, Bool, true, false, List, Option, Some, None, Result, Ok, Err, [], refl, ap, sym, subst, arith}
 use Rattle.std.proofs.lemmas.Bool.{eq-eqb}
 use Rattle.std.specs.Prelude.{IfOk}
@@ -77,7 +77,7 @@ with_parts M s a printed status =
     ap (λ (x : List ℕ). (let r : Answer = record { printed = x; status = a.status } in r)) printed
     ∙ ap (λ (x : Status). (let r : Answer = record { printed = (reported M s).printed; status = x } in r)) status
 
--- a number is not two
+-- A number does not equal two different ones.
 apart : {P : Type 0} (n a b : ℕ) → (a == b) ≡ false → n ≡ a → n ≡ b → P
 apart n a b differ h k = absurd (let same : (a == b) ≡ true = eq-eqb a b (sym h ∙ k) in let wrong : false ≡ true = sym differ ∙ same in cc)
 

@@ -1,4 +1,4 @@
--- The answer to an input that was read up to a bound, and to words.
+-- The answer to words, and to an input that was read up to a bound.
 use Rattle.std.proofs.Common.{◌∙◌, ◌≡◌, ◌⊎◌, inl, inr, ℕ, ◌<◌, ◌≤◌, Bool, true, false, ◌↔◌, Option, None, Some, List, [], ◌∷◌, length, take, map, codes, refl, sym, ap, subst, arith, string_bytes, get_or}
 use Rattle.std.specs.Bool.{IsTrue}
 use Rattle.std.specs.declared.string.String.{String}
@@ -22,7 +22,7 @@ at_most_or_more a b = elim (leb_tells a b) [ inl h ↦ inl h.1 | inr h ↦ inr h
 long_front : (limit most : ℕ) (all : List ℕ) → limit < most → limit < length all → limit < length (take most all)
 long_front limit most all h l = omega (arith, length-take most all)
 
--- a longer input is refused for its size, as its front is
+-- An input that is too long is refused for its size, and so is its prefix that was read.
 answer_of_front : (most : ℕ) (all : List ℕ) (a : Answer) → most_bytes < most → IsAnswer (take most all) a → IsAnswer all a
 answer_of_front most all a h answer = go (at_most_or_more (length all) most_bytes) answer
   where
@@ -44,7 +44,7 @@ answered_input most words (Some all) bytes a h ask is answer =
 pub not_true : (b : Bool) → b ≡ false → IsTrue b → ⊥
 not_true b e t = let wrong : false ≡ true = sym e ∙ t in absurd (cc)
 
--- of two words the second counts
+-- Of two words the second one counts.
 pub two_words : {Z : Type 0} (words : List (String Z)) (word : String Z) → 2 ≤ length words → length words < 3 → word ≡ get_or words 1 word → AskReplay (map string_bytes words) ↔ (string_bytes word ≡ codes "replay")
 two_words [] word low high is = absurd (omega arith)
 two_words (x ∷ []) word low high is = absurd (omega arith)

@@ -13,7 +13,7 @@ use Rattle.iss_cli.specs.declared.status.Status.TheVariants.{Done, NoMemory, Ref
 use Rattle.iss_cli.specs.Ends.{IfTold, and_more}
 use Rattle.iss_cli.specs.Reports.{IsReported}
 
--- there are two words, the program's name and `replay`
+-- There are two words: the program's name and `replay`.
 abbrev pub AskReplay : List (List ℕ) → Type 0
 AskReplay [] = ⊥
 AskReplay (program ∷ []) = ⊥
@@ -32,32 +32,35 @@ why_word Range = codes "Range"
 why_word Size = codes "Size"
 
 abbrev pub refused_line : ℕ → LineFault → Answer
-refused_line line why = record { printed = codes "refused line " ++ decimal line ++ codes " " ++ why_word why ++ 10 ∷ []; status = RefusedSchedule }
+refused_line line why = record {
+  printed = codes "refused line " ++ decimal line ++ codes " " ++ why_word why ++ 10 ∷ [];
+  status = RefusedSchedule;
+}
 
--- the answer to an input: the report of the run where the bytes are those of a schedule, and else the first bad line
+-- The answer to an input: the report of the run if the bytes are a schedule, otherwise the first bad line.
 abbrev pub IsAnswer : List ℕ → Answer → Type 0
 IsAnswer bytes a =
     ((s : Schedule) × (IsSchedule bytes s × IsReported s a))
     ⊎ ((line : ℕ) × ((why : LineFault) × (IsBadLine bytes line why × (a ≡ refused_line line why))))
 
--- the answer to words and an input
+-- The answer to words and an input.
 abbrev pub Answers : List (List ℕ) → List ℕ → Answer → Type 0
 Answers words input a = (AskReplay words × IsAnswer input a) ⊎ ((¬ AskReplay words) × (a ≡ refused_words))
 
--- the answer to words and all that a source had left
+-- The answer to words and all that the source had left.
 pub record IsAnswered (words : List (List ℕ)) (left : Option (List ℕ)) (answer : Answer) : Type 0 where
   pub input : List ℕ
   pub whole : IfTold left (λ bytes. input ≡ bytes)
   pub right : Answers words input answer
 
--- the whole answer was printed, and the call ends as it says; or the first n bytes of it were
+-- The whole answer was printed, and the call ends with the answer's status.
 abbrev pub Printed : Answer → Option (List ℕ) → Option (List ℕ) → Status → Type 0
 Printed answer held held_now status = (status ≡ answer.status) × (held_now ≡ and_more held answer.printed)
 
 abbrev pub PrintedPart : Answer → Option (List ℕ) → Option (List ℕ) → Type 0
 PrintedPart answer held held_now = (n : ℕ) × (held_now ≡ and_more held (take n answer.printed))
 
--- how a call ends that is to print this answer
+-- How a call ends that had to print this answer. After a failure a prefix was printed.
 abbrev pub Prints : Answer → Option (List ℕ) → Option (List ℕ) → Status → Type 0
 Prints answer held held_now SinkFailed = PrintedPart answer held held_now
 Prints answer held held_now NoMemory = PrintedPart answer held held_now
@@ -68,19 +71,26 @@ Prints answer held held_now RefusedSchedule = Printed answer held held_now Refus
 Prints answer held held_now Forged = Printed answer held held_now Forged
 Prints answer held held_now Collision = Printed answer held held_now Collision
 
--- Nothing is printed where the source fails, and maybe where memory is wanting. Else there is an answer, and it is
--- printed, or a first part of it where the sink fails or memory is wanting.
+-- The whole effect of a call. If the source fails, nothing is printed. If memory runs out, nothing or a prefix of the
+-- answer is printed. Otherwise the answer is printed, or a prefix of it if the sink fails.
 abbrev pub Ends : List (List ℕ) → Option (List ℕ) → Option (List ℕ) → Option (List ℕ) → Status → Type 0
 Ends words left held held_now SourceFailed = AskReplay words × (held_now ≡ held)
-Ends words left held held_now NoMemory = (held_now ≡ held) ⊎ ((answer : Answer) × (IsAnswered words left answer × Prints answer held held_now NoMemory))
-Ends words left held held_now SinkFailed = (answer : Answer) × (IsAnswered words left answer × Prints answer held held_now SinkFailed)
-Ends words left held held_now Done = (answer : Answer) × (IsAnswered words left answer × Prints answer held held_now Done)
-Ends words left held held_now RefusedWords = (answer : Answer) × (IsAnswered words left answer × Prints answer held held_now RefusedWords)
-Ends words left held held_now RefusedSchedule = (answer : Answer) × (IsAnswered words left answer × Prints answer held held_now RefusedSchedule)
-Ends words left held held_now Forged = (answer : Answer) × (IsAnswered words left answer × Prints answer held held_now Forged)
-Ends words left held held_now Collision = (answer : Answer) × (IsAnswered words left answer × Prints answer held held_now Collision)
+Ends words left held held_now NoMemory = (held_now ≡ held)
+    ⊎ ((answer : Answer) × (IsAnswered words left answer × Prints answer held held_now NoMemory))
+Ends words left held held_now SinkFailed = (answer : Answer)
+    × (IsAnswered words left answer × Prints answer held held_now SinkFailed)
+Ends words left held held_now Done = (answer : Answer)
+    × (IsAnswered words left answer × Prints answer held held_now Done)
+Ends words left held held_now RefusedWords = (answer : Answer)
+    × (IsAnswered words left answer × Prints answer held held_now RefusedWords)
+Ends words left held held_now RefusedSchedule = (answer : Answer)
+    × (IsAnswered words left answer × Prints answer held held_now RefusedSchedule)
+Ends words left held held_now Forged = (answer : Answer)
+    × (IsAnswered words left answer × Prints answer held held_now Forged)
+Ends words left held held_now Collision = (answer : Answer)
+    × (IsAnswered words left answer × Prints answer held held_now Collision)
 
--- the statuses of an answer that is printed whole
+-- The statuses of an answer that is printed whole.
 -- rule: Program: Each exit status comes exactly where its cause does
 abbrev pub IsAnswerStatus : Status → Type 0
 IsAnswerStatus Done = Unit {0}
@@ -92,7 +102,7 @@ IsAnswerStatus NoMemory = ⊥
 IsAnswerStatus SourceFailed = ⊥
 IsAnswerStatus SinkFailed = ⊥
 
--- the answer was to an input, whether it was printed whole or the sink failed
+-- The answer is that to an input, whether or not it was printed whole.
 abbrev pub RestsOnInput : List (List ℕ) → Status → Type 0
 RestsOnInput words Done = AskReplay words
 RestsOnInput words RefusedSchedule = AskReplay words

@@ -1,4 +1,4 @@
-//! What is answered to words and an input.
+//! The answer to the program's words and input.
 ghost use Rattle.std.specs.Prelude.{◌≡◌, ◌↔◌, IsTrue, IfOk, map, string_bytes, codes};
 ghost use Rattle.iss_cli.specs.Answers.{AskReplay, IsAnswer, refused_words, refused_line, why_word};
 ghost use Rattle.iss_schedule.specs.Events.{AreInRange};
@@ -20,7 +20,7 @@ use sb_raft::Raft;
 use sb_relay::Relay;
 use std::alloc::Global;
 
-/// What is to be printed, and how the call ends then.
+/// The bytes to print, and the status once they are printed.
 #[derive(Drop)]
 pub struct Answer {
     pub printed: Bytes,
@@ -43,7 +43,7 @@ fn is_replay(command: &str) -> bool
     command == "replay"
 }
 
-/// The answer to words that are no call.
+/// The answer to words that are not a call. The only error is out of memory.
 pub fn refuse_words(alloc: Global) -> Result<Answer, NoMemory>
     ensures { IfOk result (λ answer. answer ≡ refused_words) }
 {
@@ -55,7 +55,7 @@ pub fn refuse_words(alloc: Global) -> Result<Answer, NoMemory>
     })
 }
 
-/// The answer to the bytes of an input.
+/// The answer to an input: the report of its schedule, or its first bad line. The only error is out of memory.
 pub fn respond(alloc: Global, bytes: &[u8]) -> Result<Answer, NoMemory>
     ensures { IfOk result (IsAnswer bytes.now) }
 {
@@ -66,7 +66,7 @@ pub fn respond(alloc: Global, bytes: &[u8]) -> Result<Answer, NoMemory>
     }
 }
 
-// The report of a schedule's run under its module.
+// The report of a schedule's run under the module that it names.
 fn report(alloc: Global, schedule: &Schedule) -> Result<Answer, NoMemory>
     requires known { IsKnown schedule.now.setup }
     requires range { AreInRange schedule.now.setup schedule.now.events }
@@ -77,12 +77,12 @@ fn report(alloc: Global, schedule: &Schedule) -> Result<Answer, NoMemory>
         2 => report_under::<Raft>(alloc, schedule),
         3 => report_under::<Pbft>(alloc, schedule),
         4 => report_under::<HotStuff>(alloc, schedule),
-        // never: a schedule that was read names one of these
+        // Unreachable: a schedule that was read names one of these modules.
         _ => Err(NoMemory),
     }
 }
 
-// The report of its run under this module.
+// The report of a schedule's run under this module.
 fn report_under<M: Sequenced>(alloc: Global, schedule: &Schedule) -> Result<Answer, NoMemory>
     requires good { IsSetupOf M.spec schedule.now.setup }
     requires range { AreInRange schedule.now.setup schedule.now.events }
@@ -96,7 +96,7 @@ fn report_under<M: Sequenced>(alloc: Global, schedule: &Schedule) -> Result<Answ
     })
 }
 
-// How a run's end is told.
+// The status of a run.
 fn status_of(ended: &Option<(u64, Evidence)>) -> Status
     ensures { result ≡ status_of (end_kept ended.now) }
 {
@@ -107,7 +107,7 @@ fn status_of(ended: &Option<(u64, Evidence)>) -> Status
     }
 }
 
-// The answer to an input whose first bad line is this one.
+// The answer to an input whose first bad line has this number, from 1.
 fn refuse_line(alloc: Global, line: u32, why: LineFault) -> Result<Answer, NoMemory>
     ensures { IfOk result (λ answer. answer ≡ refused_line line why) }
 {

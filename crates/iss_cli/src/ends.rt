@@ -4,16 +4,16 @@ ghost use Rattle.iss_cli.specs.Ends.{HasCause, Takes, and_more};
 
 use crate::errors::{EndError, Failed};
 
-/// A source of bytes, as standard input.
+/// A source of bytes, such as standard input.
 pub trait Source {
-    /// The bytes that are left, where the source tells them.
+    /// The bytes that are left to read, if contracts can see them.
     ghost left: { Self → Option (List ℕ) };
 
-    /// How often the source has failed. A count that is at its last value, 2^64 - 1, stays there.
+    /// How often the source has failed. The count stops at 2^64 - 1.
     ghost faults: { Self → ℕ };
 
-    /// Takes some of the bytes that are left into the front of a slice, and says how many. 0 for a slice that is not
-    /// empty is the end. A call that fails takes nothing.
+    /// Reads some of the remaining bytes into the beginning of a slice, and returns how many. 0 for a slice that is not
+    /// empty is the end of the input. A call that fails reads nothing.
     fn take(&mut self, into: &mut [u8]) -> Result<usize, Failed>
         ensures bound { IfOk result (λ n. n ≤ length into.old) }
         ensures taken { IfOk result (λ n. Takes n (left self.old) (left self.new) into.old into.new) }
@@ -21,16 +21,16 @@ pub trait Source {
         ensures cause { HasCause (faults self.old) (faults self.new) (IsErr result) };
 }
 
-/// A sink of bytes, as standard output.
+/// A sink of bytes, such as standard output.
 pub trait Sink {
-    /// The bytes that were put so far, where the sink tells them.
+    /// The bytes that were written so far, if contracts can see them.
     ghost held: { Self → Option (List ℕ) };
 
-    /// How often the sink has failed. A count that is at its last value, 2^64 - 1, stays there.
+    /// How often the sink has failed. The count stops at 2^64 - 1.
     ghost faults: { Self → ℕ };
 
-    /// Puts some of the bytes from the front, at least one if there is one, and says how many. A call that fails, or
-    /// finds no memory, puts nothing.
+    /// Writes a prefix of the bytes, and returns its length. It is empty only if `bytes` is. A call that fails, or is
+    /// out of memory, writes nothing.
     fn put(&mut self, bytes: &[u8]) -> Result<usize, EndError>
         ensures bound { IfOk result (λ n. n ≤ length bytes.now) }
         ensures some { IfOk result (λ n. 0 < length bytes.now → 0 < n) }

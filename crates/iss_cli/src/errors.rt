@@ -2,16 +2,16 @@
 use iss_request::NoMemory;
 use std::alloc::AllocError;
 
-/// A source or a sink failed, and its count of faults rose.
+/// A source or a sink failed, and its fault count grew.
 #[derive(Clone, Copy, Debug, PartialEq, Eq)]
 pub struct Failed;
 
-/// Why bytes were not put or read.
+/// Why bytes were not written or read.
 #[derive(Clone, Copy, Debug, PartialEq, Eq)]
 pub enum EndError {
-    /// The source or the sink failed, and its count of faults rose.
+    /// The source or the sink failed, and its fault count grew.
     Failed,
-    /// Memory was wanting.
+    /// Out of memory.
     NoMemory,
 }
 

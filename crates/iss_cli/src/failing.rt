@@ -1,4 +1,4 @@
-//! Sources and sinks in memory, some of whose calls fail.
+//! Sources and sinks in memory with scripted failures, for tests.
 ghost use Rattle.std.specs.Prelude.{◌≡◌, ◌↔◌, ◌≤◌, ◌<◌, [], length, max, vec_len, IsErr};
 ghost use Rattle.std.specs.List.{Contains};
 ghost use Rattle.iss_cli.specs.Ends.{HasCause};
@@ -8,7 +8,7 @@ use crate::errors::{EndError, Failed};
 use crate::memory::give;
 use std::alloc::Global;
 
-/// Which calls fail, by their numbers from 0, and how often one did.
+/// The calls that fail, by their numbers from 0, and how many have failed.
 #[derive(Drop)]
 pub struct Script {
     failing: Vec<u64>,
@@ -17,7 +17,7 @@ pub struct Script {
 }
 
 impl Script {
-    /// The calls of these numbers fail.
+    /// The calls with these numbers fail.
     pub fn new(failing: Vec<u64>) -> Script
         ensures { result ≡ record { failing = failing; calls = 0; faults = 0 } }
     {
@@ -28,7 +28,7 @@ impl Script {
         }
     }
 
-    // One call more, which fails where its number says so.
+    // Counts one more call. It fails if the script says so.
     // rule: Program: A failure is reported only where the source or the sink counted one
     fn call(&mut self) -> Result<(), Failed>
         ensures cause { HasCause self.old.faults self.new.faults (IsErr result) }
@@ -45,7 +45,7 @@ impl Script {
     }
 }
 
-/// Bytes in memory that are given at most so many at a time, and not at all by the calls that fail.
+/// Bytes in memory, of which a call gives at most `most`. Calls fail as the script says.
 #[derive(Drop)]
 pub struct FailingSource {
     bytes: Vec<u8>,
@@ -57,7 +57,7 @@ pub struct FailingSource {
 }
 
 impl FailingSource {
-    /// These bytes, all of which are left, at least one of them a call.
+    /// All these bytes are left. A call gives at most `most` of them; 0 counts as 1.
     pub fn new(bytes: Vec<u8>, most: usize, script: Script) -> FailingSource
         ensures bytes { result.bytes ≡ bytes }
         ensures at { result.at ≡ 0 }
@@ -88,7 +88,7 @@ impl Source for FailingSource {
     }
 }
 
-/// Bytes in memory that are put at most so many at a time, and not at all by the calls that fail.
+/// Bytes in memory, of which a call takes at most `most`. Calls fail as the script says.
 #[derive(Drop)]
 pub struct FailingSink {
     held: Vec<u8>,
@@ -98,7 +98,7 @@ pub struct FailingSink {
 }
 
 impl FailingSink {
-    /// No bytes yet, of which a call puts at least one.
+    /// An empty sink. A call takes at most `most` bytes; 0 counts as 1.
     pub fn new(alloc: Global, most: usize, script: Script) -> FailingSink
         ensures held { result.held.items ≡ [] }
         ensures most { result.most ≡ max most 1 }
@@ -111,7 +111,7 @@ impl FailingSink {
         }
     }
 
-    /// The bytes that were put.
+    /// The bytes that were written.
     pub fn held(&self) -> &[u8]
         ensures { result.now ≡ self.now.held.items }
     {

@@ -6,7 +6,8 @@ use crate::ends::Source;
 use crate::errors::EndError;
 use std::alloc::Global;
 
-/// The bytes that a source has left, but not more than `most`. They are asked for in pieces of so many bytes.
+/// Reads the rest of a source, but at most `most` bytes, `piece` bytes at a time. Fails if the source fails, or if
+/// memory runs out.
 // rule: Program: The input is read to its end, at most one byte past the limit
 pub fn read_up_to<I: Source>(
     alloc: Global,
@@ -31,7 +32,7 @@ pub fn read_up_to<I: Source>(
     Ok(bytes)
 }
 
-// Takes bytes into the buffer, and adds them to those that were read. It says how many there were.
+// Reads once into the buffer, and appends what was read to `bytes`. Returns the number of bytes.
 fn take_more<I: Source>(
     input: &mut I,
     buffer: &mut [u8],

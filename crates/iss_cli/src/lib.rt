@@ -1,4 +1,4 @@
-//! The top call: from the words and the bytes that a program is given to the bytes that it prints.
+//! The program's top call: from its words and input to its output and status.
 #![tactic(auto)]
 
 pub mod answers;

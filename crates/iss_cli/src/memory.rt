@@ -6,7 +6,7 @@ use crate::errors::{EndError, Failed};
 use std::alloc::Global;
 use std::marker::Model;
 
-/// Bytes in memory that are still to be taken.
+/// Bytes in memory that are left to read.
 #[derive(Drop)]
 pub struct MemorySource {
     bytes: Vec<u8>,
@@ -24,7 +24,7 @@ impl Model for MemorySource {
 }
 
 impl MemorySource {
-    /// These bytes, all of which are left.
+    /// All these bytes are left.
     pub fn new(bytes: Vec<u8>) -> MemorySource
         ensures { result ≡ bytes.items }
     {
@@ -47,7 +47,7 @@ impl Source for MemorySource {
     }
 }
 
-/// Gives at most so many of the bytes from a place on.
+/// Copies at most `most` bytes, from index `at` on, into the beginning of `into`. Returns how many.
 pub fn give(bytes: &[u8], at: usize, into: &mut [u8], most: usize) -> usize
     requires { at ≤ length bytes.now }
     ensures count { result ≡ min most (min (length into.old) (length bytes.now - at)) }
@@ -58,7 +58,7 @@ pub fn give(bytes: &[u8], at: usize, into: &mut [u8], most: usize) -> usize
     count
 }
 
-/// Bytes in memory that were put.
+/// Bytes in memory that were written.
 #[derive(Drop)]
 pub struct MemorySink {
     held: Vec<u8>,
@@ -73,7 +73,7 @@ impl Model for MemorySink {
 }
 
 impl MemorySink {
-    /// No bytes yet.
+    /// An empty sink.
     pub fn new(alloc: Global) -> MemorySink
         ensures { result ≡ [] }
     {
@@ -82,7 +82,7 @@ impl MemorySink {
         }
     }
 
-    /// The bytes that were put.
+    /// The bytes that were written.
     pub fn held(&self) -> &[u8]
         ensures { result.now ≡ self.now }
     {

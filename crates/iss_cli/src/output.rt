@@ -1,11 +1,11 @@
-//! Putting bytes into a sink, all of them.
+//! Writing bytes to a sink, all of them.
 ghost use Rattle.std.specs.Prelude.{◌≡◌, ℕ, take, OnOk, OnErr, IsErrOf};
 ghost use Rattle.iss_cli.specs.Ends.{HasCause, and_more};
 
 use crate::ends::Sink;
 use crate::errors::EndError;
 
-/// Puts all bytes, in order. Where the sink fails or finds no memory, it holds the first of them.
+/// Writes all bytes in order. If the sink fails or memory runs out, a prefix of them is written.
 pub fn write_all<O: Sink>(out: &mut O, bytes: &[u8]) -> Result<(), EndError>
     ensures ok { OnOk result (O.held out.new ≡ and_more (O.held out.old) bytes.now) }
     ensures err { OnErr result ((n : ℕ) × (O.held out.new ≡ and_more (O.held out.old) (take n bytes.now))) }

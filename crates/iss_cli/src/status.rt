@@ -5,21 +5,21 @@ ghost use Rattle.iss_cli.specs.Codes.{code_of};
 /// How the top call ends.
 #[derive(Clone, Copy, Debug, PartialEq, Eq)]
 pub enum Status {
-    /// All was done.
+    /// Success.
     Done,
-    /// Memory was wanting. The first part of what was to be printed may have been.
+    /// Out of memory. A prefix of the output may have been printed.
     NoMemory,
-    /// The words are not those of a call.
+    /// The words are not a call.
     RefusedWords,
-    /// The input is no schedule.
+    /// The input is not a schedule.
     RefusedSchedule,
     /// The source failed. Nothing was printed.
     SourceFailed,
-    /// The sink failed. The first part of what was to be printed may have been.
+    /// The sink failed. A prefix of the output may have been printed.
     SinkFailed,
-    /// The run ended in an event that showed a claim that its node never made.
+    /// The run stopped: a correct node's signature was forged. The report was printed, with the evidence.
     Forged,
-    /// The run ended in an event that showed two strings of one digest.
+    /// The run stopped: two strings have one digest. The report was printed, with the evidence.
     Collision,
 }
 

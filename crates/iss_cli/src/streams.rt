@@ -1,11 +1,11 @@
-//! Readers and writers of the system as sources and sinks. They tell nothing of their bytes: this is the trusted edge.
+//! The system's readers and writers as sources and sinks. Contracts cannot see their bytes: this is the trusted edge.
 ghost use Rattle.std.specs.Prelude.{◌≡◌};
 
 use crate::ends::{Sink, Source};
 use crate::errors::{EndError, Failed};
 use std::io::{Read, Write};
 
-/// A reader, as standard input. Each call that the system refuses is a fault.
+/// A reader, such as standard input. Each call that the system fails is a fault.
 #[derive(Drop)]
 pub struct ReadSource<R: Read> {
     reader: R,
@@ -13,7 +13,7 @@ pub struct ReadSource<R: Read> {
 }
 
 impl<R: Read> ReadSource<R> {
-    /// What this reader gives.
+    /// A source that reads from `reader`.
     pub fn new(reader: R) -> ReadSource<R>
         ensures { result.faults ≡ 0 }
     {
@@ -39,8 +39,7 @@ impl<R: Read> Source for ReadSource<R> {
     }
 }
 
-/// A writer, as standard output. Each call that the system refuses, and each that takes nothing though there is
-/// something, is a fault.
+/// A writer, such as standard output. A call is a fault if the system fails it, or accepts none of a non-empty slice.
 #[derive(Drop)]
 pub struct WriteSink<W: Write> {
     writer: W,
@@ -48,7 +47,7 @@ pub struct WriteSink<W: Write> {
 }
 
 impl<W: Write> WriteSink<W> {
-    /// What goes to this writer.
+    /// A sink that writes to `writer`.
     pub fn new(writer: W) -> WriteSink<W>
         ensures { result.faults ≡ 0 }
     {

@@ -23,20 +23,18 @@ use sb_raft::Raft;
 use sb_relay::Relay;
 use std::alloc::Global;
 
-/// How many bytes are taken at most: one more than a schedule may have, so that a longer input is noticed.
+/// The most bytes that are read: one more than the longest schedule, so that a longer input is noticed.
 pub const MOST_TAKEN: usize = 16_777_217;
 
-// How many bytes are asked for at once.
+// How many bytes are read at a time.
 const PIECE: usize = 65_536;
 
-/// Does what the words ask for, and says how it ended. `replay` reads the input to its end and prints the report of the
-/// schedule that it is, or its first bad line. A run that shows a claim that its node never made, or two strings of one
-/// digest, ends there, and its report with the evidence. Of every schedule, under the module that it names, whatever disks fail and
-/// cores are made anew in it: the logs of its report are of one log, more events only make them longer, and no request that a correct
-/// node took and kept is lost; a certificate that a correct node keeps is of the log of a correct signer, and what a correct node
-/// adopted was delivered at one (`promised`).
+/// The program. `replay` reads the input to its end and prints the report of its schedule, or its first bad line. If a
+/// run reveals a forged claim or a collision, it stops there, and its report ends with the evidence.
 ///
-/// Causes are met in the order words, source, input, printing; want of memory may come anywhere.
+/// For every schedule the headline holds (`promised`, see `one_log`).
+///
+/// Errors are detected in the order words, source, input, sink. Memory may run out at any point.
 // rule: Program: Each exit status comes exactly where its cause does
 pub fn run<I: Source, O: Sink>(
     alloc: Global,
@@ -46,7 +44,8 @@ pub fn run<I: Source, O: Sink>(
 ) -> Status
     ensures promised { (s : Schedule) → IsFine s → IsPromised s }
     ensures printed { Ends (map string_bytes words.now) (I.left input.old) (O.held out.old) (O.held out.new) result }
-    ensures end { RestsOnInput (map string_bytes words.now) result → IsDrained 16777217 (I.left input.old) (I.left input.new) }
+    ensures end { RestsOnInput (map string_bytes words.now) result →
+        IsDrained 16777217 (I.left input.old) (I.left input.new) }
     ensures taken { Drains 16777217 (I.left input.old) (I.left input.new) }
     ensures unread { ¬ AskReplay (map string_bytes words.now) → I.left input.new ≡ I.left input.old }
     ensures source { HasCause (I.faults input.old) (I.faults input.new) (result ≡ Status.SourceFailed) }
@@ -60,11 +59,9 @@ pub fn run<I: Source, O: Sink>(
     }
 }
 
-/// What is promised of the run of every schedule, whatever disks fail and cores are made anew in it: the logs of correct nodes are of
-/// one log, in which no request stands twice and each batch was accepted as valid by a correct node; more events only make logs
-/// longer; each request that a correct node took and kept is in its log, waits there, or is in flight, in one place; and certificates
-/// and what is adopted under them are of logs of correct nodes (ISS, whole protocol; crashes and recovery). It takes no premise on
-/// signatures or digests, since a run ends with the evidence where one does not hold.
+/// The headline, for every schedule and every module: prefix, integrity, no loss and certified checkpoints, as
+/// `IsWhole` in `iss_theorems` defines them. It holds over all crashes and restarts (ISS, whole protocol). There is no
+/// assumption on signatures or SHA-256: a run that violates one stops and prints the evidence.
 pub fn one_log()
     ensures promised { (s : Schedule) → IsFine s → IsPromised s }
 {
@@ -77,18 +74,20 @@ pub fn one_log()
     sb_hotstuff::batches_are_accepted_once();
 }
 
-// What is promised of the run of every schedule under a module whose correct leaders accept one batch at a slot.
+// The headline for one module, provided that its correct leaders accept at most one batch for each slot.
 fn kept<M: Sequenced>()
-    ensures { AcceptsOnce M.spec → (s : Schedule) → IsSetupOf M.spec s.setup → AreInRange s.setup s.events → IsKept M.spec s }
+    ensures { AcceptsOnce M.spec → (s : Schedule) → IsSetupOf M.spec s.setup → AreInRange s.setup s.events →
+        IsKept M.spec s }
 {
     restarts_change_nothing::<M>();
 }
 
-// The answer to the words and the input.
+// The answer to the words and the input. `Failed` if the source failed.
 fn answer<I: Source>(alloc: Global, words: &[String], input: &mut I) -> Result<Answer, EndError>
     ensures ok { IfOk result (IsAnswered (map string_bytes words.now) (I.left input.old)) }
     ensures asked { IsErrOf result EndError.Failed → AskReplay (map string_bytes words.now) }
-    ensures end { OnOk result (AskReplay (map string_bytes words.now) → IsDrained 16777217 (I.left input.old) (I.left input.new)) }
+    ensures end { OnOk result (AskReplay (map string_bytes words.now) →
+        IsDrained 16777217 (I.left input.old) (I.left input.new)) }
     ensures taken { Drains 16777217 (I.left input.old) (I.left input.new) }
     ensures unread { ¬ AskReplay (map string_bytes words.now) → I.left input.new ≡ I.left input.old }
     ensures cause { HasCause (I.faults input.old) (I.faults input.new) (IsErrOf result EndError.Failed) }
@@ -100,7 +99,7 @@ fn answer<I: Source>(alloc: Global, words: &[String], input: &mut I) -> Result<A
     Ok(respond(alloc, &bytes)?)
 }
 
-// Prints an answer, and says how the call ends.
+// Prints an answer, and returns how the call ends.
 fn print<O: Sink>(out: &mut O, answer: &Answer) -> Status
     requires { IsAnswerStatus answer.now.status }
     ensures printed { Prints answer.now (O.held out.old) (O.held out.new) result }

@@ -1,4 +1,4 @@
--- The core of entries behind others, and of one more.
+-- The core of appended entries, and of one entry more.
 use Rattle.std.proofs.Common.{◌≡◌, ℕ, List, [], ◌∷◌, ◌++◌, Option, Some, None, refl, sym, ap, ◌∙◌}
 use Rattle.iss_model.specs.Node.{Core, initial_core}
 use Rattle.iss_request.specs.declared.setups.Setup.{Setup}
@@ -32,7 +32,7 @@ module _ {Msg : Type 0} (s : Setup) (m : Module Msg) (me : ℕ) where
       ∙ alone (with_entry entry c)
       ∙ then
 
-  -- entries that lead to a core stop nowhere
+  -- Entries that lead to a core contain none that is refused.
   no-core : (c : Core Msg) → None ≡ Some c → ⊥
   no-core c h = cc
 

@@ -1,4 +1,5 @@
--- What entries did is a life of the node, to the core that they lead to, and what is appended later leaves it as it is.
+-- The deeds of a journal's entries are a valid life of the node that ends in the entries' core. Appending entries does
+-- not change earlier deeds.
 use Rattle.std.proofs.Common.{◌≡◌, ◌∙◌, ◌++◌, ◌∷◌, ℕ, List, [], Option, Some, None, refl, sym, ap, subst}
 use Rattle.iss_base.specs.Lists.{Extends}
 use Rattle.iss_base.proofs.Lists.{extends-refl, extends-tail}
@@ -48,7 +49,7 @@ module _ {Msg : Type 0} (s : Setup) (m : Module Msg) (me : ℕ) where
   deeds-core [] done c h = same-core s m me (core_behind done) c h
   deeds-core (entry ∷ entries) done c h = core-step (event_in s.n entry) done entries c h (λ x k. deeds-core entries x c k)
 
-  -- ---- what is appended later
+  -- ---- entries appended later
 
   on-by : (o : Stepped Msg) (event : NodeEvent) (done : List (Deed Msg)) (front more : List (List ℕ)) (c : Core Msg) → from_core (core_after o) (core_from s m me front) ≡ Some c →
       ((x : List (Deed Msg)) → core_from s m me front (core_behind x) ≡ Some c → deeds_on s m me (front ++ more) x ≡ deeds_on s m me more (deeds_on s m me front x)) →
@@ -86,7 +87,7 @@ module _ {Msg : Type 0} (s : Setup) (m : Module Msg) (me : ℕ) where
       let done : List (Deed Msg) = [] in
       subst (λ (z : List (Deed Msg)). Extends (deeds_of s m me front) z) (sym (deeds-append front more done c h)) (deeds-longer more (deeds_of s m me front))
 
-  -- an event that is taken is the next deed
+  -- An accepted event is the next deed.
   pub next-deed : (entries : List (List ℕ)) (entry : List ℕ) (c : Core Msg) (event : NodeEvent) (t : Turn Msg) → core_of s m me entries ≡ Some c → event_in s.n entry ≡ Some event →
       step_of s m me c event ≡ Taken t → deeds_of s m me (entries ++ entry ∷ []) ≡ record { event = event; turn = t } ∷ deeds_of s m me entries
   next-deed entries entry c event t h read taken =

@@ -1,5 +1,5 @@
--- What a kept node's disk holds from call to call, for whoever holds kept nodes: what is synced of its file are the entries, so that
--- after a restart the node is reopened as it was.
+-- What the disk of a kept node holds from call to call. The synced part of its file is exactly the journal's entries,
+-- so a restart reopens the node in the same state.
 use Rattle.std.proofs.Common.{arith, ◌≡◌, ◌≢◌, inl, inr, ℕ, zero, suc, ◌+◌, ◌-◌, ◌<◌, ◌≤◌, Bool, true, false, List, [], ◌∷◌, ◌++◌, Some, refl, sym, ap, ◌∙◌, subst, length-append}
 use Rattle.iss_disk.specs.Calls.{IfTold, Passes, Restarts, Room, Runs, Stays, script, up_to}
 use Rattle.iss_disk.specs.EachState.{newest_state, states_some}
@@ -27,7 +27,7 @@ use Rattle.iss_keep.specs.Steps.{IsAttached, IsDamaged, IsWritten, LosesNone, Si
 use Rattle.iss_keep.specs.declared.answers.Answer.{Answer}
 use Rattle.iss_keep.specs.declared.answers.Answer.TheVariants.{Dropped, Failed, NoMemory, Stale, Taken}
 
--- ---- what a file holds is settled: `one` is what iss_journal's `a_file_has_one_reading` says
+-- ---- a file has one reading: `one` is the law `a_file_has_one_reading` of iss_journal
 
 pub same-held : (es fs : List (List ℕ)) → holds es ≡ holds fs → es ≡ fs
 same-held es fs h = cc
@@ -36,7 +36,7 @@ never-both : (es : List (List ℕ)) (at : ℕ) → holds es ≡ damaged at → �
 never-both es at h = cc
 
 module _ (one : (bytes : List ℕ) (r q : Reading) → Reads bytes r → Reads bytes q → r ≡ q) where
-  -- attaching finds the entries that the file held
+  -- Attaching finds the entries that the file held.
   pub attached-same : (before now : Sight) (held found : List (List ℕ)) (file : File) (past : List File) → before.history ≡ file ∷ past →
       Reads file.content (holds held) → IsAttached before now found → found ≡ held
   attached-same before now held found file past told reads attached =
@@ -51,7 +51,7 @@ module _ (one : (bytes : List ℕ) (r q : Reading) → Reads bytes r → Reads b
         let same : found ≡ held = same-held found held (one file.content (holds found) (holds held) stops.0 reads) in
         stops-not s m me held c at leads (subst (λ (es : List (List ℕ)). StopsAt s m me at es) same stops.1)
 
-    -- where the entries that the file held lead to a core, reopening finds no damage
+    -- If the entries in the file lead to a core, reopening finds no damage.
     pub never-damaged : (history : List File) → history ≡ file ∷ past → IsDamaged s m me found history at → ⊥
     never-damaged history told broken = damaged-not (subst (λ (h : List File). IsDamaged s m me found h at) told broken)
 
@@ -66,14 +66,14 @@ rest-synced : (entries : List (List ℕ)) (history : List File) → IfTold histo
 rest-synced entries [] h = tt
 rest-synced entries (file ∷ past) h = subst (λ (f : File). Reads f.kept (holds entries)) (sym h.is) (gate-read entries h.gate h.closed h.short)
 
--- of one that is not stale, what is synced are its entries
+-- If the node is not stale, the synced part of the file is its entries.
 pub kept-synced : {M Msg D : Type 0} (m : Module Msg) (refines : Relation M Msg) (history : D → List File) (room : D → Room) (directory : DirectoryView) (journal : Journal D)
     (s : Setup) (me : NodeId) (node : NodeView M Msg) → IsKept m refines history room directory journal (state_over s me node journal false) →
     IfTold (history (disk_of journal)) (λ file. Reads file.kept (holds (entries_of journal)))
 kept-synced m refines history room directory journal s me node kept =
     rest-synced (entries_of journal) (history (disk_of journal)) (kept.sound.rests (kept.attached refl))
 
--- Of a file in memory, what was synced is a thing that a crash may leave.
+-- For a file in memory, the synced content is one of the crash images.
 kept-wrote : (at : ℕ) (bytes : List ℕ) (file : File) → Image file file.kept → Image (wrote at bytes file) file.kept
 kept-wrote at bytes file h = record { long_enough = h.long_enough; short_enough = omega (arith, h.short_enough); others = λ i within below outside. refl }
 
@@ -85,19 +85,19 @@ stored-kept file =
     newest_state (λ f. Image f f.kept) (image_settled []) kept-wrote kept-shortened (λ f. image_settled f.content) (λ f. image_settled f.kept)
     (calls_of file.recent ++ calls_in file.calls) file.lost.items file.content.items
 
--- and it tells its states
+-- Its history is known and not empty.
 pub stored-told : (file : StoredFile) → (f : File) × (past : List File) × (history_of file ≡ f ∷ past)
 stored-told file =
     let some = states_some (calls_of file.recent ++ calls_in file.calls) file.lost.items file.content.items in
     (some.file, some.past, some.is)
 
--- what every crash leaves is synced
+-- What every crash image holds is synced.
 pub leaves-synced : (entries : List (List ℕ)) (history : List File) → IfTold history (λ file. Image file file.kept) →
     IfTold history (OnlyLeaves (λ bytes. Reads bytes (holds entries))) → IfTold history (λ file. Reads file.kept (holds entries))
 leaves-synced entries [] image leaves = tt
 leaves-synced entries (file ∷ past) image leaves = leaves file.kept image
 
--- the entries of a node that was reopened
+-- After reopening, the synced part of the file is the entries.
 pub attached-synced : (entries : List (List ℕ)) (before now : Sight) → IsAttached before now entries → IfTold now.history (λ file. Image file file.kept) →
     IfTold now.history (λ file. Reads file.kept (holds entries))
 attached-synced entries before now attached image = leaves-synced entries now.history image attached.durable
@@ -110,7 +110,7 @@ module _ (entries : List (List ℕ)) where
   alike before now later same added h =
       subst (λ (es : List (List ℕ)). AreSynced now es) (sym added) (subst (λ (f : List File). AreSynced f entries) (sym same) h)
 
-  -- Whatever is answered to an event: what is synced are the entries behind it.
+  -- Whatever the answer to an event, the synced part of the file is the entries after that event.
   pub written-synced : (entry : List ℕ) (before now : Sight) (later : List (List ℕ)) (answer : Answer) → IsWritten entries entry before now later answer →
       IfTold now.history (λ file. Image file file.kept) → IfTold before.history (λ file. Reads file.kept (holds entries)) →
       IfTold now.history (λ file. Reads file.kept (holds later))
@@ -126,7 +126,7 @@ module _ (entries : List (List ℕ)) where
   restarts-kept : (file : File) → file ≡ restarted file → file.content ≡ file.kept
   restarts-kept file h = ap (λ (f : File). f.content) h
 
-  -- what was synced is what is read, and stays synced
+  -- After a restart the file's content is what was synced, and it is still synced.
   pub restarts-read : (old new : List File) → Restarts old new → IfTold old (λ file. Reads file.kept (holds entries)) →
       IfTold new (λ file. Reads file.content (holds entries)) × IfTold new (λ file. Reads file.kept (holds entries))
   restarts-read [] new h synced = rw h (tt, tt)
@@ -134,7 +134,7 @@ module _ (entries : List (List ℕ)) where
   restarts-read (file ∷ past) new (inr h) synced =
       rw h.0 (subst (λ (bytes : List ℕ). Reads bytes (holds entries)) (sym (restarts-kept file h.1)) synced, synced)
 
-  -- the current file of a disk after a restart; `here` is the law of `Disk` of that name
+  -- The current file of a disk after a restart. `here` is the law of `Disk` with that name.
   module _ {D : Type 0} (history : D → List File) (files : D → List ℕ → List File) (current : D → List ℕ)
       (here : (disk : D) → history disk ≡ files disk (current disk)) (old new : D) where
     restarted-here : ((name : List ℕ) → Restarts (files old name) (files new name)) → current new ≡ current old → Restarts (history old) (history new)
@@ -147,7 +147,7 @@ module _ (entries : List (List ℕ)) where
         IfTold (history new) (λ file. Reads file.content (holds entries)) × IfTold (history new) (λ file. Reads file.kept (holds entries))
     restarted-read restarts same synced = restarts-read (history old) (history new) (restarted-here restarts same) synced
 
--- a disk whose files stay has the states that it had
+-- A disk whose files do not change keeps its history.
 pub stays-here : {D : Type 0} (history : D → List File) (files : D → List ℕ → List File) (current : D → List ℕ)
     (here : (disk : D) → history disk ≡ files disk (current disk)) (old new : D) → Stays (current old) (current new) (files old) (files new) →
     history new ≡ history old
@@ -156,21 +156,21 @@ stays-here history files current here old new h =
 
 -- ---- a new file
 
--- it holds no entries, in what a read gives and in what is synced
+-- A new file holds no entries, neither in its content nor in its synced part.
 pub new-read : (history : List File) → history ≡ settled [] ∷ [] →
     IfTold history (λ file. Reads file.content (holds [])) × IfTold history (λ file. Reads file.kept (holds []))
 new-read history is = rw is (inl (omega arith, refl), inl (omega arith, refl))
 
--- ---- which calls pass
+-- ---- which calls succeed
 
--- a disk of which all calls pass goes on so, and reopening doesn't fail
+-- If no call of the disk fails, reopening succeeds and leaves that so.
 pub reopens-well : (before now : Sight) (failed : Type 0) → LosesNone before now failed → before.passes ≡ script [] → (now.passes ≡ script []) × (failed → ⊥)
 reopens-well before now failed h all = h.works all
 
 no-pass : (P : Type 0) → true ≡ false → P
 no-pass P h = absurd (cc)
 
--- so many calls pass: then as many fewer are left
+-- If k calls succeed out of a budget of n, the budget left is n - k.
 pub runs-passed : (k n : ℕ) (now : Passes) → Runs k (up_to n) now true → (k ≤ n) × (now ≡ up_to (n - k))
 runs-passed zero n now h =
     let all : n ≡ n - 0 = omega arith in
@@ -181,13 +181,13 @@ runs-passed (suc k) (suc n) now h =
     let fewer : suc n - suc k ≡ n - k = omega arith in
     (omega (arith, rest.0), rest.1 ∙ ap (λ (calls : ℕ). up_to calls) (sym fewer))
 
--- where one fails there were too few, and none passes from then on
+-- If one of k calls fails, the budget was below k, and every later call fails.
 pub runs-failed : (k n : ℕ) (now : Passes) → Runs k (up_to n) now false → (n < k) × (now ≡ up_to 0)
 runs-failed zero n now h = no-pass _ (sym h.1)
 runs-failed (suc k) zero now h = (omega arith, h.0)
 runs-failed (suc k) (suc n) now h = let rest = runs-failed k n now h in (omega (arith, rest.0), rest.1)
 
--- where all pass, these do, and so do those behind them
+-- On a disk without faults these calls succeed, and so do all later ones.
 pub runs-all : (k : ℕ) (now : Passes) (passed : Bool) → Runs k (script []) now passed → (passed ≡ true) × (now ≡ script [])
 runs-all zero now passed h = (h.1, h.0)
 runs-all (suc k) now passed h = runs-all k now passed h

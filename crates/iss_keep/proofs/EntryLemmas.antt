@@ -1,4 +1,4 @@
--- An event's entry is read as the event, and nothing else is.
+-- Decoding an event's entry gives the event, and nothing else decodes.
 use Rattle.std.proofs.Common.{◌≡◌, ℕ, Bool, true, false, cond, eqb, leb, suc, List, [], ◌∷◌, ◌<◌, Option, Some, None, refl, sym, ap, ◌∙◌, subst}
 use Rattle.std.proofs.lemmas.Bool.{le-leb, leb-true}
 use Rattle.iss_base.proofs.Lists.{is-eq}
@@ -26,7 +26,7 @@ read-propose : (n : ℕ) (rest : List ℕ) (event : NodeEvent) → propose_in re
 read-propose n [] event h = rw (same-some Propose event h) (refl, tt)
 read-propose n (b ∷ rest) event h = from-none event _ h
 
--- the node that these bytes are
+-- A decoded identity is unique.
 same-node : (a b : NodeId) → Some a ≡ Some b → a ≡ b
 same-node a b h = cc
 

@@ -1,4 +1,4 @@
--- What the calls of a kept node leave of it.
+-- What each call of a kept node preserves and establishes.
 use Rattle.std.proofs.Common.{arith, append_assoc, inl, inr, ◌≡◌, ◌⊎◌, ℕ, ◌<◌, ◌≤◌, Bool, true, false, List, [], ◌∷◌, ◌++◌, length, Option, Some, refl, sym, ap, ◌∙◌, subst, true≢false}
 use Rattle.iss_disk.specs.Calls.{IfTold, Room}
 use Rattle.iss_disk.specs.File.{File}
@@ -36,7 +36,7 @@ use Rattle.iss_keep.proofs.CoreLemmas.{one-more}
 use Rattle.iss_keep.proofs.EntryLemmas.{spelled-read}
 use Rattle.iss_keep.proofs.TakenLemmas.{taken-named}
 
--- a node's own keys, of which none is used
+-- The keys of a replica, none of which is used.
 pub own-number : (s : Setup) (i : ℕ) (d : DirectoryView) → d ≡ keys_of s → i < s.n → i < length d.nodes
 own-number s i d is lt = subst (λ (z : DirectoryView). i < length z.nodes) (sym is) (subst (λ (k : ℕ). i < k) (sym (length-nodes s.n s.clients s.keys)) lt)
 
@@ -81,7 +81,7 @@ still-nobody n entries entry h = record {
   none = h.none;
 }
 
--- what entries lead to, with an event more
+-- What the entries lead to after one more event.
 leads-on : (n : ℕ) (entries : List (List ℕ)) (event : NodeEvent) (before after : Type 0) → before ⊎ AsksNobody n entries → (IsOfNodes n event → before → after) →
     IsOfNodes n event ⊎ ((p : NodeId) × (event ≡ AskFrom p) × (n ≤ p.0)) → after ⊎ AsksNobody n (entries ++ spell_event event ∷ [])
 leads-on n entries event before after (inr nobody) more who = inr (still-nobody n entries (spell_event event) nobody)
@@ -92,7 +92,7 @@ module _ {M Msg D : Type 0} (m : Module Msg) (refines : Relation M Msg) (history
   not-both : (b : Bool) (P : Type 0) → b ≡ true → b ≡ false → P
   not-both b P t f = absurd (true≢false (sym t ∙ f))
 
-  -- one that has to be reopened
+  -- The invariant of a node that has to be reopened.
   pub stale-kept : (journal : Journal D) (v : KeptState M Msg D) → IsSetupOf m v.setup → v.me.0 < v.setup.n → directory ≡ keys_of v.setup → v.node.state.setup ≡ v.setup → v.node.state.me ≡ v.me →
       IsSound history room journal → v.stale ≡ true → IsKept m refines history room directory journal v
   stale-kept journal v good member keys cluster number sound stale = record {
@@ -107,7 +107,7 @@ module _ {M Msg D : Type 0} (m : Module Msg) (refines : Relation M Msg) (history
     kept = inl stale;
   }
 
-  -- one whose entries lead to the core that it stands for
+  -- The invariant of a node that refines the core of its entries.
   pub fresh-kept : (journal : Journal D) (v : KeptState M Msg D) (c : Core Msg) → IsSetupOf m v.setup → v.me.0 < v.setup.n → directory ≡ keys_of v.setup →
       v.node.state.setup ≡ v.setup → v.node.state.me ≡ v.me → IsSound history room journal → is_attached journal ≡ true →
       IfTold (history v.disk) (OnlyLeaves (λ bytes. Reads bytes (holds v.entries))) → KeptRefinesCore m refines v c → LeadsTo m v c → IsKept m refines history room directory journal v
@@ -123,7 +123,7 @@ module _ {M Msg D : Type 0} (m : Module Msg) (refines : Relation M Msg) (history
     kept = inr (c, at, leads);
   }
 
-  -- the core of one that is not stale
+  -- A node that is not stale refines a core.
   standing : (v : KeptState M Msg D) → (v.stale ≡ true) ⊎ ((c : Core Msg) × KeptRefinesCore m refines v c × LeadsTo m v c) → v.stale ≡ false →
       (c : Core Msg) × KeptRefinesCore m refines v c × LeadsTo m v c
   standing v (inl stale) fresh = not-both v.stale _ stale fresh
@@ -140,7 +140,7 @@ module _ {M Msg D : Type 0} (m : Module Msg) (refines : Relation M Msg) (history
     abbrev node_step : Core Msg → Stepped Msg
     node_step c = step (formats_of old.node.state.setup m) (rules_of old.node.state.setup) m old.node.state.me.0 c event
 
-    -- the step of the node is the step in its cluster
+    -- The node's step equals the step of the model.
     same-step : (c : Core Msg) → node_step c ≡ step_of old.setup m old.me.0 c event
     same-step c = ap (λ (s : Setup). step (formats_of s m) (rules_of s) m old.node.state.me.0 c event) kept.cluster
         ∙ ap (λ (i : NodeId). step_of old.setup m i.0 c event) kept.number
@@ -150,7 +150,7 @@ module _ {M Msg D : Type 0} (m : Module Msg) (refines : Relation M Msg) (history
       own-peer : IsOfNodes old.setup.n event → IsOfNodes old.node.state.setup.n event
       own-peer h = subst (λ (s : Setup). IsOfNodes s.n event) (sym kept.cluster) h
 
-      -- entries that led to a core lead on with the event
+      -- Entries that lead to a core also lead on with the accepted event.
       led : (c : Core Msg) (turn : Turn Msg) → step_of old.setup m old.me.0 c event ≡ Step_taken turn → IsOfNodes old.setup.n event →
           core_of old.setup m old.me.0 old.entries ≡ Some c → core_of old.setup m old.me.0 (old.entries ++ spell_event event ∷ []) ≡ Some turn.core
       led c turn is of before =
@@ -159,7 +159,7 @@ module _ {M Msg D : Type 0} (m : Module Msg) (refines : Relation M Msg) (history
           ap (λ (o : Option NodeEvent). core_with old.setup m old.me.0 c o) (spelled-read old.setup.n event named) ∙ ap core_after is in
           one-more old.setup m old.me.0 (old.entries) (spell_event event) c turn.core before with_event
 
-      -- with the event in its journal it stands for the core after the step
+      -- With the event in its journal, the node refines the core after the step.
       pub took-turn : (journal : Journal D) → entries_of journal ≡ old.entries ++ spell_event event ∷ [] → (c : Core Msg) → KeptRefinesCore m refines old c →
           IsTurn m refines (IsOfNodes old.setup.n event) old c (step_of old.setup m old.me.0 c event) (state_over old.setup old.me node journal false) outcome
       took-turn journal entries c at =
@@ -205,7 +205,7 @@ module _ {M Msg D : Type 0} (m : Module Msg) (refines : Relation M Msg) (history
             };
           }
 
-    -- ---- what the whole call leaves, where the node was not stale
+    -- ---- the effect of the whole call on a node that was not stale
 
     module _ (fresh : old.stale ≡ false) (journal : Journal D) where
       abbrev left : Answer → KeptState M Msg D
@@ -261,7 +261,7 @@ module _ {M Msg D : Type 0} (m : Module Msg) (refines : Relation M Msg) (history
       shows-after Stale stepped stale later = absurd stepped
       shows-after NoMemory stepped stale later = record { log = stepped.log; epoch = stepped.epoch }
 
-      -- with what the call made of `stale`
+      -- The same, with the new value of `stale`.
       module _ (later : Bool) (answer : Answer) (is : later ≡ makes_stale answer) (stepped : HasStepped m refines event old.node node answer) where
         pub take-answers : entries_of journal ≡ entries_after old.entries (spell_event event) answer → (c : Core Msg) → KeptRefinesCore m refines old c →
             IsAnswer m refines (IsOfNodes old.setup.n event) old c (step_of old.setup m old.me.0 c event) (state_over old.setup old.me node journal later) answer
@@ -269,7 +269,7 @@ module _ {M Msg D : Type 0} (m : Module Msg) (refines : Relation M Msg) (history
             subst (λ (b : Bool). IsAnswer m refines (IsOfNodes old.setup.n event) old c (step_of old.setup m old.me.0 c event) (state_over old.setup old.me node journal b) answer) (sym is)
             (answers answer stepped added c at)
 
-        -- a node that became stale shows what it showed
+        -- A node that becomes stale still reports the log and epoch that it had.
         pub take-shows : later ≡ true → ShowsAsBefore old (state_over old.setup old.me node journal later)
         take-shows stale = shows-after answer stepped (sym is ∙ stale) later
 

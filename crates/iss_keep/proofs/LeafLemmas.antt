@@ -1,4 +1,4 @@
--- Each entry has leaves of its own, and what is appended later changes nothing of what it made.
+-- Every entry uses its own leaves, and appending entries does not change what earlier entries produced.
 use Rattle.std.proofs.Common.{arith, ◌≡◌, ◌⊎◌, inl, inr, ℕ, suc, ◌≤◌, List, [], ◌∷◌, ◌++◌, Option, Some, None, refl, ap, ◌∙◌, subst}
 use Rattle.iss_journal.specs.Frames.{Reading, Reads, holds}
 use Rattle.iss_journal.specs.Promises.{HoldsWithOrWithout}
@@ -18,7 +18,7 @@ use Rattle.iss_keep.specs.Makings.{AreApart, Making, made_on, makings_from, maki
 use Rattle.iss_keep.proofs.CoreLemmas.{one-more}
 use Rattle.iss_keep.proofs.DiskLemmas.{same-held}
 
--- ---- a step gives no leaf back
+-- ---- a step never reuses a leaf
 
 module _ {Msg : Type 0} (F : Formats Msg) (R : Rules) (m : Module Msg) (me : ℕ) where
   settles-more : (n : ℕ) (t : Turn Msg) → n ≤ t.core.leaf → n ≤ (advance_epochs F R m me t).core.leaf
@@ -43,10 +43,10 @@ module _ {Msg : Type 0} (F : Formats Msg) (R : Rules) (m : Module Msg) (me : ℕ
   pub taken-more : (c : Core Msg) (event : NodeEvent) (t : Turn Msg) → step F R m me c event ≡ Taken t → c.leaf ≤ t.core.leaf
   taken-more c event t h = took-more c event t (took F R m me c event t h)
 
--- ---- a row of entries
+-- ---- a list of entries
 
 module _ {Msg : Type 0} (s : Setup) (m : Module Msg) (me : ℕ) where
-  -- the turn of a core's step, if there is one
+  -- The turn of a core's step, if the step was accepted.
   stepped-more : (c : Core Msg) (event : NodeEvent) (o : Stepped Msg) → step_of s m me c event ≡ o → (more : Core Msg → List (Making Msg)) →
       ((d : Core Msg) → AreApart d.leaf (more d)) → AreApart c.leaf (made_on c (turn_in o) more)
   stepped-more c event (Dropped why) q more rest = tt
@@ -64,7 +64,7 @@ module _ {Msg : Type 0} (s : Setup) (m : Module Msg) (me : ℕ) where
   pub makings-apart : (entries : List (List ℕ)) → AreApart 0 (makings_of s m me entries)
   makings-apart entries = apart-from entries initial_core
 
-  -- ---- what is appended later
+  -- ---- entries appended later
 
   pub nowhere : (d : Core Msg) (P : Type 0) → None ≡ Some d → P
   nowhere d P h = absurd (cc)

@@ -1,4 +1,4 @@
--- A node that takes the events of entries in turn.
+-- A node that replays the entries of its journal.
 use Rattle.std.proofs.Common.{◌≡◌, ℕ, ◌+◌, ◌<◌, ◌≤◌, true, false, List, [], ◌++◌, length, take, drop, get_or, Option, Some, None, Bool, Result, Ok, Err, IfOk, refl, sym, ap, ◌∙◌, subst, take-append-drop}
 use Rattle.std.proofs.lemmas.List.{drop_more, reverse-reverse, take_all, take_more}
 use Rattle.std.specs.Prelude.{reverse}
@@ -36,7 +36,7 @@ module _ {M Msg : Type 0} (s : Setup) (m : Module Msg) (refines : Relation M Msg
     pub goes-nowhere : None ≡ event_in s.n entry → GoesTo s m refines me c entry new false
     goes-nowhere read = ap (core_with s m me c) (sym read)
 
-  -- ---- a row of them
+  -- ---- a list of entries
 
   module _ (entries : List (List ℕ)) (k : ℕ) (lt : k < length entries) (c : Core Msg) (before : core_of s m me (take k entries) ≡ Some c) where
     pub replayed-more : (d : Core Msg) → core_with s m me c (event_in s.n (get_or entries k [])) ≡ Some d → core_of s m me (take (k + 1) entries) ≡ Some d
@@ -66,7 +66,7 @@ module _ {M Msg : Type 0} (s : Setup) (m : Module Msg) (refines : Relation M Msg
 
   module _ (k : ℕ) (lt : k < length entries) (old new : NodeView M Msg) (entry : List ℕ) (is : entry ≡ get_or entries k []) (own : IsOf s me old)
       (before : IsReplayed s m refines me.0 (take k entries) old) where
-    -- the step of the node at its entry is the step in the cluster at entry k
+    -- The node's step at its entry is the model's step at entry k.
     here : (o : Option (Core Msg)) → core_with old.state.setup m old.state.me.0 before.0 (event_in old.state.setup.n entry) ≡ o →
         core_with s m me.0 before.0 (event_in s.n (get_or entries k [])) ≡ o
     here o h =
@@ -84,12 +84,12 @@ module _ {M Msg : Type 0} (s : Setup) (m : Module Msg) (refines : Relation M Msg
         (at : ℕ) → at ≡ length (frames (take k entries)) → StopsAt s m me.0 at entries
     replay-stops goes at offset = stops-here s m refines me.0 entries k lt before.0 before.2 at offset (here None (goes before.0 before.1))
 
--- it stays the node that it was
+-- The node keeps its set-up and identity.
 pub still-of : {M Msg : Type 0} (s : Setup) (me : NodeId) (old new : NodeView M Msg) → IsOf s me old → (new.state.setup ≡ old.state.setup) × (new.state.me ≡ old.state.me) →
     IsOf s me new
 still-of s me old new own same = record { cluster = same.0 ∙ own.cluster; number = same.1 ∙ own.number }
 
--- a node that has taken nothing shows an empty log, in epoch 0
+-- A node that took no event reports an empty log and epoch 0.
 pub fresh-shown : {M Msg : Type 0} (m : Module Msg) (refines : Relation M Msg) (v : NodeView M Msg) → RefinesCore m refines v initial_core →
     (v.state.log.entries ≡ []) × (v.state.epoch ≡ 0)
 fresh-shown m refines v h =
@@ -100,6 +100,6 @@ fresh-shown m refines v h =
 pub went : {E : Type 0} (r : Result Bool E) (b : Bool) (P : Bool → Type 0) → r ≡ Ok b → IfOk r P → P b
 went {E = E} r b P is h = subst (λ (z : Result Bool E). IfOk z P) is h
 
--- the offset that an error tells
+-- The offset in the error is the offset of the gate.
 pub same-gate : {A : Type 0} (gate there : ℕ) → ◌≡◌ {A = Result A AttachError} (Err (Damaged gate)) (Err (Damaged there)) → there ≡ gate
 same-gate gate there h = cc

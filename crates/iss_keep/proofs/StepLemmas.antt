@@ -1,4 +1,4 @@
--- What a step leaves of a node, and what its entry leaves behind it.
+-- What a step leaves of a node, and what appending its entry leaves after that.
 use Rattle.std.proofs.Common.{◌≡◌, ℕ, ◌≤◌, length, take, refl, sym, ap, ◌∙◌, subst}
 use Rattle.iss_journal.specs.Frames.{max_entry}
 use Rattle.iss_log.specs.LogState.{GoesOn}
@@ -17,7 +17,7 @@ use Rattle.iss_keep.specs.declared.answers.Answer.{Answer}
 use Rattle.iss_keep.specs.declared.answers.Answer.TheVariants.{Dropped, Failed, NoMemory, Stale, Taken}
 use Rattle.iss_keep.proofs.TakenLemmas.{log-cut, log-long, taken-goes-on, taken-later, taken-short}
 
--- ---- where the event was not taken
+-- ---- the event was not accepted
 
 pub shows-spoiled : {M Msg : Type 0} (old new : NodeView M Msg) → IsSpoiled old new → ShowsSame old new
 shows-spoiled old new h = record { log = h.log; epoch = h.epoch }
@@ -29,12 +29,12 @@ shows-stale old new same =
 pub shows-itself : {M Msg : Type 0} (v : NodeView M Msg) → ShowsSame v v
 shows-itself v = record { log = refl; epoch = refl }
 
--- ---- where it was
+-- ---- the event was accepted
 
 module _ {M Msg : Type 0} (m : Module Msg) (refines : Relation M Msg) (event : NodeEvent) (old taken : NodeView M Msg) (outcome : Outcome)
     (good : IsSetupOf m old.state.setup) (core : (c : Core Msg) × RefinesCore m refines old c) (setup : taken.state.setup ≡ old.state.setup) (me : taken.state.me ≡ old.state.me)
     (answer : Answers m refines event old taken (Node_taken outcome)) where
-  -- its entry fits into a journal
+  -- The entry is short enough for a journal.
   pub short : (copy : NodeEvent) → copy ≡ event → length (spell_event copy) ≤ max_entry
   short copy is =
       let a = answer core.0 core.1 in
@@ -45,7 +45,7 @@ module _ {M Msg : Type 0} (m : Module Msg) (refines : Relation M Msg) (event : N
       let a = answer core.0 core.1 in
       taken-goes-on m refines old taken core.0 event a.turn good core.1 a.refined a.step_is setup me
 
-  -- the log and the epoch from before can be gone back to
+  -- The node can retreat to the log and epoch that it had before the step.
   pub longer : (slots : ℕ) → slots ≡ length old.state.log.entries → slots ≤ length taken.state.log.entries
   longer slots is =
       subst (λ (k : ℕ). k ≤ length taken.state.log.entries) (sym is) (log-long old.state.log.entries taken.state.log.entries grown)

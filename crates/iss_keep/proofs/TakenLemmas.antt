@@ -1,4 +1,5 @@
--- What is true of an event that a node took: its entry is short and read again, its leader is a node; the log goes on, and the epoch never falls.
+-- Facts about an accepted event: its entry is short and decodes to it, and its leader is a replica. The log is extended
+-- and the epoch never falls.
 use Rattle.std.proofs.Common.{arith, ◌≡◌, ℕ, suc, ◌≤◌, List, [], ◌∷◌, ◌++◌, length, take, Some, None, refl, sym, ap, ◌∙◌, subst, length-append}
 use Rattle.std.proofs.lemmas.List.{reverse-append, reverse-reverse, take_at}
 use Rattle.std.specs.Prelude.{reverse}
@@ -107,7 +108,7 @@ module _ {Msg : Type 0} (F : Formats Msg) (R : Rules) (m : Module Msg) (me : ℕ
   pub taken-rises : (c : Core Msg) (event : NodeEvent) (t : Turn Msg) → step F R m me c event ≡ Taken t → c.past.epoch ≤ t.core.past.epoch
   taken-rises c event t h = took-rise c event t (took F R m me c event t h)
 
--- ---- the log goes on
+-- ---- the log is extended
 
 turned : (a b : List Value) → Extends (reverse a) (reverse b) → GoesOn a b
 turned a b h = (

@@ -1,13 +1,13 @@
--- What an answer says of the disk of a journal.
+-- What an answer says about the journal's disk.
 use Rattle.std.proofs.Common.{◌≡◌, ℕ, Result, Ok, Err}
 use Rattle.iss_disk.specs.Calls.{HasCause}
 use Rattle.iss_keep.specs.Steps.{LosesNone, Sight}
 
--- a cause of one failure is a cause of another that leads to it
+-- The cause of one failure is the cause of every failure that implies it.
 caused-by : (before now : ℕ) (P Q : Type 0) → (Q → P) → HasCause before now P → HasCause before now Q
 caused-by before now P Q leads h = record { never_falls = h.never_falls; rose = λ q. h.rose (leads q) }
 
--- the journal was attached, and nothing failed of which the disk would be the cause
+-- The journal was attached, and no failure of the disk is reported.
 pub loses-none : (before now : Sight) (P Q : Type 0) → (Q → ⊥) → LosesNone before now P → LosesNone before now Q
 loses-none before now P Q none h = record {
   any_moment = h.any_moment;

@@ -11,11 +11,11 @@ use Rattle.iss_request.specs.declared.setups.Setup.{Setup}
 use Rattle.iss_sb.specs.Evidence.{Module}
 use Rattle.iss_keep.specs.Entries.{event_in}
 
--- a step of node me in a cluster of this set-up
+-- The step of replica `me` in a cluster with this set-up.
 abbrev pub step_of : {Msg : Type 0} → Setup → Module Msg → ℕ → Core Msg → NodeEvent → Stepped Msg
 step_of s m me c event = step (formats_of s m) (rules_of s) m me c event
 
--- nothing comes of an event that is dropped, nor of an entry that is no event
+-- There is no core after a dropped event, nor after an entry that does not decode.
 abbrev pub core_after : {Msg : Type 0} → Stepped Msg → Option (Core Msg)
 core_after (Dropped why) = None
 core_after (Taken turn) = Some turn.core
@@ -28,7 +28,7 @@ abbrev pub from_core : {Msg : Type 0} → Option (Core Msg) → (Core Msg → Op
 from_core None more = None
 from_core (Some c) more = more c
 
--- from a core on
+-- The core after these entries, starting from a given core.
 abbrev pub core_from : {Msg : Type 0} → Setup → Module Msg → ℕ → List (List ℕ) → Core Msg → Option (Core Msg)
 core_from s m me [] c = Some c
 core_from s m me (entry ∷ entries) c = from_core (core_with s m me c (event_in s.n entry)) (core_from s m me entries)
@@ -37,9 +37,10 @@ core_from s m me (entry ∷ entries) c = from_core (core_with s m me c (event_in
 abbrev pub core_of : {Msg : Type 0} → Setup → Module Msg → ℕ → List (List ℕ) → Option (Core Msg)
 core_of s m me entries = core_from s m me entries initial_core
 
--- Entries up to one that is no event, or that the node before it would drop; this is the offset of its gate.
+-- The first entry that does not decode, or that the node would drop at that point. `at` is the byte offset of its gate.
 -- rule: Persistence: An entry that is no event of its node is damage, at the offset of its gate
-pub record StopsAt {Msg : Type 0} (s : Setup) (m : Module Msg) (me : ℕ) (at : ℕ) (entries : List (List ℕ)) : Type 0 where
+pub record StopsAt {Msg : Type 0} (s : Setup) (m : Module Msg) (me : ℕ) (at : ℕ)
+    (entries : List (List ℕ)) : Type 0 where
   pub front : List (List ℕ)
   pub entry : List ℕ
   pub behind : List (List ℕ)

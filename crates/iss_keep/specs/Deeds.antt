@@ -9,16 +9,18 @@ use Rattle.iss_theorems.specs.Leaves.{Deed, core_behind}
 use Rattle.iss_keep.specs.Cores.{step_of}
 use Rattle.iss_keep.specs.Entries.{event_in}
 
--- an event that is taken is a deed more; one that is dropped, or an entry that is no event, leads nowhere
-abbrev pub did_by : {Msg : Type 0} → Stepped Msg → NodeEvent → List (Deed Msg) → (List (Deed Msg) → List (Deed Msg)) → List (Deed Msg)
+-- An accepted event adds a deed. A dropped event, or an entry that does not decode, ends the list.
+abbrev pub did_by : {Msg : Type 0} → Stepped Msg → NodeEvent → List (Deed Msg) → (List (Deed Msg) → List (Deed Msg)) →
+    List (Deed Msg)
 did_by (Dropped why) event done more = done
 did_by (Taken turn) event done more = more (record { event = event; turn = turn } ∷ done)
 
-abbrev pub did_with : {Msg : Type 0} → Setup → Module Msg → ℕ → Option NodeEvent → List (Deed Msg) → (List (Deed Msg) → List (Deed Msg)) → List (Deed Msg)
+abbrev pub did_with : {Msg : Type 0} → Setup → Module Msg → ℕ → Option NodeEvent → List (Deed Msg) →
+    (List (Deed Msg) → List (Deed Msg)) → List (Deed Msg)
 did_with s m me None done more = done
 did_with s m me (Some event) done more = did_by (step_of s m me (core_behind done) event) event done more
 
--- behind what was done before
+-- The deeds of these entries, added to earlier ones.
 abbrev pub deeds_on : {Msg : Type 0} → Setup → Module Msg → ℕ → List (List ℕ) → List (Deed Msg) → List (Deed Msg)
 deeds_on s m me [] done = done
 deeds_on s m me (entry ∷ entries) done = did_with s m me (event_in s.n entry) done (deeds_on s m me entries)

@@ -10,7 +10,7 @@ use Rattle.iss_rules.specs.declared.events.NodeEvent.{NodeEvent}
 use Rattle.iss_rules.specs.declared.events.NodeEvent.TheVariants.{AskFrom, Packet, Propose, Timeout}
 use Rattle.iss_request.specs.declared.ids.NodeId.{NodeId}
 
--- ---- spelling
+-- ---- encoding
 
 abbrev pub packet_entry : List ℕ → List ℕ
 packet_entry bytes = 1 ∷ bytes
@@ -21,7 +21,7 @@ spell_event Propose = 2 ∷ []
 spell_event (Timeout leader) = 3 ∷ leader.0 ∷ []
 spell_event (AskFrom peer) = 4 ∷ peer.0 ∷ []
 
--- ---- the table: which entry is which event of a cluster of n nodes
+-- ---- the table: which entry encodes which event, in a cluster of n nodes
 
 abbrev pub NamesNode : ℕ → NodeEvent → Type 0
 NamesNode n (Packet bytes) = Unit {0}
@@ -33,7 +33,7 @@ NamesNode n (AskFrom peer) = peer.0 < n
 abbrev pub IsEntryOf : ℕ → List ℕ → NodeEvent → Type 0
 IsEntryOf n entry event = (entry ≡ spell_event event) × NamesNode n event
 
--- ---- reading
+-- ---- decoding
 
 abbrev pub propose_in : List ℕ → Option NodeEvent
 propose_in [] = Some Propose
@@ -63,7 +63,7 @@ abbrev pub event_in : ℕ → List ℕ → Option NodeEvent
 event_in n [] = None
 event_in n (kind ∷ rest) = event_of_kind n kind rest
 
--- Of four nodes, node 3 leads or is asked, and node 4 is none.
+-- In a cluster of four, node 3 may lead or be asked. Node 4 does not exist.
 timeout : event_in 4 (3 ∷ 3 ∷ []) ≡ Some (Timeout (record { 0 = 3 }))
 timeout = refl
 

@@ -18,23 +18,24 @@ use Rattle.iss_keep.specs.Steps.{IsTaken}
 use Rattle.iss_keep.specs.declared.answers.Answer.{Answer}
 use Rattle.iss_keep.specs.declared.answers.Answer.TheVariants.{Dropped, Failed, NoMemory, Stale, Taken}
 
--- a node answers so to the step of each core that it stands for
+-- This answer is right for the step of each core that the node refines.
 abbrev pub Answers : {M Msg : Type 0} → Module Msg → Relation M Msg → NodeEvent → NodeView M Msg → NodeView M Msg →
     NodeAnswer → Type 0
 Answers {Msg = Msg} m refines event old new answer = (c : Core Msg) → RefinesCore m refines old c →
-    IsAnswer m refines (IsOfNodes old.state.setup.n event) c (step (formats_of old.state.setup m) (rules_of old.state.setup) m old.state.me.0 c event) new answer
+    IsAnswer m refines (IsOfNodes old.state.setup.n event) c
+    (step (formats_of old.state.setup m) (rules_of old.state.setup) m old.state.me.0 c event) new answer
 
--- it shows the log and the epoch from before
+-- The node reports the same log and epoch as before.
 pub record ShowsSame {M Msg : Type 0} (old new : NodeView M Msg) : Type 0 where
   pub log : new.state.log.entries ≡ old.state.log.entries
   pub epoch : new.state.epoch ≡ old.state.epoch
 
--- each core that it stands for takes the event
+-- Each core that the node refines accepts the event.
 abbrev pub Takes : {M Msg : Type 0} → Module Msg → Relation M Msg → NodeEvent → NodeView M Msg → Type 0
 Takes {Msg = Msg} m refines event old = (c : Core Msg) → RefinesCore m refines old c →
     IsTaken (step (formats_of old.state.setup m) (rules_of old.state.setup) m old.state.me.0 c event)
 
--- what an event left of the node
+-- The state of the node after an event, by answer.
 abbrev pub HasStepped : {M Msg : Type 0} → Module Msg → Relation M Msg → NodeEvent → NodeView M Msg → NodeView M Msg →
     Answer → Type 0
 HasStepped m refines event old new (Taken outcome) = Answers m refines event old new (Node_taken outcome)
@@ -43,7 +44,7 @@ HasStepped m refines event old new Failed = ShowsSame old new × Takes m refines
 HasStepped m refines event old new Stale = ⊥
 HasStepped m refines event old new NoMemory = ShowsSame old new
 
--- The outcome of a step is handed out with its entry, and the node stays as it is; else the node retreats.
+-- If the entry was appended, the outcome is released and the node stays as it is. Otherwise the node retreats.
 abbrev pub HasEnded : {M Msg : Type 0} → Outcome → ℕ → ℕ → NodeView M Msg → NodeView M Msg → Answer → Type 0
 HasEnded outcome slots epoch old new (Taken given) = (given ≡ outcome) × (new ≡ old)
 HasEnded outcome slots epoch old new (Dropped why) = ⊥
@@ -51,7 +52,8 @@ HasEnded outcome slots epoch old new Failed = HasRetreated old new slots epoch
 HasEnded outcome slots epoch old new Stale = ⊥
 HasEnded outcome slots epoch old new NoMemory = HasRetreated old new slots epoch
 
--- what is handed out of what a node answered, where its entry was appended so: an event that was not taken has none
+-- What the caller receives, given the node's answer and the result of the append. An event that was not accepted is not
+-- appended.
 abbrev pub released : {A : Type 0} → NodeAnswer → Result A EndError → Answer
 released (Node_taken outcome) (Ok x) = Taken outcome
 released (Node_dropped why) (Ok x) = Dropped why

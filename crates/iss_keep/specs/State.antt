@@ -26,17 +26,17 @@ pub record KeptState (M Msg D : Type 0) : Type 0 where
   pub setup : Setup
   pub me : NodeId
   pub node : NodeView M Msg
-  -- its journal: the disk below it, and its entries, the first appended first
+  -- The journal: its disk, and its entries in the order in which they were appended.
   pub disk : D
   pub entries : List (List ℕ)
-  -- it has to be reopened
+  -- The node has to be reopened before it takes events.
   pub stale : Bool
 
 abbrev pub state_over : {M Msg D : Type 0} → Setup → NodeId → NodeView M Msg → Journal D → Bool → KeptState M Msg D
 state_over s me node journal stale =
     record { setup = s; me = me; node = node; disk = disk_of journal; entries = entries_of journal; stale = stale }
 
--- It is not stale, and its node stands for this core, the next leaf included, in its cluster and under its number.
+-- The node is not stale and refines this core, including the next leaf, with the right set-up and identity.
 pub record KeptRefinesCore {M Msg D : Type 0} (m : Module Msg) (refines : Relation M Msg)
     (v : KeptState M Msg D) (c : Core Msg) : Type 0 where
   pub fresh : v.stale ≡ false
@@ -44,7 +44,7 @@ pub record KeptRefinesCore {M Msg D : Type 0} (m : Module Msg) (refines : Relati
   pub cluster : v.node.state.setup ≡ v.setup
   pub number : v.node.state.me ≡ v.me
 
--- It stands for the core of the entries in its journal, the next leaf included.
+-- The node is not stale and refines the core of its journal's entries, including the next leaf.
 pub record RefinesEntries {M Msg D : Type 0} (m : Module Msg) (refines : Relation M Msg)
     (v : KeptState M Msg D) (c : Core Msg) : Type 0 where
   pub fresh : v.stale ≡ false
@@ -53,7 +53,7 @@ pub record RefinesEntries {M Msg D : Type 0} (m : Module Msg) (refines : Relatio
   pub number : v.node.state.me ≡ v.me
   pub core : core_of v.setup m v.me.0 v.entries ≡ Some c
 
--- one of the entries asks a number that is no node: reopening finds damage there
+-- One of the entries asks a peer that does not exist. Reopening reports damage there.
 pub record AsksNobody (n : ℕ) (entries : List (List ℕ)) : Type 0 where
   pub front : List (List ℕ)
   pub peer : NodeId
@@ -61,14 +61,15 @@ pub record AsksNobody (n : ℕ) (entries : List (List ℕ)) : Type 0 where
   pub is : entries ≡ front ++ spell_event (AskFrom peer) ∷ behind
   pub none : n ≤ peer.0
 
--- its entries lead to this core, unless one asks a number that is no node
+-- The entries lead to this core, unless one of them asks a peer that does not exist.
 abbrev pub LeadsTo : {M Msg D : Type 0} → Module Msg → KeptState M Msg D → Core Msg → Type 0
 LeadsTo m v c = (core_of v.setup m v.me.0 v.entries ≡ Some c) ⊎ AsksNobody v.setup.n v.entries
 
--- What holds of each: it is of a cluster, its journal is sound, and it is stale, or its entries, which every crash leaves, lead to
--- the core that its node stands for.
+-- The invariant of a kept node. Its set-up is good, it is a member, and its journal is sound. Unless it is stale, every
+-- crash image holds its entries, and these lead to the core that it refines.
 pub record IsKept {M Msg D : Type 0} (m : Module Msg) (refines : Relation M Msg)
-    (history : D → List File) (room : D → Room) (directory : DirectoryView) (journal : Journal D) (v : KeptState M Msg D) : Type 0 where
+    (history : D → List File) (room : D → Room) (directory : DirectoryView) (journal : Journal D)
+    (v : KeptState M Msg D) : Type 0 where
   pub good : IsSetupOf m v.setup
   pub member : v.me.0 < v.setup.n
   pub keys : directory ≡ keys_of v.setup

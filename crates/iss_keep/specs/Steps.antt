@@ -19,10 +19,12 @@ use Rattle.iss_keep.specs.State.{KeptRefinesCore, KeptState, RefinesEntries}
 use Rattle.iss_keep.specs.declared.answers.Answer.{Answer}
 use Rattle.iss_keep.specs.declared.answers.Answer.TheVariants.{Dropped, Failed, NoMemory, Stale, Taken}
 
--- The event was taken: the node stands for the core after the step, and hands out what the step made. Where the event asks nobody but
--- nodes, all of it is sent to nodes, and entries that led to the core before the step lead to the core after it.
+-- The event was accepted. The node refines the core after the step and releases what the step made. If the event asks
+-- only existing peers, every send goes to an existing node. In that case entries that led to the core before the step
+-- also lead to the core after it.
 pub record IsTurn {M Msg D : Type 0} (m : Module Msg) (refines : Relation M Msg) (asked : Type 0)
-    (old : KeptState M Msg D) (c : Core Msg) (stepped : Stepped Msg) (new : KeptState M Msg D) (outcome : Outcome) : Type 0 where
+    (old : KeptState M Msg D) (c : Core Msg) (stepped : Stepped Msg) (new : KeptState M Msg D)
+    (outcome : Outcome) : Type 0 where
   pub turn : Turn Msg
   pub step_is : stepped ≡ Step_taken turn
   pub at : KeptRefinesCore m refines new turn.core
@@ -30,18 +32,19 @@ pub record IsTurn {M Msg D : Type 0} (m : Module Msg) (refines : Relation M Msg)
   pub made : IsMade turn outcome
   pub addressed : asked → AreToNodes new.setup.n outcome.sends
 
--- It was dropped: nothing has changed.
+-- The event was dropped, and nothing has changed.
 pub record IsDrop {M Msg D : Type 0} (m : Module Msg) (refines : Relation M Msg)
-    (old : KeptState M Msg D) (c : Core Msg) (stepped : Stepped Msg) (new : KeptState M Msg D) (why : Why) : Type 0 where
+    (old : KeptState M Msg D) (c : Core Msg) (stepped : Stepped Msg) (new : KeptState M Msg D)
+    (why : Why) : Type 0 where
   pub step_is : stepped ≡ Step_dropped why
   pub at : KeptRefinesCore m refines new c
   pub refined : RefinesEntries m refines old c → RefinesEntries m refines new c
 
--- a step that was taken
+-- The step was accepted.
 abbrev pub IsTaken : {Msg : Type 0} → Stepped Msg → Type 0
 IsTaken {Msg = Msg} stepped = (turn : Turn Msg) × (stepped ≡ Step_taken turn)
 
--- the answer to a step of the core that the node stands for; `asked` says that the event asks nobody but nodes
+-- The answer to the step of a core that the node refines. `asked` says that the event asks only existing peers.
 abbrev pub IsAnswer : {M Msg D : Type 0} → Module Msg → Relation M Msg → Type 0 → KeptState M Msg D → Core Msg →
     Stepped Msg → KeptState M Msg D → Answer → Type 0
 IsAnswer m refines asked old c stepped new (Taken outcome) = IsTurn m refines asked old c stepped new outcome
@@ -50,7 +53,7 @@ IsAnswer m refines asked old c stepped new Failed = IsTaken stepped
 IsAnswer m refines asked old c stepped new Stale = ⊥
 IsAnswer m refines asked old c stepped new NoMemory = Unit {0}
 
--- whether the node has to be reopened after an answer
+-- Whether the node has to be reopened after this answer.
 abbrev pub makes_stale : Answer → Bool
 makes_stale (Taken outcome) = false
 makes_stale (Dropped why) = false
@@ -58,9 +61,10 @@ makes_stale Failed = true
 makes_stale Stale = true
 makes_stale NoMemory = true
 
--- ---- what an answer leaves on the disk
+-- ---- the disk after an answer
 
--- what is seen of a disk: the states of its file, the calls to come, how often it failed, and its files, of which this is the current one
+-- What contracts see of a disk: the history of its current file, the results of coming calls, the number of faults, the
+-- current file's name, and the history of each file.
 pub record Sight : Type 0 where
   pub history : List File
   pub passes : Passes
@@ -68,11 +72,18 @@ pub record Sight : Type 0 where
   pub current : List ℕ
   pub files : List ℕ → List File
 
-abbrev pub sight : {D : Type 0} → (D → List File) → (D → Passes) → (D → ℕ) → (D → List ℕ) → (D → List ℕ → List File) → D → Sight
+abbrev pub sight : {D : Type 0} → (D → List File) → (D → Passes) → (D → ℕ) → (D → List ℕ) →
+    (D → List ℕ → List File) → D → Sight
 sight history passes faults current files disk =
-    record { history = history disk; passes = passes disk; faults = faults disk; current = current disk; files = files disk }
+    record {
+      history = history disk;
+      passes = passes disk;
+      faults = faults disk;
+      current = current disk;
+      files = files disk;
+    }
 
--- the entries of its journal after an answer to an event with this entry
+-- The journal's entries after this answer to an event with this entry.
 -- rule: Persistence: A dropped event changes nothing and is not kept
 abbrev pub entries_after : List (List ℕ) → List ℕ → Answer → List (List ℕ)
 entries_after entries entry (Taken outcome) = entries ++ entry ∷ []
@@ -81,19 +92,21 @@ entries_after entries entry Failed = entries
 entries_after entries entry Stale = entries
 entries_after entries entry NoMemory = entries
 
--- A crash at any moment of a call that wrote leaves the entries, with the new one or without. Once the event was taken every
--- crash leaves it; where the disk failed, what was synced holds the entries without it. All other answers leave the file alone.
+-- A crash at any moment of a write leaves the entries, with or without the new one. After `Taken`, every crash image
+-- holds the new entry. After `Failed`, the synced part of the file holds the entries without it. No other answer writes
+-- to the file.
 -- rule: Persistence: An event is kept before its outcome is handed out
 abbrev pub Writes : List (List ℕ) → List ℕ → List File → List File → Answer → Type 0
 Writes entries entry before now (Taken outcome) =
-    LeavesOnly (HoldsWithOrWithout entries entry) before now × IfTold now (OnlyLeaves (λ bytes. Reads bytes (holds (entries ++ entry ∷ []))))
+    LeavesOnly (HoldsWithOrWithout entries entry) before now
+    × IfTold now (OnlyLeaves (λ bytes. Reads bytes (holds (entries ++ entry ∷ []))))
 Writes entries entry before now Failed =
     LeavesOnly (HoldsWithOrWithout entries entry) before now × IfTold now (λ file. Reads file.kept (holds entries))
 Writes entries entry before now (Dropped why) = now ≡ before
 Writes entries entry before now Stale = now ≡ before
 Writes entries entry before now NoMemory = now ≡ before
 
--- An event that is kept is four calls of the device, and one that the disk failed to keep the first of them up to that which failed.
+-- An accepted event takes four calls of the device. If one of them fails, no further call is made.
 abbrev pub Calls : Passes → Passes → Answer → Type 0
 Calls before now (Taken outcome) = Runs 4 before now true
 Calls before now (Dropped why) = now ≡ before
@@ -101,9 +114,10 @@ Calls before now Failed = Runs 4 before now false
 Calls before now Stale = now ≡ before
 Calls before now NoMemory = now ≡ before
 
--- What an answer says of the journal, which has these entries later, and of its disk, for an event with this entry.
+-- The journal and its disk after an answer to an event with this entry. `later` is the journal's new entries.
 -- rule: Persistence: Room for the entry is reserved before the node steps
-pub record IsWritten (entries : List (List ℕ)) (entry : List ℕ) (before now : Sight) (later : List (List ℕ)) (answer : Answer) : Type 0 where
+pub record IsWritten (entries : List (List ℕ)) (entry : List ℕ) (before now : Sight) (later : List (List ℕ))
+    (answer : Answer) : Type 0 where
   pub added : later ≡ entries_after entries entry answer
   pub file : Writes entries entry before.history now.history answer
   pub device : Calls before.passes now.passes answer
@@ -112,34 +126,35 @@ pub record IsWritten (entries : List (List ℕ)) (entry : List ℕ) (before now 
 
 -- ---- reopening
 
--- The journal was attached: it has the entries that the file held, which is at rest, and which every crash leaves from then on.
+-- The journal was attached. It has the entries that the file held, the file's content is settled, and every crash image
+-- holds the entries from then on.
 pub record IsAttached (before now : Sight) (entries : List (List ℕ)) : Type 0 where
   pub read : IfTold before.history (λ file. Reads file.content (holds entries))
   pub rest : IfTold before.history (λ from. IfTold now.history (ComesToRest entries from.content))
   pub durable : IfTold now.history (OnlyLeaves (λ bytes. Reads bytes (holds entries)))
 
--- Whatever the answer was: a crash at any moment of the call lost no entry, and it failed only by a fault of the disk.
+-- Holds for every result: a crash at any moment of the call lost no entry, and the call failed only if the disk did.
 pub record LosesNone (before now : Sight) (failed : Type 0) : Type 0 where
   pub any_moment : LosesNothing before.history now.history
   pub cause : HasCause before.faults now.faults failed
   pub works : Works before.passes now.passes failed
   pub others : StaysHere before.current now.current before.files now.files
 
--- The file is damaged here, or its entries are all there, and the one behind this gate is none that a node takes.
+-- Either the file is damaged at this offset, or all entries are read and the node refuses the one after this gate.
 abbrev pub IsDamaged : {Msg : Type 0} → Setup → Module Msg → ℕ → List (List ℕ) → List File → ℕ → Type 0
 IsDamaged s m me entries before at =
     IfTold before (λ file. Reads file.content (damaged at))
     ⊎ (IfTold before (λ file. Reads file.content (holds entries)) × StopsAt s m me at entries)
 
--- ---- what stays
+-- ---- what does not change
 
--- the log and the epoch that it shows are as they were
+-- The node reports the same log and epoch as before.
 -- rule: Persistence: A stale node takes nothing and shows the log and epoch from before
 pub record ShowsAsBefore {M Msg D : Type 0} (old new : KeptState M Msg D) : Type 0 where
   pub log : new.node.state.log.entries ≡ old.node.state.log.entries
   pub epoch : new.node.state.epoch ≡ old.node.state.epoch
 
--- it is the same node
+-- Set-up and identity do not change.
 pub record IsSame {M Msg D : Type 0} (old new : KeptState M Msg D) : Type 0 where
   pub setup : new.setup ≡ old.setup
   pub me : new.me ≡ old.me

@@ -1,4 +1,4 @@
-// What a kept node answers.
+// The answers of a kept node.
 ghost use Rattle.std.specs.Prelude.{◌≡◌};
 ghost use Rattle.iss_keep.specs.Keeping.{released};
 ghost use Rattle.iss_keep.specs.Steps.{makes_stale};
@@ -7,22 +7,23 @@ use iss_disk::EndError;
 use iss_node::{Answer as NodeAnswer, Outcome};
 use iss_rules::Why;
 
-/// What a kept node answers to an event.
+/// A kept node's answer to an event.
 #[derive(Drop)]
 pub enum Answer {
-    /// The event is kept, and this is what it made.
+    /// The event was accepted and is in the journal. This is its outcome.
     Taken(Outcome),
-    /// Nothing has changed.
+    /// The event was dropped, for this reason. Nothing has changed.
     Dropped(Why),
-    /// The disk failed, and its count of faults rose. The event is kept or not; nothing of it is handed out.
+    /// The disk failed, and its fault count grew. The event may or may not be in the journal; its outcome is not
+    /// released.
     Failed,
     /// The node has to be reopened first.
     Stale,
-    /// There was no memory.
+    /// Out of memory. The node has to be reopened.
     NoMemory,
 }
 
-// Whether a node has to be reopened after what it made, where its entry was appended so.
+// Whether the node has to be reopened, given its answer and the result of the append.
 #[inline(always)]
 pub(crate) fn makes_stale(made: &NodeAnswer, kept: &Result<(), EndError>) -> bool
     ensures { result ≡ makes_stale (released made.now kept.now) }
@@ -34,7 +35,7 @@ pub(crate) fn makes_stale(made: &NodeAnswer, kept: &Result<(), EndError>) -> boo
     }
 }
 
-// What a node made is handed out where its entry is kept, and not else.
+// Releases the node's answer only if the append succeeded.
 #[inline(always)]
 pub(crate) fn release(made: NodeAnswer, kept: Result<(), EndError>) -> Answer
     ensures { result ≡ released made kept }

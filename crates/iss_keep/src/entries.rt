@@ -1,4 +1,4 @@
-//! The events of a node as entries of its journal. `specs/Entries.antt` has the table.
+//! A node's events as journal entries. The format is the table in `specs/Entries.antt`.
 ghost use Rattle.std.specs.Prelude.{◌≡◌, ◌↔◌, ◌∷◌, ℕ, List, Some, IfOk};
 ghost use Rattle.iss_rules.specs.declared.events.NodeEvent.{NodeEvent};
 ghost use Rattle.iss_keep.specs.Entries.{IsEntryOf, ask_in, event_in, node_in, propose_in, spell_event, timeout_in};
@@ -15,7 +15,7 @@ pub(crate) const TIMEOUT: u8 = 3;
 
 pub(crate) const ASK: u8 = 4;
 
-// The entry of this kind with these bytes behind it.
+// The entry with this kind byte and these bytes after it.
 fn entry_with(alloc: Global, kind: u8, bytes: &[u8]) -> Result<Vec<u8>, NoMemory>
     ensures { IfOk result (λ entry. entry.items ≡ kind ∷ bytes.now) }
 {
@@ -26,7 +26,7 @@ fn entry_with(alloc: Global, kind: u8, bytes: &[u8]) -> Result<Vec<u8>, NoMemory
     Ok(entry)
 }
 
-/// The entry of an event.
+/// Encodes an event as a journal entry. The only error is out of memory.
 pub fn encode_entry(alloc: Global, event: &NodeEvent) -> Result<Vec<u8>, NoMemory>
     ensures { IfOk result (λ entry. entry.items ≡ spell_event event.now) }
 {
@@ -38,7 +38,7 @@ pub fn encode_entry(alloc: Global, event: &NodeEvent) -> Result<Vec<u8>, NoMemor
     }
 }
 
-// What stands behind the first byte of a proposal: nothing.
+// The rest of a `Propose` entry, which is empty.
 fn read_propose(rest: &[u8]) -> Option<NodeEvent>
     ensures { result ≡ propose_in rest.now }
 {
@@ -48,7 +48,7 @@ fn read_propose(rest: &[u8]) -> Option<NodeEvent>
     }
 }
 
-// The one node that these bytes are, of so many.
+// Reads exactly one byte as the identity of one of `n` nodes.
 fn read_node(n: u32, rest: &[u8]) -> Option<NodeId>
     ensures { result ≡ node_in n rest.now }
 {
@@ -62,7 +62,7 @@ fn read_node(n: u32, rest: &[u8]) -> Option<NodeId>
     }
 }
 
-// What stands behind the first byte of a timeout: the leader.
+// The rest of a `Timeout` entry: the leader.
 fn read_timeout(n: u32, rest: &[u8]) -> Option<NodeEvent>
     ensures { result ≡ timeout_in (node_in n rest.now) }
 {
@@ -72,7 +72,7 @@ fn read_timeout(n: u32, rest: &[u8]) -> Option<NodeEvent>
     }
 }
 
-// What stands behind the first byte of an ask: who is asked.
+// The rest of an `AskFrom` entry: the peer.
 fn read_ask(n: u32, rest: &[u8]) -> Option<NodeEvent>
     ensures { result ≡ ask_in (node_in n rest.now) }
 {
@@ -88,7 +88,7 @@ fn read_packet(alloc: Global, rest: &[u8]) -> Result<NodeEvent, NoMemory>
     Ok(NodeEvent::Packet(Bytes::of(rest.to_vec(alloc)?)))
 }
 
-/// The event that an entry is, in a cluster of `n` nodes, if it is one.
+/// Decodes a journal entry in a cluster of `n` nodes. `None` if it is no event. The only error is out of memory.
 // rule: Persistence: An event has one entry, and an entry encodes at most one event
 pub fn decode_entry(alloc: Global, n: u32, entry: &[u8]) -> Result<Option<NodeEvent>, NoMemory>
     ensures { IfOk result (λ event. event ≡ event_in n entry.now) }
@@ -112,8 +112,8 @@ pub fn decode_entry(alloc: Global, n: u32, entry: &[u8]) -> Result<Option<NodeEv
     Ok(None)
 }
 
-/// In a cluster of any size an entry is at most one event, and an event has one entry: what is read of an entry is what
-/// the table relates to it.
+/// Decoding is exact, for any `n`. An entry decodes to an event if and only if the table relates the two. Hence each
+/// entry has at most one event, and each event has one entry.
 pub fn entries_are_exact()
     ensures { (n : ℕ) (entry : List ℕ) (event : NodeEvent) → (event_in n entry ≡ Some event) ↔ IsEntryOf n entry event }
 {}

@@ -1,4 +1,4 @@
-// One event of a node whose journal is attached: room for its entry, its step, and its entry.
+// One event of a node with an attached journal: reserve room for the entry, step the node, append the entry.
 ghost use Rattle.std.specs.Prelude.{◌≡◌, ◌≤◌, ◌++◌, ◌∷◌, [], false, true, length, is_ok, IfOk, IsErrOf, OnErr, OnOk};
 ghost use Rattle.iss_disk.specs.Calls.{HasCause, IfTold, Runs, StaysHere};
 ghost use Rattle.iss_journal.specs.Frames.{Reads, holds, max_entry};
@@ -22,7 +22,7 @@ use iss_rules::NodeEvent;
 use iss_sb::Sequenced;
 use std::alloc::Global;
 
-// The event once more. Of a packet whose copies share its bytes none are copied.
+// Copies an event. The bytes of a packet are shared, not copied, if they support that.
 #[inline(always)]
 fn copy_event(event: &NodeEvent) -> Result<NodeEvent, NoMemory>
     ensures { IfOk result (λ copy. copy ≡ event.now) }
@@ -35,7 +35,7 @@ fn copy_event(event: &NodeEvent) -> Result<NodeEvent, NoMemory>
     }
 }
 
-// How long the entry of an event is.
+// The length of an event's entry, in bytes.
 #[inline(always)]
 fn entry_len(event: &NodeEvent) -> u64
     ensures { result ≡ length (spell_event event.now) }
@@ -48,7 +48,7 @@ fn entry_len(event: &NodeEvent) -> u64
     }
 }
 
-// Appends the entry of an event, which is its kind and its bytes.
+// Appends the entry of an event: its kind byte and its content.
 #[inline(always)]
 fn append_event<D: Disk>(journal: &mut Journal<D>, event: &NodeEvent) -> Result<(), EndError>
     requires sound { IsSound D.history D.room journal.old }
@@ -59,14 +59,18 @@ fn append_event<D: Disk>(journal: &mut Journal<D>, event: &NodeEvent) -> Result<
     ensures attached { OnOk result (is_attached journal.new ≡ true) }
     ensures any_moment { LeavesOnly (HoldsWithOrWithout (entries_of journal.old) (spell_event event.now))
         (D.history (disk_of journal.old)) (D.history (disk_of journal.new)) }
-    ensures durable { OnOk result (IfTold (D.history (disk_of journal.new)) (OnlyLeaves (λ bytes. Reads bytes (holds (entries_of journal.new))))) }
-    ensures kept { IsErrOf result EndError.Failed → IfTold (D.history (disk_of journal.new)) (λ file. Reads file.kept (holds (entries_of journal.old))) }
+    ensures durable { OnOk result
+        (IfTold (D.history (disk_of journal.new))
+        (OnlyLeaves (λ bytes. Reads bytes (holds (entries_of journal.new))))) }
+    ensures kept { IsErrOf result EndError.Failed → IfTold (D.history (disk_of journal.new))
+        (λ file. Reads file.kept (holds (entries_of journal.old))) }
     ensures device { (IsErrOf result EndError.NoMemory → ⊥) →
         Runs 4 (D.passes (disk_of journal.old)) (D.passes (disk_of journal.new)) (is_ok result) }
     ensures no_memory { IsErrOf result EndError.NoMemory → NothingChanged D.history D.passes journal.old journal.new }
     ensures others { StaysHere (D.current (disk_of journal.old)) (D.current (disk_of journal.new))
         (D.files (disk_of journal.old)) (D.files (disk_of journal.new)) }
-    ensures cause { HasCause (D.faults (disk_of journal.old)) (D.faults (disk_of journal.new)) (IsErrOf result EndError.Failed) }
+    ensures cause { HasCause (D.faults (disk_of journal.old)) (D.faults (disk_of journal.new))
+        (IsErrOf result EndError.Failed) }
     ensures sound { IsSound D.history D.room journal.new }
 {
     match event {
@@ -77,7 +81,8 @@ fn append_event<D: Disk>(journal: &mut Journal<D>, event: &NodeEvent) -> Result<
     }
 }
 
-// Appends the entry of an event that was taken. Where that fails the node retreats to the log and the epoch from before.
+// Appends the entry of an accepted event. If that fails, the node retreats to its earlier log (of `slots` slots) and
+// `epoch`.
 // rule: Recovery: An event takes four disk calls, and is kept only if all four pass
 // rule: Persistence: An event is kept before its outcome is handed out
 #[inline(always)]
@@ -95,8 +100,10 @@ fn append_or_retreat<M: Sequenced, D: Disk>(
     requires epoch { epoch.0 ≤ node.old.state.epoch }
     ensures written { (outcome : Outcome) → IsWritten (entries_of journal.old) (spell_event event.now)
         (sight D.history D.passes D.faults D.current D.files (disk_of journal.old))
-        (sight D.history D.passes D.faults D.current D.files (disk_of journal.new)) (entries_of journal.new) (released (Node_taken outcome) result) }
-    ensures ended { (outcome : Outcome) → HasEnded outcome slots epoch.0 node.old node.new (released (Node_taken outcome) result) }
+        (sight D.history D.passes D.faults D.current D.files (disk_of journal.new)) (entries_of journal.new)
+        (released (Node_taken outcome) result) }
+    ensures ended { (outcome : Outcome) →
+        HasEnded outcome slots epoch.0 node.old node.new (released (Node_taken outcome) result) }
     ensures sound { IsSound D.history D.room journal.new }
     ensures attached { OnOk result (is_attached journal.new ≡ true) }
 {
@@ -113,7 +120,8 @@ fn append_or_retreat<M: Sequenced, D: Disk>(
     }
 }
 
-// Steps the node, and keeps the entry where the event was taken, of which this is a copy. What the node made of it stands in `made`.
+// Applies `event`. If the node accepted it, appends `copy` (the same event) to the journal. The node's answer is left
+// in `made`.
 // rule: Persistence: A dropped event changes nothing and is not kept
 #[inline(always)]
 fn apply_then_append<M: Sequenced, D: Disk>(
@@ -129,8 +137,10 @@ fn apply_then_append<M: Sequenced, D: Disk>(
     requires sound { IsSound D.history D.room journal.old }
     requires attached { is_attached journal.old ≡ true }
     requires copy { copy.now ≡ event }
-    ensures written { IsWritten (entries_of journal.old) (spell_event copy.now) (sight D.history D.passes D.faults D.current D.files (disk_of journal.old))
-        (sight D.history D.passes D.faults D.current D.files (disk_of journal.new)) (entries_of journal.new) (released made.new result) }
+    ensures written { IsWritten (entries_of journal.old) (spell_event copy.now)
+        (sight D.history D.passes D.faults D.current D.files (disk_of journal.old))
+        (sight D.history D.passes D.faults D.current D.files (disk_of journal.new)) (entries_of journal.new)
+        (released made.new result) }
     ensures stepped { HasStepped M.spec M.refines event node.old node.new (released made.new result) }
     ensures sound { IsSound D.history D.room journal.new }
     ensures attached { makes_stale (released made.new result) ≡ false → is_attached journal.new ≡ true }
@@ -145,8 +155,9 @@ fn apply_then_append<M: Sequenced, D: Disk>(
     }
 }
 
-/// Makes room for the entry of an event, steps the node, and keeps the entry where the event was taken. The node takes the event, so
-/// a copy of it is what is kept. What the node made of it stands in `made`: it is large, and moved once, where it is handed out.
+/// Reserves room for the entry, applies `event`, and appends the entry if the node accepted the event. Room comes
+/// first: an accepted event must not fail for memory. The node consumes the event, so the entry is made from a copy.
+/// The node's answer is large; it is left in `made`, to be moved only once.
 // rule: Persistence: Room for the entry is reserved before the node steps
 #[inline(always)]
 pub(crate) fn journal_and_apply<M: Sequenced, D: Disk>(
@@ -160,8 +171,10 @@ pub(crate) fn journal_and_apply<M: Sequenced, D: Disk>(
     requires refines { (c : Core M.Msg) × RefinesCore M.spec M.refines node.old c }
     requires sound { IsSound D.history D.room journal.old }
     requires attached { is_attached journal.old ≡ true }
-    ensures written { IsWritten (entries_of journal.old) (spell_event event) (sight D.history D.passes D.faults D.current D.files (disk_of journal.old))
-        (sight D.history D.passes D.faults D.current D.files (disk_of journal.new)) (entries_of journal.new) (released made.new result) }
+    ensures written { IsWritten (entries_of journal.old) (spell_event event)
+        (sight D.history D.passes D.faults D.current D.files (disk_of journal.old))
+        (sight D.history D.passes D.faults D.current D.files (disk_of journal.new)) (entries_of journal.new)
+        (released made.new result) }
     ensures stepped { HasStepped M.spec M.refines event node.old node.new (released made.new result) }
     ensures sound { IsSound D.history D.room journal.new }
     ensures attached { makes_stale (released made.new result) ≡ false → is_attached journal.new ≡ true }

@@ -1,4 +1,4 @@
-//! A kept node.
+//! A kept node: a replica with a journal of its events.
 ghost use Rattle.std.specs.Prelude.{◌≡◌, ◌<◌, ◌≤◌, ◌↔◌, ℕ, [], List, true, false, not, take, is_ok, length, IfOk, OnOk, OnErr, IsErrOf};
 ghost use Rattle.iss_disk.specs.Calls.{Restarts, Stays, script, up_to};
 ghost use Rattle.iss_keep.specs.Cores.{step_of};
@@ -23,8 +23,8 @@ use iss_sb::Sequenced;
 use std::alloc::Global;
 use std::marker::Model;
 
-/// A node whose every event that was taken stands in its journal before its outcome is handed out, so that whoever reopens
-/// the journal finds the node that it was.
+/// A replica whose journal holds every event that it accepted, before the event's outcome is released. Reopening the
+/// journal recovers the replica's state.
 #[derive(Drop)]
 pub struct Kept<M: Sequenced, D: Disk> {
     pub(crate) alloc: Global,
@@ -48,8 +48,8 @@ impl<M: Sequenced, D: Disk> Model for Kept<M, D> {
 }
 
 impl<M: Sequenced, D: Disk + Drop> Kept<M, D> {
-    /// A kept node over the current file of a disk, in a cluster with this directory. It is stale, and shows what a node shows that
-    /// has taken nothing.
+    /// A kept node over the current file of `disk`. It is stale: call `reopen` first. Until then it reports an empty
+    /// log and epoch 0. The only error is out of memory.
     pub fn over(
         alloc: Global,
         setup: &Setup,
@@ -80,15 +80,18 @@ impl<M: Sequenced, D: Disk + Drop> Kept<M, D> {
 }
 
 impl<M: Sequenced, D: Disk> Kept<M, D> {
-    /// Takes an event: makes room for its entry, steps the node, appends the entry where the event was taken, and hands out what it
-    /// made only then. An ask is never dropped, and one of a number that is no node leaves an entry that `reopen` finds damaged.
+    /// Takes an event: reserves room for its entry, steps the node, appends the entry if the event was accepted, and
+    /// only then releases the outcome. Answers `Stale` if and only if the node has to be reopened. An ask is never
+    /// dropped; if its peer does not exist, `reopen` will report its entry as damage.
     // rule: Persistence: A stale node takes nothing and shows the log and epoch from before
     pub fn take(&mut self, event: NodeEvent) -> Answer
         ensures answer { (c : Core M.Msg) → KeptRefinesCore M.spec M.refines self.old c → IsAnswer M.spec M.refines
-            (IsOfNodes self.old.setup.n event) self.old c (step_of self.old.setup M.spec self.old.me.0 c event) self.new result }
+            (IsOfNodes self.old.setup.n event) self.old c
+            (step_of self.old.setup M.spec self.old.me.0 c event) self.new result }
         ensures refused { (result ≡ Answer.Stale) ↔ (self.old.stale ≡ true) }
         ensures stale { self.new.stale ≡ makes_stale result }
-        ensures written { IsWritten self.old.entries (spell_event event) (sight D.history D.passes D.faults D.current D.files self.old.disk)
+        ensures written { IsWritten self.old.entries (spell_event event)
+            (sight D.history D.passes D.faults D.current D.files self.old.disk)
             (sight D.history D.passes D.faults D.current D.files self.new.disk) self.new.entries result }
         ensures shown { self.new.stale ≡ true → ShowsAsBefore self.old self.new }
         ensures same { IsSame self.old self.new }
@@ -108,8 +111,8 @@ impl<M: Sequenced, D: Disk> Kept<M, D> {
         release(made, kept)
     }
 
-    /// Makes the node anew from the entries of the journal. `Damaged` comes where the file is damaged, and where an entry is no event
-    /// or is one that the node before it would drop.
+    /// Recovers the node by replaying its journal. `Damaged` if the file is damaged, or if an entry is no event or is
+    /// one that the node would drop at that point. `Failed` only if the disk failed.
     pub fn reopen(&mut self) -> Result<(), AttachError>
         ensures stale { self.new.stale ≡ not (is_ok result) }
         ensures core { OnOk result ((c : Core M.Msg) × RefinesEntries M.spec M.refines self.new c) }
@@ -139,14 +142,16 @@ impl<M: Sequenced, D: Disk> Kept<M, D> {
         }
     }
 
-    /// Whether it has to be reopened: at first, and after `Failed`, `NoMemory`, a restart, a retreat or a refused `reopen`.
+    /// Whether the node has to be reopened. So it is at first, and after `Failed`, `NoMemory`, a restart, a retreat or
+    /// a failed `reopen`.
     pub fn stale(&self) -> bool
         ensures { result ≡ self.now.stale }
     {
         self.stale
     }
 
-    /// Gives up what came after the first slots: until it is reopened it shows these as its log, and the given epoch.
+    /// Truncates the log to its first `slots` slots and sets the epoch back. The node is stale, and reports this log
+    /// and epoch until it is reopened.
     pub fn retreat(&mut self, slots: usize, epoch: Epoch)
         requires slots { slots ≤ length self.old.node.state.log.entries }
         requires epoch { epoch.0 ≤ self.old.node.state.epoch }
@@ -162,7 +167,7 @@ impl<M: Sequenced, D: Disk> Kept<M, D> {
 }
 
 impl<M: Sequenced, D: Fused> Kept<M, D> {
-    /// From now on that many calls of the disk pass, and all others fail.
+    /// Lets the next `calls` calls of the disk succeed. All later ones fail.
     pub fn fuse(&mut self, calls: u64)
         ensures passes { D.passes self.new.disk ≡ up_to calls }
         ensures node { self.new.node ≡ self.old.node }
@@ -176,7 +181,8 @@ impl<M: Sequenced, D: Fused> Kept<M, D> {
         self.journal.fuse(calls);
     }
 
-    /// Leaves of the disk what was synced, and ends the fuse. The node has to be reopened.
+    /// Simulates a crash: the disk keeps only what was synced, and its calls succeed again. The node has to be
+    /// reopened.
     pub fn restart(&mut self)
         ensures files { (name : List ℕ) → Restarts (D.files self.old.disk name) (D.files self.new.disk name) }
         ensures current { D.current self.new.disk ≡ D.current self.old.disk }

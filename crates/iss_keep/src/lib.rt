@@ -1,4 +1,4 @@
-//! A kept node: a node whose every event that was taken stands in its journal before its outcome is handed out.
+//! A kept node: a replica that journals every accepted event before it releases the event's outcome.
 #![tactic(auto)]
 
 mod answers;

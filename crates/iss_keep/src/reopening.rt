@@ -1,4 +1,4 @@
-// A node made anew from the entries of its journal.
+// Recovery: a node is rebuilt by replaying the entries of its journal.
 ghost use Rattle.std.specs.Prelude.{◌≡◌, ◌<◌, ℕ, true, IfOk, IsErrOf, OnOk};
 ghost use Rattle.iss_journal.specs.Sound.{IsSound, disk_of, entries_of, is_attached};
 ghost use Rattle.iss_keep.specs.Cores.{StopsAt};
@@ -18,7 +18,7 @@ use iss_request::{NoMemory, NodeId, Setup};
 use iss_sb::Sequenced;
 use std::alloc::Global;
 
-/// A node that has taken nothing, with fresh keys.
+/// A node that took no event, with unused keys.
 pub(crate) fn start_fresh<M: Sequenced>(
     alloc: Global,
     setup: &Setup,
@@ -35,7 +35,7 @@ pub(crate) fn start_fresh<M: Sequenced>(
     Node::start(alloc, setup, directory, me, keys)
 }
 
-// Whether an entry is an event that the node takes. Where it is none, the node is of no more use.
+// Replays one entry. `false` if it does not decode or the node drops it; the node must not be used afterwards.
 fn replay_entry<M: Sequenced>(
     alloc: Global,
     n: u32,
@@ -58,7 +58,8 @@ fn replay_entry<M: Sequenced>(
     }
 }
 
-// The node that takes the entries in turn. `Damaged` names the gate of the first that is no event or would be dropped.
+// Replays all entries of the journal. `Damaged` has the gate offset of the first entry that does not decode or is
+// dropped.
 // rule: Persistence: A reopened node is that of its entries, with its next leaf
 // rule: Persistence: An entry that is no event of its node is damage, at the offset of its gate
 // rule: Persistence: No leaf is used by two entries, over all restarts
@@ -75,7 +76,8 @@ fn replay<M: Sequenced, D: Disk>(
     requires me { me.0 < setup.now.n }
     ensures refines { IfOk result (IsReplayed setup.now M.spec M.refines me.0 (entries_of journal.now)) }
     ensures same { IfOk result (IsOf setup.now me) }
-    ensures damaged { (at : ℕ) → IsErrOf result (AttachError.Damaged at) → StopsAt setup.now M.spec me.0 at (entries_of journal.now) }
+    ensures damaged { (at : ℕ) → IsErrOf result (AttachError.Damaged at) →
+        StopsAt setup.now M.spec me.0 at (entries_of journal.now) }
     ensures sound { IsErrOf result AttachError.Failed → ⊥ }
 {
     let Ok(mut node) = start_fresh::<M>(alloc, setup, directory, me) else {
@@ -95,7 +97,8 @@ fn replay<M: Sequenced, D: Disk>(
     Ok(node)
 }
 
-/// Attaches the journal, and makes a node anew from its entries.
+/// Attaches the journal and recovers the node from its entries. `Failed` if the disk failed, `Damaged` as `replay`
+/// says, or if the file itself is damaged.
 pub(crate) fn open<M: Sequenced, D: Disk>(
     alloc: Global,
     setup: &Setup,
@@ -109,13 +112,15 @@ pub(crate) fn open<M: Sequenced, D: Disk>(
     requires sound { IsSound D.history D.room journal.old }
     ensures refines { IfOk result (IsReplayed setup.now M.spec M.refines me.0 (entries_of journal.new)) }
     ensures same { IfOk result (IsOf setup.now me) }
-    ensures attached { OnOk result (IsAttached (sight D.history D.passes D.faults D.current D.files (disk_of journal.old))
+    ensures attached { OnOk result
+        (IsAttached (sight D.history D.passes D.faults D.current D.files (disk_of journal.old))
         (sight D.history D.passes D.faults D.current D.files (disk_of journal.new)) (entries_of journal.new)) }
     ensures is_attached { OnOk result (is_attached journal.new ≡ true) }
     ensures damaged { (at : ℕ) → IsErrOf result (AttachError.Damaged at) →
         IsDamaged setup.now M.spec me.0 (entries_of journal.new) (D.history (disk_of journal.old)) at }
     ensures loses { LosesNone (sight D.history D.passes D.faults D.current D.files (disk_of journal.old))
-        (sight D.history D.passes D.faults D.current D.files (disk_of journal.new)) (IsErrOf result AttachError.Failed) }
+        (sight D.history D.passes D.faults D.current D.files (disk_of journal.new))
+        (IsErrOf result AttachError.Failed) }
     ensures sound { IsSound D.history D.room journal.new }
 {
     match journal.attach() {

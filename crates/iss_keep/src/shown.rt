@@ -1,4 +1,4 @@
-//! What a kept node shows of its core, while it is not stale. Its log and its epoch it shows always.
+//! What a kept node reports of its core while it is not stale. Log and epoch are always available.
 ghost use Rattle.std.specs.Prelude.{◌≡◌, ℕ, IfOk, map, reverse};
 ghost use Rattle.iss_keep.specs.State.{KeptRefinesCore};
 ghost use Rattle.iss_rules.specs.Concrete.{rules_of};
@@ -17,8 +17,8 @@ use iss_request::{Batch, Epoch, NoMemory, NodeId, ReqId, Seq, Slot};
 use iss_sb::{Claim, Sequenced};
 
 impl<M: Sequenced, D: Disk> Kept<M, D> {
-    /// The log. While the node is stale it is the one from before the call that made it so; at first it is empty, and after a retreat
-    /// what that left.
+    /// The log. While the node is stale, this is the log from before the call that made it so. It is empty at first,
+    /// and truncated after a retreat.
     pub fn log(&self) -> &Log
         ensures shown { result.now ≡ self.now.node.state.log }
         ensures is { (c : Core M.Msg) → KeptRefinesCore M.spec M.refines self.now c →
@@ -27,7 +27,7 @@ impl<M: Sequenced, D: Disk> Kept<M, D> {
         self.node.log()
     }
 
-    /// The node's epoch, likewise.
+    /// The node's epoch. While the node is stale, the epoch from before the call that made it so.
     pub fn epoch(&self) -> Epoch
         ensures shown { result.0 ≡ self.now.node.state.epoch }
         ensures is { (c : Core M.Msg) → KeptRefinesCore M.spec M.refines self.now c → result.0 ≡ c.past.epoch }
@@ -35,22 +35,24 @@ impl<M: Sequenced, D: Disk> Kept<M, D> {
         self.node.epoch()
     }
 
-    /// What these bytes claim that nodes signed, where they are a message of the node's epoch, whose leader leads there.
+    /// The signatures that a packet claims, if it is a message of the node's current epoch for a leader of that epoch.
     pub fn claims_of(&self, bytes: &[u8]) -> Result<Seq<Claim>, NoMemory>
         ensures { IfOk result (λ claims. (c : Core M.Msg) → KeptRefinesCore M.spec M.refines self.now c →
-            claims ≡ claims_of_bytes (formats_of self.now.setup M.spec) (rules_of self.now.setup) M.spec self.now.me.0 c bytes.now) }
+            claims ≡ claims_of_bytes (formats_of self.now.setup M.spec)
+            (rules_of self.now.setup) M.spec self.now.me.0 c bytes.now) }
     {
         self.node.claims_of(self.alloc, bytes)
     }
 
-    /// The batches that the instances of the node's epoch accepted, in the order of time.
+    /// The batches that the instances of the current epoch accepted, oldest first.
     pub fn accepted(&self) -> &[Accepted]
-        ensures { (c : Core M.Msg) (l : ℕ) → KeptRefinesCore M.spec M.refines self.now c → reverse (accepted_of l result.now) ≡ accepted_by c l }
+        ensures { (c : Core M.Msg) (l : ℕ) → KeptRefinesCore M.spec M.refines self.now c →
+            reverse (accepted_of l result.now) ≡ accepted_by c l }
     {
         self.node.accepted()
     }
 
-    /// The identities of the requests that wait, in order of arrival, and the batches in flight.
+    /// The identities of waiting requests in order of arrival, and the batches in flight.
     pub fn unordered(&self) -> Result<(Seq<ReqId>, &[(Slot, Batch)]), NoMemory>
         ensures { IfOk result (λ both. (c : Core M.Msg) → KeptRefinesCore M.spec M.refines self.now c →
             (both.0 ≡ ids c.waiting) × (both.1.now ≡ c.flight)) }
@@ -58,7 +60,7 @@ impl<M: Sequenced, D: Disk> Kept<M, D> {
         self.node.unordered(self.alloc)
     }
 
-    /// Whether a proposal would find a slot to cast in.
+    /// Whether a proposal would find a free slot.
     pub fn castable(&self) -> bool
         ensures { (c : Core M.Msg) → KeptRefinesCore M.spec M.refines self.now c →
             result ≡ is_castable_now (rules_of self.now.setup) M.spec self.now.me.0 c }
@@ -66,7 +68,7 @@ impl<M: Sequenced, D: Disk> Kept<M, D> {
         self.node.castable()
     }
 
-    /// The leaders whose segment the node has not filled, ascending.
+    /// The leaders whose segments are not yet filled, ascending.
     pub fn unfilled(&self) -> Result<Seq<NodeId>, NoMemory>
         ensures { IfOk result (λ leaders. (c : Core M.Msg) → KeptRefinesCore M.spec M.refines self.now c →
             map (λ l. l.0) leaders ≡ unfilled (rules_of self.now.setup) M.spec self.now.setup.n self.now.me.0 c.past) }

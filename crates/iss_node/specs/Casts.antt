@@ -16,12 +16,14 @@ use Rattle.iss_sb.specs.declared.effects.Input.TheVariants.{Cast}
 use Rattle.iss_sb.specs.declared.effects.Params.{Params}
 use Rattle.iss_segment.specs.Instance.{SegmentState}
 
--- a slot is neither cast nor filled, and the module takes casts there
-abbrev pub is_open : {Msg : Type 0} → Module Msg → Params → ℕ → List (Item Msg) → LogState → List (Slot × Batch) → Slot → Bool
+-- The slot has no value, no proposal in flight, and the module accepts proposals for it.
+abbrev pub is_open : {Msg : Type 0} → Module Msg → Params → ℕ → List (Item Msg) → LogState →
+    List (Slot × Batch) → Slot → Bool
 is_open m p me xs log flight s = not (list_any (λ (x : Slot × Batch). x.0.0 == s.0) flight) &&
     (not (is_some (value_at log s.0)) && is_some (m.asks p me xs (Cast s [])))
 
--- a batch was cut for a slot, by the marks of the node's own instance: its requests wait no more and are in flight
+-- A batch was cut for a slot: its requests left the waiting list and are in flight. Requests that the node's own
+-- instance accepted before are not cut.
 pub record IsCut {M Msg : Type 0} (old new : StateView M Msg) (slot : Slot) (batch : Batch) : Type 0 where
   pub own : SegmentState M
   pub at : led old.segments old.me.0 ≡ Some own
@@ -30,8 +32,11 @@ pub record IsCut {M Msg : Type 0} (old new : StateView M Msg) (slot : Slot) (bat
   pub flies : new.flight ≡ record { casts = old.flight.casts ++ (slot, batch) ∷ []; ids = and_ids old.flight.ids batch }
   pub rest : new ≡ record old { waiting = new.waiting; flight = new.flight }
 
--- the turn of a cast at a slot
+-- The turn of a proposal for a slot.
 abbrev pub casting : {Msg : Type 0} → Formats Msg → Rules → Module Msg → ℕ → Core Msg → Slot → Turn Msg
 casting F R m me c s =
     let batch = cut R.batch (is_mine R m me c) c.waiting in
-    step_unjudged F R m me (record c { waiting = uncut R.batch (is_mine R m me c) c.waiting; flight = c.flight ++ (s, batch) ∷ [] }) me (Cast s batch)
+    step_unjudged F R m me (record c {
+      waiting = uncut R.batch (is_mine R m me c) c.waiting;
+      flight = c.flight ++ (s, batch) ∷ [];
+    }) me (Cast s batch)

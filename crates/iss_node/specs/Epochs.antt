@@ -16,31 +16,46 @@ use Rattle.iss_segment.specs.Instance.{RefinesItems, SegmentState}
 use Rattle.iss_window.specs.Kept.{RefinesNoted}
 use Rattle.iss_window.specs.Window.{Noted, and_closed, and_noted}
 
--- what was made later, behind what was made before
+-- The concatenation of two outcomes.
 abbrev pub appended : Outcome → Outcome → Outcome
-appended a b = record { sends = a.sends ++ b.sends; own = a.own ++ b.own; early = a.early ++ b.early; hashed = a.hashed ++ b.hashed }
+appended a b = record {
+  sends = a.sends ++ b.sends;
+  own = a.own ++ b.own;
+  early = a.early ++ b.early;
+  hashed = a.hashed ++ b.hashed;
+}
 
--- these identities were noted, one after the other
+-- These identities were noted, in order.
 abbrev pub notes : Noted → List ReqId → Noted
 notes n [] = n
 notes n (x ∷ xs) = notes (and_noted n x) xs
 
--- what the policy learns of the epoch: its division, and which of its slots became nil
+-- What the leader policy learns from the epoch: its layout, and which of its slots are nil.
 abbrev pub ended_of : {M Msg : Type 0} → StateView M Msg → Ended
-ended_of v = record { plan = v.plan; nils = filter (λ s. is_nil_at (reverse v.log.entries) s.0) (slots_from v.plan.start v.setup.epoch) }
+ended_of v = record {
+  plan = v.plan;
+  nils = filter (λ s. is_nil_at (reverse v.log.entries) s.0) (slots_from v.plan.start v.setup.epoch);
+}
 
--- the policy learned of the epoch, and the windows noted what joined the log in it and moved on
+-- The leader policy learned from the epoch. The windows noted the requests that were logged in it, and moved on.
 pub record HasClosed {M Msg : Type 0} (old new : StateView M Msg) : Type 0 where
-  pub standing : (past : List Ended) → IsStanding old.setup past old.standing → IsStanding old.setup (ended_of old ∷ past) new.standing
+  pub standing : (past : List Ended) → IsStanding old.setup past old.standing →
+      IsStanding old.setup (ended_of old ∷ past) new.standing
   pub windows : (n : Noted) → RefinesNoted old.windows n → RefinesNoted new.windows (and_closed (notes n old.logged))
   pub width : new.windows.width ≡ old.windows.width
 
--- what the instance of a leader is started with
+-- The parameters with which the instance of a leader is started.
 abbrev pub params_by : Setup → ℕ → Plan → ℕ → Params
 params_by s e plan l =
-    record { setup = s; epoch = record { 0 = e }; leader = record { 0 = l }; slots = segment plan l; directory = keys_of s }
+    record {
+      setup = s;
+      epoch = record { 0 = e };
+      leader = record { 0 = l };
+      slots = segment plan l;
+      directory = keys_of s;
+    }
 
--- fresh instances for the leaders alone
+-- Each leader has a fresh instance, and no other node has one.
 pub record AreStarted {M Msg : Type 0} (refines : Relation M Msg) (s : Setup) (me : NodeId) (e : ℕ) (plan : Plan)
     (segments : List (Option (SegmentState M))) : Type 0 where
   pub leading : (l : ℕ) → is_some (led segments l) ≡ leads plan l
@@ -48,8 +63,10 @@ pub record AreStarted {M Msg : Type 0} (refines : Relation M Msg) (s : Setup) (m
   pub node : (l : ℕ) (g : SegmentState M) → led segments l ≡ Some g → g.me ≡ me
   pub instances : (l : ℕ) (g : SegmentState M) → led segments l ≡ Some g → RefinesItems refines g []
 
--- an epoch has begun, by what the policy carries
-pub record HasOpened {M Msg : Type 0} (refines : Relation M Msg) (old new : StateView M Msg) (e start : ℕ) : Type 0 where
-  pub plan : (past : List Ended) → IsStanding old.setup past old.standing → new.plan ≡ plan_by old.setup e start (conduct_of past)
+-- An epoch was started, with the layout that the leader policy gives it.
+pub record HasOpened {M Msg : Type 0} (refines : Relation M Msg) (old new : StateView M Msg)
+    (e start : ℕ) : Type 0 where
+  pub plan : (past : List Ended) → IsStanding old.setup past old.standing →
+      new.plan ≡ plan_by old.setup e start (conduct_of past)
   pub started : AreStarted refines old.setup old.me e new.plan new.segments
   pub rest : new ≡ record old { epoch = e; plan = new.plan; segments = new.segments; accepted = []; logged = [] }

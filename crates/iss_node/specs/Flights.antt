@@ -7,17 +7,17 @@ use Rattle.iss_request.specs.declared.ids.Slot.{Slot}
 use Rattle.iss_request.specs.declared.requests.Batch.{Batch}
 
 pub record FlightState : Type 0 where
-  -- in the order of the casts
+  -- The proposals, oldest first.
   pub casts : List (Slot × Batch)
-  -- the identities in it, as a set
+  -- The identities of their requests, as a set.
   pub ids : List ReqId
 
--- what was cast in slots below n
+-- The proposals for slots below n.
 abbrev pub completed : ℕ → List (Slot × Batch) → List (Slot × Batch)
 completed n [] = []
 completed n (x ∷ xs) = cond (nat_lt x.0.0 n) (x ∷ completed n xs) (completed n xs)
 
--- what was cast below n is no more in flight
+-- Proposals for slots below n are no longer in flight.
 pub record IsCompleted (old new : FlightState) (n : ℕ) : Type 0 where
   pub casts : new.casts ≡ flying n old.casts
   pub ids : (x : ReqId) → has_id x new.ids ≡ (has_id x old.ids && not (has_id x (flown (completed n old.casts))))

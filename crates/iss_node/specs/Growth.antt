@@ -13,7 +13,7 @@ use Rattle.iss_request.specs.declared.requests.Request.{Request}
 use Rattle.iss_request.specs.declared.requests.Value.{Value}
 use Rattle.iss_request.specs.declared.requests.Value.TheVariants.{Nil, Batch as Value_batch}
 
--- empty slots took what was delivered for them, and the log is the longest run of filled slots again
+-- Empty slots took what was delivered for them, and the log was extended as far as slots are filled.
 pub record IsGrown (old : LogState) (ds : List (Slot × Value)) (new : LogState) (held : ℕ) : Type 0 where
   pub count : held ≡ length old.entries
   pub joined : List Value
@@ -21,7 +21,7 @@ pub record IsGrown (old : LogState) (ds : List (Slot × Value)) (new : LogState)
   pub values : (s : ℕ) → value_at new s ≡ first_of (value_at old s) (given ds s)
   pub hole : value_at new (length new.entries) ≡ None
 
--- the requests that wait once a value is in the log, and the identities of the log with it
+-- The waiting requests once a value is in the log, then the identities of the log with it.
 abbrev pub waits_on : List Request → Value → List Request
 waits_on qs Nil = qs
 waits_on qs (Value_batch b) = absent (ids b) qs
@@ -30,7 +30,8 @@ abbrev pub and_values : List ReqId → Value → List ReqId
 and_values xs Nil = xs
 and_values xs (Value_batch b) = and_ids xs b
 
--- the chain went on with values, and these strings were hashed for them behind others
-pub record AreJoined (old : ChainsState) (log values : List Value) (new : ChainsState) (before after : List (List ℕ)) : Type 0 where
+-- The chain was extended by these values, and the strings hashed for that were appended.
+pub record AreJoined (old : ChainsState) (log values : List Value) (new : ChainsState)
+    (before after : List (List ℕ)) : Type 0 where
   pub chained : IsChainOf new (log ++ values)
   pub strings : after ≡ before ++ strings_from old.version (chain_of old.version log) values

@@ -29,7 +29,7 @@ use Rattle.iss_segment.specs.declared.segment.StepRefusal.{StepRefusal}
 use Rattle.iss_segment.specs.declared.segment.StepRefusal.TheVariants.{Spent, Refused, NoMemory}
 use Rattle.iss_window.specs.Kept.{RefinesNoted}
 
--- the instance of leader l took an input, and nothing else has changed but the keys
+-- The instance of leader l took an input. Apart from it only the keys have changed.
 pub record IsInputTaken {M Msg : Type 0} (m : Module Msg) (refines : Relation M Msg)
     (old new : StateView M Msg) (l : ℕ) (input : Input Msg) (e : Effects Msg) : Type 0 where
   pub was : SegmentState M
@@ -40,19 +40,22 @@ pub record IsInputTaken {M Msg : Type 0} (m : Module Msg) (refines : Relation M 
   pub taken : IsInstanceTaken m refines was is input old.keys new.keys e
   pub rest : new ≡ record old { segments = new.segments; keys = new.keys }
 
--- what the judge says of it
-abbrev pub IsVerdictAt : {M Msg : Type 0} → Module Msg → Relation M Msg → StateView M Msg → ℕ → Input Msg → Option Refusal → Type 0
-IsVerdictAt {M = M} m refines v l input answer = (g : SegmentState M) → led v.segments l ≡ Some g → IsVerdict m refines v.plan v.windows g input answer
+-- The validity check of the batch that the input asks for.
+abbrev pub IsVerdictAt : {M Msg : Type 0} → Module Msg → Relation M Msg → StateView M Msg → ℕ → Input Msg →
+    Option Refusal → Type 0
+IsVerdictAt {M = M} m refines v l input answer = (g : SegmentState M) → led v.segments l ≡ Some g →
+    IsVerdict m refines v.plan v.windows g input answer
 
--- an input that is judged first
+-- An input whose batch is checked first.
 abbrev pub IsJudgedInput : {M Msg : Type 0} → Module Msg → Relation M Msg → StateView M Msg → StateView M Msg →
     ℕ → Input Msg → Result (Effects Msg) StepRefusal → Type 0
-IsJudgedInput m refines old new l input (Ok e) = IsInputTaken m refines old new l input e × IsVerdictAt m refines old l input None
+IsJudgedInput m refines old new l input (Ok e) = IsInputTaken m refines old new l input e
+    × IsVerdictAt m refines old l input None
 IsJudgedInput m refines old new l input (Err (Refused why)) = (new ≡ old) × IsVerdictAt m refines old l input (Some why)
 IsJudgedInput m refines old new l input (Err Spent) = Unit {0}
 IsJudgedInput m refines old new l input (Err NoMemory) = Unit {0}
 
--- these are the identities of the log: of earlier epochs, which the windows noted, and of this one
+-- These are the identities of the log: those that the windows noted in earlier epochs, and those of this epoch.
 pub record AreLogged {M Msg : Type 0} (v : StateView M Msg) (all : List ReqId) : Type 0 where
   pub before : List Value
   pub noted : RefinesNoted v.windows (noted_before before)
@@ -62,37 +65,52 @@ abbrev pub and_accepted : NodeId → List Accepted → Option (Slot × Batch) �
 and_accepted l xs None = xs
 and_accepted l xs (Some a) = xs ++ record { leader = l; slot = a.0; batch = a.1 } ∷ []
 
--- what was cast in slots of the log is in flight no more; where the slot became nil it waits again, unless the log holds it
+-- Proposals for slots of the log are no longer in flight. If the slot became nil, their requests wait again, unless
+-- they are in the log.
 pub record HasCompletedCasts {M Msg : Type 0} (old new : StateView M Msg) : Type 0 where
   pub landed : IsCompleted old.flight new.flight (length old.log.entries)
   pub waiting : (all : List ReqId) → AreLogged old all →
       AreNew old.waiting (absent all (returned (reverse old.log.entries) old.flight.casts)) →
       new.waiting ≡ old.waiting ++ absent all (returned (reverse old.log.entries) old.flight.casts)
 
--- the log grew by what was delivered, as far as it goes
-pub record HasAppliedDeliveries {M Msg : Type 0} (old new : StateView M Msg) (delivers : List (Slot × Value)) : Type 0 where
+-- The log was extended by what was delivered, as far as slots are filled.
+pub record HasAppliedDeliveries {M Msg : Type 0} (old new : StateView M Msg)
+    (delivers : List (Slot × Value)) : Type 0 where
   pub held : ℕ
   pub grown : IsGrown old.log delivers new.log held
   pub logged : new.logged ≡ fold and_values old.logged grown.joined
-  -- what joined waits no more
-  pub landed : HasCompletedCasts (record old { log = new.log; chains = new.chains; logged = new.logged; waiting = fold waits_on old.waiting grown.joined }) new
-  pub rest : new ≡ record old { log = new.log; chains = new.chains; logged = new.logged; flight = new.flight; waiting = new.waiting }
+  -- Ordered requests no longer wait.
+  pub landed : HasCompletedCasts
+      (record old {
+        log = new.log;
+        chains = new.chains;
+        logged = new.logged;
+        waiting = fold waits_on old.waiting grown.joined;
+      }) new
+  pub rest : new ≡ record old {
+    log = new.log;
+    chains = new.chains;
+    logged = new.logged;
+    flight = new.flight;
+    waiting = new.waiting;
+  }
 
--- the chain grew with the log, and the strings that were hashed for that stand behind others
+-- The chain was extended with the log, and the strings hashed for that were appended.
 pub record IsChained {M Msg : Type 0} (old new : StateView M Msg) (before after : List (List ℕ)) : Type 0 where
   pub joined : (more : List Value) → new.log.entries ≡ old.log.entries ++ more → IsChainOf old.chains old.log.entries →
       AreJoined old.chains old.log.entries more new.chains before after
   pub version : new.chains.version ≡ old.chains.version
 
--- what a step of leader l's instance made, as the node hands it out: packets, its own claims in them, and what was hashed
-pub record IsHandedOut {M Msg : Type 0} (m : Module Msg) (v : StateView M Msg) (l : ℕ) (sends : List (To × Msg)) (hashed : List (List ℕ))
+-- The outcome of a step of leader l's instance: its packets, the node's own signatures in them, and the hashed strings.
+pub record IsHandedOut {M Msg : Type 0} (m : Module Msg) (v : StateView M Msg) (l : ℕ) (sends : List (To × Msg))
+    (hashed : List (List ℕ))
     (o : Outcome) : Type 0 where
   pub sent : o.sends ≡ packed (formats_of v.setup m) v.me.0 v.epoch l sends
   pub own : (g : SegmentState M) → led v.segments l ≡ Some g → o.own ≡ own_claims m g.params v.me.0 sends
   pub early : o.early ≡ []
   pub hashed_is : o.hashed ≡ hashed
 
--- what a step of an instance made is the node's
+-- The effects of an instance's step were applied to the node.
 pub record HasAppliedEffects {M Msg : Type 0} (old new : StateView M Msg) (l : NodeId) (e : Effects Msg) : Type 0 where
   pub accepted : new.accepted ≡ and_accepted l old.accepted e.accepted
   pub grown : HasAppliedDeliveries (record old { accepted = new.accepted }) new e.delivers

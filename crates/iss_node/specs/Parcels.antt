@@ -23,7 +23,7 @@ abbrev pub seen : {Msg : Type 0} → Option (Parcel Msg) → Option (Carried Msg
 seen None = None
 seen (Some k) = Some (seen_some k)
 
--- what a body holds of what was read of it
+-- The content of a packet, once its body was decoded.
 abbrev pub body_of_vote : {Msg : Type 0} → Option Voted → Option (Body Msg)
 body_of_vote None = None
 body_of_vote (Some v) = Some (Vote v)
@@ -40,7 +40,7 @@ abbrev pub carried : {Msg : Type 0} → Packet → Option (Body Msg) → Option 
 carried p None = None
 carried p (Some body) = Some (record { from = record { 0 = p.from }; epoch = p.epoch; body = body })
 
--- all that nodes send comes from a node; a request from anybody
+-- Every packet but a request comes from an existing node.
 abbrev pub IsBodyFrom : {Msg : Type 0} → ℕ → ℕ → Body Msg → Type 0
 IsBodyFrom n from (Message leader msg) = from < n
 IsBodyFrom n from (Vote v) = from < n

@@ -13,13 +13,13 @@ use Rattle.iss_sb.specs.Evidence.{Module}
 use Rattle.iss_sb.specs.Calls.{Relation}
 use Rattle.iss_segment.specs.Instance.{SegmentState}
 
--- an instance of this set-up, at this node
+-- An instance of leader l at this node, with this set-up.
 pub record IsAt {M : Type 0} (s : Setup) (me : NodeId) (l : ℕ) (g : SegmentState M) : Type 0 where
   pub setup : g.params.setup ≡ s
   pub leader : g.params.leader.0 ≡ l
   pub node : g.me ≡ me
 
--- early messages come from nodes
+-- Early messages come from existing nodes.
 abbrev pub AreFrom : {Msg : Type 0} → ℕ → List (Early Msg) → Type 0
 AreFrom n [] = Unit {0}
 AreFrom n (x ∷ xs) = (x.from.0 < n) × AreFrom n xs
@@ -37,6 +37,6 @@ pub record IsNodeState {M Msg : Type 0} (m : Module Msg) (v : StateView M Msg) :
   pub version : v.chains.version ≡ v.setup.version
   pub voters : v.ballots.voters ≡ voters_of v.setup v.directory
 
--- a node stands for a core, or memory was wanting
+-- The invariant of a node: it refines a core, or it is stale.
 abbrev pub IsNode : {M Msg : Type 0} → Module Msg → Relation M Msg → NodeView M Msg → Type 0
 IsNode {Msg = Msg} m refines v = (v.stale ≡ true) ⊎ ((c : Core Msg) × RefinesCore m refines v c)

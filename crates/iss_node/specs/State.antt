@@ -33,37 +33,37 @@ use Rattle.iss_segment.specs.Ground.{RestsOn}
 use Rattle.iss_segment.specs.Instance.{RefinesItems, SameIds, SegmentState}
 use Rattle.iss_window.specs.Kept.{Kept}
 
--- the parts of a node in its epoch
+-- The state of a node in its epoch.
 pub record StateView (M Msg : Type 0) : Type 0 where
   pub setup : Setup
   pub me : NodeId
   pub directory : DirectoryView
   pub epoch : ℕ
-  -- what the epoch rests on: its division, the windows, and what earlier epochs say of each node
+  -- The basis of the epoch: its layout, the windows, and the leader policy's record of each node.
   pub plan : Plan
   pub windows : Kept
   pub standing : List Conduct
-  -- by node: the instance that it leads, if it leads
+  -- By node: its instance, if it leads the epoch.
   pub segments : List (Option (SegmentState M))
-  -- what they accepted, in the order of time
+  -- The batches that the instances accepted, oldest first.
   pub accepted : List Accepted
   pub log : LogState
-  -- what stands for each front of the log
+  -- The digest and the number of requests of each prefix of the log.
   pub chains : ChainsState
   pub waiting : List Request
   pub flight : FlightState
   pub early : List (Early Msg)
-  -- the identities of the log in the epoch
+  -- The identities that were logged in this epoch.
   pub logged : List ReqId
   pub ballots : BallotsState
   pub keys : KeyState
 
 pub record NodeView (M Msg : Type 0) : Type 0 where
   pub state : StateView M Msg
-  -- memory was wanting
+  -- The node ran out of memory, or has retreated.
   pub stale : Bool
 
--- the instance that a node leads
+-- The instance of a node, if it leads the epoch.
 abbrev pub led_in : {M : Type 0} → Option (Option (SegmentState M)) → Option (SegmentState M)
 led_in None = None
 led_in (Some o) = o
@@ -78,50 +78,59 @@ abbrev pub seen_early : {Msg : Type 0} → List (Early Msg) → List (Kept_early
 seen_early [] = []
 seen_early (x ∷ xs) = seen_one x ∷ seen_early xs
 
--- the batches that the instance of a leader accepted, in the order of time
+-- The batches that the instance of a leader accepted, oldest first.
 abbrev pub accepted_of : ℕ → List Accepted → List (Slot × Batch)
 accepted_of l [] = []
 accepted_of l (x ∷ xs) = cond (x.leader.0 == l) ((x.slot, x.batch) ∷ accepted_of l xs) (accepted_of l xs)
 
--- the core whose past this is, but for its votes and certificates, which no step of an instance looks at
+-- The core with this history, without votes and certificates: no step of an instance reads those.
 abbrev pub core_of : {M Msg : Type 0} → StateView M Msg → Past Msg → Core Msg
 core_of v past =
-    record { past = past; waiting = v.waiting; flight = v.flight.casts; early = seen_early v.early; votes = []; certs = []; leaf = v.keys.used }
+    record {
+      past = past;
+      waiting = v.waiting;
+      flight = v.flight.casts;
+      early = seen_early v.early;
+      votes = [];
+      certs = [];
+      leaf = v.keys.used;
+    }
 
--- the value that the instances of an epoch deliver in a slot
+-- The value that the instances of an epoch deliver for a slot.
 abbrev pub slot_value : {Msg : Type 0} → Rules → Module Msg → ℕ → List Value → Past Msg → ℕ → Option Value
 slot_value R M me before past s =
     let l = R.leader before past.epoch s in
     delivered M (R.params before past.epoch l) me (taken_in past l) s
 
--- the instance of a leader of the epoch stands for what the node took there
+-- The instance of a leader refines the inputs that the node took for it.
 pub record RefinesTaken {M Msg : Type 0} (refines : Relation M Msg) (p : Params) (me : NodeId) (taken : List (Item Msg))
     (g : SegmentState M) : Type 0 where
   pub params : g.params ≡ p
   pub node : g.me ≡ me
   pub instance : RefinesItems refines g taken
 
--- the parts stand for the past, over the log before its epoch
+-- The state refines this history. `before` is the log before the current epoch.
 pub record RefinesPastOver {M Msg : Type 0} (m : Module Msg) (refines : Relation M Msg)
     (v : StateView M Msg) (past : Past Msg) (before : List Value) : Type 0 where
   pub epoch : v.epoch ≡ past.epoch
   pub log : log_of (rules_of v.setup) m v.me.0 past ≡ reverse v.log.entries
   pub chained : IsChainOf v.chains v.log.entries
-  -- the epoch's ground
+  -- The basis of the epoch.
   pub rests : RestsOn v.setup before past.epoch v.plan v.windows
   pub standing : IsStanding v.setup (epochs v.setup past.epoch before) v.standing
-  -- its slots: the log holds what comes before them, and nothing is there behind them
+  -- The slots of the epoch: the log has all slots before them, and no slot after them has a value.
   pub start : v.plan.start ≡ past.epoch * v.setup.epoch
   pub begun : v.plan.start ≤ length v.log.entries
-  pub cells : (s : ℕ) → v.plan.start ≤ s → s < v.plan.start + v.setup.epoch → value_at v.log s ≡ slot_value (rules_of v.setup) m v.me.0 before past s
+  pub cells : (s : ℕ) → v.plan.start ≤ s → s < v.plan.start + v.setup.epoch →
+      value_at v.log s ≡ slot_value (rules_of v.setup) m v.me.0 before past s
   pub outside : (s : ℕ) → v.plan.start + v.setup.epoch ≤ s → value_at v.log s ≡ None
   pub hole : value_at v.log (length v.log.entries) ≡ None
-  -- its instances
+  -- The instances of the epoch.
   pub leading : (l : ℕ) → is_some (led v.segments l) ≡ leads v.plan l
   pub instances : (l : ℕ) (g : SegmentState M) → led v.segments l ≡ Some g →
       RefinesTaken refines ((rules_of v.setup).params before past.epoch l) v.me (taken_in past l) g
   pub accepted : (l : ℕ) → reverse (accepted_of l v.accepted) ≡ accepts (taken_in past l)
-  -- the requests that are known
+  -- The requests that the node knows.
   pub logged : SameIds v.logged (log_ids (joined v.plan.start (log_of (rules_of v.setup) m v.me.0 past)))
   pub flown : SameIds v.flight.ids (flown v.flight.casts)
   pub sound : IsSoundCore (rules_of v.setup) m v.me.0 (core_of v past)
@@ -130,24 +139,27 @@ pub record RefinesPastOver {M Msg : Type 0} (m : Module Msg) (refines : Relation
 abbrev pub RefinesPast : {M Msg : Type 0} → Module Msg → Relation M Msg → StateView M Msg → Past Msg → Type 0
 RefinesPast m refines v past = RefinesPastOver m refines v past (before_own (rules_of v.setup) m v.me.0 past)
 
--- the parts stand for a core. Of earlier epochs nothing is compared but the log
-pub record RefinesBareCore {M Msg : Type 0} (m : Module Msg) (refines : Relation M Msg) (v : StateView M Msg) (c : Core Msg) : Type 0 where
+-- The state refines a core without votes and certificates. Of earlier epochs only the log is compared.
+pub record RefinesBareCore {M Msg : Type 0} (m : Module Msg) (refines : Relation M Msg) (v : StateView M Msg)
+    (c : Core Msg) : Type 0 where
   pub core : c ≡ core_of v c.past
   pub tied : RefinesPast m refines v c.past
 
--- a core without its votes and certificates, and with others
+-- A core without its votes and certificates, then a core with others.
 abbrev pub bare : {Msg : Type 0} → Core Msg → Core Msg
 bare c = record c { votes = []; certs = [] }
 
 abbrev pub holding : {Msg : Type 0} → List Vote → List Cert → Core Msg → Core Msg
 holding votes certs c = record c { votes = votes; certs = certs }
 
--- the parts stand for a core, with its votes and certificates
-pub record StateRefinesCore {M Msg : Type 0} (m : Module Msg) (refines : Relation M Msg) (v : StateView M Msg) (c : Core Msg) : Type 0 where
+-- The state refines a core, with its votes and certificates.
+pub record StateRefinesCore {M Msg : Type 0} (m : Module Msg) (refines : Relation M Msg) (v : StateView M Msg)
+    (c : Core Msg) : Type 0 where
   pub state : RefinesBareCore m refines v (bare c)
   pub kept : AreKept v.ballots c.votes c.certs
 
--- the node stands for a core
-pub record RefinesCore {M Msg : Type 0} (m : Module Msg) (refines : Relation M Msg) (v : NodeView M Msg) (c : Core Msg) : Type 0 where
+-- The node is not stale, and its state refines the core.
+pub record RefinesCore {M Msg : Type 0} (m : Module Msg) (refines : Relation M Msg) (v : NodeView M Msg)
+    (c : Core Msg) : Type 0 where
   pub fresh : v.stale ≡ false
   pub held : StateRefinesCore m refines v.state c

@@ -27,70 +27,74 @@ use Rattle.iss_sb.specs.Evidence.{Module}
 use Rattle.iss_sb.specs.declared.effects.Input.{Input}
 use Rattle.iss_sb.specs.declared.effects.Input.TheVariants.{Cast, Receive, Timeout}
 
--- what a turn of the model made is handed out: what it sends, its own claims in that, the claims that it read of what had come
--- early, and the strings that it hashed
+-- The outcome of a turn: its sends, the node's own signatures in them, the signatures claimed by early messages, and
+-- the hashed strings.
 pub record IsMade {Msg : Type 0} (turn : Turn Msg) (outcome : Outcome) : Type 0 where
   pub sends : outcome.sends ≡ turn.sends
   pub own : outcome.own ≡ turn.own
   pub early : outcome.early ≡ turn.early
   pub hashed : outcome.hashed ≡ turn.strings
 
--- a turn of the model was made: the parts stand for its core, and what it made is handed out, all of it sent to nodes
+-- A turn was made: the state refines its core, its outcome is returned, and every send goes to an existing node.
 pub record IsTurned {M Msg : Type 0} (m : Module Msg) (refines : Relation M Msg)
     (turn : Turn Msg) (new : StateView M Msg) (outcome : Outcome) : Type 0 where
   pub refined : RefinesBareCore m refines new turn.core
   pub made : IsMade turn outcome
   pub addressed : AreToNodes new.setup.n outcome.sends
 
--- the model takes the event too, by this turn
+-- The model accepts the event too, with this turn.
 pub record IsStepTaken {M Msg : Type 0} (m : Module Msg) (refines : Relation M Msg)
     (stepped : Stepped Msg) (new : StateView M Msg) (outcome : Outcome) : Type 0 where
   pub turn : Turn Msg
   pub step_is : stepped ≡ Step_taken turn
   pub turned : IsTurned m refines turn new outcome
 
--- the model drops it too, and nothing has changed
+-- The model drops the event too, and nothing has changed.
 pub record IsStepDropped {M Msg : Type 0} (m : Module Msg) (refines : Relation M Msg) (c : Core Msg)
     (stepped : Stepped Msg) (new : StateView M Msg) (why : Why) : Type 0 where
   pub step_is : stepped ≡ Step_dropped why
   pub refined : RefinesBareCore m refines new c
 
--- the parts answer what the model's step says
-abbrev pub IsStep : {M Msg : Type 0} → Module Msg → Relation M Msg → Core Msg → Stepped Msg → StateView M Msg → StepResult → Type 0
+-- The result agrees with the model's step.
+abbrev pub IsStep : {M Msg : Type 0} → Module Msg → Relation M Msg → Core Msg → Stepped Msg → StateView M Msg →
+    StepResult → Type 0
 IsStep m refines c stepped new (Result_taken outcome) = IsStepTaken m refines stepped new outcome
 IsStep m refines c stepped new (Result_dropped why) = IsStepDropped m refines c stepped new why
 
--- whatever past the parts are tied to: the model's step, and the model's turn
+-- The result agrees with the model's step (or turn), for every history that the state refines.
 abbrev pub IsStepOf : {M Msg : Type 0} → Module Msg → Relation M Msg → StateView M Msg →
     (Formats Msg → Rules → ℕ → Core Msg → Stepped Msg) → StateView M Msg → StepResult → Type 0
 IsStepOf {Msg = Msg} m refines old step new answer = (past : Past Msg) → RefinesPast m refines old past →
-    IsStep m refines (core_of old past) (step (formats_of old.setup m) (rules_of old.setup) old.me.0 (core_of old past)) new answer
+    IsStep m refines (core_of old past)
+    (step (formats_of old.setup m) (rules_of old.setup) old.me.0 (core_of old past)) new answer
 
 abbrev pub IsTurnOf : {M Msg : Type 0} → Module Msg → Relation M Msg → StateView M Msg →
     (Formats Msg → Rules → ℕ → Core Msg → Turn Msg) → StateView M Msg → Outcome → Type 0
 IsTurnOf {Msg = Msg} m refines old turn new outcome = (past : Past Msg) → RefinesPast m refines old past →
     IsTurned m refines (turn (formats_of old.setup m) (rules_of old.setup) old.me.0 (core_of old past)) new outcome
 
--- a turn where a first one was made: what it sends goes behind what that one sent
+-- A turn after a first one: its outcome is appended to that of the first.
 abbrev pub IsTurnBehind : {M Msg : Type 0} → Module Msg → Relation M Msg → StateView M Msg →
     (Formats Msg → Rules → ℕ → Turn Msg → Turn Msg) → Outcome → StateView M Msg → Outcome → Type 0
 IsTurnBehind {Msg = Msg} m refines old turn first new outcome = (t : Turn Msg) → IsTurned m refines t old first →
     IsTurned m refines (turn (formats_of old.setup m) (rules_of old.setup) old.me.0 t) new outcome
 
--- what follows of a step that was made: the step that settles it
+-- A step was completed: the model completes it too.
 abbrev pub IsSettled : {M Msg : Type 0} → Module Msg → Relation M Msg → StateView M Msg → StateView M Msg →
     StepResult → StepResult → Type 0
-IsSettled {Msg = Msg} m refines old new step answer = (c : Core Msg) (stepped : Stepped Msg) → IsStep m refines c stepped old step →
+IsSettled {Msg = Msg} m refines old new step answer = (c : Core Msg) (stepped : Stepped Msg) →
+    IsStep m refines c stepped old step →
     IsStep m refines c (finish_step_in (frame_of old.setup m) old.me.0 stepped) new answer
 
--- the node voted on its epoch, and the next one begins
+-- The node voted on its epoch and started the next one.
 pub record IsEnded {M Msg : Type 0} (m : Module Msg) (refines : Relation M Msg) (old new : StateView M Msg)
     (outcome : Outcome) (early : List (Early Msg)) : Type 0 where
-  pub turned : (past : Past Msg) → RefinesPast m refines old past → is_complete (rules_of old.setup) m old.me.0 past ≡ true →
+  pub turned : (past : Past Msg) → RefinesPast m refines old past →
+      is_complete (rules_of old.setup) m old.me.0 past ≡ true →
       IsTurned m refines (ends_in (frame_of old.setup m) old.me.0 (core_of old past)) new outcome
   pub kept : early ≡ old.early
 
--- the epoch's end, whatever past the parts are tied to: it was closed, and the next one opened
+-- The epoch was closed, and the next one opened.
 pub record IsNextEpoch {M Msg : Type 0} (refines : Relation M Msg) (old new : StateView M Msg)
     (early : List (Early Msg)) : Type 0 where
   pub over : StateView M Msg
@@ -102,20 +106,20 @@ pub record IsNextEpoch {M Msg : Type 0} (refines : Relation M Msg) (old new : St
   pub new_is : new ≡ record begun { early = [] }
   pub kept : early ≡ old.early
 
--- it is the same node, and its log goes on
+-- Set-up and identity are the same, and the log was at most extended.
 pub record IsSameNode {M Msg : Type 0} (old new : StateView M Msg) : Type 0 where
   pub setup : new.setup ≡ old.setup
   pub me : new.me ≡ old.me
   pub log : GoesOn old.log.entries new.log.entries
 
--- and what it holds of votes is the same
+-- In addition the votes and certificates are the same.
 pub record IsLater {M Msg : Type 0} (old new : StateView M Msg) : Type 0 where
   pub setup : new.setup ≡ old.setup
   pub me : new.me ≡ old.me
   pub log : GoesOn old.log.entries new.log.entries
   pub ballots : new.ballots ≡ old.ballots
 
--- the sender of a message is a node
+-- The sender of a message exists.
 abbrev pub IsNodeInput : {Msg : Type 0} → ℕ → Input Msg → Type 0
 IsNodeInput n (Cast slot batch) = Unit {0}
 IsNodeInput n (Receive from msg) = from.0 < n
@@ -123,7 +127,8 @@ IsNodeInput n Timeout = Unit {0}
 
 -- ---- with votes and certificates
 
--- a turn of the model was made at a core with its votes and certificates; what it sends goes to nodes, where the event is of nodes
+-- A turn was made at a core with its votes and certificates. If the event names existing nodes, every send goes to an
+-- existing node.
 pub record IsHeldTurn {M Msg : Type 0} (m : Module Msg) (refines : Relation M Msg) (asked : Type 0)
     (turn : Turn Msg) (new : StateView M Msg) (outcome : Outcome) : Type 0 where
   pub refined : StateRefinesCore m refines new turn.core
@@ -146,23 +151,23 @@ abbrev pub IsHeldStep : {M Msg : Type 0} → Module Msg → Relation M Msg → T
 IsHeldStep m refines asked c stepped new (Result_taken outcome) = IsHeldTaken m refines asked stepped new outcome
 IsHeldStep m refines asked c stepped new (Result_dropped why) = IsHeldDropped m refines c stepped new why
 
--- whatever core the parts stand for: the model's step
+-- The result agrees with the model's step, for every core that the state refines.
 abbrev pub IsHeldStepOf : {M Msg : Type 0} → Module Msg → Relation M Msg → Type 0 → StateView M Msg →
     (Formats Msg → Rules → ℕ → Core Msg → Stepped Msg) → StateView M Msg → StepResult → Type 0
 IsHeldStepOf {Msg = Msg} m refines asked old step new answer = (c : Core Msg) → StateRefinesCore m refines old c →
     IsHeldStep m refines asked c (step (formats_of old.setup m) (rules_of old.setup) old.me.0 c) new answer
 
--- whom an event names is a node
+-- The peer that an event names exists.
 abbrev pub IsOfNodes : ℕ → NodeEvent → Type 0
 IsOfNodes n (On_packet bytes) = Unit {0}
 IsOfNodes n On_propose = Unit {0}
 IsOfNodes n (On_timeout l) = Unit {0}
 IsOfNodes n (On_ask peer) = peer.0 < n
 
--- ---- what the node answers
+-- ---- the node's answers
 
--- the event was taken: the node stands for the core after the step, and hands out what the step made, all of it sent to
--- nodes, where the event is of nodes
+-- The event was accepted: the node refines the core after the step, and returns its outcome. If the event names
+-- existing nodes, every send goes to an existing node.
 pub record IsTurn {M Msg : Type 0} (m : Module Msg) (refines : Relation M Msg) (asked : Type 0)
     (stepped : Stepped Msg) (new : NodeView M Msg) (outcome : Outcome) : Type 0 where
   pub turn : Turn Msg
@@ -171,26 +176,27 @@ pub record IsTurn {M Msg : Type 0} (m : Module Msg) (refines : Relation M Msg) (
   pub made : IsMade turn outcome
   pub addressed : asked → AreToNodes new.state.setup.n outcome.sends
 
--- the event was dropped: nothing has changed
+-- The event was dropped, and nothing has changed.
 pub record IsDrop {M Msg : Type 0} (m : Module Msg) (refines : Relation M Msg) (c : Core Msg)
     (stepped : Stepped Msg) (new : NodeView M Msg) (why : Why) : Type 0 where
   pub step_is : stepped ≡ Step_dropped why
   pub refined : RefinesCore m refines new c
 
--- the answer to a step of a core that the node stands for: such a node is not stale
-abbrev pub IsAnswer : {M Msg : Type 0} → Module Msg → Relation M Msg → Type 0 → Core Msg → Stepped Msg → NodeView M Msg → Answer → Type 0
+-- The answer to the step of a core that the node refines. Such a node is not stale.
+abbrev pub IsAnswer : {M Msg : Type 0} → Module Msg → Relation M Msg → Type 0 → Core Msg → Stepped Msg →
+    NodeView M Msg → Answer → Type 0
 IsAnswer m refines asked c stepped new (Taken outcome) = IsTurn m refines asked stepped new outcome
 IsAnswer m refines asked c stepped new (Dropped why) = IsDrop m refines c stepped new why
 IsAnswer m refines asked c stepped new NoMemory = Unit {0}
 IsAnswer m refines asked c stepped new Stale = ⊥
 
--- memory was wanting: the node is stale, and shows the log and the epoch that it had
+-- Memory ran out: the node is stale, and reports the log and the epoch that it had.
 pub record IsSpoiled {M Msg : Type 0} (old new : NodeView M Msg) : Type 0 where
   pub stale : new.stale ≡ true
   pub log : new.state.log.entries ≡ old.state.log.entries
   pub epoch : new.state.epoch ≡ old.state.epoch
 
--- what an answer says whatever the node stands for
+-- What an answer says about any node, stale or not.
 -- rule: Runs: A node or a world that ran out of memory says so from then on
 abbrev pub IsLeft : {M Msg : Type 0} → NodeView M Msg → NodeView M Msg → Answer → Type 0
 IsLeft old new (Taken outcome) = Unit {0}
@@ -198,7 +204,7 @@ IsLeft old new (Dropped why) = Unit {0}
 IsLeft old new NoMemory = IsSpoiled old new
 IsLeft old new Stale = (old.stale ≡ true) × (new ≡ old)
 
--- the node gave up what came after the first slots, and its epoch is this one; it takes nothing more
+-- The node truncated its log to its first slots, set its epoch back, and is stale.
 -- rule: Persistence: A node that retreats keeps the given prefix of its log and takes nothing more
 pub record HasRetreated {M Msg : Type 0} (old new : NodeView M Msg) (slots e : ℕ) : Type 0 where
   pub stale : new.stale ≡ true

@@ -22,32 +22,46 @@ use Rattle.iss_transfer.specs.declared.adopting.Adoption.TheVariants.{Adopt}
 use Rattle.iss_transfer.specs.declared.pieces.Piece.{Piece}
 use Rattle.iss_checkpoint.specs.Votes.{voters_of}
 
--- from which slot to which an epoch goes, if the log holds all of them, and their values
+-- The first slot of an epoch and the slot after its last, then its values, if the log has all of them.
 abbrev pub held_slots : {M Msg : Type 0} → StateView M Msg → ℕ → Option (ℕ × ℕ)
-held_slots v e = cond (nat_le (suc e * v.setup.epoch) (length v.log.entries)) (Some (e * v.setup.epoch, suc e * v.setup.epoch)) None
+held_slots v e = cond (nat_le (suc e * v.setup.epoch) (length v.log.entries))
+    (Some (e * v.setup.epoch, suc e * v.setup.epoch)) None
 
 abbrev pub held_values : {M Msg : Type 0} → StateView M Msg → ℕ → Option (List Value)
 held_values v e =
-    cond (nat_le (suc e * v.setup.epoch) (length v.log.entries)) (Some (drop (e * v.setup.epoch) (take (suc e * v.setup.epoch) v.log.entries))) None
+    cond (nat_le (suc e * v.setup.epoch) (length v.log.entries))
+    (Some (drop (e * v.setup.epoch) (take (suc e * v.setup.epoch) v.log.entries))) None
 
--- a piece goes to one node, with the own claims of its certificate
+-- The outcome that sends a piece to one node, with the node's own signatures in its certificate.
 pub record IsHandedPiece {M Msg : Type 0} (v : StateView M Msg) (to : NodeId) (p : Piece) (o : Outcome) : Type 0 where
-  pub sent : o.sends ≡
-      (One to, spell_packet v.setup.version (record { kind = Kind_piece; from = v.me.0; epoch = p.epoch; leader = 0; body = spell_piece v.setup.version p })) ∷ []
-  pub own : o.own ≡ only_by v.me.0 (claims_by (vote_statement v.setup.tag p.cert.epoch.0 p.cert.chain p.cert.requests) p.cert.signers)
+  pub sent : o.sends ≡ (
+    One to,
+    spell_packet v.setup.version
+        (record {
+          kind = Kind_piece;
+          from = v.me.0;
+          epoch = p.epoch;
+          leader = 0;
+          body = spell_piece v.setup.version p;
+        }),
+  ) ∷ []
+  pub own : o.own ≡ only_by v.me.0
+      (claims_by (vote_statement v.setup.tag p.cert.epoch.0 p.cert.chain p.cert.requests) p.cert.signers)
   pub early : o.early ≡ []
   pub hashed : o.hashed ≡ []
 
--- values with their slots, from the first on
+-- Values with their slots, which are consecutive from s on.
 abbrev pub at_slots : ℕ → List Value → List (Slot × Value)
 at_slots s [] = []
 at_slots s (v ∷ vs) = (record { 0 = s }, v) ∷ at_slots (suc s) vs
 
--- the node took over the values of its epoch, for which these strings were hashed, and what came early for the next one
+-- The node adopted the values of its epoch, for which these strings were hashed. Then it took the messages that arrived
+-- early for the next epoch.
 abbrev pub IsAdoptedBy : {M Msg : Type 0} → Module Msg → Relation M Msg → StateView M Msg → Piece → List (List ℕ) →
     StateView M Msg → Outcome → Type 0
 IsAdoptedBy {Msg = Msg} m refines old p hashed new outcome = (c : Core Msg) → StateRefinesCore m refines old c →
     adoption old.setup (voters_of old.setup old.directory) old.log.entries old.epoch p ≡ Adopt hashed →
     IsHeldTurn m refines (Unit {0})
-    (then_turn (adopts_piece (rules_of old.setup) m old.me.0 c p) (takes_each (formats_of old.setup m) (rules_of old.setup) m old.me.0 (suc c.past.epoch) c.early))
+    (then_turn (adopts_piece (rules_of old.setup) m old.me.0 c p)
+    (takes_each (formats_of old.setup m) (rules_of old.setup) m old.me.0 (suc c.past.epoch) c.early))
     new outcome

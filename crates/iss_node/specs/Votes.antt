@@ -12,17 +12,23 @@ use Rattle.iss_packet.specs.Packets.{spell_packet}
 use Rattle.iss_packet.specs.declared.packets.PacketKind.TheVariants.{Vote as Kind_vote}
 use Rattle.iss_sb.specs.declared.effects.To.TheVariants.{All}
 
--- the next leaf signed what stands for the log at the end of the epoch
+-- The next leaf signed the digest and the number of requests of the log at the end of the epoch.
 pub record IsVoted {M Msg : Type 0} (old new : StateView M Msg) (v : Vote) : Type 0 where
-  pub end : slice_get old.chains.ends (old.plan.start + old.setup.epoch) ≡ Some (record { chain = v.chain; requests = v.requests })
+  pub end : slice_get old.chains.ends (old.plan.start + old.setup.epoch) ≡ Some
+      (record { chain = v.chain; requests = v.requests })
   pub epoch : v.epoch.0 ≡ old.epoch
   pub by : v.by ≡ old.me
-  pub sig : v.sig ≡ signature_of old.keys.secret old.keys.height old.keys.used (vote_statement old.setup.tag old.epoch v.chain v.requests)
+  pub sig : v.sig ≡ signature_of old.keys.secret old.keys.height old.keys.used
+      (vote_statement old.setup.tag old.epoch v.chain v.requests)
   pub rest : new ≡ record old { keys = record old.keys { used = old.keys.used + 1 } }
 
--- it goes to all, with its claim
+-- The vote is sent to all, with the node's signature.
 pub record IsVoteHandedOut {M Msg : Type 0} (old : StateView M Msg) (v : Vote) (o : Outcome) : Type 0 where
-  pub sent : o.sends ≡ (All, spell_packet old.setup.version (record { kind = Kind_vote; from = v.by.0; epoch = v.epoch; leader = 0; body = spell_vote v })) ∷ []
+  pub sent : o.sends ≡ (
+    All,
+    spell_packet old.setup.version
+        (record { kind = Kind_vote; from = v.by.0; epoch = v.epoch; leader = 0; body = spell_vote v }),
+  ) ∷ []
   pub own : o.own ≡ claim_by old.setup.tag v ∷ []
   pub early : o.early ≡ []
   pub hashed : o.hashed ≡ []

@@ -1,26 +1,26 @@
-//! What a node answers.
+//! The answers of a node.
 use iss_request::{Batch, Bytes, NodeId, Seq, Slot};
 use iss_rules::Why;
 use iss_sb::{Claim, To};
 use std::alloc::Global;
 
-/// What an event made that was taken.
+/// What an accepted event produced.
 #[derive(Drop)]
 pub struct Outcome {
-    /// Packets, in the order in which they were made.
+    /// Packets to send, in the order in which they were made.
     pub sends: Seq<(To, Bytes)>,
-    /// The node's own claims in them.
+    /// The signatures in them that the node itself made.
     pub own: Seq<Claim>,
-    /// The claims of what had come early and was tried, also where it was refused then.
+    /// The signatures claimed by early messages that were now tried, also by those that were refused.
     pub early: Seq<Claim>,
-    /// The strings that were hashed, in the order in which they were.
+    /// The strings that were hashed, in order.
     pub hashed: Seq<Bytes>,
 }
 
 impl Outcome {
     ghost use Rattle.std.specs.Prelude.{◌≡◌, []};
 
-    /// Nothing was made.
+    /// An empty outcome.
     pub fn nothing(alloc: Global) -> Outcome
         ensures { result ≡ record { sends = []; own = []; early = []; hashed = [] } }
     {
@@ -33,8 +33,8 @@ impl Outcome {
     }
 }
 
-/// What a node answers to an event. `Stale` comes exactly where an earlier event was answered by want of memory, or after
-/// `retreat`.
+/// A node's answer to an event. `NoMemory` leaves the node stale. `Stale` if and only if the node ran out of memory in
+/// an earlier event, or has retreated.
 #[derive(Drop)]
 pub enum Answer {
     Taken(Outcome),
@@ -43,14 +43,14 @@ pub enum Answer {
     Stale,
 }
 
-/// Whether an event was taken, where there is memory.
+/// The result of a step, while memory suffices.
 #[derive(Drop)]
 pub enum StepResult {
     Taken(Outcome),
     Dropped(Why),
 }
 
-/// A batch that the instance of a leader accepted at a slot.
+/// A batch that a leader's instance accepted for a slot.
 #[derive(Drop)]
 pub struct Accepted {
     pub leader: NodeId,
@@ -58,7 +58,7 @@ pub struct Accepted {
     pub batch: Batch,
 }
 
-/// A module's message that came an epoch early.
+/// A module's message that arrived one epoch early.
 #[derive(Drop)]
 pub struct Early<T> {
     pub from: NodeId,

@@ -1,4 +1,4 @@
-//! How a node casts.
+//! How a node proposes batches (ISS: SB-cast).
 ghost use Rattle.std.specs.Prelude.{◌≡◌, ◌<◌, Some, List, IfOk};
 ghost use Rattle.iss_rules.specs.Concrete.{rules_of};
 ghost use Rattle.iss_model.specs.Node.{first_slot, next_slot, step};
@@ -21,9 +21,10 @@ use iss_segment::Segment;
 use std::alloc::Global;
 
 impl<M: Sequenced> NodeState<M> {
-    /// Casts a batch of waiting requests at the next slot that is free for it.
+    /// Proposes a batch of waiting requests for the first free slot of the node's own segment.
     pub(crate) fn propose(&mut self, alloc: Global) -> Result<StepResult, NoMemory>
-        ensures answer { IfOk result (λ a. IsStepOf M.spec M.refines self.old (λ F R me c. step F R M.spec me c NodeEvent.Propose) self.new a) }
+        ensures answer { IfOk result
+            (λ a. IsStepOf M.spec M.refines self.old (λ F R me c. step F R M.spec me c NodeEvent.Propose) self.new a) }
         ensures later { IsLater self.old self.new }
     {
         if !self.leads(self.me) {
@@ -39,7 +40,7 @@ impl<M: Sequenced> NodeState<M> {
         Ok(StepResult::Taken(self.advance_epochs(alloc, outcome)?))
     }
 
-    /// Whether a proposal would find a slot to cast in.
+    /// Whether a proposal would find a free slot.
     pub(crate) fn castable(&self) -> bool
         ensures { (past : Past M.Msg) → RefinesPast M.spec M.refines self.now past →
             result ≡ is_castable_now (rules_of self.now.setup) M.spec self.now.me.0 (core_of self.now past) }
@@ -47,10 +48,12 @@ impl<M: Sequenced> NodeState<M> {
         self.leads(self.me) && self.next_slot().is_some()
     }
 
-    // The first slot of the node's own segment that is neither cast nor filled and for which the module takes casts.
+    // The first slot of the node's own segment that has no value, no proposal in flight, and for which the module
+    // accepts proposals.
     // rule: Buckets: A leader proposes at its least slot that is neither proposed nor filled
     fn next_slot(&self) -> Option<Slot>
-        ensures { (past : Past M.Msg) (g : SegmentState M) → RefinesPast M.spec M.refines self.now past → led self.now.segments self.now.me.0 ≡ Some g →
+        ensures { (past : Past M.Msg) (g : SegmentState M) → RefinesPast M.spec M.refines self.now past →
+            led self.now.segments self.now.me.0 ≡ Some g →
             result ≡ next_slot (rules_of self.now.setup) M.spec self.now.me.0 (core_of self.now past) }
     {
         M::laws();
@@ -59,17 +62,19 @@ impl<M: Sequenced> NodeState<M> {
         first_castable(segment, &self.log, &self.flight, slots)
     }
 
-    // Casts at a slot, which no test refuses.
+    // Proposes for a slot; all checks have passed. The only error is out of memory.
     fn cast(&mut self, alloc: Global, slot: Slot) -> Result<Outcome, NoMemory>
         requires { self.old.me.0 < self.old.setup.n }
-        ensures taken { IfOk result (λ outcome. IsTurnOf M.spec M.refines self.old (λ F R me c. casting F R M.spec me c slot) self.new outcome) }
+        ensures taken { IfOk result
+            (λ outcome. IsTurnOf M.spec M.refines self.old
+            (λ F R me c. casting F R M.spec me c slot) self.new outcome) }
         ensures later { IsLater self.old self.new }
     {
         let batch = self.cut(alloc, slot)?;
         self.step_unjudged(alloc, self.me, Input::Cast { slot, batch })
     }
 
-    // Takes a batch of waiting requests, which are in flight then at the slot.
+    // Takes a batch out of the waiting requests and notes it as in flight for the slot.
     fn cut(&mut self, alloc: Global, slot: Slot) -> Result<Batch, NoMemory>
         ensures cut { IfOk result (λ batch. IsCut self.old self.new slot batch) }
         ensures later { IsLater self.old self.new }
@@ -87,7 +92,7 @@ impl<M: Sequenced> NodeState<M> {
     }
 }
 
-// The first slot of a segment that is neither cast nor filled and for which the module takes casts.
+// The first slot of a segment that has no value, no proposal in flight, and for which the module accepts proposals.
 fn first_castable<M: Sequenced>(
     segment: &Segment<M>,
     log: &Log,
@@ -105,7 +110,7 @@ fn first_castable<M: Sequenced>(
     None
 }
 
-// Whether a slot is neither cast nor filled and the module takes casts there.
+// Whether the slot has no value, no proposal in flight, and the module accepts proposals for it.
 fn is_open<M: Sequenced>(segment: &Segment<M>, log: &Log, flight: &Flight, slot: Slot) -> bool
     ensures { (xs : List (Item M.Msg)) → RefinesItems M.refines segment.now xs →
         result ≡ is_open M.spec segment.now.params segment.now.me.0 xs log.now flight.now.casts slot }

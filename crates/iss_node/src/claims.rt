@@ -1,4 +1,4 @@
-//! What messages claim that nodes have signed.
+//! The signatures that messages claim.
 ghost use Rattle.std.specs.Prelude.{◌≡◌, ◌<◌, ◌++◌, Some, true, IfOk, OnOk};
 ghost use Rattle.std.specs.List.{list_all};
 ghost use Rattle.iss_keys.specs.VerifiedBy.{is_verified_by};
@@ -22,7 +22,7 @@ use iss_sb::{Claim, Input, Params, Sequenced, To};
 use std::alloc::Global;
 
 impl<M: Sequenced> NodeState<M> {
-    /// What a message in the instance of a leader claims, where that leads the epoch.
+    /// The signatures that a message in `leader`'s instance claims. None if `leader` does not lead the epoch.
     pub(crate) fn claims_in(
         &self,
         alloc: Global,
@@ -41,7 +41,7 @@ impl<M: Sequenced> NodeState<M> {
         }
     }
 
-    /// Whether each claim of an input in the instance of a leader of the epoch is one of the node that it names.
+    /// Whether every signature claimed by an input for `leader`'s instance is valid.
     // rule: Acceptance: A message with a claim that does not verify under its signer's key is dropped
     pub(crate) fn is_credible(
         &self,
@@ -53,7 +53,8 @@ impl<M: Sequenced> NodeState<M> {
         ensures { IfOk result (λ b. (past : Past M.Msg) → RefinesPast M.spec M.refines self.now past →
             leads_in (rules_of self.now.setup) M.spec self.now.me.0 past leader.0 ≡ true →
             b ≡ all_verify (rules_of self.now.setup)
-            (claims_of_input M.spec (params_of (rules_of self.now.setup) M.spec self.now.me.0 past leader.0) input.now)) }
+            (claims_of_input M.spec (params_of (rules_of self.now.setup) M.spec self.now.me.0 past leader.0)
+            input.now)) }
     {
         match input {
             Input::Receive { from, msg } => {
@@ -64,7 +65,8 @@ impl<M: Sequenced> NodeState<M> {
         }
     }
 
-    /// What a step of the instance of a leader made, as the node hands it out.
+    /// The outcome of a step of `leader`'s instance: its messages as packets, the node's own signatures in them, and
+    /// the strings that were hashed.
     pub(crate) fn hand_out(
         &self,
         alloc: Global,
@@ -84,7 +86,7 @@ impl<M: Sequenced> NodeState<M> {
         })
     }
 
-    // The node's own claims in what the instance of a leader sends.
+    // The node's own signatures in the messages of `leader`'s instance.
     fn own_in(
         &self,
         alloc: Global,
@@ -102,7 +104,7 @@ impl<M: Sequenced> NodeState<M> {
     }
 }
 
-// A node's own claims in what it sends.
+// The node's own signatures in the messages that it sends.
 // rule: Evidence: An outcome lists the node's own claims in all that it sends
 fn own_claims<M: Sequenced>(
     alloc: Global,
@@ -122,7 +124,7 @@ fn own_claims<M: Sequenced>(
     Ok(own)
 }
 
-/// Puts those of a node at the end.
+/// Appends those claims that name `me`.
 pub fn put_own(own: &mut Seq<Claim>, me: NodeId, claims: Seq<Claim>) -> Result<(), NoMemory>
     ensures { OnOk result (own.new ≡ own.old ++ only_by me.0 claims) }
 {
@@ -134,14 +136,15 @@ pub fn put_own(own: &mut Seq<Claim>, me: NodeId, claims: Seq<Claim>) -> Result<(
     Ok(())
 }
 
-// Whether each of these claims is one of the node that it names.
+// Whether every claimed signature is valid.
 fn all_verify(directory: &Directory, claims: &[Claim]) -> bool
-    ensures { result ≡ list_all (λ (c : SaidToSign). is_verified_by directory.now.nodes c.by.0 c.statement c.sig) claims.now }
+    ensures { result ≡ list_all
+        (λ (c : SaidToSign). is_verified_by directory.now.nodes c.by.0 c.statement c.sig) claims.now }
 {
     claims.iter().all(|claim| verifies(directory, claim))
 }
 
-// Whether a claim is one of the node that it names.
+// Whether the claimed signature is valid.
 fn verifies(directory: &Directory, claim: &Claim) -> bool
     ensures { result ≡ is_verified_by directory.now.nodes claim.now.by.0 claim.now.statement claim.now.sig }
 {

@@ -1,4 +1,4 @@
-//! How a node's epoch ends, and the next one begins.
+//! The end of a node's epoch, and the start of the next one.
 ghost use Rattle.std.specs.Prelude.{◌≡◌, ◌<◌, ◌+◌, ◌^◌, ◌++◌, IfOk, OnOk, reverse};
 ghost use Rattle.std.specs.List.{filter};
 ghost use Rattle.iss_layout.specs.Layout.{slots_from};
@@ -23,7 +23,8 @@ use std::alloc::Global;
 use std::mem;
 
 impl<M: Sequenced> NodeState<M> {
-    /// Where a step fills the epoch, the next one begins with what came early for it.
+    /// Completes a step: if it filled the epoch, the node votes and starts the next epoch, with the messages that
+    /// arrived early for it.
     pub(crate) fn finish_step(
         &mut self,
         alloc: Global,
@@ -40,13 +41,15 @@ impl<M: Sequenced> NodeState<M> {
         }
     }
 
-    /// The same of a turn that was made: the node votes on the epoch that it filled.
+    /// The same after a step that was accepted. Its outcome comes first.
     pub(crate) fn advance_epochs(
         &mut self,
         alloc: Global,
         outcome: Outcome,
     ) -> Result<Outcome, NoMemory>
-        ensures turn { IfOk result (λ o. IsTurnBehind M.spec M.refines self.old (λ F R me t. advance_epochs F R M.spec me t) outcome self.new o) }
+        ensures turn { IfOk result
+            (λ o. IsTurnBehind M.spec M.refines self.old
+            (λ F R me t. advance_epochs F R M.spec me t) outcome self.new o) }
         ensures later { IsLater self.old self.new }
     {
         if !self.is_complete() {
@@ -58,9 +61,11 @@ impl<M: Sequenced> NodeState<M> {
         self.take_each(alloc, all, early)
     }
 
-    // Votes on the node's epoch, which is over, and begins the next one. Gives the messages that came early for it.
+    // Votes on the node's complete epoch (ISS: checkpoint) and starts the next one. Returns the vote's outcome and the
+    // messages that arrived early.
     fn end_epoch(&mut self, alloc: Global) -> Result<(Outcome, Vec<Early<M::Msg>>), NoMemory>
-        ensures ended { IfOk result (λ appended. IsEnded M.spec M.refines self.old self.new appended.0 appended.1.items) }
+        ensures ended { IfOk result
+            (λ appended. IsEnded M.spec M.refines self.old self.new appended.0 appended.1.items) }
         ensures from { IfOk result (λ appended. AreFrom self.new.setup.n appended.1.items) }
         ensures later { IsLater self.old self.new }
     {
@@ -71,7 +76,7 @@ impl<M: Sequenced> NodeState<M> {
         Ok((outcome, early))
     }
 
-    /// Takes early messages in turn, as long as the epoch lasts. What they make goes behind what was made before.
+    /// Takes early messages in order while the epoch lasts. Their outcomes are appended to `outcome`.
     // rule: Epochs: Early messages are taken once each, in order of arrival, while their epoch lasts
     pub(crate) fn take_each(
         &mut self,
@@ -81,7 +86,8 @@ impl<M: Sequenced> NodeState<M> {
     ) -> Result<Outcome, NoMemory>
         requires { AreFrom self.old.setup.n early.items }
         ensures turn { IfOk result (λ o. IsTurnBehind M.spec M.refines self.old
-            (λ F R me t. then_turn t (takes_each F R M.spec me self.old.epoch (seen_early early.items))) outcome self.new o) }
+            (λ F R me t. then_turn t (takes_each F R M.spec me self.old.epoch (seen_early early.items))) outcome
+            self.new o) }
         ensures later { IsLater self.old self.new }
     {
         let epoch = self.epoch;
@@ -95,11 +101,14 @@ impl<M: Sequenced> NodeState<M> {
         Ok(all)
     }
 
-    // Takes an early message, as if it came now. One that is refused is gone, but its claims were read.
+    // Takes an early message as if it arrived now. If it is refused it is lost, but its claimed signatures are
+    // reported.
     // rule: Evidence: The claims of an early message are read even where the message is then refused
     fn take_early(&mut self, alloc: Global, message: Early<M::Msg>) -> Result<Outcome, NoMemory>
         requires { message.from.0 < self.old.setup.n }
-        ensures turn { IfOk result (λ o. IsTurnOf M.spec M.refines self.old (λ F R me c. takes_early F R M.spec me c (seen_one message)) self.new o) }
+        ensures turn { IfOk result
+            (λ o. IsTurnOf M.spec M.refines self.old
+            (λ F R me c. takes_early F R M.spec me c (seen_one message)) self.new o) }
         ensures later { IsLater self.old self.new }
     {
         let claims = self.claims_in(alloc, message.leader, message.from, &message.msg)?;
@@ -111,11 +120,12 @@ impl<M: Sequenced> NodeState<M> {
         Ok(with_early(outcome, claims))
     }
 
-    // Takes a message of the epoch, if it is not refused.
+    // Takes a message of the current epoch. The outcome is empty if it is refused.
     fn try_now(&mut self, alloc: Global, message: Early<M::Msg>) -> Result<Outcome, NoMemory>
         requires { message.from.0 < self.old.setup.n }
         ensures turn { IfOk result (λ o. IsTurnOf M.spec M.refines self.old
-            (λ F R me c. or_unchanged c (try_step F R M.spec me c message.leader.0 (Input.Receive message.from message.msg))) self.new o) }
+            (λ F R me c. or_unchanged c
+            (try_step F R M.spec me c message.leader.0 (Input.Receive message.from message.msg))) self.new o) }
         ensures later { IsLater self.old self.new }
     {
         let Early { from, leader, msg } = message;
@@ -125,8 +135,8 @@ impl<M: Sequenced> NodeState<M> {
         }
     }
 
-    /// The epoch is over, and the next one begins with fresh instances. Gives the messages that came early for it. Want
-    /// of memory comes also where slots would pass 2^64 - 1.
+    /// Ends the epoch and starts the next one with fresh instances. Returns the messages that arrived early for it.
+    /// `NoMemory` also if slots would exceed 2^64 - 1.
     // rule: Epochs: An epoch ends when the log holds all of it, and the next begins with fresh instances
     pub(crate) fn next_epoch(&mut self, alloc: Global) -> Result<Vec<Early<M::Msg>>, NoMemory>
         ensures next { IfOk result (λ early. IsNextEpoch M.refines self.old self.new early.items) }
@@ -145,7 +155,7 @@ impl<M: Sequenced> NodeState<M> {
         Ok(mem::replace(&mut self.early, Vec::new(alloc)))
     }
 
-    // The policy learns which slots of the epoch became nil, and the windows move on.
+    // Tells the leader policy which slots of the epoch are nil, and moves the clients' windows on.
     // rule: Epochs: The policy reads the nil slots of an epoch before the next one is divided
     // rule: Epochs: Windows move at the end of an epoch
     fn close(&mut self, alloc: Global) -> Result<(), NoMemory>
@@ -160,7 +170,7 @@ impl<M: Sequenced> NodeState<M> {
         Ok(())
     }
 
-    // An epoch begins, with fresh instances.
+    // Starts an epoch with fresh instances.
     fn open(&mut self, alloc: Global, epoch: Epoch, start: u64) -> Result<(), NoMemory>
         requires { start + self.old.setup.epoch < 2 ^ 64 }
         ensures opened { OnOk result (HasOpened M.refines self.old self.new epoch.0 start) }
@@ -184,10 +194,11 @@ impl<M: Sequenced> NodeState<M> {
     }
 }
 
-// The slots among so many from the first on that hold nil, ascending.
+// The nil slots among `count` slots from `first` on, ascending.
 fn nil_slots(alloc: Global, log: &Log, first: u64, count: u64) -> Result<Seq<Slot>, NoMemory>
     requires { first + count < 2 ^ 64 }
-    ensures { IfOk result (λ nils. nils ≡ filter (λ s. is_nil_at (reverse log.now.entries) s.0) (slots_from first count)) }
+    ensures { IfOk result (λ nils. nils ≡ filter (λ s. is_nil_at (reverse log.now.entries) s.0)
+        (slots_from first count)) }
 {
     let mut nils = Seq::new(alloc);
     for k in 0..count {
@@ -200,7 +211,8 @@ fn nil_slots(alloc: Global, log: &Log, first: u64, count: u64) -> Result<Seq<Slo
 }
 
 fn note_all(windows: &mut Windows, ids: &[ReqId]) -> Result<(), NoMemory>
-    ensures noted { OnOk result ((n : Noted) → RefinesNoted windows.old n → RefinesNoted windows.new (notes n ids.now)) }
+    ensures noted { OnOk result ((n : Noted) → RefinesNoted windows.old n →
+        RefinesNoted windows.new (notes n ids.now)) }
     ensures width { windows.new.width ≡ windows.old.width }
 {
     for id in ids {
@@ -209,7 +221,7 @@ fn note_all(windows: &mut Windows, ids: &[ReqId]) -> Result<(), NoMemory>
     Ok(())
 }
 
-// A turn's outcome with these claims of what had come early.
+// The outcome with these claims of early messages.
 fn with_early(outcome: Outcome, claims: Seq<Claim>) -> Outcome
     ensures { result ≡ record outcome { early = claims } }
 {
@@ -227,7 +239,7 @@ fn with_early(outcome: Outcome, claims: Seq<Claim>) -> Outcome
     }
 }
 
-// Puts what was made later behind what was made before.
+// Appends a later outcome.
 fn append_outcome(all: &mut Outcome, more: Outcome) -> Result<(), NoMemory>
     ensures { OnOk result (all.new ≡ appended all.old more) }
 {

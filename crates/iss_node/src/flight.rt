@@ -1,4 +1,4 @@
-//! The batches that a node cast, until their slots are in the log.
+//! The node's own proposals in flight: their slots are not yet in the log.
 ghost use Rattle.std.specs.Prelude.{◌≡◌, ◌<◌, ◌++◌, ◌∷◌, ◌&&◌, ◌==◌, [], not, OnOk, IfOk};
 ghost use Rattle.std.specs.List.{list_any};
 ghost use Rattle.iss_window.specs.Ids.{and_ids};
@@ -12,7 +12,7 @@ use iss_window::Ids;
 use std::alloc::Global;
 use std::marker::Model;
 
-/// What was cast in slots that are not in the log, in the order of the casts, and the identities in it.
+/// The proposals in flight, oldest first, and the identities of their requests.
 #[derive(Drop)]
 pub struct Flight {
     casts: Vec<(Slot, Batch)>,
@@ -28,7 +28,7 @@ impl Model for Flight {
 }
 
 impl Flight {
-    /// Nothing was cast.
+    /// No proposals.
     pub fn new(alloc: Global) -> Flight
         ensures { result ≡ record { casts = []; ids = [] } }
     {
@@ -38,37 +38,40 @@ impl Flight {
         }
     }
 
-    /// What was cast, in the order of the casts.
+    /// The proposals in flight, oldest first.
     pub fn casts(&self) -> &[(Slot, Batch)]
         ensures { result.now ≡ self.now.casts }
     {
         self.casts.as_slice()
     }
 
-    /// Whether a request is in flight.
+    /// Whether the request is in flight.
     pub fn has(&self, id: ReqId) -> bool
         ensures { result ≡ has_id id self.now.ids }
     {
         self.ids.has(id)
     }
 
-    /// Whether a batch is in flight at a slot.
+    /// Whether a proposal is in flight for the slot.
     pub fn is_cast(&self, slot: Slot) -> bool
         ensures { result ≡ list_any (λ x. x.0.0 == slot.0) self.now.casts }
     {
         self.casts.as_slice().iter().any(|cast| cast.0.0 == slot.0)
     }
 
-    /// A batch was cast at a slot.
+    /// Notes a proposal. The only error is out of memory.
     pub fn push(&mut self, slot: Slot, batch: Batch) -> Result<(), NoMemory>
-        ensures { OnOk result (self.new ≡ record { casts = self.old.casts ++ (slot, batch) ∷ []; ids = and_ids self.old.ids batch }) }
+        ensures { OnOk result (self.new ≡ record {
+          casts = self.old.casts ++ (slot, batch) ∷ [];
+          ids = and_ids self.old.ids batch;
+        }) }
     {
         self.ids.add_all(batch.as_slice())?;
         self.casts.push((slot, batch))?;
         Ok(())
     }
 
-    /// What was cast in slots below this number, taken out.
+    /// Removes and returns the proposals for slots below `slots`, which are in the log now.
     pub fn take_completed(
         &mut self,
         alloc: Global,

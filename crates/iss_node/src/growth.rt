@@ -1,4 +1,4 @@
-//! How the log grows, and what its growth does to the requests that a node knows of.
+//! How deliveries extend the log, and their effect on the requests that a node knows.
 ghost use Rattle.std.specs.Prelude.{◌≡◌, List, OnOk, IfOk, fold, length, reverse};
 ghost use Rattle.iss_log.specs.LogState.{GoesOn};
 ghost use Rattle.iss_log.specs.Chains.{IsChainOf};
@@ -13,7 +13,8 @@ use iss_log::{Chains, Log};
 use iss_request::{Bytes, NoMemory, Seq, Slot, Value};
 use iss_window::Ids;
 
-/// Puts what was delivered into the log, and lets the log go on as far as it can. Gives how many slots it held before.
+/// Stores delivered values and extends the log as far as its slots are filled. Returns the log's earlier length. The
+/// only error is out of memory.
 pub fn extend_log(log: &mut Log, delivers: Vec<(Slot, Value)>) -> Result<usize, NoMemory>
     ensures grown { IfOk result (λ held. IsGrown log.old delivers.items log.new held) }
     ensures goes_on { GoesOn log.old.entries log.new.entries }
@@ -24,7 +25,7 @@ pub fn extend_log(log: &mut Log, delivers: Vec<(Slot, Value)>) -> Result<usize, 
     Ok(held)
 }
 
-// Puts delivered values into the log's slots. A slot that holds a value keeps it.
+// Stores delivered values in their slots. A slot that already has a value keeps it.
 fn fill_all(log: &mut Log, delivers: Vec<(Slot, Value)>) -> Result<(), NoMemory>
     ensures filled { OnOk result (AreFilled log.old delivers.items log.new) }
     ensures same { log.new.entries ≡ log.old.entries }
@@ -35,7 +36,7 @@ fn fill_all(log: &mut Log, delivers: Vec<(Slot, Value)>) -> Result<(), NoMemory>
     Ok(())
 }
 
-/// The chain goes on with values that joined the log. The strings that are hashed for them are put behind others.
+/// Extends the chain of log digests by new values. The strings hashed for that are appended to `hashed`.
 pub fn join_all(
     directory: &Directory,
     chains: &mut Chains,
@@ -52,7 +53,7 @@ pub fn join_all(
     Ok(())
 }
 
-/// The requests of values that joined the log wait no more, and their identities are noted.
+/// Removes ordered requests from the waiting list and notes their identities.
 pub fn retire_ordered(
     values: &[Value],
     waiting: &mut Pending,
@@ -80,7 +81,7 @@ fn retire_value(value: &Value, waiting: &mut Pending, logged: &mut Ids) -> Resul
     }
 }
 
-/// Whether a slot of the log holds nil.
+/// Whether the log has nil at this slot.
 pub fn is_nil(log: &Log, slot: Slot) -> bool
     ensures { result ≡ is_nil_at (reverse log.now.entries) slot.0 }
 {

@@ -1,4 +1,4 @@
-//! What a node's instances take.
+//! The inputs of a node's instances, and their effects on the node.
 ghost use Rattle.std.specs.Prelude.{◌≡◌, ◌<◌, ◌≤◌, IfOk, OnOk, drop, length};
 ghost use Rattle.iss_model.specs.Node.{step_unjudged, try_step};
 ghost use Rattle.iss_node.specs.Inputs.{HasAppliedDeliveries, HasAppliedEffects, IsChained, IsHandedOut, IsInputTaken, IsJudgedInput, and_accepted};
@@ -14,7 +14,8 @@ use iss_segment::StepRefusal;
 use std::alloc::Global;
 
 impl<M: Sequenced> NodeState<M> {
-    /// An input in the instance of a leader, where it leads, what it claims verifies, keys are left and the judge agrees.
+    /// Steps `leader`'s instance, unless (in this order) `leader` does not lead this epoch, a claimed signature is
+    /// invalid, too few one-time keys are left, or the batch is refused.
     // rule: Acceptance: An instance takes an input if it leads, its claims verify, leaves are left, no refusal
     pub(crate) fn try_step(
         &mut self,
@@ -23,7 +24,8 @@ impl<M: Sequenced> NodeState<M> {
         input: Input<M::Msg>,
     ) -> Result<StepResult, NoMemory>
         requires { IsNodeInput self.old.setup.n input }
-        ensures answer { IfOk result (λ a. IsStepOf M.spec M.refines self.old (λ F R me c. try_step F R M.spec me c leader.0 input) self.new a) }
+        ensures answer { IfOk result
+            (λ a. IsStepOf M.spec M.refines self.old (λ F R me c. try_step F R M.spec me c leader.0 input) self.new a) }
         ensures later { IsLater self.old self.new }
     {
         M::laws();
@@ -45,7 +47,7 @@ impl<M: Sequenced> NodeState<M> {
         }
     }
 
-    /// An input in the instance of a leader, which no test refuses.
+    /// Steps `leader`'s instance without these checks. The only error is out of memory.
     pub(crate) fn step_unjudged(
         &mut self,
         alloc: Global,
@@ -54,7 +56,9 @@ impl<M: Sequenced> NodeState<M> {
     ) -> Result<Outcome, NoMemory>
         requires leader { leader.0 < self.old.setup.n }
         requires input { IsNodeInput self.old.setup.n input }
-        ensures taken { IfOk result (λ outcome. IsTurnOf M.spec M.refines self.old (λ F R me c. step_unjudged F R M.spec me c leader.0 input) self.new outcome) }
+        ensures taken { IfOk result
+            (λ outcome. IsTurnOf M.spec M.refines self.old
+            (λ F R me c. step_unjudged F R M.spec me c leader.0 input) self.new outcome) }
         ensures later { IsLater self.old self.new }
     {
         M::laws();
@@ -63,7 +67,7 @@ impl<M: Sequenced> NodeState<M> {
         self.apply_effects(alloc, leader, effects)
     }
 
-    // The instance of a leader takes an input that the judge accepts.
+    // Steps `leader`'s instance if the batch that the input asks for is valid. Only the instance and the keys change.
     fn judged_step(
         &mut self,
         alloc: Global,
@@ -81,7 +85,7 @@ impl<M: Sequenced> NodeState<M> {
         segment.step(alloc, &self.layout, &self.windows, input, &mut self.keys)
     }
 
-    // The instance of a leader takes an input that needs no judge.
+    // Steps `leader`'s instance without checking the batch. Only the instance and the keys change.
     fn unjudged_step(
         &mut self,
         alloc: Global,
@@ -102,7 +106,7 @@ impl<M: Sequenced> NodeState<M> {
         Ok(effects)
     }
 
-    // What a step of an instance made is the node's.
+    // Applies the effects of an instance's step to the node, and makes its outcome.
     fn apply_effects(
         &mut self,
         alloc: Global,
@@ -126,9 +130,10 @@ impl<M: Sequenced> NodeState<M> {
         self.hand_out(alloc, leader, sends.as_slice(), strings)
     }
 
-    // Keeps a batch that an instance accepted.
+    // Notes a batch that an instance accepted.
     fn accept(&mut self, leader: NodeId, accepted: Option<(Slot, Batch)>) -> Result<(), NoMemory>
-        ensures accepted { OnOk result (self.new ≡ record self.old { accepted = and_accepted leader self.old.accepted accepted }) }
+        ensures accepted { OnOk result
+            (self.new ≡ record self.old { accepted = and_accepted leader self.old.accepted accepted }) }
         ensures later { IsLater self.old self.new }
     {
         if let Some((slot, batch)) = accepted {
@@ -141,8 +146,8 @@ impl<M: Sequenced> NodeState<M> {
         Ok(())
     }
 
-    /// The log grows by what was delivered: its requests wait no more, and what was cast in its slots is in flight no more. The
-    /// strings that are hashed for what joins it are put behind others.
+    /// Appends delivered values to the log. Ordered requests leave the waiting list. Own proposals at filled slots are
+    /// done; those that became nil are queued again. Hashed strings are appended to `hashed`.
     pub(crate) fn apply_deliveries(
         &mut self,
         alloc: Global,
@@ -162,7 +167,7 @@ impl<M: Sequenced> NodeState<M> {
     }
 }
 
-// The values from a place on.
+// The values from index `place` on.
 fn behind(values: &[Value], place: usize) -> &[Value]
     requires { place ≤ length values.now }
     ensures { result.now ≡ drop place values.now }

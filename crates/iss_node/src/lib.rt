@@ -1,4 +1,5 @@
-//! One node: its instances, its log, its requests and its epochs, and one step of it (ISS, the protocol of a node).
+//! One replica of ISS: its ordering instances, log, requests and epochs, and one step of it (ISS, the protocol of a
+//! node).
 #![tactic(auto)]
 
 pub mod answers;

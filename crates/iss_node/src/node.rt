@@ -1,4 +1,4 @@
-//! The node.
+//! A node: its state, and whether it is stale.
 ghost use Rattle.std.specs.Prelude.{◌≡◌, ◌<◌, ◌≤◌, ℕ, IfOk, is_some, length, map, not, option_map, reverse, slice_get};
 ghost use Rattle.std.specs.List.{list_any};
 ghost use Rattle.iss_ballots.specs.Ballots.{cert_in};
@@ -34,8 +34,8 @@ use iss_window::{Ids, Windows};
 use std::alloc::Global;
 use std::marker::Model;
 
-/// One node. Once memory was wanting it is stale: it shows the log and the epoch that it had, and takes nothing more. So does
-/// one that has retreated.
+/// One replica. It becomes stale when memory runs out, or after `retreat`: then it only reports a log and an epoch, and
+/// takes no further event.
 #[derive(Drop)]
 pub struct Node<M: Sequenced> {
     state: NodeState<M>,
@@ -54,7 +54,8 @@ impl<M: Sequenced> Model for Node<M> {
 }
 
 impl<M: Sequenced> Node<M> {
-    /// A node that has taken nothing, with its own keys, in a cluster with this directory.
+    /// A node that has taken no event, with its own keys, in a cluster with this directory. The only error is out of
+    /// memory.
     pub fn start(
         alloc: Global,
         setup: &Setup,
@@ -101,8 +102,8 @@ impl<M: Sequenced> Node<M> {
         })
     }
 
-    /// Takes an event. Where it is dropped nothing changes; after want of memory the node shows the log and the epoch
-    /// that it had, and is stale from then on.
+    /// Takes an event. A dropped event changes nothing. After `NoMemory` the node is stale, and reports the log and
+    /// epoch from before the event.
     // rule: Signatures: A node signs at most one statement with each leaf
     pub fn take(&mut self, alloc: Global, event: NodeEvent) -> Answer
         ensures answer { (c : Core M.Msg) → RefinesCore M.spec M.refines self.old c →
@@ -116,7 +117,7 @@ impl<M: Sequenced> Node<M> {
         }
         let held = self.state.log.entries().len();
         let epoch = self.state.epoch;
-        // a turn that wants memory midway leaves it so
+        // An event that runs out of memory midway leaves the node stale.
         self.stale = true;
         match self.state.turn(alloc, event) {
             Ok(StepResult::Taken(outcome)) => {
@@ -135,8 +136,8 @@ impl<M: Sequenced> Node<M> {
         }
     }
 
-    /// What these bytes claim that nodes signed: a vote, a piece's certificate, or a message of the node's epoch, whose leader
-    /// leads there.
+    /// The signatures claimed by a packet: a vote, a piece with its certificate, or a message of the current epoch for
+    /// a leader of that epoch.
     pub fn claims_of(&self, alloc: Global, bytes: &[u8]) -> Result<Seq<Claim>, NoMemory>
         ensures { IfOk result (λ claims. (c : Core M.Msg) → RefinesCore M.spec M.refines self.now c →
             claims ≡ claims_of_bytes_in (frame_of self.now.state.setup M.spec) self.now.state.me.0 c bytes.now) }
@@ -144,15 +145,16 @@ impl<M: Sequenced> Node<M> {
         self.state.claims_of_bytes(alloc, bytes)
     }
 
-    /// The certificate of an epoch, if the node keeps one.
+    /// The certificate of an epoch, if the node has it.
     pub fn cert_at(&self, epoch: Epoch) -> Option<&Cert>
         ensures shown { option_map (λ c. c.now) result ≡ cert_in (slice_get self.now.state.ballots.all epoch.0) }
-        ensures is { (c : Core M.Msg) → RefinesCore M.spec M.refines self.now c → option_map (λ c. c.now) result ≡ cert_on c.certs epoch.0 }
+        ensures is { (c : Core M.Msg) → RefinesCore M.spec M.refines self.now c →
+            option_map (λ c. c.now) result ≡ cert_on c.certs epoch.0 }
     {
         self.state.ballots.cert_at(epoch)
     }
 
-    /// Gives up what came after the first slots: the log is these, and the epoch the given one. The node is stale from then on.
+    /// Truncates the log to its first `slots` slots and sets the epoch back. The node is stale from then on.
     // rule: Persistence: A node that retreats keeps the given prefix of its log and takes nothing more
     pub fn retreat(&mut self, slots: usize, epoch: Epoch)
         requires slots { slots ≤ length self.old.state.log.entries }
@@ -164,7 +166,7 @@ impl<M: Sequenced> Node<M> {
         self.state.epoch = epoch;
     }
 
-    /// Whether memory was wanting, or the node has retreated.
+    /// Whether the node ran out of memory or has retreated.
     pub fn is_stale(&self) -> bool
         ensures { result ≡ self.now.stale }
     {
@@ -188,14 +190,15 @@ impl<M: Sequenced> Node<M> {
         self.state.epoch
     }
 
-    /// The batches that the instances of the node's epoch accepted, in the order of time.
+    /// The batches that the instances of the current epoch accepted, oldest first.
     pub fn accepted(&self) -> &[Accepted]
-        ensures { (c : Core M.Msg) (l : ℕ) → RefinesCore M.spec M.refines self.now c → reverse (accepted_of l result.now) ≡ accepted_by c l }
+        ensures { (c : Core M.Msg) (l : ℕ) → RefinesCore M.spec M.refines self.now c →
+            reverse (accepted_of l result.now) ≡ accepted_by c l }
     {
         self.state.accepted.as_slice()
     }
 
-    /// The identities of the requests that wait, in order of arrival, and the batches in flight.
+    /// The identities of waiting requests in order of arrival, and the batches in flight.
     pub fn unordered(&self, alloc: Global) -> Result<(Seq<ReqId>, &[(Slot, Batch)]), NoMemory>
         ensures { IfOk result (λ both. (c : Core M.Msg) → RefinesCore M.spec M.refines self.now c →
             (both.0 ≡ ids c.waiting) × (both.1.now ≡ c.flight)) }
@@ -204,7 +207,7 @@ impl<M: Sequenced> Node<M> {
         Ok((waiting, self.state.flight.casts()))
     }
 
-    /// Whether a proposal would find a slot to cast in.
+    /// Whether a proposal would find a free slot.
     pub fn castable(&self) -> bool
         ensures { (c : Core M.Msg) → RefinesCore M.spec M.refines self.now c →
             result ≡ is_castable_now (rules_of self.now.state.setup) M.spec self.now.state.me.0 c }
@@ -212,10 +215,11 @@ impl<M: Sequenced> Node<M> {
         self.state.castable()
     }
 
-    /// The leaders whose segment the node has not filled, ascending.
+    /// The leaders whose segments are not yet filled, ascending.
     pub fn unfilled(&self, alloc: Global) -> Result<Seq<NodeId>, NoMemory>
         ensures { IfOk result (λ leaders. (c : Core M.Msg) → RefinesCore M.spec M.refines self.now c →
-            map (λ l. l.0) leaders ≡ unfilled (rules_of self.now.state.setup) M.spec self.now.state.setup.n self.now.state.me.0 c.past) }
+            map (λ l. l.0) leaders ≡ unfilled
+            (rules_of self.now.state.setup) M.spec self.now.state.setup.n self.now.state.me.0 c.past) }
     {
         let mut leaders = Seq::new(alloc);
         for node in 0..self.state.setup.n {
@@ -228,7 +232,7 @@ impl<M: Sequenced> Node<M> {
 }
 
 impl<M: Sequenced> NodeState<M> {
-    // Takes an event.
+    // Takes an event. The only error is out of memory; the state may be half updated then.
     fn turn(&mut self, alloc: Global, event: NodeEvent) -> Result<StepResult, NoMemory>
         ensures answer { IfOk result (λ a. IsHeldStepOf M.spec M.refines (IsOfNodes self.old.setup.n event) self.old
             (λ F R me c. step F R M.spec me c event) self.new a) }
@@ -245,7 +249,7 @@ impl<M: Sequenced> NodeState<M> {
         }
     }
 
-    // Whether a leader of the epoch has slots that are not filled.
+    // Whether `leader` leads the epoch and has slots without a value.
     fn is_unfilled(&self, leader: NodeId) -> bool
         ensures { (past : Past M.Msg) → RefinesPast M.spec M.refines self.now past →
             result ≡ is_unfilled (rules_of self.now.setup) M.spec self.now.me.0 past leader.0 }
@@ -257,7 +261,7 @@ impl<M: Sequenced> NodeState<M> {
     }
 }
 
-// Whether one of these slots holds no value.
+// Whether one of these slots has no value.
 fn is_any_empty(log: &Log, slots: &[Slot]) -> bool
     ensures { result ≡ list_any (λ s. not (is_some (value_at log.now s.0))) slots.now }
 {

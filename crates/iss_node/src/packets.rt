@@ -1,4 +1,4 @@
-//! What comes to a node from others.
+//! The packets that a node receives.
 ghost use Rattle.std.specs.Prelude.{◌≡◌, ◌<◌, ◌==◌, suc, true, IfOk};
 ghost use Rattle.iss_checkpoint.specs.Bodies.{parse_vote};
 ghost use Rattle.iss_rules.specs.Concrete.{rules_of};
@@ -26,7 +26,7 @@ use std::alloc::Global;
 const EARLY_MOST: usize = 256;
 
 impl<M: Sequenced> NodeState<M> {
-    /// Takes bytes that came.
+    /// Takes received bytes.
     pub(crate) fn take_bytes(
         &mut self,
         alloc: Global,
@@ -42,7 +42,7 @@ impl<M: Sequenced> NodeState<M> {
         }
     }
 
-    /// What bytes claim that come to the node.
+    /// The signatures that received bytes claim.
     // rule: Evidence: The claims of a packet are all signatures of its vote, certificate or message
     pub(crate) fn claims_of_bytes(
         &self,
@@ -59,7 +59,7 @@ impl<M: Sequenced> NodeState<M> {
         }
     }
 
-    // What a packet claims. A message is read only where it is of the node's epoch.
+    // The signatures that a packet claims. A module's message is read only if it belongs to the current epoch.
     fn claims_of_packet(&self, alloc: Global, packet: &Packet) -> Result<Seq<Claim>, NoMemory>
         requires { is_routed self.now.setup.n packet.now ≡ true }
         ensures { IfOk result (λ claims. (c : Core M.Msg) → RefinesPast M.spec M.refines self.now c.past →
@@ -74,7 +74,7 @@ impl<M: Sequenced> NodeState<M> {
         }
     }
 
-    // What the packet of a module's message claims.
+    // The signatures claimed by the packet of a module's message.
     fn claims_of_message(&self, alloc: Global, packet: &Packet) -> Result<Seq<Claim>, NoMemory>
         requires { packet.now.from < self.now.setup.n }
         ensures { IfOk result (λ claims. (c : Core M.Msg) → RefinesPast M.spec M.refines self.now c.past →
@@ -94,7 +94,7 @@ impl<M: Sequenced> NodeState<M> {
         }
     }
 
-    // What the packet of a vote claims.
+    // The signature claimed by the packet of a vote.
     fn claims_of_vote(&self, alloc: Global, packet: &Packet) -> Result<Seq<Claim>, NoMemory>
         ensures { IfOk result (λ claims. (c : Core M.Msg) →
             claims ≡ claims_of_parcel (rules_of self.now.setup) M.spec self.now.me.0 c
@@ -107,7 +107,7 @@ impl<M: Sequenced> NodeState<M> {
         Ok(claims)
     }
 
-    // What the packet of a piece claims: the votes of its certificate.
+    // The signatures claimed by the packet of a piece: those of its certificate.
     fn claims_of_piece(&self, alloc: Global, packet: &Packet) -> Result<Seq<Claim>, NoMemory>
         ensures { IfOk result (λ claims. (c : Core M.Msg) →
             claims ≡ claims_of_parcel (rules_of self.now.setup) M.spec self.now.me.0 c
@@ -119,11 +119,12 @@ impl<M: Sequenced> NodeState<M> {
         }
     }
 
-    // Takes what a packet holds.
+    // Takes the content of a packet.
     fn take_parcel(&mut self, alloc: Global, parcel: Parcel<M::Msg>) -> Result<StepResult, NoMemory>
         requires { IsFromNode self.old.setup.n parcel }
         ensures answer { IfOk result (λ a. IsHeldStepOf M.spec M.refines (Unit {0}) self.old
-            (λ F R me c. takes_parcel F R M.spec me c parcel.from.0 parcel.epoch.0 (seen_body parcel.body)) self.new a) }
+            (λ F R me c. takes_parcel F R M.spec me c parcel.from.0 parcel.epoch.0 (seen_body parcel.body))
+            self.new a) }
         ensures same { IsSameNode self.old self.new }
     {
         let Parcel { from, epoch, body } = parcel;
@@ -138,7 +139,7 @@ impl<M: Sequenced> NodeState<M> {
         }
     }
 
-    // A module's message of the node's epoch is taken, one of the next is kept.
+    // Takes a module's message: at once if it belongs to the current epoch, later if to the next one.
     fn take_message(
         &mut self,
         alloc: Global,
@@ -147,7 +148,8 @@ impl<M: Sequenced> NodeState<M> {
     ) -> Result<StepResult, NoMemory>
         requires { message.from.0 < self.old.setup.n }
         ensures answer { IfOk result (λ a. IsStepOf M.spec M.refines self.old
-            (λ F R me c. takes_message F R M.spec me c message.from.0 epoch.0 message.leader.0 message.msg) self.new a) }
+            (λ F R me c. takes_message F R M.spec me c message.from.0 epoch.0 message.leader.0 message.msg)
+            self.new a) }
         ensures later { IsLater self.old self.new }
     {
         if epoch.0 == self.epoch.0 {
@@ -159,11 +161,12 @@ impl<M: Sequenced> NodeState<M> {
         Ok(StepResult::Dropped(Why::OtherEpoch))
     }
 
-    // Takes a module's message of the node's epoch.
+    // Takes a module's message of the current epoch.
     fn take_now(&mut self, alloc: Global, message: Early<M::Msg>) -> Result<StepResult, NoMemory>
         requires { message.from.0 < self.old.setup.n }
         ensures answer { IfOk result (λ a. IsStepOf M.spec M.refines self.old
-            (λ F R me c. finish_step F R M.spec me (try_step F R M.spec me c message.leader.0 (Input.Receive message.from message.msg))) self.new a) }
+            (λ F R me c. finish_step F R M.spec me
+            (try_step F R M.spec me c message.leader.0 (Input.Receive message.from message.msg))) self.new a) }
         ensures later { IsLater self.old self.new }
     {
         let Early { from, leader, msg } = message;
@@ -171,11 +174,12 @@ impl<M: Sequenced> NodeState<M> {
         self.finish_step(alloc, step)
     }
 
-    // Keeps a message of the next epoch, unless as many are kept as a node keeps.
+    // Keeps a message of the next epoch, unless `EARLY_MOST` are already kept.
     // rule: Epochs: A message of the next epoch is kept for it, up to a fixed number of them
     fn keep_early(&mut self, alloc: Global, message: Early<M::Msg>) -> Result<StepResult, NoMemory>
         requires { message.from.0 < self.old.setup.n }
-        ensures answer { IfOk result (λ a. IsStepOf M.spec M.refines self.old (λ F R me c. keeps_early c (seen_one message)) self.new a) }
+        ensures answer { IfOk result
+            (λ a. IsStepOf M.spec M.refines self.old (λ F R me c. keeps_early c (seen_one message)) self.new a) }
         ensures later { IsLater self.old self.new }
     {
         if self.early.len() >= EARLY_MOST {
@@ -186,7 +190,7 @@ impl<M: Sequenced> NodeState<M> {
     }
 }
 
-// Whether an epoch follows another.
+// Whether `other` is the epoch after `epoch`.
 fn is_next(epoch: Epoch, other: Epoch) -> bool
     ensures { result ≡ (other.0 == suc epoch.0) }
 {

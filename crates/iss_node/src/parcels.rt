@@ -1,4 +1,4 @@
-//! What packets hold: a module's message, a vote, an ask, a piece, or a client's request.
+//! The content of packets: a module's message, a vote, an ask, a piece, or a client's request.
 ghost use Rattle.std.specs.Prelude.{◌≡◌, IfOk, IfSome, true};
 ghost use Rattle.iss_rules.specs.Formats.{formats_of, packet_as, parcel_in, parcel_of_kind, message_in, request_in, whole};
 ghost use Rattle.iss_rules.specs.Parcels.{Formats, OfModule};
@@ -18,7 +18,7 @@ use iss_sb::{Sequenced, To};
 use iss_transfer::{Ask, Piece};
 use std::alloc::Global;
 
-/// What a packet's body holds.
+/// The content of a packet.
 #[derive(Drop)]
 pub enum Body<T> {
     Message { leader: NodeId, msg: T },
@@ -28,7 +28,7 @@ pub enum Body<T> {
     Request(Request),
 }
 
-/// What a packet holds, and who sent it.
+/// The content of a packet, with its sender and epoch.
 #[derive(Drop)]
 pub struct Parcel<T> {
     pub from: NodeId,
@@ -36,7 +36,7 @@ pub struct Parcel<T> {
     pub body: Body<T>,
 }
 
-/// What these bytes hold in a cluster of this set-up, if they are a packet.
+/// Decodes bytes in a cluster of this set-up. `None` if they are not a packet. The only error is out of memory.
 pub fn unwrap<M: Sequenced>(
     alloc: Global,
     setup: &Setup,
@@ -52,7 +52,7 @@ pub fn unwrap<M: Sequenced>(
     }
 }
 
-// What a packet holds.
+// Decodes the content of a packet.
 fn open<M: Sequenced>(
     alloc: Global,
     version: u8,
@@ -79,7 +79,7 @@ fn open<M: Sequenced>(
     }
 }
 
-// A packet's body and who sent it.
+// Adds the sender and the epoch to a packet's content.
 fn with_body<T: Drop>(packet: &Packet, body: Option<Body<T>>) -> Option<Parcel<T>>
     ensures { result ≡ carried packet.now body }
 {
@@ -131,7 +131,7 @@ fn open_message<M: Sequenced>(
     }))
 }
 
-/// The message that takes up all of the bytes, if one does.
+/// The message that these bytes encode, if they are exactly one message.
 pub fn read_message<M: Sequenced>(
     alloc: Global,
     version: u8,
@@ -171,7 +171,7 @@ fn open_request<T: Drop>(
     }))
 }
 
-// The request that takes up all of the bytes, if one does.
+// The request that these bytes encode, if they are exactly one request.
 fn read_request(alloc: Global, version: u8, bytes: &Bytes) -> Result<Option<Request>, NoMemory>
     ensures { IfOk result (λ request. request ≡ whole (parse_request bytes.now)) }
 {
@@ -189,7 +189,7 @@ fn read_request(alloc: Global, version: u8, bytes: &Bytes) -> Result<Option<Requ
     }
 }
 
-/// The packets of a step's messages, in their order.
+/// The messages of a step as packets, in order.
 pub fn pack<M: Sequenced>(
     alloc: Global,
     setup: &Setup,
@@ -208,7 +208,7 @@ pub fn pack<M: Sequenced>(
     Ok(packets)
 }
 
-// The packet of a message.
+// The packet of a module's message.
 fn wrap<M: Sequenced>(
     alloc: Global,
     version: u8,
@@ -218,7 +218,8 @@ fn wrap<M: Sequenced>(
     msg: &M::Msg,
 ) -> Result<Bytes, NoMemory>
     ensures { IfOk result (λ bytes. (s : Setup) → s.version ≡ version →
-        bytes ≡ (formats_of s M.spec).wrap (record { from = me.0; epoch = epoch.0; body = OfModule leader.0 msg.now })) }
+        bytes ≡ (formats_of s M.spec).wrap
+        (record { from = me.0; epoch = epoch.0; body = OfModule leader.0 msg.now })) }
 {
     let mut out = Writer::new(alloc, version);
     M::encode(msg, &mut out)?;

@@ -1,4 +1,4 @@
-//! What becomes of clients' requests at a node.
+//! Clients' requests at a node.
 ghost use Rattle.std.specs.Prelude.{◌≡◌, ◌++◌, ◌∷◌, ◌||◌, [], List, IfOk, OnOk, false, length, reverse};
 ghost use Rattle.iss_buckets.specs.Waiting.{AreNew, absent};
 ghost use Rattle.iss_rules.specs.Concrete.{rules_of};
@@ -22,7 +22,8 @@ use iss_window::{Place, Windows};
 use std::alloc::Global;
 
 impl<M: Sequenced> NodeState<M> {
-    /// Takes a client's request: it waits, unless the node knows it or its number is outside the client's window.
+    /// Takes a client's request. It waits to be proposed, unless its signature is invalid, the node knows it, or its
+    /// number is outside the client's window.
     // rule: Acceptance: A request is taken inside its window, if not waiting, in flight or ordered
     // rule: Epochs: A request that a correct node took is in one place: its log, waiting, or in flight
     pub(crate) fn take_request(
@@ -30,7 +31,8 @@ impl<M: Sequenced> NodeState<M> {
         alloc: Global,
         request: Request,
     ) -> Result<StepResult, NoMemory>
-        ensures answer { IfOk result (λ a. IsStepOf M.spec M.refines self.old (λ F R me c. takes_request R M.spec me c request) self.new a) }
+        ensures answer { IfOk result
+            (λ a. IsStepOf M.spec M.refines self.old (λ F R me c. takes_request R M.spec me c request) self.new a) }
         ensures later { IsLater self.old self.new }
     {
         if !self.is_signed(&request) {
@@ -54,7 +56,7 @@ impl<M: Sequenced> NodeState<M> {
         is_signed(self.directory.directory(), request)
     }
 
-    // Whether a request waits, is in flight, or is in the log.
+    // Whether the request waits, is in flight, or is in the log.
     fn knows(&self, id: ReqId) -> bool
         ensures { (all : List Identity) → AreLogged self.now all →
             result ≡ (has_id id (ids self.now.waiting) || (has_id id self.now.flight.ids || has_id id all)) }
@@ -62,14 +64,14 @@ impl<M: Sequenced> NodeState<M> {
         self.waiting.has(id) || self.flight.has(id) || self.is_logged(id)
     }
 
-    // Whether a request is in the log: of this epoch, or of earlier ones.
+    // Whether the request is in the log, in this epoch or an earlier one.
     fn is_logged(&self, id: ReqId) -> bool
         ensures { (all : List Identity) → AreLogged self.now all → result ≡ has_id id all }
     {
         self.logged.has(id) || self.windows.ordered(id)
     }
 
-    // Puts a request at the end of those that wait, unless it waits.
+    // Appends the request to the waiting list, unless it is already there.
     fn wait(&mut self, request: Request) -> Result<(), NoMemory>
         ensures ok { OnOk result (has_id request.id (ids self.old.waiting) ≡ false →
             self.new ≡ record self.old { waiting = self.old.waiting ++ request ∷ [] }) }
@@ -79,8 +81,8 @@ impl<M: Sequenced> NodeState<M> {
         Ok(())
     }
 
-    /// What was cast in slots of the log is no more in flight. Where such a slot became nil the requests wait again,
-    /// behind all others, unless the log holds them.
+    /// Removes the proposals whose slots are now in the log. If such a slot became nil, its requests wait again at the
+    /// end of the list, unless they are in the log.
     pub(crate) fn complete_casts(&mut self, alloc: Global) -> Result<(), NoMemory>
         ensures landed { OnOk result (HasCompletedCasts self.old self.new) }
         ensures rest { self.new ≡ record self.old { waiting = self.new.waiting; flight = self.new.flight } }
@@ -90,7 +92,7 @@ impl<M: Sequenced> NodeState<M> {
         self.requeue_nil_casts(casts)
     }
 
-    // What was cast in slots that became nil waits again.
+    // Puts the requests of proposals that became nil back into the waiting list.
     // rule: Epochs: Requests proposed in a slot that became nil wait again, unless they are ordered
     fn requeue_nil_casts(&mut self, casts: Vec<(Slot, Batch)>) -> Result<(), NoMemory>
         ensures back { OnOk result ((all : List Identity) → AreLogged self.old all →
@@ -106,9 +108,10 @@ impl<M: Sequenced> NodeState<M> {
         Ok(())
     }
 
-    // The requests of a batch wait again, unless the log holds them.
+    // Puts the requests of a batch back into the waiting list, except those in the log.
     fn wait_again(&mut self, batch: Batch) -> Result<(), NoMemory>
-        ensures back { OnOk result ((all : List Identity) → AreLogged self.old all → AreNew self.old.waiting (absent all batch) →
+        ensures back { OnOk result ((all : List Identity) → AreLogged self.old all →
+            AreNew self.old.waiting (absent all batch) →
             self.new.waiting ≡ self.old.waiting ++ absent all batch) }
         ensures rest { self.new ≡ record self.old { waiting = self.new.waiting } }
     {
@@ -121,7 +124,7 @@ impl<M: Sequenced> NodeState<M> {
     }
 }
 
-// Whether a request's number is inside its client's window.
+// Whether the request's number is inside its client's window.
 fn is_inside(windows: &Windows, id: ReqId) -> bool
     ensures { (n : Noted) → RefinesNoted windows.now n → result ≡ is_inside (place_of windows.now.width n.closed id) }
 {

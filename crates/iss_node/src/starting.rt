@@ -1,4 +1,4 @@
-//! How the instances of an epoch are started.
+//! Starting the instances of an epoch.
 ghost use Rattle.std.specs.Prelude.{◌≡◌, ◌<◌, [], IfOk, IfSome, is_some, length};
 ghost use Rattle.iss_layout.specs.Layout.{IsGoodPlan, leads};
 ghost use Rattle.iss_rules.specs.Concrete.{keys_of};
@@ -13,7 +13,8 @@ use iss_sb::{Params, Sequenced};
 use iss_segment::Segment;
 use std::alloc::Global;
 
-/// By node: the instance that it leads in this epoch, if it leads. None of them has taken anything.
+/// One instance for each leader of the epoch, by node, and `None` for the other nodes. No instance has taken an input.
+/// The only error is out of memory.
 pub fn start_segments<M: Sequenced>(
     alloc: Global,
     setup: &Setup,
@@ -46,7 +47,7 @@ pub fn start_segments<M: Sequenced>(
     Ok(segments)
 }
 
-// The instance of a node, if it leads.
+// The instance of a node, if it leads the epoch.
 fn start_if_leader<M: Sequenced>(
     alloc: Global,
     setup: &Setup,

@@ -1,4 +1,4 @@
-//! The parts of a node, and what is asked of them.
+//! The state of a node, and simple queries on it.
 ghost use Rattle.std.specs.Prelude.{◌≡◌, ◌<◌, ◌+◌, Some, IsSome, IsTrue, is_some, nat_le, length, option_map};
 ghost use Rattle.iss_keys.specs.Directories.{AreKeysOf};
 ghost use Rattle.iss_model.specs.Node.{has_leaves};
@@ -19,8 +19,8 @@ use iss_window::{Ids, Windows};
 use std::alloc::Global;
 use std::marker::Model;
 
-/// The parts of a node in its epoch. Of earlier epochs it keeps the values of the log with their chain, what the windows note,
-/// what the policy carries, and votes and certificates.
+/// The state of a node. From earlier epochs it keeps the log with its chain of digests, the ordered requests, the
+/// leader policy's record, and the votes and certificates.
 #[derive(Drop)]
 pub struct NodeState<M: Sequenced> {
     pub(crate) setup: Setup,
@@ -30,18 +30,18 @@ pub struct NodeState<M: Sequenced> {
     pub(crate) layout: Layout,
     pub(crate) windows: Windows,
     pub(crate) standing: Standing,
-    // by node: the instance that it leads, if it leads
+    // By node: its instance, if it leads the epoch.
     pub(crate) segments: Vec<Option<Segment<M>>>,
     pub(crate) accepted: Vec<Accepted>,
     pub(crate) log: Log,
-    // what stands for each front of the log
+    // The digest and the number of requests of each prefix of the log.
     pub(crate) chains: Chains,
     pub(crate) waiting: Pending,
     pub(crate) flight: Flight,
     pub(crate) early: Vec<Early<M::Msg>>,
-    // the identities of the log in this epoch
+    // The identities that were logged in this epoch.
     pub(crate) logged: Ids,
-    // the votes of all nodes, and the certificates
+    // The checkpoint votes of all nodes, and the certificates.
     pub(crate) ballots: Ballots,
     pub(crate) keys: Keys,
 }
@@ -94,7 +94,7 @@ impl<M: Sequenced> Model for NodeState<M> {
 }
 
 impl<M: Sequenced> NodeState<M> {
-    /// The instance that a node leads, if it leads the epoch.
+    /// The instance of a node, if it leads the epoch.
     pub(crate) fn segment(&self, leader: NodeId) -> Option<&Segment<M>>
         ensures led { option_map (λ g. g.now) result ≡ led self.now.segments leader.0 }
         ensures below { IsSome result → leader.0 < self.now.setup.n }
@@ -105,7 +105,7 @@ impl<M: Sequenced> NodeState<M> {
         }
     }
 
-    /// Whether a node leads the epoch.
+    /// Whether the node leads the epoch.
     pub(crate) fn leads(&self, leader: NodeId) -> bool
         ensures leads { result ≡ is_some (led self.now.segments leader.0) }
         ensures below { IsTrue result → leader.0 < self.now.setup.n }
@@ -113,10 +113,12 @@ impl<M: Sequenced> NodeState<M> {
         self.segment(leader).is_some()
     }
 
-    /// Whether enough leaves are left for a step of a leader's instance, and for the vote at an epoch's end.
+    /// Whether enough one-time keys are left for a step of this leader's instance, and then one for the vote at the end
+    /// of the epoch.
     // rule: Acceptance: A node keeps one leaf back for its vote at the end of the epoch
     pub(crate) fn has_leaves(&self, leader: NodeId) -> bool
-        ensures { (g : SegmentState M) → led self.now.segments leader.0 ≡ Some g → AreKeysOf self.now.me.0 self.now.setup.keys self.now.keys →
+        ensures { (g : SegmentState M) → led self.now.segments leader.0 ≡ Some g →
+            AreKeysOf self.now.me.0 self.now.setup.keys self.now.keys →
             result ≡ has_leaves M.spec g.params self.now.keys.used }
     {
         match self.segment(leader) {
@@ -125,7 +127,7 @@ impl<M: Sequenced> NodeState<M> {
         }
     }
 
-    /// Whether the log holds the whole epoch.
+    /// Whether the log has all slots of the epoch.
     pub(crate) fn is_complete(&self) -> bool
         ensures { result ≡ nat_le (self.now.plan.start + self.now.setup.epoch) (length self.now.log.entries) }
     {

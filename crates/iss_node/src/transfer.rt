@@ -1,4 +1,4 @@
-//! Asks and pieces: how a node hands out an epoch, and takes one over.
+//! State transfer: how a node asks for an epoch, hands one out, and adopts one (ISS: state transfer).
 ghost use Rattle.std.specs.Prelude.{◌≡◌, ◌<◌, ◌≤◌, ◌∷◌, [], IfOk, List, drop, length, take};
 ghost use Rattle.iss_checkpoint.specs.Votes.{voters_of};
 ghost use Rattle.iss_log.specs.Chains.{IsChainOf};
@@ -21,9 +21,10 @@ use iss_transfer::{Adoption, Piece, adopt};
 use std::alloc::Global;
 
 impl<M: Sequenced> NodeState<M> {
-    /// Asks a node for the epoch in which this one is.
+    /// Asks `peer` for the node's current epoch.
     pub(crate) fn ask_from(&mut self, alloc: Global, peer: NodeId) -> Result<StepResult, NoMemory>
-        ensures answer { IfOk result (λ a. IsHeldStepOf M.spec M.refines (IsOfNodes self.old.setup.n (NodeEvent.AskFrom peer)) self.old
+        ensures answer { IfOk result
+            (λ a. IsHeldStepOf M.spec M.refines (IsOfNodes self.old.setup.n (NodeEvent.AskFrom peer)) self.old
             (λ F R me c. Step_taken (asking F me c peer)) self.new a) }
         ensures same { IsSameNode self.old self.new }
     {
@@ -31,7 +32,8 @@ impl<M: Sequenced> NodeState<M> {
         Ok(StepResult::Taken(one_send(alloc, peer, bytes)?))
     }
 
-    /// Hands out the values of an epoch, where the node keeps its certificate and its log holds all of it.
+    /// Answers an ask with the values of an epoch, if the node has its certificate and all of its slots. Otherwise
+    /// drops it with `NoCert`.
     // rule: Transfer: An ask is answered to the asker alone, if the node has the epoch and its certificate
     pub(crate) fn take_ask(
         &mut self,
@@ -59,7 +61,7 @@ impl<M: Sequenced> NodeState<M> {
         Ok(StepResult::Taken(self.hand_out_piece(alloc, from, &piece)?))
     }
 
-    // The values of an epoch, if the log holds all of them.
+    // The values of an epoch, if the log has all of its slots.
     fn values_of(&self, alloc: Global, epoch: Epoch) -> Result<Option<Seq<Value>>, NoMemory>
         ensures { IfOk result (λ values. values ≡ held_values self.now epoch.0) }
     {
@@ -70,7 +72,7 @@ impl<M: Sequenced> NodeState<M> {
         Ok(Some(copies_of(alloc, values)?))
     }
 
-    // From which slot to which an epoch goes, if the log holds all of them.
+    // The first slot of an epoch and the slot after its last, if the log has all of them.
     fn slots_of(&self, epoch: Epoch) -> Option<(usize, usize)>
         ensures { result ≡ held_slots self.now epoch.0 }
     {
@@ -83,7 +85,7 @@ impl<M: Sequenced> NodeState<M> {
         Some(((end - self.setup.epoch) as usize, end as usize))
     }
 
-    // A piece as the node hands it out to another, with the node's own claim in its certificate.
+    // A piece as a packet, with the node's own signature in its certificate, if there is one.
     fn hand_out_piece(&self, alloc: Global, to: NodeId, piece: &Piece) -> Result<Outcome, NoMemory>
         ensures { IfOk result (IsHandedPiece self.now to piece.now) }
     {
@@ -94,7 +96,8 @@ impl<M: Sequenced> NodeState<M> {
         Ok(outcome)
     }
 
-    /// Takes over the values of the node's epoch, unless a cause refuses them: the epoch ends without the node's vote.
+    /// Adopts the values of the current epoch from a piece, unless it is refused. The epoch then ends without the
+    /// node's vote.
     pub(crate) fn take_piece(&mut self, alloc: Global, piece: Piece) -> Result<StepResult, NoMemory>
         ensures answer { IfOk result (λ a. IsHeldStepOf M.spec M.refines (Unit {0}) self.old
             (λ F R me c. takes_piece F R M.spec me c piece) self.new a) }
@@ -114,8 +117,8 @@ impl<M: Sequenced> NodeState<M> {
         }
     }
 
-    // Whether the node may take over a piece in its epoch. Want of memory comes also where the log lacks a slot before the
-    // epoch, which no node's does.
+    // Whether the node may adopt the piece. `NoMemory` also if the log lacks a slot before the epoch, which never
+    // happens.
     fn adoption(&self, alloc: Global, piece: &Piece) -> Result<Adoption, NoMemory>
         ensures { IfOk result (λ a. (log : List LogValue) → IsChainOf self.now.chains log →
             a ≡ adoption self.now.setup (voters_of self.now.setup self.now.directory) log self.now.epoch piece.now) }
@@ -137,8 +140,8 @@ impl<M: Sequenced> NodeState<M> {
         )
     }
 
-    // The values of a piece are the node's where it has none, its certificate is kept, and the next epoch begins with what came
-    // early for it.
+    // Adopts a piece: its values fill the slots that have none, and its certificate is kept. The next epoch starts,
+    // with the messages that arrived early for it.
     // rule: Transfer: An adopted piece of the own epoch fills the empty slots and ends the epoch without a vote
     fn adopt(
         &mut self,
@@ -161,7 +164,7 @@ impl<M: Sequenced> NodeState<M> {
     }
 }
 
-// The values from one place to another.
+// The values from index `first` up to, but not including, `end`.
 fn between(values: &[Value], first: usize, end: usize) -> &[Value]
     requires rising { first ≤ end }
     requires within { end ≤ length values.now }
@@ -180,7 +183,7 @@ fn copies_of(alloc: Global, values: &[Value]) -> Result<Seq<Value>, NoMemory>
     Ok(copies)
 }
 
-// Values with their slots, from the first on.
+// Values with their slots, which are consecutive from `first` on.
 fn at_slots(alloc: Global, first: Slot, values: Seq<Value>) -> Result<Vec<(Slot, Value)>, NoMemory>
     ensures { IfOk result (λ ds. ds.items ≡ at_slots first.0 values) }
 {
@@ -196,7 +199,7 @@ fn at_slots(alloc: Global, first: Slot, values: Seq<Value>) -> Result<Vec<(Slot,
     Ok(delivers)
 }
 
-// One packet for a node.
+// An outcome that sends one packet to one node.
 fn one_send(alloc: Global, to: NodeId, bytes: Bytes) -> Result<Outcome, NoMemory>
     ensures { IfOk result (λ o. o ≡ record { sends = (To.One to, bytes) ∷ []; own = []; early = []; hashed = [] }) }
 {

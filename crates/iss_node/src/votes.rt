@@ -1,4 +1,4 @@
-//! How a node votes on its log at an epoch's end, and counts votes.
+//! How a node votes on its log at the end of an epoch, and counts votes (PBFT and ISS: checkpoints).
 ghost use Rattle.std.specs.Prelude.{◌≡◌, ◌+◌, suc, IfOk, nat_lt, slice_get};
 ghost use Rattle.iss_model.specs.Node.{takes_vote};
 ghost use Rattle.iss_node.specs.Votes.{IsVoteHandedOut, IsVoted};
@@ -15,8 +15,8 @@ use iss_sb::{Sequenced, To};
 use std::alloc::Global;
 
 impl<M: Sequenced> NodeState<M> {
-    /// The node's vote on its epoch, which is over, signed by the next leaf. Want of memory comes also where none is left, which
-    /// no step lets happen.
+    /// The node's vote on its complete epoch, signed by the next leaf. `NoMemory` also if no leaf is left, which never
+    /// happens.
     // rule: Checkpoints: A node whose log ends an epoch votes to all on the log's chain and request count
     pub(crate) fn vote(&mut self) -> Result<Vote, NoMemory>
         ensures voted { IfOk result (λ v. IsVoted self.old self.new v) }
@@ -40,7 +40,7 @@ impl<M: Sequenced> NodeState<M> {
         })
     }
 
-    // What stands for the log at the end of the node's epoch.
+    // The digest and the number of requests of the log at the end of the current epoch.
     fn end(&self) -> Option<End>
         ensures { result ≡ slice_get self.now.chains.ends (self.now.plan.start + self.now.setup.epoch) }
     {
@@ -48,7 +48,7 @@ impl<M: Sequenced> NodeState<M> {
         self.chains.end_at(slots as usize)
     }
 
-    /// A vote as the node hands it out: to all, with its claim.
+    /// The outcome that sends the vote to all, with the node's signature.
     pub(crate) fn hand_out_vote(&self, alloc: Global, vote: &Vote) -> Result<Outcome, NoMemory>
         ensures { IfOk result (IsVoteHandedOut self.now vote.now) }
     {
@@ -64,10 +64,11 @@ impl<M: Sequenced> NodeState<M> {
         })
     }
 
-    /// Counts a vote on an epoch up to the next one, unless a cause refuses it.
+    /// Counts a vote on an epoch up to the next one, unless it is refused.
     // rule: Checkpoints: A node drops a vote that is far ahead, unverified or known, and counts any other
     pub(crate) fn take_vote(&mut self, alloc: Global, vote: Vote) -> Result<StepResult, NoMemory>
-        ensures answer { IfOk result (λ a. IsHeldStepOf M.spec M.refines (Unit {0}) self.old (λ F R me c. takes_vote R c vote) self.new a) }
+        ensures answer { IfOk result
+            (λ a. IsHeldStepOf M.spec M.refines (Unit {0}) self.old (λ F R me c. takes_vote R c vote) self.new a) }
         ensures same { IsSameNode self.old self.new }
     {
         if is_far(self.epoch, vote.epoch) {
@@ -81,7 +82,7 @@ impl<M: Sequenced> NodeState<M> {
     }
 }
 
-// Whether an epoch is more than one ahead of another.
+// Whether `other` is more than one epoch ahead.
 fn is_far(epoch: Epoch, other: Epoch) -> bool
     ensures { result ≡ nat_lt (suc epoch.0) other.0 }
 {

@@ -1,4 +1,4 @@
--- Runs, event by event.
+-- A report refines a run, event by event.
 use Rattle.std.proofs.Common.{◌≡◌, ℕ, zero, suc, ◌+◌, ◌<◌, ◌≤◌, List, [], ◌∷◌, ◌++◌, length, take, get_or, refl, sym, ap, ◌∙◌, subst, arith, add-one, Option, Some, None, reverse, append_assoc, drop, Bool, true, false, cond}
 use Rattle.std.proofs.lemmas.List.{append-nil, reverse-append, take-append-drop}
 use Rattle.iss_rules.specs.Concrete.{rules_of}
@@ -44,7 +44,7 @@ pub in-range-at : (s t : Setup) (es : List Event) (i : ℕ) (e : Event) → t �
 in-range-at s t es i e same h lt is =
     subst (λ (u : Setup). IsInRange u e) (sym same) (subst (λ (x : Event). IsInRange s x) (sym is) (in-range-get s es i e h lt))
 
--- a good set-up has few nodes
+-- A good set-up has at most ten nodes.
 few-of : (k : Kind) (f : ℕ) → f ≤ 3 → nodes_of_kind k f ≤ 10
 few-of Byzantine f h = omega arith
 few-of Stopping f h = omega arith
@@ -56,7 +56,7 @@ lines-append : (xs ys : List (ℕ × Why)) → drop_lines (xs ++ ys) ≡ drop_li
 lines-append [] ys = sym (append-nil (drop_lines ys))
 lines-append (x ∷ xs) ys = ap (λ t. t ++ drop_line x.0 x.1) (lines-append xs ys) ∙ append_assoc (drop_lines ys) (drop_lines xs) (drop_line x.0 x.1)
 
--- the lines so far, and one more
+-- The lines so far, and one more.
 lines-next : (out : List ℕ) (ds : List (ℕ × Why)) (i : ℕ) (d : ℕ × Why) → i < length ds → d ≡ get_or ds i d → (out ++ drop_lines (reverse (take i ds))) ++ drop_line d.0 d.1 ≡ out ++ drop_lines (reverse (take (i + 1) ds))
 lines-next out ds i d lt is =
     append_assoc out (drop_lines (reverse (take i ds))) (drop_line d.0 d.1)
@@ -78,7 +78,7 @@ module _ {M Msg : Type 0} (m : Module Msg) (refines : Relation M Msg) where
       HasHappened m refines later p (run_event_if_open p.ended s F R m p e) r → HasHappened m refines later p (run_event s F R m p e) r
   happened-on s F R later p e r going h = subst (λ (q : Course Msg). HasHappened m refines later p q r) (further-on s F R m p e (sym going)) h
 
-  -- an event that is not lost, one that is, and one in which the run ends
+  -- The three cases of an event: it is applied, it is lost, or it reveals evidence.
   pub went-on : (s : Setup) (F : Formats Msg) (R : Rules) (later : WorldState M Msg) (drops : List (ℕ × Why)) (p : Course Msg) (e : Event) →
       HasHappened m refines later p (run_event_if_open p.ended s F R m p e) Done → end_kept None ≡ p.ended → reverse drops ≡ p.drops →
       ReportRefinesRun m refines later drops None (run_event s F R m p e)
@@ -126,7 +126,7 @@ module _ {M Msg : Type 0} (m : Module Msg) (refines : Relation M Msg) where
       let r = happened-on s F R later p e (Result_collision first second) going h in
       has-ended s F R later drops p e k (Evidence_collision first second) r.0 r.1 n d
 
-  -- one event more
+  -- One more event.
   next-run : (s : Setup) (es : List Event) (i : ℕ) (e : Event) → i < length es → e ≡ get_or es i e → end_kept None ≡ (course_after s m (take i es)).ended →
       course_after s m (take (i + 1) es) ≡ run_event s (formats_of s m) (rules_of s) m (course_after s m (take i es)) e
   next-run s es i e lt is going =
@@ -147,7 +147,7 @@ module _ {M Msg : Type 0} (m : Module Msg) (refines : Relation M Msg) where
       let next : (course_after s m (take (i + 1) es)).event ≡ suc (course_after s m (take i es)).event = ap (λ (p : Course Msg). p.event) (next-run s es i e lt is going) in
       omega (arith, next, n)
 
-  -- what comes after the end changes nothing
+  -- Events after the evidence change nothing.
   pub run-over : (s : Setup) (later : WorldState M Msg) (drops : List (ℕ × Why)) (end : ℕ × Evidence) (es : List Event) (i : ℕ) →
       ReportRefinesRun m refines later drops (Some end) (course_after s m (take i es)) → ReportRefinesRun m refines later drops (Some end) (course_after s m es)
   run-over s later drops end es i h =
@@ -165,7 +165,7 @@ module _ {M Msg : Type 0} (m : Module Msg) (refines : Relation M Msg) where
       ∙ append_assoc out (node_blocks s m w k) (block_of s m w k)
       ∙ ap (λ (j : ℕ). out ++ node_blocks s m w j) (sym (add-one k))
 
-  -- a correct node's block, and none of a faulty one
+  -- The block of a correct node. A faulty node has none.
   pub block-told : (s : Setup) (w : Net Msg) (out now : List ℕ) (i e : ℕ) (log : List Value) → is_correct s i ≡ true → i < s.n → e ≡ (w.cores i).past.epoch →
       log_of (rules_of s) m (node_of s i) (w.cores i).past ≡ log → now ≡ out ++ node_block i e log → now ≡ out ++ block_of s m w i
   block-told s w out now i e log correct lt epoch is told =

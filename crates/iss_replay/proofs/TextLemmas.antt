@@ -12,7 +12,7 @@ pub request_words-append : (xs ys : List Request) → request_words (xs ++ ys) �
 request_words-append [] ys = refl
 request_words-append (x ∷ xs) ys = ap (λ t. request_word x ++ t) (request_words-append xs ys) ∙ sym (append_assoc (request_word x) (request_words xs) (request_words ys))
 
--- what was written so far, and one request more
+-- The words so far, and one more request.
 pub words-next : (out : List ℕ) (qs : List Request) (i : ℕ) (q : Request) → i < length qs → q ≡ get_or qs i q → (out ++ request_words (take i qs)) ++ request_word q ≡ out ++ request_words (take (i + 1) qs)
 words-next out qs i q lt is =
     let next : take (i + 1) qs ≡ take i qs ++ q ∷ [] = take_more qs i q lt ∙ ap (λ (y : Request). take i qs ++ y ∷ []) (sym is) in
@@ -21,7 +21,7 @@ words-next out qs i q lt is =
 
 -- ---- slots
 
--- the lines up to slot i, and its own
+-- The lines of all slots below i, and the line of slot i.
 pub slots-next : (out : List ℕ) (vs : List Value) (i : ℕ) (v : Value) → i < length vs → v ≡ get_or vs i v
     → (out ++ slot_lines (reverse (take i vs))) ++ slot_line i (requests (take i vs)) v ≡ out ++ slot_lines (reverse (take (i + 1) vs))
 slots-next out vs i v lt is =
@@ -35,7 +35,7 @@ slots-next out vs i v lt is =
     ∙ ap (λ k. out ++ (slot_lines (reverse front) ++ slot_line (length (reverse front)) k v)) (sym (requests-turned front))
     ∙ ap (λ (xs : List Value). out ++ slot_lines xs) (sym turned)
 
--- a node's line, and then its slots'
+-- The line of a node, then the lines of its slots.
 pub block-is : (out mid now : List ℕ) (n e slots count : ℕ) (vs : List Value) → slots ≡ length vs → count ≡ requests vs → mid ≡ out ++ node_line n e slots count
     → (r : Result (Unit {0}) NoMemory) → OnOk r (now ≡ mid ++ slot_lines (reverse vs)) → OnOk r (now ≡ out ++ node_block n e (reverse vs))
 block-is out mid now n e slots count vs many all is (Ok u) h =

@@ -9,18 +9,18 @@ use Rattle.iss_world.specs.Refines.{RefinesRun, end_of}
 use Rattle.iss_world.specs.State.{WorldState}
 use Rattle.iss_world.specs.declared.ends.Evidence.{Evidence}
 
--- the event in which a run ended, and why
+-- The event that revealed the evidence, and the evidence.
 abbrev pub end_at : ℕ × Evidence → ℕ × End
 end_at x = (x.0, end_of x.1)
 
--- the end of a run, where it ends in the event of this number
+-- Evidence with the number of its event.
 abbrev pub numbered : ℕ → Option Evidence → Option (ℕ × Evidence)
 numbered k end = option_map (λ x. (k, x)) end
 
 abbrev pub end_kept : Option (ℕ × Evidence) → Option (ℕ × End)
 end_kept ended = option_map end_at ended
 
--- the world stands for the run so far, the losses are the run's, oldest first, and so is its end
+-- The world refines the run so far. The report has the run's lost events, oldest first, and its evidence.
 pub record ReportRefinesRun {M Msg : Type 0} (m : Module Msg) (refines : Relation M Msg)
     (world : WorldState M Msg) (drops : List (ℕ × Why)) (ended : Option (ℕ × Evidence)) (p : Course Msg) : Type 0 where
   pub refined : RefinesRun m refines world p

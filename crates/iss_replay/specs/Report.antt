@@ -12,29 +12,29 @@ use Rattle.iss_request.specs.declared.setups.Setup.{Setup}
 use Rattle.iss_schedule.specs.declared.schedules.Event.{Event}
 use Rattle.iss_sb.specs.Evidence.{Module, is_correct}
 
--- a line for each event that was lost, in the order of the events: the newest is the first of the list
+-- A line for each lost event, in the order of the events. The list has the newest first.
 abbrev pub drop_lines : List (ℕ × Why) → List ℕ
 drop_lines [] = []
 drop_lines (d ∷ older) = drop_lines older ++ drop_line d.0 d.1
 
--- the block of node i, with the log of its core; of a faulty node nothing is told
+-- The block of node i, if it is correct. A faulty node has none.
 -- rule: Reports: A faulty node has no block
 abbrev pub block_of : {Msg : Type 0} → Setup → Module Msg → Net Msg → ℕ → List ℕ
-block_of s M w i = cond (is_correct s i) (node_block i (w.cores i).past.epoch (log_of (rules_of s) M i (w.cores i).past)) []
+block_of s M w i = cond (is_correct s i)
+    (node_block i (w.cores i).past.epoch (log_of (rules_of s) M i (w.cores i).past)) []
 
--- those of the first n nodes
+-- The blocks of the first n nodes.
 abbrev pub node_blocks : {Msg : Type 0} → Setup → Module Msg → Net Msg → ℕ → List ℕ
 node_blocks s M w zero = []
 node_blocks s M w (suc n) = node_blocks s M w n ++ block_of s M w n
 
--- what was lost, the logs of correct nodes, and how the run ended; where it ended before its last event, the logs are those
--- from before the delivery that showed it
+-- The lost events, the logs of correct nodes, and how the run ended. If evidence stopped the run, the logs are from
+-- before that delivery.
 abbrev pub text_of : {Msg : Type 0} → Setup → Module Msg → Course Msg → List ℕ
 text_of s M p = drop_lines p.drops ++ node_blocks s M p.machines.held.net s.n ++ end_line p.ended
 
--- The bytes report these events: they are the text of their run, up to its end, which it shows evidence for. Whatever disks failed and
--- cores were made anew, its logs are of one log, which more events only make longer, each request that a correct node took and kept is in
--- one place, certificates are of logs of correct nodes, and what was adopted was delivered.
+-- The bytes are the text of the run of these events, up to the evidence that stopped it, if any. The headline
+-- (`IsWhole`) holds for that run.
 -- rule: Reports: A replay runs all events and reports all of them
 pub record IsReport {Msg : Type 0} (s : Setup) (M : Module Msg) (events : List Event) (bytes : List ℕ) : Type 0 where
   pub tells : bytes ≡ text_of s M (course_after s M events)

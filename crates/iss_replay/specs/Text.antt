@@ -40,22 +40,22 @@ why_word NoCert = codes "NoCert"
 why_word NotNeeded = codes "NotNeeded"
 why_word WrongChain = codes "WrongChain"
 
--- each line ends with one line feed, the byte 10
+-- Each line ends with one line feed, the byte 10.
 -- rule: Reports: Each lost event is reported with its cause
 abbrev pub drop_line : ℕ → Why → List ℕ
 drop_line event why = codes "drop " ++ decimal event ++ codes " " ++ why_word why ++ 10 ∷ []
 
--- a claim: its node, its statement and its signature
+-- A claim: its node, its statement and its signature.
 abbrev pub claim_words : Claim → List ℕ
 claim_words c = codes " " ++ decimal c.by.0 ++ codes " " ++ word_of c.statement ++ codes " " ++ word_of c.sig
 
--- the run ended in this event: by a claim that its node never made, or by two strings of one digest
+-- The evidence that stopped the run at this event: a forged claim, or two strings with one digest.
 abbrev pub evidence_line : ℕ → End → List ℕ
 evidence_line event (Forged c) = codes "end forged " ++ decimal event ++ claim_words c ++ 10 ∷ []
 evidence_line event (Collision first second) =
     codes "end collision " ++ decimal event ++ codes " " ++ word_of first ++ codes " " ++ word_of second ++ 10 ∷ []
 
--- the last line
+-- The last line.
 abbrev pub end_line : Option (ℕ × End) → List ℕ
 end_line None = codes "end ok" ++ 10 ∷ []
 end_line (Some at) = evidence_line at.0 at.1
@@ -67,7 +67,7 @@ abbrev pub request_words : List Request → List ℕ
 request_words [] = []
 request_words (q ∷ qs) = request_word q ++ request_words qs
 
--- nil, or the number of the first request, how many there are, and their identities
+-- Nil, or the number of the first request, the size of the batch, and the identities of its requests.
 abbrev pub value_words : ℕ → Value → List ℕ
 value_words first Nil = codes " nil"
 value_words first (Value_batch b) = codes " " ++ decimal first ++ codes " " ++ decimal (length b) ++ request_words b
@@ -75,13 +75,14 @@ value_words first (Value_batch b) = codes " " ++ decimal first ++ codes " " ++ d
 abbrev pub slot_line : ℕ → ℕ → Value → List ℕ
 slot_line slot first v = decimal slot ++ value_words first v ++ 10 ∷ []
 
--- a slot's first request has as its number the sum of the sizes before it
+-- The number of a slot's first request is the sum of the sizes of all earlier batches.
 abbrev pub slot_lines : List Value → List ℕ
 slot_lines [] = []
 slot_lines (v ∷ older) = slot_lines older ++ slot_line (length older) (requests older) v
 
 abbrev pub node_line : ℕ → ℕ → ℕ → ℕ → List ℕ
-node_line node epoch slots count = codes "node " ++ decimal node ++ codes " epoch " ++ decimal epoch ++ codes " slots " ++ decimal slots
+node_line node epoch slots count = codes "node " ++ decimal node ++ codes " epoch " ++ decimal epoch ++ codes " slots "
+    ++ decimal slots
     ++ codes " requests " ++ decimal count ++ 10 ∷ []
 
 -- rule: Reports: A node's block has its epoch, and each slot with its first number and its requests

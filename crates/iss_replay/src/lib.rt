@@ -1,4 +1,4 @@
-//! The replay of a schedule: applies its events to a cluster, one after the other, and writes the text of the report.
+//! Replays a schedule: applies its events to a cluster in order, and writes the text of the report.
 #![tactic(auto)]
 
 pub mod lines;

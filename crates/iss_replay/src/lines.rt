@@ -1,4 +1,4 @@
-//! Lines of a report. After want of memory a part may have been written.
+//! Lines of a report. The only error is out of memory; a part of the line may have been written then.
 ghost use Rattle.std.specs.Prelude.{◌≡◌, ◌<◌, ◌++◌, None, OnOk, Some, codes, length, reverse, take};
 ghost use Rattle.iss_rules.specs.Ends.{Collision, Forged};
 ghost use Rattle.iss_request.specs.Log.{requests};
@@ -12,7 +12,7 @@ use iss_rules::Why;
 use iss_sb::Claim;
 use std::alloc::Global;
 
-/// Writes the line of an event that was lost.
+/// Writes the line of a lost event.
 // rule: Reports: Each lost event is reported with its cause
 pub fn put_drop(out: &mut Vec<u8>, event: u64, why: Why) -> Result<(), NoMemory>
     ensures { OnOk result (out.new.items ≡ out.old.items ++ drop_line event why) }
@@ -24,14 +24,14 @@ pub fn put_drop(out: &mut Vec<u8>, event: u64, why: Why) -> Result<(), NoMemory>
     put_text(out, b"\n")
 }
 
-/// Writes the last line of a run that did not end before its last event.
+/// Writes the last line of a run that no evidence stopped.
 pub fn put_ok(out: &mut Vec<u8>) -> Result<(), NoMemory>
     ensures { OnOk result (out.new.items ≡ out.old.items ++ end_line None) }
 {
     put_text(out, b"end ok\n")
 }
 
-/// Writes the last line of a run that ended in this event by a claim that its node never made.
+/// Writes the last line of a run that a forged claim stopped at this event.
 pub fn put_forged(
     alloc: Global,
     out: &mut Vec<u8>,
@@ -56,7 +56,7 @@ fn put_claim(alloc: Global, out: &mut Vec<u8>, claim: &Claim) -> Result<(), NoMe
     put_word(alloc, out, claim.sig.as_slice())
 }
 
-// Writes a word of bytes behind a space.
+// Writes a space, then bytes as a word.
 fn put_word(alloc: Global, out: &mut Vec<u8>, bytes: &[u8]) -> Result<(), NoMemory>
     ensures { OnOk result (out.new.items ≡ out.old.items ++ codes " " ++ word_of bytes.now) }
 {
@@ -64,7 +64,7 @@ fn put_word(alloc: Global, out: &mut Vec<u8>, bytes: &[u8]) -> Result<(), NoMemo
     put_bytes(alloc, out, bytes)
 }
 
-/// Writes the last line of a run that ended in this event by two strings of one digest, of which the first was hashed before.
+/// Writes the last line of a run that a collision stopped at this event. `first` was hashed earlier.
 pub fn put_collision(
     alloc: Global,
     out: &mut Vec<u8>,
@@ -81,7 +81,7 @@ pub fn put_collision(
     put_text(out, b"\n")
 }
 
-/// Writes a node's block: its line, and a line for each slot of its log.
+/// Writes a node's block: its line, then one line for each slot of its log.
 // rule: Reports: A node's block has its epoch, and each slot with its first number and its requests
 pub fn put_node(out: &mut Vec<u8>, node: NodeId, epoch: Epoch, log: &Log) -> Result<(), NoMemory>
     ensures { OnOk result (out.new.items ≡ out.old.items ++ node_block node.0 epoch.0 (reverse log.now.entries)) }
@@ -112,7 +112,7 @@ fn put_node_line(
     put_text(out, b"\n")
 }
 
-// Writes a line for each slot.
+// Writes one line for each slot.
 fn put_slots(out: &mut Vec<u8>, log: &Log) -> Result<(), NoMemory>
     ensures { OnOk result (out.new.items ≡ out.old.items ++ slot_lines (reverse log.now.entries)) }
 {
@@ -124,7 +124,7 @@ fn put_slots(out: &mut Vec<u8>, log: &Log) -> Result<(), NoMemory>
     Ok(())
 }
 
-// The number of the first request of a slot of the log.
+// The number of the first request of a slot: the sum of the sizes of all earlier batches.
 fn first_number(log: &Log, slot: u64) -> u64
     requires { slot < length log.now.entries }
     ensures { result ≡ requests (take slot log.now.entries) }
@@ -135,7 +135,7 @@ fn first_number(log: &Log, slot: u64) -> u64
     }
 }
 
-// Writes the line of a slot, whose first request has this number.
+// Writes the line of a slot. `first` is the number of its first request.
 fn put_slot(out: &mut Vec<u8>, slot: u64, first: u64, value: &Value) -> Result<(), NoMemory>
     ensures { OnOk result (out.new.items ≡ out.old.items ++ slot_line slot first value.now) }
 {
@@ -144,7 +144,7 @@ fn put_slot(out: &mut Vec<u8>, slot: u64, first: u64, value: &Value) -> Result<(
     put_text(out, b"\n")
 }
 
-// Writes what a slot holds.
+// Writes the value of a slot.
 fn put_value(out: &mut Vec<u8>, first: u64, value: &Value) -> Result<(), NoMemory>
     ensures { OnOk result (out.new.items ≡ out.old.items ++ value_words first value.now) }
 {
@@ -154,7 +154,7 @@ fn put_value(out: &mut Vec<u8>, first: u64, value: &Value) -> Result<(), NoMemor
     }
 }
 
-// Writes the number of the first request, how many there are, and the identity of each.
+// Writes the number of the first request, the size of the batch, and the identity of each request.
 fn put_batch(out: &mut Vec<u8>, first: u64, batch: &[Request]) -> Result<(), NoMemory>
     ensures { OnOk result (out.new.items ≡ out.old.items ++ value_words first (Value.Batch batch.now)) }
 {

@@ -1,4 +1,4 @@
-//! The events of a schedule, one after the other.
+//! The run of a schedule, event by event.
 ghost use Rattle.std.specs.Prelude.{◌≡◌, IfOk, None};
 ghost use Rattle.iss_model.specs.Frames.{frame_of};
 ghost use Rattle.iss_model.specs.Courses.{Course};
@@ -17,8 +17,8 @@ use iss_world::ends::Evidence;
 use iss_world::{EventResult, World};
 use std::alloc::Global;
 
-/// What came of a schedule: its cluster as it stands at the end, the events that were lost, in their order, each with its number
-/// from 0 and the cause, and, where the run ended in an event, the number of that and the evidence.
+/// The result of a schedule: the cluster at the end, the lost events in order, and the evidence that stopped the run,
+/// if any. Lost events have their number, from 0, and their reason. The evidence has the number of its event.
 #[derive(Drop)]
 pub struct Report<M: Sequenced> {
     pub world: World<M>,
@@ -26,17 +26,16 @@ pub struct Report<M: Sequenced> {
     pub ended: Option<(u64, Evidence)>,
 }
 
-/// Replays a schedule: what its events make of a cluster that has taken nothing, up to the event that shows a claim that its
-/// node never made, or two strings of one digest. Whatever disks failed and cores were made anew, the logs of correct nodes are of one
-/// log, in which no request stands twice and each batch was accepted as valid by a correct node, and which more events only make longer;
-/// and each request that a correct node took and kept is in its log, waits there or is in flight. The certificates that correct nodes
-/// keep are of logs of correct nodes, and what correct nodes adopted was delivered at one (ISS, whole protocol; crashes and recovery).
+/// Applies the events of a schedule to a new cluster, in order, up to an event that reveals evidence. The headline
+/// holds for the run (`whole`, see `IsWhole` in `iss_theorems`). The only error is out of memory.
 // rule: Log: Of two correct nodes' logs one is a prefix of the other, and no request is in one twice
 // rule: Recovery: A run with crashes refines the run of its kept events without crashes
 pub fn replay<M: Sequenced>(alloc: Global, schedule: &Schedule) -> Result<Report<M>, NoMemory>
     requires good { IsSetupOf M.spec schedule.now.setup }
     requires range { AreInRange schedule.now.setup schedule.now.events }
-    ensures run { IfOk result (λ r. ReportRefinesRun M.spec M.refines r.world r.drops r.ended (course_after schedule.now.setup M.spec schedule.now.events)) }
+    ensures run { IfOk result
+        (λ r. ReportRefinesRun M.spec M.refines r.world r.drops r.ended
+        (course_after schedule.now.setup M.spec schedule.now.events)) }
     ensures same { IfOk result (λ r. r.world.simulation.setup ≡ schedule.now.setup) }
     ensures whole { IsWhole schedule.now.setup M.spec schedule.now.events }
 {
@@ -44,11 +43,13 @@ pub fn replay<M: Sequenced>(alloc: Global, schedule: &Schedule) -> Result<Report
     play(alloc, schedule)
 }
 
-// The events happen to a cluster that has taken nothing, up to the one in which the run ends.
+// Applies the events to a new cluster, up to the one that reveals evidence.
 fn play<M: Sequenced>(alloc: Global, schedule: &Schedule) -> Result<Report<M>, NoMemory>
     requires good { IsSetupOf M.spec schedule.now.setup }
     requires range { AreInRange schedule.now.setup schedule.now.events }
-    ensures run { IfOk result (λ r. ReportRefinesRun M.spec M.refines r.world r.drops r.ended (course_after schedule.now.setup M.spec schedule.now.events)) }
+    ensures run { IfOk result
+        (λ r. ReportRefinesRun M.spec M.refines r.world r.drops r.ended
+        (course_after schedule.now.setup M.spec schedule.now.events)) }
     ensures same { IfOk result (λ r. r.world.simulation.setup ≡ schedule.now.setup) }
 {
     let events = schedule.events.as_slice();
@@ -71,7 +72,7 @@ fn play<M: Sequenced>(alloc: Global, schedule: &Schedule) -> Result<Report<M>, N
     })
 }
 
-// The next event happens; where it is lost, its number and the cause are noted. Says why the run ends, where it ends in it.
+// Applies the next event. If it is lost, notes its number and reason. Returns the evidence if the event reveals some.
 // rule: Reports: A replay runs all events and reports all of them
 // rule: Program: A run that ends with evidence exits with 6 or 7, and reports the logs before it
 fn go_on<M: Sequenced>(
@@ -82,8 +83,10 @@ fn go_on<M: Sequenced>(
     event: &Event,
 ) -> Result<Option<Evidence>, NoMemory>
     requires { IsInRange world.old.simulation.setup event.now }
-    ensures went { IfOk result (λ end. (p : Course M.Msg) → p.event ≡ number → ReportRefinesRun M.spec M.refines world.old drops.old None p →
-        ReportRefinesRun M.spec M.refines world.new drops.new (numbered number end) (run_event_in (frame_of world.old.simulation.setup M.spec) p event.now)) }
+    ensures went { IfOk result
+        (λ end. (p : Course M.Msg) → p.event ≡ number → ReportRefinesRun M.spec M.refines world.old drops.old None p →
+        ReportRefinesRun M.spec M.refines world.new drops.new (numbered number end)
+        (run_event_in (frame_of world.old.simulation.setup M.spec) p event.now)) }
     ensures same { world.new.simulation.setup ≡ world.old.simulation.setup }
 {
     match world.event(alloc, event) {

@@ -21,24 +21,27 @@ use iss_world::claims::is_correct;
 use iss_world::ends::Evidence;
 use std::alloc::Global;
 
-/// The text of a report: a line for each event that was lost, the block of each correct node, and the last line. Where it is
-/// the report of a schedule, its logs are of one log, its requests are conserved, certificates are of logs of correct nodes, and
-/// what was adopted was delivered, as `replay` says.
+/// The text of a report: a line for each lost event, the block of each correct node, and the last line. If the report
+/// is that of a schedule, the headline holds for its run (`reports`, see `IsReport`). The only error is out of memory.
 pub fn text<M: Sequenced>(alloc: Global, report: &Report<M>) -> Result<Bytes, NoMemory>
-    ensures tells { IfOk result (λ bytes. (p : Course M.Msg) → ReportRefinesRun M.spec M.refines report.now.world report.now.drops report.now.ended p →
+    ensures tells { IfOk result
+        (λ bytes. (p : Course M.Msg) →
+        ReportRefinesRun M.spec M.refines report.now.world report.now.drops report.now.ended p →
         bytes ≡ text_of report.now.world.simulation.setup M.spec p) }
     ensures reports { IfOk result (λ bytes. IsSetupOf M.spec report.now.world.simulation.setup →
         (events : List Event) → AreInRange report.now.world.simulation.setup events →
-        ReportRefinesRun M.spec M.refines report.now.world report.now.drops report.now.ended (course_after report.now.world.simulation.setup M.spec events) →
+        ReportRefinesRun M.spec M.refines report.now.world report.now.drops report.now.ended
+        (course_after report.now.world.simulation.setup M.spec events) →
         IsReport report.now.world.simulation.setup M.spec events bytes) }
 {
     restarts_change_nothing::<M>();
     write(alloc, report)
 }
 
-// Writes the text.
+// Writes the text of a report.
 fn write<M: Sequenced>(alloc: Global, report: &Report<M>) -> Result<Bytes, NoMemory>
-    ensures { IfOk result (λ bytes. (p : Course M.Msg) → ReportRefinesRun M.spec M.refines report.now.world report.now.drops report.now.ended p →
+    ensures { IfOk result (λ bytes. (p : Course M.Msg) →
+        ReportRefinesRun M.spec M.refines report.now.world report.now.drops report.now.ended p →
         bytes ≡ text_of report.now.world.simulation.setup M.spec p) }
 {
     let mut out = Vec::new(alloc);
@@ -48,7 +51,7 @@ fn write<M: Sequenced>(alloc: Global, report: &Report<M>) -> Result<Bytes, NoMem
     Ok(Bytes::of(out))
 }
 
-// Writes a line for each event that was lost.
+// Writes a line for each lost event.
 fn put_drops(out: &mut Vec<u8>, drops: &[(u64, Why)]) -> Result<(), NoMemory>
     ensures { OnOk result (out.new.items ≡ out.old.items ++ drop_lines (reverse drops.now)) }
 {
@@ -61,7 +64,8 @@ fn put_drops(out: &mut Vec<u8>, drops: &[(u64, Why)]) -> Result<(), NoMemory>
 // Writes the block of each correct node, ascending.
 fn put_nodes<M: Sequenced>(out: &mut Vec<u8>, world: &World<M>) -> Result<(), NoMemory>
     ensures { OnOk result ((p : Course M.Msg) → RefinesRun M.spec M.refines world.now p →
-        out.new.items ≡ out.old.items ++ node_blocks world.now.simulation.setup M.spec p.machines.held.net world.now.simulation.setup.n) }
+        out.new.items ≡ out.old.items
+        ++ node_blocks world.now.simulation.setup M.spec p.machines.held.net world.now.simulation.setup.n) }
 {
     let nodes = world.setup().n;
     for node in 0..nodes {
@@ -70,7 +74,7 @@ fn put_nodes<M: Sequenced>(out: &mut Vec<u8>, world: &World<M>) -> Result<(), No
     Ok(())
 }
 
-// Writes the block of one node, where it is correct.
+// Writes the block of a node if it is correct.
 // rule: Reports: A faulty node has no block
 fn put_block<M: Sequenced>(out: &mut Vec<u8>, world: &World<M>, node: u32) -> Result<(), NoMemory>
     requires { node < world.now.simulation.setup.n }
@@ -83,7 +87,7 @@ fn put_block<M: Sequenced>(out: &mut Vec<u8>, world: &World<M>, node: u32) -> Re
     put_node(out, NodeId(node as u8), world.epoch(node), world.log(node))
 }
 
-// Writes how the run ended.
+// Writes the last line.
 fn put_end(
     alloc: Global,
     out: &mut Vec<u8>,

@@ -1,4 +1,4 @@
-//! Words of a report. After want of memory a part may have been written.
+//! Words of a report. The only error is out of memory; a part of the word may have been written then.
 ghost use Rattle.std.specs.Prelude.{◌≡◌, ◌++◌, OnOk, decimal};
 ghost use Rattle.iss_replay.specs.Text.{refusal_word, why_word};
 ghost use Rattle.iss_schedule.specs.Words.{word_of};
@@ -24,7 +24,7 @@ pub fn put_number(out: &mut Vec<u8>, number: u64) -> Result<(), NoMemory>
     put_text(out, buffer.format(number).as_bytes())
 }
 
-/// Writes bytes in lower-case hexadecimal digits, and `-` for none.
+/// Writes bytes in lower-case hexadecimal digits, and `-` for the empty string.
 pub fn put_bytes(alloc: Global, out: &mut Vec<u8>, bytes: &[u8]) -> Result<(), NoMemory>
     ensures { OnOk result (out.new.items ≡ out.old.items ++ word_of bytes.now) }
 {
@@ -49,7 +49,7 @@ pub fn put_refusal(out: &mut Vec<u8>, refusal: Refusal) -> Result<(), NoMemory>
     }
 }
 
-/// Writes the cause of a loss.
+/// Writes the reason of a loss.
 pub fn put_why(out: &mut Vec<u8>, why: Why) -> Result<(), NoMemory>
     ensures { OnOk result (out.new.items ≡ out.old.items ++ why_word why) }
 {
@@ -73,7 +73,7 @@ pub fn put_why(out: &mut Vec<u8>, why: Why) -> Result<(), NoMemory>
     }
 }
 
-// Writes that a batch was refused, and why.
+// Writes that a batch was refused, and the reason.
 fn put_refused(out: &mut Vec<u8>, refusal: Refusal) -> Result<(), NoMemory>
     ensures { OnOk result (out.new.items ≡ out.old.items ++ why_word (Why.Refused refusal)) }
 {

@@ -10,7 +10,7 @@ use Rattle.iss_request.specs.declared.requests.Value.TheVariants.{Batch as Value
 use Rattle.iss_sb.specs.declared.content.Content.{Content}
 use Rattle.iss_sb.specs.declared.content.Content.TheVariants.{Nil, Holds, Mark}
 
--- ---- spelling
+-- ---- encoding
 
 -- rule: Raft: An entry holds nil, a batch or a mark
 abbrev pub spell_content : ℕ → Content → List ℕ
@@ -26,7 +26,7 @@ IsSpelledContent version (Holds batch) bytes = (value : List ℕ) × IsSpelledVa
     × (bytes ≡ 1 ∷ value)
 IsSpelledContent version Mark bytes = bytes ≡ 2 ∷ []
 
--- ---- reading
+-- ---- decoding
 
 unfoldable pub parse_batch_content : ℕ → Parser Content
 parse_batch_content version = do

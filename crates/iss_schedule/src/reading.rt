@@ -16,7 +16,7 @@ use crate::header::{most_faulty, nodes_of, read_header, setup_of};
 use crate::laws::texts_and_schedules;
 use crate::lines::Lines;
 use crate::schedules::{Event, Schedule};
-use iss_request::rows::Seq;
+use iss_request::seqs::Seq;
 use iss_request::setups::Setup;
 use std::alloc::Global;
 

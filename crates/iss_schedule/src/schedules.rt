@@ -1,7 +1,7 @@
 //! What a schedule says.
 use iss_request::bytes::Bytes;
 use iss_request::ids::NodeId;
-use iss_request::rows::Seq;
+use iss_request::seqs::Seq;
 use iss_request::setups::Setup;
 
 /// What happens at one moment of a run. Cores and packets are numbered from 0.

@@ -17,7 +17,7 @@ use Rattle.iss_window.specs.Window.{is_inside, place_of}
 use Rattle.iss_request.specs.declared.ids.ReqId.{ReqId}
 use Rattle.iss_request.specs.declared.requests.Request.{Request}
 
--- some identity of ys stands in xs
+-- Some identity of ys is in xs.
 abbrev meets : List ReqId → List ReqId → Bool
 meets xs [] = false
 meets xs (y ∷ ys) = has_id y xs || meets xs ys
@@ -28,7 +28,7 @@ or-shuffle false true true d = refl
 or-shuffle false true false d = refl
 or-shuffle false false c d = refl
 
--- one mark more: an identity meets the marks if it is the new one, or meets the old ones
+-- With one more mark, a list meets the marks if it has the new mark or meets the old ones.
 meets-cons : (x : ReqId) (xs ys : List ReqId) → meets (x ∷ xs) ys ≡ (has_id x ys || meets xs ys)
 meets-cons x xs [] = refl
 meets-cons x xs (y ∷ ys) =
@@ -42,7 +42,7 @@ meets-cons x xs (y ∷ ys) =
     turn false true false d = refl
     turn false false c d = refl
 
--- marked before, or twice in the batch
+-- Some identity is marked, or occurs twice in the batch.
 any_marked-split : (marked xs : List ReqId) → any_marked marked xs ≡ (meets marked xs || twice xs)
 any_marked-split marked [] = refl
 any_marked-split marked (x ∷ xs) =
@@ -59,7 +59,7 @@ meets-any marked (q ∷ qs) = ap (λ b. has_id q.id marked || b) (meets-any mark
 pub marked-split : (marked : List ReqId) (qs : List Request) → any_marked marked (ids qs) ≡ (any (λ (q : Request). has_id q.id marked) qs || twice (ids qs))
 marked-split marked qs = any_marked-split marked (ids qs) ∙ ap (λ b. b || twice (ids qs)) (meets-any marked qs)
 
--- the marks matter only as a set
+-- Only the set of marks matters.
 pub any_marked-same : (a b : List ReqId) → ((x : ReqId) → has_id x a ≡ has_id x b) → (xs : List ReqId) → any_marked a xs ≡ any_marked b xs
 any_marked-same a b same [] = refl
 any_marked-same a b same (x ∷ xs) =
@@ -70,7 +70,7 @@ pub among-has : (x : ReqId) (qs : List Request) → any (λ (q : Request). same_
 among-has x [] = refl
 among-has x (q ∷ qs) = ap (λ b. same_id x q.id || b) (among-has x qs)
 
--- the search from a place on: the request there, or a later one
+-- A search from index i on finds the request there, or a later one.
 pub twice-next : (qs : List Request) (i : ℕ) (q : Request) → i < length qs → q ≡ get_or qs i q → (rest : List Request) → rest ≡ drop (i + 1) qs → twice (ids (drop i qs)) ≡ (any (λ (r : Request). same_id q.id r.id) rest || twice (ids (drop (i + 1) qs)))
 twice-next qs i q lt is rest rest_is =
     let e : drop i qs ≡ q ∷ drop (i + 1) qs = rw (add-one, drop-cons qs i q) (ap (λ (z : Request). z ∷ drop (suc i) qs) (sym is)) in
@@ -90,9 +90,9 @@ pub or-skip : (r a b : Bool) → r ≡ a → r ≡ false → (a || b) ≡ b
 or-skip r true b e h = cc
 or-skip r false b e h = refl
 
--- ---- the judge, cause by cause
+-- ---- the check, reason by reason
 
--- the test of a batch from a place on: the request there, or a later one
+-- A test from index i on holds for the request there, or for a later one.
 pub any-next : (p : Request → Bool) (qs : List Request) (i : ℕ) (q : Request) → i < length qs → q ≡ get_or qs i q → any p (drop i qs) ≡ (p q || any p (drop (i + 1) qs))
 any-next p qs i q lt is =
     let e : drop i qs ≡ q ∷ drop (i + 1) qs = rw (add-one, drop-cons qs i q) (ap (λ (z : Request). z ∷ drop (suc i) qs) (sym is)) in
@@ -104,13 +104,13 @@ any-found p qs i q lt is passes h = sym (h ∙ any-next p qs i q lt is ∙ ap (�
 pub any-passed : (p : Request → Bool) (qs : List Request) (i : ℕ) (q : Request) → i < length qs → q ≡ get_or qs i q → p q ≡ false → any p qs ≡ any p (drop i qs) → any p qs ≡ any p (drop (i + 1) qs)
 any-passed p qs i q lt is none h = h ∙ any-next p qs i q lt is ∙ ap (λ b. b || any p (drop (i + 1) qs)) none
 
--- the first of six tests that holds
+-- The first of six tests that holds.
 pub first-cause : (a a' b b' c c' d d' e e' f f' : Bool) → a ≡ a' → b ≡ b' → c ≡ c' → d ≡ d' → e ≡ e' → f ≡ f' →
     cond a (Some TooLarge) (cond b (Some ForeignBucket) (cond c (Some BadSignature) (cond d (Some OutOfWindow) (cond e (Some Ordered) (cond f (Some Marked) None)))))
     ≡ cond a' (Some TooLarge) (cond b' (Some ForeignBucket) (cond c' (Some BadSignature) (cond d' (Some OutOfWindow) (cond e' (Some Ordered) (cond f' (Some Marked) None)))))
 first-cause a a' b b' c c' d d' e e' f f' ha hb hc hd he hf = rw (ha, hb, hc, hd, he, hf) refl
 
--- what the code finds of a batch, test by test
+-- The results of the six tests.
 pub record AreFound (s : Setup) (plan : Plan) (windows : Kept) (leader : ℕ) (marked : List ReqId) (batch : List Request) (a b c d e f : Bool) : Type 0 where
   pub large : nat_lt s.batch (length batch) ≡ a
   pub foreign : any (λ (q : Request). not (number_of (bucket_owner plan (bucket_of plan q.id)) == leader)) batch ≡ b
@@ -135,7 +135,7 @@ judged s plan windows leader marked batch a b c d e f h before epoch r =
 module _ (s : Setup) (plan : Plan) (windows : Kept) (leader : ℕ) (marked : List ReqId) (batch : List Request)
     (large : nat_lt s.batch (length batch) ≡ false)
     (foreign : any (λ (q : Request). not (number_of (bucket_owner plan (bucket_of plan q.id)) == leader)) batch ≡ false) where
-  -- where a request is not signed, what is behind that test is not asked
+  -- If a request is not signed, the later tests do not matter.
   pub judged-unsigned : any (λ (q : Request). not ((rules_of s).signed q)) batch ≡ true →
       (before : List Value) (epoch : ℕ) → RestsOn s before epoch plan windows → Some BadSignature ≡ judge (rules_of s) before epoch leader marked batch
   judged-unsigned unsigned before epoch r =
@@ -144,7 +144,7 @@ module _ (s : Setup) (plan : Plan) (windows : Kept) (leader : ℕ) (marked : Lis
       (subst (λ (p : Plan). any (λ (q : Request). not (number_of (bucket_owner p (bucket_of p q.id)) == leader)) batch ≡ false) r.divided foreign)
       unsigned refl refl refl)
 
-  -- nor where a number is outside its window
+  -- If a number is outside its window, the later tests do not matter.
   pub judged-outside : any (λ (q : Request). not ((rules_of s).signed q)) batch ≡ false →
       ((before : List Value) → RefinesNoted windows (noted_before before) → any (λ (q : Request). not (is_inside (place_of windows.width (log_ids before) q.id))) batch ≡ true) →
       (before : List Value) (epoch : ℕ) → RestsOn s before epoch plan windows → Some OutOfWindow ≡ judge (rules_of s) before epoch leader marked batch

@@ -25,7 +25,7 @@ use Rattle.iss_sb.specs.Evidence.{Item, Module, accepts, one_or_none}
 use Rattle.iss_keys.specs.KeyStates.{KeyState}
 use Rattle.iss_sb.specs.Laws.{IsLawful}
 
--- the judge sees the marks as a set
+-- The check depends only on the set of marks.
 judge-same : (R : Rules) (before : List Value) (e l : ℕ) (a b : List ReqId) (batch : Batch) → SameIds a b → judge R before e l a batch ≡ judge R before e l b batch
 judge-same R before e l a b batch same =
     ap (λ (t : Bool).
@@ -42,11 +42,11 @@ pub verdict-at : (R : Rules) (before : List Value) (e l : ℕ) (marked : List Re
 verdict-at R before e l marked xs slot b lent asked r same is lent_is h =
     sym (h ∙ ap (λ (z : Batch). judge R before e l marked z) lent_is ∙ judge-same R before e l marked (marks xs) b same ∙ ap (λ (o : Option (Slot × Batch)). verdict R before e l xs o) is)
 
--- nothing is asked for
+-- The input asks for no batch.
 pub verdict-none : (R : Rules) (before : List Value) (e l : ℕ) (xs : List (Slot × Batch)) (asked : Option (Slot × Batch)) → None ≡ asked → verdict R before e l xs asked ≡ None
 verdict-none R before e l xs asked is = sym (ap (λ (o : Option (Slot × Batch)). verdict R before e l xs o) is)
 
--- the marks grow with the accept list
+-- Accepting a batch adds its identities to the marks.
 marks-grow : (marked : List ReqId) (xs : List (Slot × Batch)) (accepted : Option (Slot × Batch)) → SameIds marked (marks xs) → SameIds (and_marks marked accepted) (marks (one_or_none accepted ++ xs))
 marks-grow marked xs None same = same
 marks-grow marked xs (Some a) same = λ x.

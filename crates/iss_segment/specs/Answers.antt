@@ -21,7 +21,7 @@ use Rattle.iss_segment.specs.declared.segment.StepRefusal.{StepRefusal}
 use Rattle.iss_segment.specs.declared.segment.StepRefusal.TheVariants.{Spent as Refusal_spent, Refused, NoMemory as Refusal_no_memory}
 use Rattle.iss_window.specs.Kept.{Kept}
 
--- an instance took an input
+-- The instance took the input.
 pub record IsInstanceTaken {M Msg : Type 0} (m : Module Msg) (refines : M → Params → ℕ → List (Item Msg) → Type 0)
     (old new : SegmentState M) (i : Input Msg) (before later : KeyState) (e : Effects Msg) : Type 0 where
   pub same_params : new.params ≡ old.params
@@ -35,8 +35,9 @@ pub record IsInstanceTaken {M Msg : Type 0} (m : Module Msg) (refines : M → Pa
   pub within : IsWithin m old.params before later e
   pub enough : m.signs old.params ≤ left_of before
 
--- fewer leaves are left than a step may sign with, and nothing has changed
-pub record IsInstanceSpent {M Msg : Type 0} (m : Module Msg) (old new : SegmentState M) (before later : KeyState) : Type 0 where
+-- Fewer one-time keys are left than a step may use, and nothing has changed.
+pub record IsInstanceSpent {M Msg : Type 0} (m : Module Msg) (old new : SegmentState M)
+    (before later : KeyState) : Type 0 where
   pub too_few : left_of before < m.signs old.params
   pub same : new ≡ old
   pub same_keys : later ≡ before
@@ -47,21 +48,27 @@ IsInstanceStep m refines old new i before later (Ok e) = IsInstanceTaken m refin
 IsInstanceStep m refines old new i before later (Err Spent) = IsInstanceSpent m old new before later
 IsInstanceStep m refines old new i before later (Err NoMemory) = Unit {0}
 
--- what the judge says of what an input asks for, over each log that the epoch's division and windows rest on
-abbrev pub IsVerdict : {M Msg : Type 0} → Module Msg → (M → Params → ℕ → List (Item Msg) → Type 0) → Plan → Kept → SegmentState M →
+-- The validity check of the batch that the input asks to accept. It holds for each log that gives the epoch these
+-- buckets and windows.
+abbrev pub IsVerdict : {M Msg : Type 0} → Module Msg → (M → Params → ℕ → List (Item Msg) → Type 0) → Plan → Kept →
+    SegmentState M →
     Input Msg → Option Refusal → Type 0
 IsVerdict {Msg = Msg} m refines plan windows g i answer =
-    (before : List Value) (xs : List (Item Msg)) → RestsOn g.params.setup before g.params.epoch.0 plan windows → RefinesItems refines g xs →
-    verdict (rules_of g.params.setup) before g.params.epoch.0 g.params.leader.0 (accepts xs) (m.asks g.params g.me.0 xs i) ≡ answer
+    (before : List Value) (xs : List (Item Msg)) → RestsOn g.params.setup before g.params.epoch.0 plan windows →
+    RefinesItems refines g xs →
+    verdict (rules_of g.params.setup) before g.params.epoch.0 g.params.leader.0 (accepts xs)
+    (m.asks g.params g.me.0 xs i) ≡ answer
 
--- the judge accepts what the input asks for, and the input was taken
-pub record IsJudgedTaken {M Msg : Type 0} (m : Module Msg) (refines : M → Params → ℕ → List (Item Msg) → Type 0) (plan : Plan) (windows : Kept)
+-- The batch is valid, and the input was taken.
+pub record IsJudgedTaken {M Msg : Type 0} (m : Module Msg) (refines : M → Params → ℕ → List (Item Msg) → Type 0)
+    (plan : Plan) (windows : Kept)
     (old new : SegmentState M) (i : Input Msg) (before later : KeyState) (e : Effects Msg) : Type 0 where
   pub accepted : IsVerdict m refines plan windows old i None
   pub taken : IsInstanceTaken m refines old new i before later e
 
--- the judge refuses it, and nothing has changed
-pub record IsInstanceRefused {M Msg : Type 0} (m : Module Msg) (refines : M → Params → ℕ → List (Item Msg) → Type 0) (plan : Plan) (windows : Kept)
+-- The batch was refused, and nothing has changed.
+pub record IsInstanceRefused {M Msg : Type 0} (m : Module Msg) (refines : M → Params → ℕ → List (Item Msg) → Type 0)
+    (plan : Plan) (windows : Kept)
     (old new : SegmentState M) (i : Input Msg) (before later : KeyState) (why : Refusal) : Type 0 where
   pub enough : m.signs old.params ≤ left_of before
   pub refused : IsVerdict m refines plan windows old i (Some why)
@@ -70,7 +77,9 @@ pub record IsInstanceRefused {M Msg : Type 0} (m : Module Msg) (refines : M → 
 
 abbrev pub IsJudgedStep : {M Msg : Type 0} → Module Msg → (M → Params → ℕ → List (Item Msg) → Type 0) → Plan → Kept →
     SegmentState M → SegmentState M → Input Msg → KeyState → KeyState → Result (Effects Msg) StepRefusal → Type 0
-IsJudgedStep m refines plan windows old new i before later (Ok e) = IsJudgedTaken m refines plan windows old new i before later e
+IsJudgedStep m refines plan windows old new i before later (Ok e) =
+    IsJudgedTaken m refines plan windows old new i before later e
 IsJudgedStep m refines plan windows old new i before later (Err Refusal_spent) = IsInstanceSpent m old new before later
-IsJudgedStep m refines plan windows old new i before later (Err (Refused why)) = IsInstanceRefused m refines plan windows old new i before later why
+IsJudgedStep m refines plan windows old new i before later (Err (Refused why)) =
+    IsInstanceRefused m refines plan windows old new i before later why
 IsJudgedStep m refines plan windows old new i before later (Err Refusal_no_memory) = Unit {0}

@@ -8,7 +8,7 @@ use Rattle.iss_request.specs.declared.setups.Setup.{Setup}
 use Rattle.iss_window.specs.Kept.{Kept, RefinesNoted}
 use Rattle.iss_window.specs.Window.{Noted}
 
--- what the log of earlier epochs holds was noted, and the windows moved since
+-- The windows at the start of an epoch: they note all requests of earlier epochs, and have moved past them.
 abbrev pub noted_before : List Value → Noted
 noted_before before = record { all = log_ids before; closed = log_ids before }
 

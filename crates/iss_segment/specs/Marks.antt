@@ -10,7 +10,7 @@ abbrev pub twice : List ReqId → Bool
 twice [] = false
 twice (x ∷ xs) = has_id x xs || twice xs
 
--- the marks with those of a batch that is accepted
+-- The identities after a batch was accepted.
 abbrev pub and_marks : List ReqId → Option (Slot × Batch) → List ReqId
 and_marks marked None = marked
 and_marks marked (Some a) = and_ids marked a.1

@@ -1,4 +1,4 @@
-//! Whether a batch is accepted in a segment.
+//! The validity check of a batch: whether a segment accepts it.
 ghost use Rattle.std.specs.Prelude.{◌≡◌, ◌<◌, ◌≤◌, ◌==◌, ◌||◌, ℕ, List, not, length, drop};
 ghost use Rattle.iss_segment.specs.Marks.{twice};
 ghost use Rattle.iss_layout.specs.Layout.{bucket_of, bucket_owner};
@@ -18,8 +18,9 @@ use iss_request::{NodeId, ReqId, Request, Setup};
 use iss_rules::Refusal;
 use iss_window::{Ids, Place, Windows};
 
-/// The first refusal that holds of a batch in the segment of this leader; none where the batch is accepted. `marked`
-/// are the identities that were accepted there before.
+/// The first reason to refuse a batch in this leader's segment. `None` if the batch is accepted. `marked` are the
+/// identities that the segment accepted earlier. (ISS: valid requests, from the leader's buckets, neither accepted in
+/// this epoch nor delivered before.)
 // rule: Acceptance: A batch is refused for its first fault: size, bucket, signature, window, ordered, marked
 pub fn refusal(
     setup: &Setup,
@@ -51,31 +52,32 @@ pub fn refusal(
     }
 }
 
-// Whether the bucket of a request is another node's.
+// Whether some request's bucket belongs to another leader.
 // rule: Acceptance: A batch is refused where its leader does not own the bucket of each request
 fn is_any_foreign(layout: &Layout, leader: NodeId, batch: &[Request]) -> bool
-    ensures { result ≡ any (λ (q : Request). not (number_of (bucket_owner layout.now (bucket_of layout.now q.id)) == leader.0)) batch.now }
+    ensures { result ≡ any (λ (q : Request). not
+        (number_of (bucket_owner layout.now (bucket_of layout.now q.id)) == leader.0)) batch.now }
 {
     batch
         .iter()
         .any(|request| !is_owner(layout, leader, request.id))
 }
 
-// Whether the node owns the bucket of a request.
+// Whether the node owns the request's bucket in this epoch.
 fn is_owner(layout: &Layout, node: NodeId, id: ReqId) -> bool
     ensures { result ≡ (number_of (bucket_owner layout.now (bucket_of layout.now id)) == node.0) }
 {
     owner(layout, id).0 == node.0
 }
 
-// The owner of a request's bucket.
+// The node that owns the request's bucket in this epoch.
 fn owner(layout: &Layout, id: ReqId) -> NodeId
     ensures { number_of (bucket_owner layout.now (bucket_of layout.now id)) ≡ result.0 }
 {
     layout.owner_of(layout.bucket_of(id))
 }
 
-// Whether a request's signature is not its client's.
+// Whether some request is not validly signed by its client.
 // rule: Acceptance: A batch with a request that its client did not sign is refused
 fn is_any_unsigned(directory: &Directory, batch: &[Request]) -> bool
     ensures { result ≡ any (λ (q : Request). not (is_signed_by directory.now q)) batch.now }
@@ -83,7 +85,7 @@ fn is_any_unsigned(directory: &Directory, batch: &[Request]) -> bool
     batch.iter().any(|request| !is_signed(directory, request))
 }
 
-// Whether a number is outside its client's window.
+// Whether some request's number is outside its client's window.
 fn is_any_outside(windows: &Windows, batch: &[Request]) -> bool
     ensures { (before : List Value) → RefinesNoted windows.now (noted_before before) →
         result ≡ any (λ (q : Request). not (is_inside (place_of windows.now.width (log_ids before) q.id))) batch.now }
@@ -96,7 +98,7 @@ fn is_any_outside(windows: &Windows, batch: &[Request]) -> bool
     false
 }
 
-// Whether an identity stands in the log of earlier epochs.
+// Whether some request is already in the log of earlier epochs.
 fn is_any_ordered(windows: &Windows, batch: &[Request]) -> bool
     ensures { (before : List Value) → RefinesNoted windows.now (noted_before before) →
         result ≡ any (λ (q : Request). has_id q.id (log_ids before)) batch.now }
@@ -109,7 +111,7 @@ fn is_any_ordered(windows: &Windows, batch: &[Request]) -> bool
     false
 }
 
-// Whether an identity was accepted before, or stands twice in the batch.
+// Whether some identity was accepted earlier, or occurs twice in the batch.
 fn is_any_marked(marked: &Ids, batch: &[Request]) -> bool
     ensures { result ≡ any_marked marked.now (ids batch.now) }
 {

@@ -1,6 +1,6 @@
-//! An instance of an ordering module at a node, and what it accepts: each batch is judged first (ISS, "State Machine
-//! Replication Scalability Made Simple": a follower accepts a batch of the leader's own buckets, with valid requests,
-//! none of which it has accepted or delivered before).
+//! An instance of an ordering module at a node. Each batch is checked before it is accepted (ISS, "State Machine
+//! Replication Scalability Made Simple"). A follower accepts only batches from the leader's own buckets, with valid
+//! requests. None of these may have been accepted or delivered before.
 #![tactic(auto)]
 
 pub mod judge;

@@ -1,4 +1,4 @@
-//! An instance of a module, with the identities of the batches that it accepted.
+//! An ordering instance, with the identities of the requests that it accepted.
 ghost use Rattle.std.specs.Prelude.{◌≡◌, ◌<◌, ◌≤◌, ◌↔◌, ℕ, List, [], IfOk, OnOk, IsTrue, Some};
 ghost use Rattle.iss_keys.specs.KeyStates.{left_of};
 ghost use Rattle.iss_rules.specs.Concrete.{rules_of};
@@ -23,8 +23,8 @@ use iss_window::{Ids, Windows};
 use std::alloc::Global;
 use std::marker::Model;
 
-/// Why an instance took no input: fewer leaves are left than one step may sign with, the batch that the step would
-/// accept is refused, or memory was wanting.
+/// Why an instance took no input. `Spent`: fewer one-time keys are left than one step may use. `Refused`: the batch
+/// that the step would accept is invalid. `NoMemory`: out of memory.
 #[derive(Clone, Copy, Debug, PartialEq, Eq)]
 pub enum StepRefusal {
     Spent,
@@ -32,7 +32,7 @@ pub enum StepRefusal {
     NoMemory,
 }
 
-/// The instance of one leader at this node.
+/// The instance of one leader's segment at this node.
 #[derive(Drop)]
 pub struct Segment<M: Sequenced> {
     params: Params,
@@ -54,7 +54,7 @@ impl<M: Sequenced> Model for Segment<M> {
 }
 
 impl<M: Sequenced> Segment<M> {
-    /// An instance that has taken nothing.
+    /// An instance that has taken no input. The only error is out of memory.
     pub fn start(alloc: Global, params: Params, me: NodeId) -> Result<Segment<M>, NoMemory>
         requires good { IsGoodParams M.spec params }
         requires me { me.0 < params.setup.n }
@@ -70,7 +70,7 @@ impl<M: Sequenced> Segment<M> {
         })
     }
 
-    /// What the instance was started with.
+    /// The parameters that the instance was started with.
     pub fn params(&self) -> &Params
         ensures same { result.now ≡ self.now.params }
         ensures good { IsGoodParams M.spec result.now }
@@ -78,23 +78,24 @@ impl<M: Sequenced> Segment<M> {
         &self.params
     }
 
-    /// The identities that the instance accepted.
+    /// The identities of the requests that the instance accepted.
     pub fn marked(&self) -> &Ids
         ensures { result.now ≡ self.now.marked }
     {
         &self.marked
     }
 
-    /// Whether the module takes a cast at this slot.
+    /// Whether the module would accept a proposal for this slot.
     pub fn casts(&self, slot: Slot) -> bool
         ensures { (xs : List (Item M.Msg)) (batch : Batch) → RefinesItems M.refines self.now xs →
-            (IsTrue result ↔ (M.spec.asks self.now.params self.now.me.0 xs (Input.Cast slot batch) ≡ Some (slot, batch))) }
+            (IsTrue result ↔ (M.spec.asks self.now.params self.now.me.0 xs (Input.Cast slot batch) ≡ Some
+            (slot, batch))) }
     {
         self.ordering.casts(&self.params, slot)
     }
 
-    /// Why a batch is refused at a slot of the segment, if it is: the first cause that holds, by the division and the
-    /// windows of the segment's epoch. The slot plays no part.
+    /// The first reason to refuse a batch, given the buckets and windows of the epoch. `None` if it is valid. The slot
+    /// does not matter.
     pub fn judge(
         &self,
         layout: &Layout,
@@ -102,8 +103,10 @@ impl<M: Sequenced> Segment<M> {
         _slot: Slot,
         batch: &Batch,
     ) -> Option<Refusal>
-        ensures { (before : List Value) → RestsOn self.now.params.setup before self.now.params.epoch.0 layout.now windows.now →
-            result ≡ judge (rules_of self.now.params.setup) before self.now.params.epoch.0 self.now.params.leader.0 self.now.marked batch.now }
+        ensures { (before : List Value) →
+            RestsOn self.now.params.setup before self.now.params.epoch.0 layout.now windows.now →
+            result ≡ judge (rules_of self.now.params.setup) before self.now.params.epoch.0 self.now.params.leader.0
+            self.now.marked batch.now }
     {
         refusal(
             &self.params.setup,
@@ -116,7 +119,7 @@ impl<M: Sequenced> Segment<M> {
         )
     }
 
-    /// Takes an input whose batch, if it asks for one, the judge accepts.
+    /// Takes an input. If the input asks to accept a batch, the batch must be valid. A refused input changes nothing.
     pub fn step(
         &mut self,
         alloc: Global,
@@ -126,7 +129,8 @@ impl<M: Sequenced> Segment<M> {
         keys: &mut Keys,
     ) -> Result<Effects<M::Msg>, StepRefusal>
         requires { IsGoodInput self.old.params input }
-        ensures step { IsJudgedStep M.spec M.refines layout.now windows.now self.old self.new input keys.old keys.new result }
+        ensures step { IsJudgedStep M.spec M.refines layout.now windows.now self.old self.new input keys.old
+            keys.new result }
         ensures same { (self.new.params ≡ self.old.params) × (self.new.me ≡ self.old.me) }
     {
         if keys.left() < M::signs(&self.params) {
@@ -142,7 +146,7 @@ impl<M: Sequenced> Segment<M> {
         }
     }
 
-    /// Takes an input that the judge does not refuse.
+    /// Takes an input without checking its batch.
     pub fn take(
         &mut self,
         alloc: Global,
@@ -159,7 +163,7 @@ impl<M: Sequenced> Segment<M> {
         Ok(effects)
     }
 
-    // Why the batch that this input asks for is refused, if it is.
+    // The reason to refuse the batch that the input asks to accept, if there is such a batch and a reason.
     fn verdict(&self, layout: &Layout, windows: &Windows, input: &Input<M::Msg>) -> Option<Refusal>
         requires input { IsGoodInput self.now.params input.now }
         ensures { IsVerdict M.spec M.refines layout.now windows.now self.now input.now result }
@@ -171,7 +175,7 @@ impl<M: Sequenced> Segment<M> {
     }
 }
 
-// Notes the identities of a batch that was accepted.
+// Adds the identities of an accepted batch.
 // rule: Acceptance: An accepted request is marked to the end of its epoch, also where its slot becomes nil
 fn mark(marked: &mut Ids, accepted: &Option<(Slot, Batch)>) -> Result<(), NoMemory>
     ensures { OnOk result (marked.new ≡ and_marks marked.old accepted.now) }

@@ -1,4 +1,4 @@
-//! Requests as their clients sign them.
+//! The signatures of clients on requests.
 ghost use Rattle.std.specs.Prelude.{◌≡◌, ◌+◌, ◌^◌, ◌<◌, ◌≤◌, IfOk, length, take};
 ghost use Rattle.iss_keys.specs.Signatures.{signature_of};
 ghost use Rattle.iss_rules.specs.Concrete.{is_signed_by, request_statement};
@@ -6,20 +6,20 @@ ghost use Rattle.iss_rules.specs.Concrete.{is_signed_by, request_statement};
 use iss_keys::{Directory, Keys};
 use iss_request::{Bytes, NoMemory, ReqId, Request};
 
-/// The most bytes of a payload, and what stands before it in a statement.
+/// The longest payload, in bytes.
 const PAYLOAD_MOST: usize = 256;
 
 const HEAD: usize = 8;
 
-// What a client's statement begins with.
+// The first byte of a client's statement.
 const REQUEST: u8 = 0x30;
 
-/// Whether a request's client signed it. It takes no memory.
+/// Whether the request's client signed it. Allocates nothing.
 // rule: Signatures: A request is signed if its signature verifies under its client's key
 pub fn is_signed(directory: &Directory, request: &Request) -> bool
     ensures { result ≡ is_signed_by directory.now request.now }
 {
-    // Its range is part of the answer.
+    // The proof needs that the number fits into 32 bits.
     let _number = request.id.number;
     let payload = request.payload.as_slice();
     if payload.len() > PAYLOAD_MOST {
@@ -31,11 +31,13 @@ pub fn is_signed(directory: &Directory, request: &Request) -> bool
     directory.verify_client(request.id.client, statement, request.sig.as_slice())
 }
 
-/// The client's signature of a request, by the leaf of the request's number.
+/// The client's signature of a request, by the leaf whose index is the request's number. The only error is out of
+/// memory.
 pub fn sign_request(keys: &Keys, id: ReqId, payload: &[u8]) -> Result<Bytes, NoMemory>
     requires leaf { id.number < 2 ^ keys.now.height }
     requires payload { length payload.now ≤ 256 }
-    ensures { IfOk result (λ sig. sig ≡ signature_of keys.now.secret keys.now.height id.number (request_statement id payload.now)) }
+    ensures { IfOk result (λ sig. sig ≡ signature_of keys.now.secret keys.now.height id.number
+        (request_statement id payload.now)) }
 {
     let mut buffer = [0u8; HEAD + PAYLOAD_MOST];
     put_statement(id, payload, &mut buffer);
@@ -46,7 +48,7 @@ pub fn sign_request(keys: &Keys, id: ReqId, payload: &[u8]) -> Result<Bytes, NoM
     }
 }
 
-// Puts what a client signs at the front of a buffer.
+// Writes the statement that a client signs to the beginning of a buffer.
 // rule: Signatures: A client signs its number, the request's number, and the payload after its length
 fn put_statement(id: ReqId, payload: &[u8], buffer: &mut [u8])
     requires payload { length payload.now ≤ 256 }
@@ -59,7 +61,7 @@ fn put_statement(id: ReqId, payload: &[u8], buffer: &mut [u8])
     buffer[8..8 + payload.len()].copy_from_slice(payload);
 }
 
-// The first bytes of a buffer.
+// The first `count` bytes of a buffer.
 fn front(buffer: &[u8], count: usize) -> &[u8]
     requires { count ≤ length buffer.now }
     ensures { result.now ≡ take count buffer.now }

@@ -1,4 +1,4 @@
--- The books, as claims and strings are tested against them and put into them.
+-- Testing and recording of claims and strings refines the model.
 use Rattle.std.proofs.Common.{inl, inr, ◌≡◌, ◌⊎◌, ℕ, zero, suc, ◌+◌, ◌<◌, Bool, true, false, cond, not, IsTrue, ◌↔◌, ◌==◌, ◌&&◌, ◌||◌, List, [], ◌∷◌, ◌++◌, length, take, get_or, Option, Some, None, Result, Ok, Err, IfOk, refl, sym, ap, ◌∙◌, subst, arith, true≢false}
 use Rattle.std.specs.Prelude.{is_some, nat_lt, option_map}
 use Rattle.std.specs.List.{list_any}
@@ -41,9 +41,9 @@ correct-is s i b nodes same lt is =
     let faulty : b ≡ has_node i s.faulty = is ∙ any-node i nodes ∙ ap (λ (ks : List NodeId). has_node i ks) same in
     rw below (ap (λ (x : Bool). not x) faulty)
 
--- ---- the book of claims
+-- ---- recorded claims
 
--- the set with one entry more
+-- The set with one more entry.
 pub booked-more : (key : List ℕ) (by : ℕ) (lent statement : List ℕ) → key ≡ by ∷ lent → lent ≡ statement → (i : ℕ) (st : List ℕ) (w old was : Bool) →
     w ≡ cond (is_eq (slice_cmp nat_cmp key (i ∷ st))) true old → old ≡ was → w ≡ cond ((by == i) && same_bytes statement st) true was
 booked-more key by lent statement is same i st w old was e h =
@@ -57,14 +57,14 @@ turned true false r = refl
 turned false true r = refl
 turned false false r = refl
 
--- an entry behind others is as good as before them
+-- The position of an entry does not matter.
 moved : (i : ℕ) (st : List ℕ) (xs : List Signed) (x : Signed) (book : List Signed) → has_signed i st ((xs ++ x ∷ []) ++ book) ≡ has_signed i st (x ∷ (xs ++ book))
 moved i st [] x book = refl
 moved i st (y ∷ xs) x book =
     ap (λ (b : Bool). cond ((y.by == i) && same_bytes y.statement st) true b) (moved i st xs x book)
     ∙ turned ((y.by == i) && same_bytes y.statement st) ((x.by == i) && same_bytes x.statement st) (has_signed i st (xs ++ book))
 
--- the claims up to place k, and the one there
+-- The first k claims and the next one.
 pub signed-next : (v : List (List ℕ)) (own : List Claim) (k : ℕ) (c : Claim) (book : List Signed) → k < length own → c ≡ get_or own k c →
     AreSigned v (record { by = c.by.0; statement = c.statement } ∷ (as_signed (take k own) ++ book)) → AreSigned v (as_signed (take (k + 1) own) ++ book)
 signed-next v own k c book lt is h = λ i st.
@@ -73,7 +73,7 @@ signed-next v own k c book lt is h = λ i st.
     ∙ ap (λ (xs : List Signed). has_signed i st (xs ++ book)) (sym (as_signed-append (take k own) (c ∷ [])))
     ∙ ap (λ (xs : List Claim). has_signed i st (as_signed xs ++ book)) (sym (take-next own k c lt is))
 
--- ---- what is forged
+-- ---- forged claims
 
 last-and : (a b c : Bool) → b ≡ true → c ≡ false → a ≡ (a && (b && not c))
 last-and true true false p q = refl
@@ -121,7 +121,7 @@ forged-at s R book (c ∷ cs) zero d lt h f = rw f refl
 forged-at s R book (c ∷ cs) (suc k) d lt h f =
     past-one (is_forged s R book c) c (get_or cs k d) (first_forged s R book (take k cs)) (first_forged s R book cs) h (λ t. forged-at s R book cs k d (omega (arith, lt)) t f)
 
--- the claim at place k is the first that is forged
+-- Claim k is the first that is forged.
 pub forged-here : (s : Setup) (R : Rules) (book : List Signed) (cs : List Claim) (k : ℕ) (c copy : Claim) → k < length cs → c ≡ get_or cs k c → first_forged s R book (take k cs) ≡ None →
     is_forged s R book c ≡ true → copy ≡ c → Some copy ≡ first_forged s R book cs
 forged-here s R book cs k c copy lt is h f e =
@@ -134,7 +134,7 @@ forged-next s R book cs k c lt is h f =
     let alone : first_forged s R book (c ∷ []) ≡ None = rw f refl in
     ap (λ (xs : List Claim). first_forged s R book xs) (take-next cs k c lt is) ∙ forged-append s R book (take k cs) (c ∷ []) h ∙ alone
 
--- ---- the book of strings
+-- ---- recorded strings
 
 no-collision : (x : List ℕ) (book : List (List ℕ)) → ((b : List ℕ) → In b book → is_collision b x ≡ false) → collision_with x book ≡ None
 no-collision x [] h = refl
@@ -161,7 +161,7 @@ one-collision b x (a ∷ book) i c h =
       | inr j ↦ one-collision b x book j c (λ y k t. h y (inr k) t)
     ])
 
--- all strings of one digest are the one that is found
+-- Every string with this digest equals the one that is found.
 same-found : (v : List (List ℕ × List ℕ)) (book : List (List ℕ)) (a b x : List ℕ) → AreHashed v book → string_at v (digest x) ≡ Some b → In a book → digest a ≡ digest x → a ≡ b
 same-found v book a b x h at i e =
     some-injective a b (sym (h.found a i) ∙ ap (λ (d : List ℕ). string_at v d) e ∙ at)
@@ -173,7 +173,7 @@ false-or : (t : Bool) → (t ≡ true → ⊥) → t ≡ false
 false-or true h = absurd (h refl)
 false-or false h = refl
 
--- nothing is found under its digest
+-- No string has this digest yet.
 pub fresh-with : (v : List (List ℕ × List ℕ)) (book : List (List ℕ)) (x : List ℕ) → AreHashed v book → string_at v (digest x) ≡ None → collision_with x book ≡ None
 fresh-with v book x h none = no-collision x book (λ a i. false-or (is_collision a x)
     (λ t. none-some a (sym none ∙ ap (λ (d : List ℕ). string_at v d) (sym (collides a x t).0) ∙ h.found a i)))
@@ -182,7 +182,7 @@ same-or-differs : (t : Bool) (a x : List ℕ) (o : Option End) → (t ≡ true �
 same-or-differs true a x o h k = sym (h refl)
 same-or-differs false a x o h k = sym (k refl)
 
--- a string is found under its digest
+-- A string with this digest is found.
 pub found-with : (v : List (List ℕ × List ℕ)) (book : List (List ℕ)) (b x : List ℕ) → AreHashed v book → string_at v (digest x) ≡ Some b → difference b x ≡ collision_with x book
 found-with v book b x h at =
     same-or-differs (same_bytes b x) b x (collision_with x book)
@@ -198,7 +198,7 @@ not-differs : (t : Bool) (a x : List ℕ) → cond t None (Some (Collision a x))
 not-differs true a x e = refl
 not-differs false a x e = absurd cc
 
--- the book with a string more that it has
+-- Adding a string that is already there.
 pub hashed-again : (v : List (List ℕ × List ℕ)) (book : List (List ℕ)) (b x : List ℕ) → AreHashed v book → string_at v (digest x) ≡ Some b → difference b x ≡ None → AreHashed v (x ∷ book)
 hashed-again v book b x h at none =
     let is : b ≡ x = same_bytes-is b x (not-differs (same_bytes b x) b x none) in
@@ -217,7 +217,7 @@ one-of : (t : Bool) (d q y x : List ℕ) (old : Option (List ℕ)) → same_byte
 one-of true d q y x old e h = inl (same_bytes-is d q e, sym (some-injective x y h))
 one-of false d q y x old e h = inr h
 
--- the book with a string more that it lacked
+-- Adding a new string.
 pub hashed-more : (v w : List (List ℕ × List ℕ)) (book : List (List ℕ)) (x : List ℕ) → AreHashed v book → string_at v (digest x) ≡ None →
     ((q : List ℕ) → string_at w q ≡ cond (is_eq (slice_cmp nat_cmp (digest x) q)) (Some x) (string_at v q)) → AreHashed w (x ∷ book)
 hashed-more v w book x h none u =
@@ -239,14 +239,14 @@ hashed-more v w book x h none u =
       ];
     }
 
--- the empty string alone
+-- Only the empty string is there.
 pub hashed-first : (w : List (List ℕ × List ℕ)) (value : List ℕ) → value ≡ [] →
     ((q : List ℕ) → string_at w q ≡ cond (is_eq (slice_cmp nat_cmp (digest []) q)) (Some value) None) → AreHashed w ([] ∷ [])
 hashed-first w value is u =
     hashed-more [] w [] [] (record { found = λ x i. absurd i; only = λ d x e. absurd (none-some x e) }) refl
     (λ q. u q ∙ ap (λ (z : List ℕ). let o : Option (List ℕ) = cond (is_eq (slice_cmp nat_cmp (digest []) q)) (Some z) None in o) is)
 
--- what stands under a string's digest
+-- The string found under a digest.
 pub at-digest : (v : List (List ℕ × List ℕ)) (d x lent : List ℕ) (o : Option (List ℕ)) → d ≡ digest lent → lent ≡ x → o ≡ string_at v d → string_at v (digest x) ≡ o
 at-digest v d x lent o ed el h =
     ap (λ (z : List ℕ). string_at v (digest z)) (sym el) ∙ ap (λ (z : List ℕ). string_at v z) (sym ed) ∙ sym h
@@ -271,7 +271,7 @@ a-difference a b x y p q t ex ey ep eq is not' =
     ap (λ (z : List ℕ). let o : Option End = Some (Collision z q) in o) ep ∙ ap (λ (z : List ℕ). let o : Option End = Some (Collision a z) in o) eq
     ∙ sym (ap (λ (k : Bool). let o : Option End = cond k None (Some (Collision a b)) in o) same)
 
--- ---- the strings of a step, one after the other
+-- ---- the strings of a step, in order
 
 past-first : (o p q : Option End) (e : End) → first_of o p ≡ None → (p ≡ None → q ≡ Some e) → first_of o q ≡ Some e
 past-first None p q e h k = k h
@@ -299,7 +299,7 @@ over-append : (xs ys book : List (List ℕ)) → push_all (xs ++ ys) book ≡ pu
 over-append [] ys book = refl
 over-append (x ∷ xs) ys book = over-append xs ys (x ∷ book)
 
--- the strings up to place k, none of which collides, and the one there
+-- The first k strings, none of which collides, and the next one.
 pub record AreApart (v : List (List ℕ × List ℕ)) (strings : List (List ℕ)) (book : List (List ℕ)) : Type 0 where
   pub none : collision_in strings book ≡ None
   pub booked : AreHashed v (push_all strings book)
@@ -319,7 +319,7 @@ pub if-ok : {A E : Type 0} (P Q : A → Type 0) (r : Result A E) → IfOk r P �
 if-ok P Q (Ok x) h f = f x h
 if-ok P Q (Err e) h f = tt
 
--- a core whose node is faulty books nothing
+-- Signatures of a core whose node is faulty are not recorded.
 pub none-booked : (s : Setup) (c : ℕ) (own : List Claim) (v : List (List ℕ)) (book : List Signed) → is_correct s c ≡ false → AreSigned v book → AreSigned v (booked s c own ++ book)
 none-booked s c own v book no' h = subst (λ (b : Bool). AreSigned v (cond b (as_signed own) [] ++ book)) (sym no') h
 
@@ -337,7 +337,7 @@ not-some (Some x) q = absurd (true≢false q)
 pub was-some : (o : Option Evidence) → is_some o ≡ true → o ≡ None → ⊥
 was-some o q e = true≢false (sym q ∙ ap (λ (z : Option Evidence). is_some z) e)
 
--- the string at place k is the first that collides
+-- String k is the first that collides.
 pub collision-told : (xs : List (List ℕ)) (k : ℕ) (x : List ℕ) (book : List (List ℕ)) (o : Option Evidence) → k < length xs → x ≡ get_or xs k x → collision_in (take k xs) book ≡ None →
     is_some o ≡ true → option_map end_of o ≡ collision_with x (push_all (take k xs) book) → option_map end_of o ≡ collision_in xs book
 collision-told xs k x book o lt is none some h =

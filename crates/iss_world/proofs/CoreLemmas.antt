@@ -1,4 +1,4 @@
--- Which node a core runs, and cores at their start.
+-- Which node a core runs, and cores at the start.
 use Rattle.std.proofs.Common.{inl, inr, ◌≡◌, ◌⊎◌, ℕ, zero, suc, ◌+◌, ◌-◌, ◌<◌, ◌≤◌, false, List, [], ◌∷◌, ◌++◌, length, length-append, slice_get, Some, refl, sym, ap, ◌∙◌, subst, arith, slice_index_or}
 use Rattle.std.proofs.lemmas.List.{length-replicate}
 use Rattle.iss_disk.specs.declared.memory.MemoryDisk.{MemoryDisk}
@@ -21,7 +21,7 @@ rising-at from n [] j d h lt = absurd (omega (arith, lt))
 rising-at from n (x ∷ xs) zero d h lt = h.1
 rising-at from n (x ∷ xs) (suc j) d h lt = rising-at (suc x.0) n xs j d h.2 (omega (arith, lt))
 
--- a faulty node is one of the nodes
+-- A faulty node is a member of the cluster.
 pub twin-below : (s : Setup) (good : IsGoodSetup s) (faulty : List NodeId) (core j : ℕ) (d : NodeId) → faulty ≡ s.faulty → core < cores_of s → s.n ≤ core → j ≡ core - s.n →
     (slice_index_or faulty j d).0 < s.n
 twin-below s good faulty core j d e lt le is =
@@ -64,7 +64,7 @@ module _ {M Msg : Type 0} (m : Module Msg) (refines : Relation M Msg) where
         places = λ i g at. (h.each i g at).place;
       })
 
-  -- fresh cores with no packets, and books with the empty string alone, stand for the start of a run
+  -- Fresh cores without packets, signatures or hashed strings refine the start of a run.
   pub fresh-runs : (s t : Setup) (nodes : List (KeptState M Msg MemoryDisk)) (net : Network) (signed : List (List ℕ)) (hashed : List (List ℕ × List ℕ)) (cores : ℕ) → cores ≡ cores_of s →
       AreFresh m refines s (cores_of s) nodes → net ≡ empty_network cores → AreSigned signed [] → AreHashed hashed ([] ∷ []) →
       RefinesMachines m refines (record { setup = t; nodes = nodes; network = net; signed = signed; hashed = hashed }) (begin_machines s)

@@ -1,4 +1,4 @@
--- Deliveries one after the other, up to one that ends the run, and what happens to the network alone.
+-- Deliveries in sequence up to one that stops the run, and events that affect only the network.
 use Rattle.std.proofs.Common.{◌≡◌, ℕ, zero, suc, ◌+◌, ◌-◌, ◌<◌, ◌≤◌, Bool, true, false, cond, List, [], ◌∷◌, ◌++◌, length, take, drop, get_or, Option, Some, None, Result, IfOk, refl, sym, ap, ◌∙◌, subst, arith}
 use Rattle.iss_base.specs.Lists.{nth}
 use Rattle.iss_rules.specs.Concrete.{request_of, rules_of}
@@ -24,7 +24,7 @@ use Rattle.iss_world.specs.declared.ends.EventOutcome.{EventOutcome}
 use Rattle.iss_world.specs.declared.ends.EventOutcome.TheVariants.{Done, Lost, Ended}
 use Rattle.iss_world.specs.declared.ends.Evidence.{Evidence}
 
--- where bytes may come from nowhere, nodes do not only stop
+-- If bytes may be injected, the module tolerates Byzantine nodes, not only crashes.
 pub not-stopping : (b : Bool) → Byzantine ≡ kind_of b → b ≡ false
 not-stopping false e = refl
 not-stopping true e = absurd cc
@@ -69,7 +69,7 @@ module _ {Msg : Type 0} (s : Setup) (F : Formats Msg) (R : Rules) (m : Module Ms
       ap (λ (n : ℕ). calms s F R m n w) e
       ∙ unless-append (pumps s F R m w).ended (pumps s F R m w) refl (calms s F R m (i + k)) (calms s F R m i) (calms s F R m k) (λ u. calms-plus i k u)
 
-  -- pumps that find nothing change nothing
+  -- A pump that finds nothing in flight changes nothing.
   calms-quiet : (k : ℕ) (u : Machines Msg) → pumps s F R m u ≡ machines_done u → calms s F R m k u ≡ machines_done u
   calms-quiet zero u e = refl
   calms-quiet (suc k) u e = ap (λ (d : Upshot Msg). unless d.ended d (calms s F R m k)) e ∙ calms-quiet k u e
@@ -109,7 +109,7 @@ module _ {M Msg : Type 0} (m : Module Msg) (refines : Relation M Msg) where
         subst (λ (b : Bool). HasChanged m refines later (cond b (machines_done w) (at_machine s F R m w i (On_packet bytes))) r) (sym e)
         (subst (λ (b : List ℕ). HasChanged m refines later (at_machine s F R m w i (On_packet b)) r) same d)
 
-    -- a client's request, where the set-up is known as another one
+    -- A client's request, if the set-up is known to equal another one.
     pub happened-asked : (t : Setup) (i client number : ℕ) (payload packet : List ℕ) → t ≡ s →
         packet ≡ (formats_of t m).wrap (record { from = 255; epoch = 0; body = OfRequest (request_of t client number payload) }) →
         HasChanged m refines later (at_machine s (formats_of s m) (rules_of s) m w i (On_packet packet)) r →
@@ -119,7 +119,7 @@ module _ {M Msg : Type 0} (m : Module Msg) (refines : Relation M Msg) where
         let there : packet ≡ made s = is ∙ ap made same in
         subst (λ (b : List ℕ). HasChanged m refines later (at_machine s (formats_of s m) (rules_of s) m w i (On_packet b)) r) there d
 
-  -- ---- many of them
+  -- ---- many deliveries
 
   still-runs : (v : SimulationState M Msg) (d : Upshot Msg) (r : EventOutcome) → HasChanged m refines v d r → ((end : Evidence) → r ≡ Ended end → ⊥) → RefinesMachines m refines v d.machines × (d.ended ≡ None)
   still-runs v d Done h no' = (h.0, h.2)
@@ -131,7 +131,7 @@ module _ {M Msg : Type 0} (m : Module Msg) (refines : Relation M Msg) where
         HasChanged m refines later (delivers s (formats_of s m) (rules_of s) m u k) r
     there-delivered u k r d = subst (λ (z : Setup). HasChanged m refines later (delivers z (formats_of z m) (rules_of z) m u k) r) same d
 
-    -- a packet more is delivered
+    -- One more packet is delivered.
     pub each-next : (packets : List ℕ) (i k : ℕ) (r : EventOutcome) → i < length packets → k ≡ get_or packets i k → (delivers_each s (formats_of s m) (rules_of s) m (take i packets) w).ended ≡ None →
         HasChanged m refines later (delivers t (formats_of t m) (rules_of t) m (delivers_each s (formats_of s m) (rules_of s) m (take i packets) w).machines k) r → ((end : Evidence) → r ≡ Ended end → ⊥) →
         HasChanged m refines later (delivers_each s (formats_of s m) (rules_of s) m (take (i + 1) packets) w) Done
@@ -146,7 +146,7 @@ module _ {M Msg : Type 0} (m : Module Msg) (refines : Relation M Msg) where
         ∙ unless-none now (delivers_each s F R m (k ∷ [])) open' ∙ unless-none one (λ z. machines_done z) on.1 in
         subst (λ (e : Upshot Msg). HasChanged m refines later e Done) (sym all) (on.0, refl, refl)
 
-    -- the packet ends the run
+    -- Delivering the packet stops the run.
     pub each-ended : (packets : List ℕ) (i k : ℕ) (r : EventOutcome) (end : Evidence) → r ≡ Ended end → i < length packets → k ≡ get_or packets i k → (delivers_each s (formats_of s m) (rules_of s) m (take i packets) w).ended ≡ None →
         HasChanged m refines later (delivers t (formats_of t m) (rules_of t) m (delivers_each s (formats_of s m) (rules_of s) m (take i packets) w).machines k) r →
         HasChanged m refines later (delivers_each s (formats_of s m) (rules_of s) m packets w) (Ended end)
@@ -169,7 +169,7 @@ module _ {M Msg : Type 0} (m : Module Msg) (refines : Relation M Msg) where
         subst (λ (ks : List ℕ). HasChanged m refines later (delivers_each s (formats_of s m) (rules_of s) m ks u) r) e
         (subst (λ (z : Setup). HasChanged m refines later (delivers_each z (formats_of z m) (rules_of z) m packets u) r) same d)
 
-    -- one pump more
+    -- One more pump.
     pub calms-next : (i : ℕ) (packets : List ℕ) (r : EventOutcome) (u : Machines Msg) → calms s (formats_of s m) (rules_of s) m i w ≡ machines_done u → packets ≡ due u.held.net.network →
         HasChanged m refines later (delivers_each t (formats_of t m) (rules_of t) m packets u) r → ((end : Evidence) → r ≡ Ended end → ⊥) →
         HasChanged m refines later (calms s (formats_of s m) (rules_of s) m (i + 1) w) Done
@@ -181,7 +181,7 @@ module _ {M Msg : Type 0} (m : Module Msg) (refines : Relation M Msg) where
         calms-plus s F R m i 1 w ∙ ap (λ (z : Upshot Msg). unless z.ended z (calms s F R m 1)) now ∙ unless-none (pumps s F R m u) (λ z. machines_done z) on.1 in
         subst (λ (z : Upshot Msg). HasChanged m refines later z Done) (sym all) (on.0, refl, refl)
 
-    -- a pump ends the run
+    -- A pump stops the run.
     pub calms-ended : (i most : ℕ) (packets : List ℕ) (r : EventOutcome) (end : Evidence) (u : Machines Msg) → r ≡ Ended end → i < most → calms s (formats_of s m) (rules_of s) m i w ≡ machines_done u → packets ≡ due u.held.net.network →
         HasChanged m refines later (delivers_each t (formats_of t m) (rules_of t) m packets u) r →
         HasChanged m refines later (calms s (formats_of s m) (rules_of s) m most w) (Ended end)
@@ -196,7 +196,7 @@ module _ {M Msg : Type 0} (m : Module Msg) (refines : Relation M Msg) where
         ∙ unless-some (pumps s F R m u) (calms s F R m rest) (end_of end) there.2 in
         subst (λ (z : Upshot Msg). HasChanged m refines later z (Ended end)) (sym all) there
 
-    -- a pump finds nothing
+    -- A pump finds nothing in flight.
     pub calms-early : (i most : ℕ) (packets : List ℕ) (u : Machines Msg) → i < most → calms s (formats_of s m) (rules_of s) m i w ≡ machines_done u → packets ≡ due u.held.net.network → packets ≡ [] → RefinesMachines m refines later u →
         HasChanged m refines later (calms s (formats_of s m) (rules_of s) m most w) Done
     calms-early i most packets u lt now e none st =
@@ -209,20 +209,20 @@ module _ {M Msg : Type 0} (m : Module Msg) (refines : Relation M Msg) where
         ap (λ (n : ℕ). calms s F R m n w) whole ∙ calms-plus s F R m i rest w ∙ ap (λ (z : Upshot Msg). unless z.ended z (calms s F R m rest)) now ∙ calms-quiet s F R m rest u quiet in
         subst (λ (z : Upshot Msg). HasChanged m refines later z Done) (sym all) (st, refl, refl)
 
-  -- what waited in cores that have not changed since
+  -- The packets in flight, while the simulation has not changed.
   pub happened-pumped : (v same later : SimulationState M Msg) (w : Machines Msg) (packets : List ℕ) (r : EventOutcome) → same ≡ v → packets ≡ due v.network → RefinesMachines m refines v w →
       HasChanged m refines later (delivers_each same.setup (formats_of same.setup m) (rules_of same.setup) m packets w) r →
       HasChanged m refines later (pumps v.setup (formats_of v.setup m) (rules_of v.setup) m w) r
   happened-pumped v same later w packets r e is st d =
       there-pumped v.setup same.setup later w (ap (λ (z : SimulationState M Msg). z.setup) e) w packets r (is ∙ ap (λ (u : Network). due u) st.network) d
 
-  -- what an event does is said of the event that it is
+  -- A fact about an event carries over to an equal event.
   pub at-event : (v later : SimulationState M Msg) (o : Result EventOutcome NoMemory) (e is : Event) → e ≡ is →
       IfOk o (λ r. (w : Machines Msg) → RefinesMachines m refines v w → HasChanged m refines later (apply_event v.setup (formats_of v.setup m) (rules_of v.setup) m w is) r) →
       IfOk o (λ r. (w : Machines Msg) → RefinesMachines m refines v w → HasChanged m refines later (apply_event v.setup (formats_of v.setup m) (rules_of v.setup) m w e) r)
   at-event v later o e is same h =
       subst (λ (z : Event). IfOk o (λ r. (w : Machines Msg) → RefinesMachines m refines v w → HasChanged m refines later (apply_event v.setup (formats_of v.setup m) (rules_of v.setup) m w z) r)) (sym same) h
 
-  -- what was not lost, and did not end the run, went on
+  -- An event that was not lost and did not stop the run was applied.
   pub going-is : (d : Upshot Msg) → d.lost ≡ None → d.ended ≡ None → d ≡ machines_done d.machines
   going-is d l e i = record { machines = d.machines; lost = l i; ended = e i }

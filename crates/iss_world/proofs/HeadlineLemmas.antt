@@ -1,4 +1,4 @@
--- A world that stands for a run goes on to stand for the run with one event more, of which the theorems of runs with restarts hold.
+-- If a world refines a run, it refines the run with one more event, and the theorems on runs with restarts apply.
 use Rattle.std.proofs.Common.{◌≡◌, ℕ, List, [], ◌∷◌, ◌++◌, sym, subst}
 use Rattle.iss_keep.specs.Deeds.{deeds_of}
 use Rattle.iss_model.proofs.Ranges.{at-cores}
@@ -25,7 +25,7 @@ use Rattle.iss_world.specs.declared.world.EventResult.TheVariants.{Done, Lost, F
 module _ {M Msg : Type 0} (m : Module Msg) (refines : Relation M Msg) (s : Setup) where
   -- ---- one event more
 
-  -- the run behind one event more
+  -- The run with one more event.
   abbrev pub further : List Event → Event → Course Msg
   further es e = run_event_if_open (course_after s m es).ended s (formats_of s m) (rules_of s) m (course_after s m es) e
 

@@ -15,13 +15,13 @@ client-number s i d is lt =
     let same : length d.clients ≡ length (keys_of s).clients = ap (λ (z : DirectoryView). length z.clients) is in
     omega (arith, count, same, lt)
 
--- a client's key, as the directory hands it out
+-- A client's key in the directory.
 pub client-keys : (s : Setup) (i : ℕ) (d : DirectoryView) (k : KeyState) → d ≡ keys_of s →
     ((n clients height : ℕ) → d ≡ directory_of n clients height → k ≡ record { secret = client_secret i; height = height; used = 0 }) →
     k ≡ record { secret = client_secret i; height = s.keys; used = 0 }
 client-keys s i d k is made = made s.n s.clients s.keys is
 
--- a request with its payload and signature is the one that its client signed
+-- The request equals the one that its client signed.
 pub signed-request : (s : Setup) (id : ReqId) (payload copy lent sig : List ℕ) (k : KeyState) →
     k ≡ record { secret = client_secret id.client; height = s.keys; used = 0 } → copy ≡ payload → lent ≡ payload →
     sig ≡ signature_of k.secret k.height id.number (request_statement id lent) →

@@ -1,4 +1,4 @@
--- What each call of a kept node, over a disk in memory, leaves of the core for which it stands.
+-- What each call of a kept node over a disk in memory does to the core that it refines.
 use Rattle.std.proofs.Common.{◌≡◌, ℕ, ◌≤◌, Bool, true, false, List, [], ◌∷◌, ◌++◌, Option, Some, None, reverse, refl, sym, ap, ◌∙◌, subst, true≢false}
 use Rattle.std.proofs.lemmas.Bool.{le-leb, lt-leb}
 use Rattle.iss_base.proofs.Lists.{some-injective}
@@ -38,13 +38,13 @@ use Rattle.iss_sb.specs.Evidence.{Module}
 use Rattle.iss_world.specs.Refines.{LeadsBy, RefinesMachine, RefinesOrShowsCore, ShowsCore, calls_to_come}
 use Rattle.iss_world.specs.Steps.{HasAnswered, IsKeptTurn, IsStop}
 
--- the same node, and again
+-- Being the same node is transitive.
 pub same-again : {M Msg : Type 0} (a b c : KeptState M Msg MemoryDisk) → IsSame a b → IsSame b c → IsSame a c
 same-again a b c p q = record { setup = q.setup ∙ p.setup; me = q.me ∙ p.me }
 
 -- ---- the disk
 
--- what is seen of a disk in memory
+-- The visible state of a disk in memory.
 abbrev pub seen : MemoryDisk → Sight
 seen disk = sight (λ (d : MemoryDisk). history_of d.file) calls_of faults_of current_of files_of disk
 
@@ -60,7 +60,7 @@ read-told : (P : File → Type 0) (history : List File) (file : File) (past : Li
 read-told P history file past told h = subst (λ (files : List File). IfTold files P) told h
 
 module _ {M Msg : Type 0} (m : Module Msg) (refines : Relation M Msg) where
-  -- ---- what it shows
+  -- ---- what it reports
 
   pub at-shows : (g : KeptState M Msg MemoryDisk) (c : Core Msg) → KeptRefinesCore m refines g c → ShowsCore m g.setup g.me.0 g c
   at-shows g c at = record {
@@ -76,7 +76,7 @@ module _ {M Msg : Type 0} (m : Module Msg) (refines : Relation M Msg) where
   pub over-shows : (g : KeptState M Msg MemoryDisk) (c : Core Msg) (d : Disk) → RefinesMachine m refines g c d → ShowsCore m g.setup g.me.0 g c
   over-shows g c d h = there-shows g c d.failed h.there
 
-  -- it is stale where its disk has failed, and nowhere else
+  -- The node is stale if and only if its disk has failed.
   there-stale : (g : KeptState M Msg MemoryDisk) (c : Core Msg) (failed : Bool) → RefinesOrShowsCore m refines g c failed → g.stale ≡ failed
   there-stale g c false h = h.fresh
   there-stale g c true h = h.0
@@ -189,7 +189,7 @@ module _ {M Msg : Type 0} (m : Module Msg) (refines : Relation M Msg) where
             };
           }
 
-      -- what a kept node answers says what became of the core and its disk
+      -- The answer of a kept node determines what became of its core and disk.
       pub answered : (answer : Answer) → IsOfNodes old.setup.n event → IsAnswer m refines (IsOfNodes old.setup.n event) old c stepped new answer → Written answer →
           new.stale ≡ makes_stale answer → (new.stale ≡ true → ShowsAsBefore old new) → HasAnswered m refines c d event stepped new answer
       answered (Kept_taken outcome) of t w stale shown = kept-turn outcome of t w
@@ -198,7 +198,7 @@ module _ {M Msg : Type 0} (m : Module Msg) (refines : Relation M Msg) where
       answered Stale of t w stale shown = t
       answered NoMemory of t w stale shown = tt
 
-      -- where it was kept, its log went on, and its epoch did not fall
+      -- If the event was journaled, the log was extended and the epoch did not fall.
       module _ (good : IsSetupOf m old.setup) (outcome : Outcome) (k : IsKeptTurn m refines d event stepped new outcome) where
         at-new : KeptRefinesCore m refines new k.turn.core
         at-new = at-working new k.turn.core (keeps d event) k.over working
@@ -250,9 +250,9 @@ module _ {M Msg : Type 0} (m : Module Msg) (refines : Relation M Msg) where
         there-still false h = at-still c node stale h
         there-still true h = (stale ∙ h.0, shows-still c h.1 as-before)
 
-    -- ---- a core made anew
+    -- ---- a recovered core
 
-    -- after a restart of its disk a node has entries that lead to the core that it stood for
+    -- After a restart of its disk, the node's entries lead to the core that it refined.
     pub restarted-leads : (c : Core Msg) (d : Disk) → RefinesMachine m refines old c d → ((name : List ℕ) → Restarts (files_of old.disk name) (files_of new.disk name)) →
         current_of new.disk ≡ current_of old.disk → new.entries ≡ old.entries → LeadsBy m new d.kept c
     restarted-leads c d over restarts current entries = record {
@@ -264,7 +264,7 @@ module _ {M Msg : Type 0} (m : Module Msg) (refines : Relation M Msg) where
     }
 
     module _ (one : (bytes : List ℕ) (r q : Reading) → Reads bytes r → Reads bytes q → r ≡ q) (events : List NodeEvent) (c : Core Msg) (leads : LeadsBy m old events c) where
-      -- it is reopened at that core
+      -- It is reopened at that core.
       pub reopened-over : (failed : Type 0) (e : Core Msg) → calls_of old.disk ≡ script [] → RefinesEntries m refines new e → IsAttached (seen old.disk) (seen new.disk) new.entries →
           LosesNone (seen old.disk) (seen new.disk) failed → RefinesMachine m refines new c (record { kept = events; passes = None; failed = false })
       reopened-over failed e works for attached loses =
@@ -282,14 +282,14 @@ module _ {M Msg : Type 0} (m : Module Msg) (refines : Relation M Msg) where
             calls = (reopens-well (seen old.disk) (seen new.disk) failed loses works).0;
           }
 
-      -- and nothing is found damaged
+      -- Reopening reports no damage.
       pub not-damaged : (at : ℕ) → IsDamaged old.setup m old.me.0 new.entries (history_of old.disk.file) at → ⊥
       not-damaged at h =
           let told = stored-told old.disk.file in
           let reads = read-told (λ file. Reads file.content (holds old.entries)) (history_of old.disk.file) told.0 told.1 told.2 leads.read in
           never-damaged one old.setup m old.me.0 old.entries new.entries c leads.leads at told.0 told.1 reads (history_of old.disk.file) told.2 h
 
-  -- over a new disk: no entries, and the core that has taken nothing
+  -- Over a new disk there are no entries, and the core has taken no event.
   pub new-leads : (g : KeptState M Msg MemoryDisk) → g.entries ≡ [] → history_of g.disk.file ≡ settled [] ∷ [] → LeadsBy m g [] initial_core
   new-leads g entries history = record {
     entries = entries;

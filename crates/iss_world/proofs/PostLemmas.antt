@@ -24,7 +24,7 @@ for-at n [] k p h e = absurd cc
 for-at n (q ∷ qs) zero p h e = let is : q ≡ p = cc in subst (λ (x : Sent). x.to < n) is h.0
 for-at n (q ∷ qs) (suc k) p h e = for-at n qs k p h.1 e
 
--- a packet for a core of the n is posted, or none
+-- Posting a packet for one of n cores keeps the network well formed.
 pub between-posted : (b : Bool) (n : ℕ) (w : Network) (p : Sent) → IsNetworkOf n w → p.to < n → IsNetworkOf n (if b then posted w p else w)
 between-posted true n w p h lt = record { held = h.held; packets = for-more n w.packets p h.packets lt }
 between-posted false n w p h lt = h
@@ -33,18 +33,18 @@ posted_to-append : (w : Network) (from : ℕ) (b : List ℕ) (xs ys : List ℕ) 
 posted_to-append w from b [] ys = refl
 posted_to-append w from b (x ∷ xs) ys = posted_to-append (posted w (record { from = from; to = x; bytes = b })) from b xs ys
 
--- a packet to each core below k, and then one to core k
+-- Packets for all cores below k, then one for core k.
 pub each-next : (w now later : Network) (from : ℕ) (b : List ℕ) (k : ℕ) → now ≡ posted_to w from b (below k) → later ≡ posted now (record { from = from; to = k; bytes = b }) → later ≡ posted_to w from b (below (k + 1))
 each-next w now later from b k e l =
     l ∙ ap (λ (u : Network). posted u (record { from = from; to = k; bytes = b })) e
     ∙ sym (posted_to-append w from b (below k) (k ∷ []))
     ∙ ap (λ (m : ℕ). posted_to w from b (below m)) (sym (add-one k))
 
--- the elements up to place i, and the one there
+-- The first i elements and the next one.
 pub take-next : {A : Type 0} (xs : List A) (i : ℕ) (x : A) → i < length xs → x ≡ get_or xs i x → take (i + 1) xs ≡ take i xs ++ x ∷ []
 take-next {A} xs i x lt is = rw add-one (take-suc xs i x lt ∙ ap (λ (y : A). take i xs ++ y ∷ []) (sym is))
 
--- the sends up to place i, and the one there
+-- The first i sends and the next one.
 pub all-next : (n : Setup) (w now later : Network) (from : ℕ) (xs : List (To × List ℕ)) (i : ℕ) (x : To × List ℕ) → i < length xs → x ≡ get_or xs i x → now ≡ posted_all n w from (take i xs) → later ≡ posted_to now from x.1 (addressees n x.0) → later ≡ posted_all n w from (take (i + 1) xs)
 all-next n w now later from xs i x lt is e l =
     l ∙ ap (λ (u : Network). posted_to u from x.1 (addressees n x.0)) e
@@ -94,7 +94,7 @@ one-below s k (suc i) lt le =
           ap (λ (zs : List ℕ). zs ++ filter P (i ∷ [])) (one-below s k i far (omega (arith, le))) ∙ ap (λ (zs : List ℕ). k ∷ zs) (keep-one false P i other)
     ]
 
--- of the nodes' own cores one is that of node k
+-- Among the first n cores, exactly one runs node k.
 pub own-core : (s : Setup) (k : ℕ) → k < s.n → filter (λ c. node_of s c == k) (below s.n) ≡ k ∷ []
 own-core s k lt = one-below s k s.n lt (omega arith)
 
@@ -102,7 +102,7 @@ pub own-posted : (s : Setup) (w later : Network) (from : ℕ) (b : List ℕ) (k 
     later ≡ posted_to w from b (filter (λ c. node_of s c == k) (below s.n))
 own-posted s w later from b k lt e = e ∙ ap (λ (zs : List ℕ). posted_to w from b zs) (sym (own-core s k lt))
 
--- one core more is posted to, or passed over
+-- One more core gets the packet or is skipped.
 pub core-next : (s : Setup) (w now later : Network) (from : ℕ) (b : List ℕ) (k c : ℕ) → now ≡ posted_to w from b (filter (λ c. node_of s c == k) (below c)) →
     later ≡ posted_to now from b (filter (λ c. node_of s c == k) (c ∷ [])) → later ≡ posted_to w from b (filter (λ c. node_of s c == k) (below (c + 1)))
 core-next s w now later from b k c e l =

@@ -1,4 +1,4 @@
--- One step of a core, and the run that the cores stand for.
+-- One step of a core refines the model's step.
 use Rattle.std.proofs.Common.{inl, inr, ◌≡◌, ◌≢◌, ◌⊎◌, ℕ, zero, suc, ◌<◌, ◌≤◌, Bool, true, false, cond, List, [], ◌∷◌, ◌++◌, length, take, set, slice_get, Option, Some, None, reverse, refl, sym, ap, ◌∙◌, subst, arith}
 use Rattle.std.specs.Prelude.{eqb, option_map}
 use Rattle.std.proofs.lemmas.Bool.Decides.{eqb_tells}
@@ -67,7 +67,7 @@ length-set_at [] i a = refl
 length-set_at (x ∷ xs) zero a = refl
 length-set_at (x ∷ xs) (suc i) a = ap suc (length-set_at xs i a)
 
--- what stands at place j after a write at place i
+-- The element at index j after a write at index i.
 pub written : {A : Type 0} (xs : List A) (i j : ℕ) (a g : A) → i < length xs → slice_get (set xs i a) j ≡ Some g →
     ((eqb j i ≡ true) × (j ≡ i) × (g ≡ a)) ⊎ ((eqb j i ≡ false) × (slice_get xs j ≡ Some g))
 written {A} xs i j a g lt h =
@@ -81,11 +81,11 @@ written {A} xs i j a g lt h =
       | inr t ↦ inr (t.0, sym (get-set_other xs i j a t.1) ∙ h)
     ]
 
--- ---- what is tested
+-- ---- tests of claims and strings
 
 module _ {Msg : Type 0} (m : Module Msg) (s : Setup) (F : Formats Msg) (h : Held Msg) (c : ℕ) (event : NodeEvent) (claims : List Claim)
     (are : claims ≡ claims_at F (rules_of s) m (node_of s c) (h.net.cores c) event) where
-  -- the event's own claims are not forged
+  -- The event's own claims are not forged.
   pub at-stepped : first_forged s (rules_of s) h.signed claims ≡ None →
       at_core s F (rules_of s) m h c event ≡ stepped_to s h c (step F (rules_of s) m (node_of s c) (h.net.cores c) event)
   at-stepped none =
@@ -125,7 +125,7 @@ kept-end o e p q h = sym (ap (λ (z : Option Evidence). option_map end_of z) q) 
 pub no-end : (o : Option Evidence) (p : Option End) → o ≡ None → option_map end_of o ≡ p → p ≡ None
 no-end o p q h = sym h ∙ ap (λ (z : Option Evidence). option_map end_of z) q
 
--- why a step ends the run, by its early claims, and by its strings
+-- The evidence that a step reveals: by claims that arrived early, then by strings.
 pub ends-forged : (s : Setup) (signed : List Signed) (hashed strings : List (List ℕ)) (early lent : List Claim) (claim : Claim) (o : Option Claim) → lent ≡ early → o ≡ Some claim →
     o ≡ first_forged s (rules_of s) signed lent → Some (Forged claim) ≡ ends_by s signed hashed early strings
 ends-forged s signed hashed strings early lent claim o same some is =
@@ -138,7 +138,7 @@ ends-collided s signed hashed strings lent-strings early lent o end same same-st
     let no' : None ≡ first_forged s (rules_of s) signed early = sym none ∙ is ∙ ap (λ (cs : List Claim). first_forged s (rules_of s) signed cs) same in
     e ∙ ap (λ (xs : List (List ℕ)). collision_in xs hashed) same-strings ∙ ap (λ (q : Option Claim). first_of (forged_in q) (collision_in strings hashed)) no'
 
--- a turn's claims and strings are those that are handed out
+-- The turn's claims and strings are those of the released outcome.
 made-ends : (s : Setup) {Msg : Type 0} (h : Held Msg) (t : Turn Msg) (o : Outcome) → IsMade t o → ends_by s h.signed h.hashed o.early o.hashed ≡ ends_by s h.signed h.hashed t.early t.strings
 made-ends s h t o made =
     ap (λ (cs : List Claim). ends_by s h.signed h.hashed cs o.hashed) made.early ∙ ap (λ (xs : List (List ℕ)). ends_by s h.signed h.hashed t.early xs) made.hashed
@@ -156,7 +156,7 @@ module _ {Msg : Type 0} (m : Module Msg) (s : Setup) (F : Formats Msg) (w : Mach
   abbrev ended_with : Claim → Upshot Msg
   ended_with claim = record { machines = w; lost = None; ended = Some (Forged claim) }
 
-  -- a core whose disk has failed takes nothing
+  -- A core whose disk has failed takes no event.
   pub machine-stopped : (w.disks c).failed ≡ true → at_machine s F (rules_of s) m w c event ≡ machines_lost w Stopped
   machine-stopped e = ap (λ (b : Bool). cond b (machines_lost w Stopped) (by_step s F (rules_of s) m w c event its_step)) e
 
@@ -180,7 +180,7 @@ module _ {Msg : Type 0} (m : Module Msg) (s : Setup) (F : Formats Msg) (w : Mach
         (ap (λ (d : Happening Msg). with_disks w (kept_at w c event) d) (at-forged m s F w.held c event claims are claim is))
         (ap (λ (o : Option Claim). stops o w c) (first-is (Some claim) (sym is)))
 
-    -- what it claims is forged
+    -- The event claims a forged signature.
     pub machine-forged : (claim : Claim) → Some claim ≡ first_forged s (rules_of s) w.held.signed claims → at_machine s F (rules_of s) m w c event ≡ ended_with claim
     machine-forged claim is = machine-goes working ∙ forged-step claim is its_step
 
@@ -194,12 +194,12 @@ module _ {Msg : Type 0} (m : Module Msg) (s : Setup) (F : Formats Msg) (w : Mach
         (at-stepped m s F w.held c event claims are none ∙ ap (λ (o : Stepped Msg). stepped_to s w.held c o) q)
         ∙ ap (λ (o : Option Claim). cond room (with_disks w (kept_at w c event) (stepped_to s w.held c (Taken turn))) (stops o w c)) (first-is None none)
 
-    -- and where nothing is, it is stepped
+    -- If no claim is forged, the core is stepped.
     pub machine-kept : first_forged s (rules_of s) w.held.signed claims ≡ None → at_machine s F (rules_of s) m w c event ≡ kept_to s w c event its_step
     machine-kept none = machine-goes working ∙ kept-step none its_step refl
 
 module _ {M Msg : Type 0} (m : Module Msg) (refines : Relation M Msg) where
-  -- ---- what the cores show
+  -- ---- what the cores report
 
   core-shown : (v : SimulationState M Msg) (i : ℕ) (g : KeptState M Msg MemoryDisk) (c : Core Msg) → IsSimulation m v → slice_get v.nodes i ≡ Some g →
       ShowsCore m g.setup g.me.0 g c → ShowsCore m v.setup (node_of v.setup i) g c
@@ -237,7 +237,7 @@ module _ {M Msg : Type 0} (m : Module Msg) (refines : Relation M Msg) where
   pub same-network : (v : SimulationState M Msg) → IsSimulation m v → IsNetworkOf (length v.nodes) v.network
   same-network v h = subst (λ (k : ℕ). IsNetworkOf k v.network) (sym h.count) h.network
 
-  -- with another network, and other books
+  -- The same cores with another network and other records.
   pub with-network : (v : SimulationState M Msg) (net : Network) (signed : List (List ℕ)) (hashed : List (List ℕ × List ℕ)) → IsSimulation m v → IsNetworkOf (length v.nodes) net →
       IsSimulation m (record { setup = v.setup; nodes = v.nodes; network = net; signed = signed; hashed = hashed })
   with-network v net signed hashed h hn = record {
@@ -252,7 +252,7 @@ module _ {M Msg : Type 0} (m : Module Msg) (refines : Relation M Msg) where
     abbrev v_later : SimulationState M Msg
     v_later = record { setup = v.setup; nodes = set v.nodes i later; network = v.network; signed = v.signed; hashed = v.hashed }
 
-    -- it stands for its core over its disk later, and all others stand as they stood
+    -- One core changes with its disk, and all others stay.
     pub runs-later : (w next : Machines Msg) → RefinesMachines m refines v w → RefinesMachine m refines later (next.held.net.cores i) (next.disks i) →
         ((j : ℕ) → eqb j i ≡ false → (next.held.net.cores j ≡ w.held.net.cores j) × (next.disks j ≡ w.disks j)) →
         v.network ≡ next.held.net.network → AreSigned v.signed next.held.signed → AreHashed v.hashed next.held.hashed → RefinesMachines m refines v_later next
@@ -273,12 +273,12 @@ module _ {M Msg : Type 0} (m : Module Msg) (refines : Relation M Msg) where
         runs-later w (with_disk w i d) st (subst (λ (x : Disk). RefinesMachine m refines later (w.held.net.cores i) x) (sym (set_at-same w.disks i d)) here)
         (λ j e. (refl, ap (λ (b : Bool). cond b d (w.disks j)) e)) st.network st.signed st.hashed
 
-    -- a disk that is to fail
+    -- A disk that is going to fail.
     pub crashed : (w : Machines Msg) (calls : ℕ) → RefinesMachines m refines v w → RefinesMachine m refines later (w.held.net.cores i) (fused (w.disks i) calls) →
         HasChanged m refines v_later (machines_done (with_disk w i (fused (w.disks i) calls))) Done
     crashed w calls st here = (runs-disk w (fused (w.disks i) calls) st here, refl, refl)
 
-    -- a core that is made anew
+    -- A core that is recovered.
     pub remade-runs : (w : Machines Msg) → RefinesMachines m refines v w → RefinesMachine m refines later (w.held.net.cores i) (works_again (w.disks i)) →
         HasChanged m refines v_later (machines_done (recover v.setup (formats_of v.setup m) (rules_of v.setup) m w i)) Done
     remade-runs w st here =
@@ -298,11 +298,11 @@ module _ {M Msg : Type 0} (m : Module Msg) (refines : Relation M Msg) where
         )
 
   module _ (v : SimulationState M Msg) (i : ℕ) (g : KeptState M Msg MemoryDisk) (event : NodeEvent) (r : IsSimulation m v) (at : slice_get v.nodes i ≡ Some g) where
-    -- it is stale where its disk has failed
+    -- The node is stale if and only if its disk has failed.
     pub stale-here : (w : Machines Msg) → RefinesMachines m refines v w → g.stale ≡ (w.disks i).failed
     stale-here w st = over-stale m refines g (w.held.net.cores i) (w.disks i) (st.cores i g at)
 
-    -- its claims, as the model's core reads them
+    -- The claims of the event, as the model's core reads them.
     pub claims-here : (claims : List Claim) → ((c : Core Msg) → KeptRefinesCore m refines g c →
         claims ≡ claims_at (formats_of g.setup m) (rules_of g.setup) m g.me.0 c event) → (w : Machines Msg) → RefinesMachines m refines v w → (w.disks i).failed ≡ false →
         claims ≡ claims_at (formats_of v.setup m) (rules_of v.setup) m (node_of v.setup i) (w.held.net.cores i) event
@@ -325,7 +325,7 @@ module _ {M Msg : Type 0} (m : Module Msg) (refines : Relation M Msg) where
           ap (λ (k : ℕ). step (formats_of v.setup m) (rules_of v.setup) m k (w.held.net.cores i) event) (sym (r.places i g at))
           ∙ ap (λ (s : Setup). step (formats_of s m) (rules_of s) m g.me.0 (w.held.net.cores i) event) (sym (r.setups i g at))
 
-      -- the answer in its arms
+      -- The answer, case by case.
       answer-is : (w : Machines Msg) → RefinesMachines m refines v w → (w.disks i).failed ≡ false → (a : Answer) → answer ≡ a →
           HasAnswered m refines (w.held.net.cores i) (w.disks i) event (step_there w) later a
       answer-is w st working a is =
@@ -333,7 +333,7 @@ module _ {M Msg : Type 0} (m : Module Msg) (refines : Relation M Msg) where
           subst (λ (z : Answer). HasAnswered m refines (w.held.net.cores i) (w.disks i) event (step_there w) later z) is
           (f (w.held.net.cores i) (w.disks i) (st.cores i g at) working named)
 
-      -- it was dropped, and all is as it was
+      -- The event was dropped, and nothing has changed.
       pub step-dropped : (why : Why) → answer ≡ Kept_dropped why → (w : Machines Msg) → RefinesMachines m refines v w → (w.disks i).failed ≡ false →
           HasChanged m refines (v_later v i g later r lt at) (kept_to v.setup w i event (step_here w)) (Lost why)
       step-dropped why is w st working =
@@ -342,7 +342,7 @@ module _ {M Msg : Type 0} (m : Module Msg) (refines : Relation M Msg) where
           subst (λ (s : Stepped Msg). HasChanged m refines (v_later v i g later r lt at) (kept_to v.setup w i event s) (Lost why)) (sym dropped)
           (runs-later v i g later r lt at w w st t.1 (λ j e. (refl, refl)) st.network st.signed st.hashed, refl, refl)
 
-      -- the disk failed before the event was kept
+      -- The disk failed before the event was journaled.
       pub step-stopped : answer ≡ Failed → (w : Machines Msg) → RefinesMachines m refines v w → (w.disks i).failed ≡ false →
           HasChanged m refines (v_later v i g later r lt at) (kept_to v.setup w i event (step_here w)) (Lost Stopped)
       step-stopped is w st working =
@@ -353,7 +353,7 @@ module _ {M Msg : Type 0} (m : Module Msg) (refines : Relation M Msg) where
           subst (λ (u : Upshot Msg). HasChanged m refines (v_later v i g later r lt at) u (Lost Stopped)) (sym (ap (λ (s : Stepped Msg). kept_to v.setup w i event s) taken ∙ stopped))
           (runs-disk v i g later r lt at w (fails (w.disks i)) st t.over, refl, refl)
 
-      -- it was taken and kept
+      -- The event was accepted and journaled.
       module _ (outcome : Outcome) (is : answer ≡ Kept_taken outcome) (w : Machines Msg) (st : RefinesMachines m refines v w) (working : (w.disks i).failed ≡ false) where
         pub turn-kept : IsKeptTurn m refines (w.disks i) event (step_there w) later outcome
         turn-kept = answer-is w st working (Kept_taken outcome) is
@@ -364,7 +364,7 @@ module _ {M Msg : Type 0} (m : Module Msg) (refines : Relation M Msg) where
         good-there : IsSetupOf m g.setup
         good-there = subst (λ (s : Setup). IsSetupOf m s) (sym (r.setups i g at)) r.good
 
-        -- the log only grows, and so does the epoch
+        -- The log was extended, and the epoch did not fall.
         grown : GoesOn g.node.state.log.entries later.node.state.log.entries
         grown = log-grown m refines g later same (w.held.net.cores i) (w.disks i) (st.cores i g at) working event good-there outcome turn-kept
 
@@ -381,7 +381,7 @@ module _ {M Msg : Type 0} (m : Module Msg) (refines : Relation M Msg) where
             let there : k ≡ later = some-injective k later (sym e ∙ get-set_same v.nodes i later lt) in
             subst (λ (z : KeptState M Msg MemoryDisk). epoch ≤ z.node.state.epoch) (sym there) (omega (arith, was, far))
 
-        -- the core has taken its turn, and all else stands as it stood
+        -- The core took its turn, and everything else is unchanged.
         pub behind : (slots epoch : ℕ) → slots ≡ length g.node.state.log.entries → epoch ≡ g.node.state.epoch →
             IsBehind m refines (v_later v i g later r lt at) w (kept_at w i event) i turn-kept.turn slots epoch
         behind slots epoch are was =
@@ -415,11 +415,11 @@ module _ {M Msg : Type 0} (m : Module Msg) (refines : Relation M Msg) where
             ap (λ (b : Bool). cond b (with_disks w (kept_at w i event) (stepped_to v.setup w.held i (Taken t.turn))) (machines_lost (with_disk w i (fails (w.disks i))) Stopped)) t.room in
             subst (λ (u : Upshot Msg). HasChanged m refines new u x) (sym (ap (λ (s : Stepped Msg). kept_to v.setup w i event s) taken ∙ kept)) k
 
-  -- ---- what became of a turn
+  -- ---- the effect of a turn
 
   module _ (v : SimulationState M Msg) (i : ℕ) (r : IsSimulation m v) (lt : i < length v.nodes) (w : Machines Msg) (behind-it : ℕ → Disk) (t : Turn Msg) (slots epoch : ℕ)
       (b : IsBehind m refines v w behind-it i t slots epoch) where
-    -- the core retreats
+    -- The core retreats.
     module _ (g later : KeptState M Msg MemoryDisk) (at : slice_get v.nodes i ≡ Some g) (cut : later.node.state.log.entries ≡ take slots g.node.state.log.entries)
         (back : later.node.state.epoch ≡ epoch) (net : Network) (signed : List (List ℕ)) (hashed : List (List ℕ × List ℕ)) where
       pub shows-before : ShowsHeld m (record { setup = v.setup; nodes = set v.nodes i later; network = net; signed = signed; hashed = hashed }) w.held

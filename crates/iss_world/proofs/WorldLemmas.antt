@@ -1,4 +1,4 @@
--- A world that stands for a run, as events happen to it.
+-- A world that refines a run, as events are applied to it.
 use Rattle.std.proofs.Common.{inl, inr, ◌≡◌, ℕ, suc, Bool, false, List, Option, Some, None, refl, sym, subst}
 use Rattle.std.specs.Prelude.{option_map}
 use Rattle.iss_base.proofs.Lists.{none-some}
@@ -21,7 +21,7 @@ use Rattle.iss_world.specs.declared.ends.Evidence.TheVariants.{Forged, Collision
 use Rattle.iss_world.specs.declared.world.EventResult.{EventResult}
 
 module _ {M Msg : Type 0} (m : Module Msg) (refines : Relation M Msg) where
-  -- what the world stands for, its running cores stand for or show
+  -- If the world refines the machines, its simulation refines or reports them.
   shown-then : (v : WorldState M Msg) (w : Machines Msg) (o : Option (ℕ × End)) → RefinesRunUntil m refines v w o → RefinesOrShows m refines v.simulation w
   shown-then v w None k = inl k.simulation
   shown-then v w (Some at) k = inr k.shows
@@ -29,11 +29,11 @@ module _ {M Msg : Type 0} (m : Module Msg) (refines : Relation M Msg) where
   pub shown-at : (v : WorldState M Msg) (p : Course Msg) → RefinesRun m refines v p → RefinesOrShows m refines v.simulation p.machines
   shown-at v p k = shown-then v p.machines p.ended k
 
-  -- a world that was not stale
+  -- A world that was not stale.
   pub awake-at : (v : SimulationState M Msg) (end : Option Evidence) (b : Bool) (p : Course Msg) → b ≡ false → RefinesRun m refines (record { simulation = v; ended = end; stale = b }) p → RefinesRun m refines (awake v end) p
   awake-at v end b p e st = subst (λ (z : Bool). RefinesRun m refines (record { simulation = v; ended = end; stale = z }) p) e st
 
-  -- ---- an event that ends the run
+  -- ---- an event that stops the run
 
   abbrev pub then_ended : ℕ → List (ℕ × Why) → Machines Msg → Option End → Course Msg
   then_ended k drops w o = record { machines = w; event = suc k; drops = drops; ended = ended_at k o }

@@ -11,23 +11,23 @@ use Rattle.iss_rules.specs.Ends.{End, Collision}
 use Rattle.iss_model.specs.Run.{has_signed}
 use Rattle.iss_request.specs.Digest.{digest}
 
--- whether a book of claims, each behind its node's number, has the statement of a node
+-- Whether the node's statement is recorded. An entry is the node's identity, then the statement.
 abbrev pub is_booked : List (List ℕ) → ℕ → List ℕ → Bool
 is_booked v i statement = list_any (λ k. is_eq (slice_cmp nat_cmp (i ∷ statement) k)) v
 
--- it answers as the model's book does
+-- The recorded claims refine the model's.
 abbrev pub AreSigned : List (List ℕ) → List Signed → Type 0
 AreSigned v book = (i : ℕ) (statement : List ℕ) → is_booked v i statement ≡ has_signed i statement book
 
--- the string of a digest, in a book of strings, each with its digest
+-- The hashed string with this digest, if any.
 abbrev pub string_at : List (List ℕ × List ℕ) → List ℕ → Option (List ℕ)
 string_at v d = lookup (λ k. is_eq (slice_cmp nat_cmp d k)) v
 
--- each string of the model's book stands under its digest, and nothing else stands there
+-- The recorded strings refine the model's: each is found under its digest, and no other string is.
 pub record AreHashed (v : List (List ℕ × List ℕ)) (book : List (List ℕ)) : Type 0 where
   pub found : (x : List ℕ) → In x book → string_at v (digest x) ≡ Some x
   pub only : (d x : List ℕ) → string_at v d ≡ Some x → In x book × (digest x ≡ d)
 
--- what two strings of one digest show
+-- The collision of two strings with one digest, if they differ.
 abbrev pub difference : List ℕ → List ℕ → Option End
 difference first second = cond (same_bytes first second) None (Some (Collision first second))

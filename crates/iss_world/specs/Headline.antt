@@ -19,11 +19,12 @@ use Rattle.iss_world.specs.State.{WorldState}
 use Rattle.iss_world.specs.declared.world.EventResult.{EventResult}
 use Rattle.iss_world.specs.declared.world.EventResult.TheVariants.{Done, Lost, Forged, Collision, NoMemory, Stale}
 
--- the world stands for what these events make of a cluster that has taken nothing
-abbrev pub RefinesEvents : {M Msg : Type 0} → Setup → Module Msg → Relation M Msg → WorldState M Msg → List Event → Type 0
+-- The world refines the run of these events from the start.
+abbrev pub RefinesEvents : {M Msg : Type 0} → Setup → Module Msg → Relation M Msg → WorldState M Msg →
+    List Event → Type 0
 RefinesEvents s m refines v events = RefinesRun m refines v (course_after s m events)
 
--- there was memory for the event
+-- The event did not run out of memory.
 abbrev pub IsAnswered : EventResult → Type 0
 IsAnswered Done = Unit {0}
 IsAnswered (Lost why) = Unit {0}
@@ -32,20 +33,23 @@ IsAnswered (Collision first second) = Unit {0}
 IsAnswered NoMemory = ⊥
 IsAnswered Stale = ⊥
 
--- a slot that two correct nodes hold begins with the same number at both: the sum of the sizes of the batches before it
+-- If two correct nodes have a slot, its first request has the same number at both. That number is the sum of the sizes
+-- of all earlier batches.
 abbrev pub AgreeOnNumbers : {Msg : Type 0} → Setup → Module Msg → Held Msg → Type 0
 AgreeOnNumbers s m h =
     (i j slot k l : ℕ) → is_correct s i ≡ true → is_correct s j ≡ true → first_number_of (shown s m h i) slot ≡ Some k →
     first_number_of (shown s m h j) slot ≡ Some l → k ≡ l
 
--- No leaf of a core's keys signs two statements, over all crashes and restarts: what its journal's entries did has one for each leaf.
+-- No leaf of a core's keys signs two statements, over all crashes and restarts: each used leaf has one statement in the
+-- deeds of the core's journal.
 abbrev pub SignOnce : {M Msg : Type 0} → Setup → Module Msg → WorldState M Msg → Type 0
-SignOnce {M = M} {Msg = Msg} s m v = (i : ℕ) (g : KeptState M Msg MemoryDisk) → slice_get v.simulation.nodes i ≡ Some g →
+SignOnce {M = M} {Msg = Msg} s m v = (i : ℕ) (g : KeptState M Msg MemoryDisk) →
+    slice_get v.simulation.nodes i ≡ Some g →
     SignsOnceEach (frame_of s m) g.me.0 (deeds_of s m g.me.0 g.entries)
 
--- The world stands for the run of these events, up to its end if it has ended. Whatever disks failed and cores were made anew, the run
--- leads to what nodes come to that never stop, by the events that were kept: one log, with the same numbers; each request that a
--- correct node took and kept is in one place; certificates are of logs, what was adopted was delivered, and an end has evidence.
+-- The headline. The world refines the run of these events, up to the evidence that stopped it, if any (`run`). The
+-- theorems of composition and recovery hold for that run (`whole`). Correct nodes number requests alike (`numbers`),
+-- and no leaf signs two statements (`leaves`).
 -- rule: Runs: After each event the world refines the run with that event
 pub record IsHeadline {M Msg : Type 0} (s : Setup) (m : Module Msg) (refines : Relation M Msg)
     (v : WorldState M Msg) (events : List Event) : Type 0 where

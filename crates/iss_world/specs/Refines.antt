@@ -34,28 +34,31 @@ use Rattle.iss_world.specs.declared.world.EventResult.TheVariants.{Done as Resul
 
 -- ---- one core
 
--- what is known of the calls to come of a disk
+-- The results of a disk's coming calls, given its budget. `None` means that none fails.
 abbrev pub calls_to_come : Option ℕ → Passes
 calls_to_come None = script []
 calls_to_come (Some calls) = up_to calls
 
--- events as entries of a journal, which has the oldest first
+-- The journal entries of events. Events are newest first, entries oldest first.
 abbrev pub spelled : List NodeEvent → List (List ℕ)
 spelled [] = []
 spelled (event ∷ older) = spelled older ++ spell_event event ∷ []
 
--- it shows the log and the epoch of a core of node me
-pub record ShowsCore {M Msg : Type 0} (m : Module Msg) (s : Setup) (me : ℕ) (g : KeptState M Msg MemoryDisk) (c : Core Msg) : Type 0 where
+-- The kept node reports the log and the epoch of this core of node `me`.
+pub record ShowsCore {M Msg : Type 0} (m : Module Msg) (s : Setup) (me : ℕ) (g : KeptState M Msg MemoryDisk)
+    (c : Core Msg) : Type 0 where
   pub log : log_of (rules_of s) m me c.past ≡ reverse g.node.state.log.entries
   pub epoch : g.node.state.epoch ≡ c.past.epoch
 
--- a kept node is at a core, the next leaf included; or a call of its disk has failed, and it takes nothing, but shows the core
-abbrev pub RefinesOrShowsCore : {M Msg : Type 0} → Module Msg → Relation M Msg → KeptState M Msg MemoryDisk → Core Msg → (failed : Bool) → Type 0
+-- The kept node refines the core, including the next leaf. After its disk failed it is stale, and only reports the
+-- core's log and epoch.
+abbrev pub RefinesOrShowsCore : {M Msg : Type 0} → Module Msg → Relation M Msg → KeptState M Msg MemoryDisk → Core Msg →
+    (failed : Bool) → Type 0
 RefinesOrShowsCore m refines g c false = KeptRefinesCore m refines g c
 RefinesOrShowsCore m refines g c true = (g.stale ≡ true) × ShowsCore m g.setup g.me.0 g c
 
--- A kept node stands for a core over its disk. The entries of its journal are the events that the disk keeps; they lead to the core, and
--- what was synced of the file holds them.
+-- The kept node refines a core with a disk. The entries of its journal are the events on the disk. They lead to the
+-- core, and they are synced.
 pub record RefinesMachine {M Msg : Type 0} (m : Module Msg) (refines : Relation M Msg)
     (g : KeptState M Msg MemoryDisk) (c : Core Msg) (d : Disk) : Type 0 where
   pub there : RefinesOrShowsCore m refines g c d.failed
@@ -65,88 +68,99 @@ pub record RefinesMachine {M Msg : Type 0} (m : Module Msg) (refines : Relation 
   pub synced : IfTold (history_of g.disk.file) (λ file. Reads file.kept (holds g.entries))
   pub calls : calls_of g.disk ≡ calls_to_come d.passes
 
--- The entries of its journal are these events, which lead to this core, and a read of its file gives them.
-pub record LeadsBy {M Msg : Type 0} (m : Module Msg) (g : KeptState M Msg MemoryDisk) (events : List NodeEvent) (c : Core Msg) : Type 0 where
+-- The entries of its journal are these events, they lead to this core, and the file's content holds them.
+pub record LeadsBy {M Msg : Type 0} (m : Module Msg) (g : KeptState M Msg MemoryDisk) (events : List NodeEvent)
+    (c : Core Msg) : Type 0 where
   pub entries : g.entries ≡ spelled events
   pub leads : core_of g.setup m g.me.0 g.entries ≡ Some c
   pub made : core_of_kept (formats_of g.setup m) (rules_of g.setup) m g.me.0 events ≡ c
   pub read : IfTold (history_of g.disk.file) (λ file. Reads file.content (holds g.entries))
 
--- ---- all of them
+-- ---- all cores
 
--- the log of a core, newest first
+-- The log of a core, newest value first.
 abbrev pub log_at : {Msg : Type 0} → Setup → Module Msg → Held Msg → ℕ → List Value
 log_at s m h i = log_of (rules_of s) m (node_of s i) (h.net.cores i).past
 
--- each kept node stands for its core over its disk, the network is the net's, and the books hold what the model's hold
-pub record RefinesMachines {M Msg : Type 0} (m : Module Msg) (refines : Relation M Msg) (v : SimulationState M Msg) (w : Machines Msg) : Type 0 where
-  pub cores : (i : ℕ) (g : KeptState M Msg MemoryDisk) → slice_get v.nodes i ≡ Some g → RefinesMachine m refines g (w.held.net.cores i) (w.disks i)
+-- Each kept node refines its core with its disk, the network is the model's, and so are the recorded claims and
+-- strings.
+pub record RefinesMachines {M Msg : Type 0} (m : Module Msg) (refines : Relation M Msg) (v : SimulationState M Msg)
+    (w : Machines Msg) : Type 0 where
+  pub cores : (i : ℕ) (g : KeptState M Msg MemoryDisk) → slice_get v.nodes i ≡ Some g →
+      RefinesMachine m refines g (w.held.net.cores i) (w.disks i)
   pub network : v.network ≡ w.held.net.network
   pub signed : AreSigned v.signed w.held.signed
   pub hashed : AreHashed v.hashed w.held.hashed
 
--- each node shows the log and the epoch of its core
+-- Each kept node reports the log and epoch of its core.
 abbrev pub ShowsHeld : {M Msg : Type 0} → Module Msg → SimulationState M Msg → Held Msg → Type 0
 ShowsHeld {M = M} {Msg = Msg} m v h =
-    (i : ℕ) (g : KeptState M Msg MemoryDisk) → slice_get v.nodes i ≡ Some g → ShowsCore m v.setup (node_of v.setup i) g (h.net.cores i)
+    (i : ℕ) (g : KeptState M Msg MemoryDisk) → slice_get v.nodes i ≡ Some g →
+    ShowsCore m v.setup (node_of v.setup i) g (h.net.cores i)
 
--- they show the logs and epochs of what is held: they stand for it, or stopped there
-abbrev pub RefinesOrShows : {M Msg : Type 0} → Module Msg → Relation M Msg → SimulationState M Msg → Machines Msg → Type 0
+-- The simulation refines these machines, or at least reports their logs and epochs.
+abbrev pub RefinesOrShows : {M Msg : Type 0} → Module Msg → Relation M Msg → SimulationState M Msg →
+    Machines Msg → Type 0
 RefinesOrShows m refines v w = RefinesMachines m refines v w ⊎ ShowsHeld m v w.held
 
--- what the code kept of an end
+-- The model's evidence.
 abbrev pub end_of : Evidence → End
 end_of (Evidence_forged claim) = Forged claim
 end_of (Evidence_collision first second) = Collision first second
 
--- they stand for what the event led to, with its cause; or they show what stood before the delivery in which the run ended
-abbrev pub HasChanged : {M Msg : Type 0} → Module Msg → Relation M Msg → SimulationState M Msg → Upshot Msg → EventOutcome → Type 0
+-- The simulation refines the state after the event, with its reason of loss if it was lost. If the event revealed
+-- evidence, the simulation reports the logs and epochs from before that delivery.
+abbrev pub HasChanged : {M Msg : Type 0} → Module Msg → Relation M Msg → SimulationState M Msg → Upshot Msg →
+    EventOutcome → Type 0
 HasChanged m refines v d Done = RefinesMachines m refines v d.machines × (d.lost ≡ None) × (d.ended ≡ None)
 HasChanged m refines v d (Lost why) = RefinesMachines m refines v d.machines × (d.lost ≡ Some why) × (d.ended ≡ None)
 HasChanged m refines v d (Ended end) = ShowsHeld m v d.machines.held × (d.lost ≡ None) × (d.ended ≡ Some (end_of end))
 
--- they stand for some run: they came of a start, and of events for which there was memory
+-- The simulation refines some state of the model.
 abbrev pub RefinesSome : {M Msg : Type 0} → Module Msg → Relation M Msg → SimulationState M Msg → Type 0
 RefinesSome {Msg = Msg} m refines v = (w : Machines Msg) × RefinesMachines m refines v w
 
--- a kept node of this set-up, run by core c, that has taken nothing, over a new disk
-pub record IsFresh {M Msg : Type 0} (m : Module Msg) (refines : Relation M Msg) (s : Setup) (c : ℕ) (g : KeptState M Msg MemoryDisk) : Type 0 where
+-- A kept node for core c of this set-up that has taken no event, over a new disk.
+pub record IsFresh {M Msg : Type 0} (m : Module Msg) (refines : Relation M Msg) (s : Setup) (c : ℕ)
+    (g : KeptState M Msg MemoryDisk) : Type 0 where
   pub refined : RefinesMachine m refines g initial_core new_disk
   pub setup : g.setup ≡ s
   pub place : g.me.0 ≡ node_of s c
 
--- the first k cores, none of which has taken anything
+-- The first k cores, none of which has taken an event.
 pub record AreFresh {M Msg : Type 0} (m : Module Msg) (refines : Relation M Msg)
     (s : Setup) (k : ℕ) (nodes : List (KeptState M Msg MemoryDisk)) : Type 0 where
   pub count : length nodes ≡ k
   pub each : (i : ℕ) (g : KeptState M Msg MemoryDisk) → slice_get nodes i ≡ Some g → IsFresh m refines s i g
 
--- the world stands for what is held: its run goes on, and memory was never wanting
-pub record WorldRefinesMachines {M Msg : Type 0} (m : Module Msg) (refines : Relation M Msg) (v : WorldState M Msg) (w : Machines Msg) : Type 0 where
+-- The world refines these machines: its run goes on, and memory has sufficed.
+pub record WorldRefinesMachines {M Msg : Type 0} (m : Module Msg) (refines : Relation M Msg) (v : WorldState M Msg)
+    (w : Machines Msg) : Type 0 where
   pub fresh : v.stale ≡ false
   pub goes_on : v.ended ≡ None
   pub simulation : RefinesMachines m refines v.simulation w
 
--- its run has ended so, and it shows what was held before
+-- The run has stopped with this evidence, and the world reports the state from before.
 -- rule: Evidence: A world whose run has ended repeats its evidence and shows the state before it
 pub record HasEnded {M Msg : Type 0} (m : Module Msg) (v : WorldState M Msg) (h : Held Msg) (end : End) : Type 0 where
   pub fresh : v.stale ≡ false
   pub ended : option_map end_of v.ended ≡ Some end
   pub shows : ShowsHeld m v.simulation h
 
-abbrev pub RefinesRunUntil : {M Msg : Type 0} → Module Msg → Relation M Msg → WorldState M Msg → Machines Msg → Option (ℕ × End) → Type 0
+abbrev pub RefinesRunUntil : {M Msg : Type 0} → Module Msg → Relation M Msg → WorldState M Msg → Machines Msg →
+    Option (ℕ × End) → Type 0
 RefinesRunUntil m refines v w None = WorldRefinesMachines m refines v w
 RefinesRunUntil m refines v w (Some at) = HasEnded m v w.held at.1
 
--- the world stands for a run so far, whether or not it has ended
+-- The world refines this run, stopped or not.
 abbrev pub RefinesRun : {M Msg : Type 0} → Module Msg → Relation M Msg → WorldState M Msg → Course Msg → Type 0
 RefinesRun m refines v p = RefinesRunUntil m refines v p.machines p.ended
 
--- a world whose memory sufficed
+-- A world that has not run out of memory.
 abbrev pub awake : {M Msg : Type 0} → SimulationState M Msg → Option Evidence → WorldState M Msg
 awake v end = record { simulation = v; ended = end; stale = false }
 
--- the answer of a run that has ended
+-- The result of every event once this evidence has stopped the run.
 abbrev pub result_of : Evidence → EventResult
 result_of (Evidence_forged claim) = Result_forged claim.by claim.statement claim.sig
 result_of (Evidence_collision first second) = Result_collision first second
@@ -155,23 +169,28 @@ abbrev pub why_ended : Option (ℕ × End) → Option End
 why_ended None = None
 why_ended (Some at) = Some at.1
 
--- what an answer says of the run before and after an event: the world stands for it, and the answer is the loss that was noted,
--- or the end; or memory was wanting. A world that stands for a run is not stale
-abbrev pub HasHappened : {M Msg : Type 0} → Module Msg → Relation M Msg → WorldState M Msg → Course Msg → Course Msg → EventResult → Type 0
+-- What a result says about the run before and after an event. The world refines the run after it, and the result is the
+-- loss or the evidence that the run notes. After `NoMemory` the world is stale. A world that refines a run never
+-- answers `Stale`.
+abbrev pub HasHappened : {M Msg : Type 0} → Module Msg → Relation M Msg → WorldState M Msg → Course Msg → Course Msg →
+    EventResult → Type 0
 HasHappened m refines v old new Result_done = RefinesRun m refines v new × (new.ended ≡ None) × (new.drops ≡ old.drops)
-HasHappened m refines v old new (Result_lost why) = RefinesRun m refines v new × (new.ended ≡ None) × (new.drops ≡ (old.event, why) ∷ old.drops)
+HasHappened m refines v old new (Result_lost why) = RefinesRun m refines v new × (new.ended ≡ None)
+    × (new.drops ≡ (old.event, why) ∷ old.drops)
 HasHappened m refines v old new (Result_forged by statement sig) =
-    RefinesRun m refines v new × (why_ended new.ended ≡ Some (Forged (record { by = by; statement = statement; sig = sig })))
-HasHappened m refines v old new (Result_collision first second) = RefinesRun m refines v new × (why_ended new.ended ≡ Some (Collision first second))
+    RefinesRun m refines v new
+    × (why_ended new.ended ≡ Some (Forged (record { by = by; statement = statement; sig = sig })))
+HasHappened m refines v old new (Result_collision first second) = RefinesRun m refines v new
+    × (why_ended new.ended ≡ Some (Collision first second))
 HasHappened m refines v old new NoMemory = v.stale ≡ true
 HasHappened m refines v old new Stale = ⊥
 
--- a world from which memory was wanting answers that it is stale, and stays as it is; no other does
+-- A world answers `Stale` if and only if it is stale, and then it does not change.
 pub record IsStaleOr {M Msg : Type 0} (old new : WorldState M Msg) (r : EventResult) : Type 0 where
   pub exactly : (r ≡ Stale) ↔ (old.stale ≡ true)
   pub same : old.stale ≡ true → new ≡ old
 
--- once the run has ended nothing changes any more
+-- Nothing changes after the run has stopped.
 pub record IsOverOr {M Msg : Type 0} (old new : WorldState M Msg) : Type 0 where
   pub simulation : (end : Evidence) → old.ended ≡ Some end → new.simulation ≡ old.simulation
   pub ended : (end : Evidence) → old.ended ≡ Some end → new.ended ≡ old.ended

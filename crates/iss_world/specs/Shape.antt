@@ -12,12 +12,12 @@ use Rattle.iss_world.specs.State.{SimulationState, WorldState}
 use Rattle.iss_world.specs.Refines.{RefinesSome}
 use Rattle.iss_sb.specs.Calls.{Relation}
 
--- the packets are for cores below n
+-- All packets are for cores below n.
 abbrev pub AreForCores : ℕ → List Sent → Type 0
 AreForCores n [] = Unit {0}
 AreForCores n (p ∷ ps) = (p.to < n) × AreForCores n ps
 
--- a network between n cores
+-- A network between n cores.
 pub record IsNetworkOf (n : ℕ) (w : Network) : Type 0 where
   pub held : length w.held ≡ n
   pub packets : AreForCores n w.packets
@@ -29,6 +29,6 @@ pub record IsSimulation {M Msg : Type 0} (m : Module Msg) (v : SimulationState M
   pub setups : (i : ℕ) (g : KeptState M Msg MemoryDisk) → slice_get v.nodes i ≡ Some g → g.setup ≡ v.setup
   pub places : (i : ℕ) (g : KeptState M Msg MemoryDisk) → slice_get v.nodes i ≡ Some g → g.me.0 ≡ node_of v.setup i
 
--- a world stands for some run, as long as that goes on and memory was never wanting
+-- The invariant of a world: it refines some run, unless it is stale or its run has stopped.
 abbrev pub IsWorld : {M Msg : Type 0} → Module Msg → Relation M Msg → WorldState M Msg → Type 0
 IsWorld m refines v = v.stale ≡ false → v.ended ≡ None → RefinesSome m refines v.simulation

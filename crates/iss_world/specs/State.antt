@@ -9,17 +9,17 @@ use Rattle.iss_world.specs.declared.ends.Evidence.{Evidence}
 
 pub record SimulationState (M Msg : Type 0) : Type 0 where
   pub setup : Setup
-  -- the cores, ascending, each over a disk of its own
+  -- The cores, ascending, each with its own disk.
   pub nodes : List (KeptState M Msg MemoryDisk)
   pub network : Network
-  -- the claims that correct nodes sent as their own, each behind its node's number, and the strings that were hashed, each with
-  -- its digest
+  -- The statements that correct nodes signed, each after its node's identity. Then the strings that were hashed, each
+  -- with its digest.
   pub signed : List (List ℕ)
   pub hashed : List (List ℕ × List ℕ)
 
 pub record WorldState (M Msg : Type 0) : Type 0 where
   pub simulation : SimulationState M Msg
-  -- why the run ended, if it has
+  -- The evidence that stopped the run, if any.
   pub ended : Option Evidence
-  -- whether memory was wanting in an event: then nothing is said of the rest
+  -- Memory ran out in an event, so nothing is known about the rest.
   pub stale : Bool

@@ -26,21 +26,22 @@ use Rattle.iss_world.specs.Books.{AreHashed, AreSigned}
 use Rattle.iss_world.specs.Refines.{RefinesMachine, RefinesMachines}
 use Rattle.iss_world.specs.State.{SimulationState}
 
--- what a step of core c leads to whose own claims were tested: the claims that it read of what had come early are tested, and
--- then its strings
+-- The effect of a step of core c whose own claims were tested. The claims in messages that arrived early are tested
+-- next, then the strings that were hashed.
 abbrev pub stepped_to : {Msg : Type 0} → Setup → Held Msg → ℕ → Stepped Msg → Happening Msg
-stepped_to s h c stepped = by_forged (first_forged s (rules_of s) h.signed (early_of stepped)) h (after_step s h c stepped)
+stepped_to s h c stepped = by_forged (first_forged s (rules_of s) h.signed (early_of stepped)) h
+    (after_step s h c stepped)
 
--- they stand for some run, in which the disk of core c has not failed
+-- The simulation refines some state in which the disk of core c has not failed.
 abbrev pub IsWorking : {M Msg : Type 0} → Module Msg → Relation M Msg → SimulationState M Msg → ℕ → Type 0
 IsWorking {Msg = Msg} m refines v c = (w : Machines Msg) × RefinesMachines m refines v w × ((w.disks c).failed ≡ false)
 
--- the disks once core c has kept an event
+-- The disks after core c journaled an event.
 abbrev pub kept_at : {Msg : Type 0} → Machines Msg → ℕ → NodeEvent → ℕ → Disk
 kept_at w c event = set_at w.disks c (keeps (w.disks c) event)
 
--- what it leads to at a core whose disk has not failed: an event that is dropped makes no call; one that is taken is kept, or the disk
--- fails, and nothing of the step comes out
+-- The effect of a step at a core with a working disk. A dropped event does not use the disk. An accepted event is
+-- journaled, or the disk fails and the step has no effect.
 abbrev pub kept_to : {Msg : Type 0} → Setup → Machines Msg → ℕ → NodeEvent → Stepped Msg → Upshot Msg
 kept_to s w c event (Dropped why) = with_disks w w.disks (stepped_to s w.held c (Dropped why))
 kept_to s w c event (Taken turn) =
@@ -48,7 +49,7 @@ kept_to s w c event (Taken turn) =
     (with_disks w (kept_at w c event) (stepped_to s w.held c (Taken turn)))
     (machines_lost (with_disk w c (fails (w.disks c))) Stopped)
 
--- The event was taken and kept: the node stands for the core behind it, and hands out what the step made.
+-- The event was accepted and journaled. The node refines the core after it and releases the outcome.
 pub record IsKeptTurn {M Msg : Type 0} (m : Module Msg) (refines : Relation M Msg) (d : Disk) (event : NodeEvent)
     (stepped : Stepped Msg) (new : KeptState M Msg MemoryDisk) (outcome : Outcome) : Type 0 where
   pub turn : Turn Msg
@@ -58,7 +59,7 @@ pub record IsKeptTurn {M Msg : Type 0} (m : Module Msg) (refines : Relation M Ms
   pub made : IsMade turn outcome
   pub addressed : AreToNodes new.setup.n outcome.sends
 
--- It would have been taken, but a call of the disk failed before it was kept.
+-- The event would have been accepted, but the disk failed before it was journaled.
 pub record IsStop {M Msg : Type 0} (m : Module Msg) (refines : Relation M Msg) (c : Core Msg) (d : Disk)
     (stepped : Stepped Msg) (new : KeptState M Msg MemoryDisk) : Type 0 where
   pub turn : Turn Msg
@@ -66,11 +67,12 @@ pub record IsStop {M Msg : Type 0} (m : Module Msg) (refines : Relation M Msg) (
   pub no_room : may_keep d.passes ≡ false
   pub over : RefinesMachine m refines new c (fails d)
 
--- what a kept node answers to an event, that stood for this core over this disk
+-- The answer of a kept node that refined this core with this disk.
 abbrev pub HasAnswered : {M Msg : Type 0} → Module Msg → Relation M Msg → Core Msg → Disk → NodeEvent → Stepped Msg →
     KeptState M Msg MemoryDisk → Answer → Type 0
 HasAnswered m refines c d event stepped new (Kept_taken outcome) = IsKeptTurn m refines d event stepped new outcome
-HasAnswered m refines c d event stepped new (Kept_dropped why) = (stepped ≡ Dropped why) × RefinesMachine m refines new c d
+HasAnswered m refines c d event stepped new (Kept_dropped why) = (stepped ≡ Dropped why)
+    × RefinesMachine m refines new c d
 HasAnswered m refines c d event stepped new Failed = IsStop m refines c d stepped new
 HasAnswered m refines c d event stepped new Stale = ⊥
 HasAnswered m refines c d event stepped new NoMemory = Unit {0}
@@ -79,18 +81,22 @@ abbrev pub forged_in : Option Claim → Option End
 forged_in None = None
 forged_in (Some claim) = Some (Forged claim)
 
--- why a turn ends the run, if it does: by the claims of what had come early, or by its strings
+-- The evidence that a turn reveals, if any: a forged claim in a message that arrived early, or a collision.
 abbrev pub ends_by : Setup → List Signed → List (List ℕ) → List Claim → List (List ℕ) → Option End
-ends_by s signed hashed early strings = first_of (forged_in (first_forged s (rules_of s) signed early)) (collision_in strings hashed)
+ends_by s signed hashed early strings = first_of (forged_in (first_forged s (rules_of s) signed early))
+    (collision_in strings hashed)
 
--- core c has taken a turn and kept it, of which nothing is tested, booked or posted yet: all else stands for what is held, where the core
--- had so many slots, and was in this epoch. These are the disks behind the event.
+-- Core c accepted and journaled an event, but the outcome is not yet tested, recorded or posted. Everything else still
+-- refines w. The log had `slots` slots and the epoch was `at`; `behind` are the disks after the event.
 pub record IsBehind {M Msg : Type 0} (m : Module Msg) (refines : Relation M Msg)
-    (v : SimulationState M Msg) (w : Machines Msg) (behind : ℕ → Disk) (c : ℕ) (t : Turn Msg) (slots at : ℕ) : Type 0 where
-  pub cores : (i : ℕ) (g : KeptState M Msg MemoryDisk) → slice_get v.nodes i ≡ Some g → RefinesMachine m refines g (set_at w.held.net.cores c t.core i) (behind i)
+    (v : SimulationState M Msg) (w : Machines Msg) (behind : ℕ → Disk) (c : ℕ) (t : Turn Msg)
+    (slots at : ℕ) : Type 0 where
+  pub cores : (i : ℕ) (g : KeptState M Msg MemoryDisk) → slice_get v.nodes i ≡ Some g →
+      RefinesMachine m refines g (set_at w.held.net.cores c t.core i) (behind i)
   pub network : v.network ≡ w.held.net.network
   pub signed : AreSigned v.signed w.held.signed
   pub hashed : AreHashed v.hashed w.held.hashed
   pub log : (g : KeptState M Msg MemoryDisk) → slice_get v.nodes c ≡ Some g →
-      log_of (rules_of v.setup) m (node_of v.setup c) (w.held.net.cores c).past ≡ reverse (take slots g.node.state.log.entries)
+      log_of (rules_of v.setup) m (node_of v.setup c) (w.held.net.cores c).past ≡ reverse
+      (take slots g.node.state.log.entries)
   pub epoch : at ≡ (w.held.net.cores c).past.epoch

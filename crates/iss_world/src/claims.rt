@@ -1,4 +1,4 @@
-//! The book of what correct nodes sent as signed of their own, and what is tested against it.
+//! The signatures that correct nodes made, and the test of received claims against them.
 ghost use Rattle.std.specs.Prelude.{◌≡◌, ◌==◌, ◌∷◌, ◌++◌, [], List, IfOk, OnOk, Some, nat_eq, refl};
 ghost use Rattle.std.specs.List.{list_any};
 ghost use Rattle.std.specs.Cmp.Lexicographic.{pointwise, slice_cmp, nat_list_eq_equiv, nat_list_cmp_total, texts_ties, texts_po};
@@ -19,7 +19,7 @@ use std::cmp::Ordering;
 use std::collections::BTreeSet;
 use std::marker::Model;
 
-/// A node's number, and behind it a statement that it signed.
+/// The identity of a node (1 byte), then a statement that it signed.
 #[derive(Drop)]
 pub struct Entry {
     bytes: Vec<u8>,
@@ -82,7 +82,7 @@ impl Ord for Entry {
     }
 }
 
-/// The claims that correct nodes sent as their own, each once.
+/// The statements that correct nodes signed, each once.
 #[derive(Drop)]
 pub struct Claims {
     all: BTreeSet<Entry>,
@@ -97,7 +97,7 @@ impl Model for Claims {
 }
 
 impl Claims {
-    /// None was sent.
+    /// No signature was made yet.
     pub fn new(alloc: Global) -> Claims
         ensures { AreSigned result [] }
     {
@@ -106,7 +106,7 @@ impl Claims {
         }
     }
 
-    // Whether a claim is of the node that it names, which sent it.
+    // Whether the named node did sign the statement.
     fn has(&self, alloc: Global, claim: &Claim) -> Result<bool, NoMemory>
         ensures { IfOk result (λ has. has ≡ is_booked self.now claim.now.by.0 claim.now.statement) }
     {
@@ -114,7 +114,7 @@ impl Claims {
         Ok(self.all.contains(&entry))
     }
 
-    // One claim more.
+    // Adds one claim.
     fn add(&mut self, alloc: Global, claim: &Claim) -> Result<(), NoMemory>
         ensures { OnOk result ((book : List Signed) → AreSigned self.old book →
             AreSigned self.new (record { by = claim.now.by.0; statement = claim.now.statement } ∷ book)) }
@@ -124,9 +124,10 @@ impl Claims {
         Ok(())
     }
 
-    /// Books the claims of a step.
+    /// Adds the claims that a step signed. The only error is out of memory.
     pub fn book(&mut self, alloc: Global, own: &[Claim]) -> Result<(), NoMemory>
-        ensures { OnOk result ((book : List Signed) → AreSigned self.old book → AreSigned self.new (as_signed own.now ++ book)) }
+        ensures { OnOk result ((book : List Signed) → AreSigned self.old book →
+            AreSigned self.new (as_signed own.now ++ book)) }
     {
         for claim in own {
             self.add(alloc, claim)?;
@@ -134,7 +135,7 @@ impl Claims {
         Ok(())
     }
 
-    // Whether a claim is forged: it is not booked, of a correct node, and verifies.
+    // Whether a claim is forged: it names a correct node, its signature is valid, and the node never made it.
     fn is_forged(
         &self,
         alloc: Global,
@@ -152,7 +153,7 @@ impl Claims {
         Ok(directory.verify_node(claim.by.0, claim.statement.as_slice(), claim.sig.as_slice()))
     }
 
-    /// The first claim that is forged: it is of a correct node, verifies, and is not booked.
+    /// The first forged claim: it names a correct node, its signature is valid, and the node never made it.
     pub fn first_forged(
         &self,
         alloc: Global,
@@ -173,7 +174,7 @@ impl Claims {
     }
 }
 
-/// Books the claims of a core's step, if its node is correct.
+/// Records what a core's step signed, if its node is correct.
 // rule: Evidence: The claims that correct nodes send are booked, and none of a faulty node
 pub fn book_own(
     alloc: Global,
@@ -182,7 +183,8 @@ pub fn book_own(
     own: &[Claim],
     signed: &mut Claims,
 ) -> Result<(), NoMemory>
-    ensures { OnOk result ((book : List Signed) → AreSigned signed.old book → AreSigned signed.new (booked setup.now core own.now ++ book)) }
+    ensures { OnOk result ((book : List Signed) → AreSigned signed.old book →
+        AreSigned signed.new (booked setup.now core own.now ++ book)) }
 {
     if !is_correct(setup, core) {
         return Ok(());
@@ -190,14 +192,14 @@ pub fn book_own(
     signed.book(alloc, own)
 }
 
-// Whether a node is one of these.
+// Whether `node` is in the list.
 fn is_among(nodes: &[NodeId], node: u32) -> bool
     ensures { result ≡ list_any (λ k. node == k.0) nodes.now }
 {
     nodes.iter().any(|other| node == other.0 as u32)
 }
 
-/// Whether a node is one that is not faulty.
+/// Whether `node` exists and is not faulty.
 pub fn is_correct(setup: &Setup, node: u32) -> bool
     ensures { result ≡ is_correct setup.now node }
 {

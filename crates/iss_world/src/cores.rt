@@ -1,4 +1,4 @@
-//! Which node each core runs, and cores at their start.
+//! Which node each core runs, and how cores are started and recovered.
 ghost use Rattle.std.specs.Prelude.{◌≡◌, ◌<◌, ◌≤◌, ◌+◌, List, [], None, false, length, IfOk, OnOk};
 ghost use Rattle.iss_rules.specs.declared.events.NodeEvent.{NodeEvent};
 ghost use Rattle.iss_disk.specs.Calls.{script};
@@ -19,7 +19,7 @@ use iss_request::{NoMemory, NodeId, Setup};
 use iss_sb::Sequenced;
 use std::alloc::Global;
 
-/// How many cores there are: one for each node, and a second one for each that is faulty.
+/// The number of cores: one for each node, and a twin for each faulty node.
 pub fn cores_of(setup: &Setup) -> u32
     requires { IsGoodSetup setup.now }
     ensures { result ≡ cores_of setup.now }
@@ -27,7 +27,7 @@ pub fn cores_of(setup: &Setup) -> u32
     setup.n + setup.faulty.as_slice().len() as u32
 }
 
-/// The node that a core runs.
+/// The node that a core runs. Cores `n` and above are twins of the faulty nodes, in their order.
 // rule: Runs: A faulty node runs as two cores with the same keys
 pub fn node_of(setup: &Setup, core: u32) -> NodeId
     requires good { IsGoodSetup setup.now }
@@ -41,7 +41,7 @@ pub fn node_of(setup: &Setup, core: u32) -> NodeId
     setup.faulty.as_slice()[(core - setup.n) as usize]
 }
 
-/// The keys of all nodes and clients. No tree is made before it is needed.
+/// The keys of all nodes and clients. Key trees are computed lazily. The only error is out of memory.
 pub fn directory_of(alloc: Global, setup: &Setup) -> Result<SharedDirectory, NoMemory>
     requires { IsGoodSetup setup.now }
     ensures { IfOk result (λ directory. directory ≡ keys_of setup.now) }
@@ -52,7 +52,7 @@ pub fn directory_of(alloc: Global, setup: &Setup) -> Result<SharedDirectory, NoM
     }
 }
 
-/// The cores of a cluster, ascending, each of which has taken nothing, over a new disk of its own. All share the directory.
+/// All cores of a cluster, ascending. None has taken an event; each has its own new disk, and all share the directory.
 pub fn start_cores<M: Sequenced>(
     alloc: Global,
     setup: &Setup,
@@ -69,7 +69,7 @@ pub fn start_cores<M: Sequenced>(
     Ok(nodes)
 }
 
-// A core that has taken nothing, with the keys of its node from the directory.
+// A core that has taken no event, with its node's keys from the directory.
 fn start_core<M: Sequenced>(
     alloc: Global,
     setup: &Setup,
@@ -87,7 +87,7 @@ fn start_core<M: Sequenced>(
     Ok(node)
 }
 
-/// Makes a kept node anew whose disk works, and has entries that lead to a core: then nothing but memory can be wanting.
+/// Recovers a kept node whose disk works and whose entries lead to a core. So the only possible error is out of memory.
 pub fn make_anew<M: Sequenced>(node: &mut Kept<M, MemoryDisk>) -> Result<(), NoMemory>
     requires works { calls_of node.old.disk ≡ script [] }
     requires whole { (events : List NodeEvent) × (c : Core M.Msg) × LeadsBy M.spec node.old events c }

@@ -1,12 +1,12 @@
-//! Why the run of a world ends.
+//! The evidence that stops a run.
 ghost use Rattle.std.specs.Prelude.{◌≡◌, IfOk};
 
 use iss_request::{Bytes, NoMemory};
 use iss_rules::Why;
 use iss_sb::Claim;
 
-/// Why a run ended: a claim of a correct node that it never made, or different strings of one digest, the one that was hashed
-/// earlier first.
+/// Evidence that stops a run. `Forged`: a valid signature of a correct node that the node never made. `Collision`: two
+/// different strings with one SHA-256 digest, of which `first` was hashed earlier.
 #[derive(Drop)]
 pub enum Evidence {
     Forged(Claim),
@@ -14,7 +14,7 @@ pub enum Evidence {
 }
 
 impl Evidence {
-    /// The same end once more.
+    /// A copy of the evidence. The only error is out of memory.
     pub fn copy(&self) -> Result<Evidence, NoMemory>
         ensures { IfOk result (λ end. end ≡ self.now) }
     {
@@ -28,7 +28,7 @@ impl Evidence {
     }
 }
 
-/// The same claim once more.
+/// A copy of the claim. The only error is out of memory.
 pub fn copy_of(claim: &Claim) -> Result<Claim, NoMemory>
     ensures { IfOk result (λ copy. copy ≡ claim.now) }
 {
@@ -39,7 +39,7 @@ pub fn copy_of(claim: &Claim) -> Result<Claim, NoMemory>
     })
 }
 
-// What an event changed: something, or nothing, and why, or the run ended in it.
+// What an event did: it was applied, it was lost for a reason, or it revealed evidence that stops the run.
 #[derive(Drop)]
 pub enum EventOutcome {
     Done,

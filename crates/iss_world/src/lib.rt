@@ -1,4 +1,4 @@
-//! The world of a cluster: its cores and the network between them, and what each event does to them.
+//! The simulated world of a cluster: its cores, the network between them, and the effect of each event.
 #![tactic(auto)]
 
 pub mod claims;

@@ -1,4 +1,4 @@
-//! Posting what a step of a core sends.
+//! Posting the messages that a core sends.
 ghost use Rattle.std.specs.Prelude.{◌≡◌, ◌<◌, ◌==◌, ◌∷◌, [], ℕ, length, OnOk};
 ghost use Rattle.std.specs.List.{filter};
 ghost use Rattle.iss_base.specs.Lists.{below};
@@ -13,8 +13,8 @@ use iss_network::Network;
 use iss_request::{Bytes, NoMemory, NodeId, Setup};
 use iss_sb::To;
 
-/// Posts the packets that a core's step made, in their order: for a send to all one to each core, for a send to a node one to
-/// each of its cores, ascending.
+/// Posts the packets of a step, in their order. A send to all posts one packet for each core. A send to a node posts
+/// one for each of its cores, ascending.
 pub fn post_all(
     network: &mut Network,
     setup: &Setup,
@@ -44,7 +44,8 @@ fn post_send(
     requires good { IsGoodSetup setup.now }
     requires between { IsNetworkOf (cores_of setup.now) network.old }
     requires addressed { IsToNode setup.now.n send.now.0 }
-    ensures posted { OnOk result (network.new ≡ posted_to network.old from send.now.1 (addressees setup.now send.now.0)) }
+    ensures posted { OnOk result
+        (network.new ≡ posted_to network.old from send.now.1 (addressees setup.now send.now.0)) }
     ensures between { IsNetworkOf (cores_of setup.now) network.new }
 {
     match send.0 {
@@ -65,7 +66,7 @@ fn post_to_each(network: &mut Network, n: u32, from: u32, bytes: &Bytes) -> Resu
     Ok(())
 }
 
-// Posts a packet to each core of a node: the first one, and its twins.
+// Posts a packet to each core of a node: its own core and its twins.
 fn post_to_node(
     network: &mut Network,
     setup: &Setup,
@@ -77,7 +78,8 @@ fn post_to_node(
     requires between { IsNetworkOf (cores_of setup.now) network.old }
     requires addressed { node.0 < setup.now.n }
     ensures posted { OnOk result (network.new ≡
-        posted_to network.old from bytes.now (filter (λ c. node_of setup.now c == node.0) (below (cores_of setup.now)))) }
+        posted_to network.old from bytes.now
+        (filter (λ c. node_of setup.now c == node.0) (below (cores_of setup.now)))) }
     ensures between { IsNetworkOf (cores_of setup.now) network.new }
 {
     let n = cores_of(setup);
@@ -88,7 +90,7 @@ fn post_to_node(
     Ok(())
 }
 
-// Posts a packet to a core, if it runs this node.
+// Posts a packet to a core if it runs this node.
 fn post_if_runs(
     network: &mut Network,
     setup: &Setup,
@@ -100,7 +102,8 @@ fn post_if_runs(
     requires good { IsGoodSetup setup.now }
     requires between { IsNetworkOf (cores_of setup.now) network.old }
     requires core { core < cores_of setup.now }
-    ensures posted { OnOk result (network.new ≡ posted_to network.old from bytes.now (filter (λ c. node_of setup.now c == node.0) (core ∷ []))) }
+    ensures posted { OnOk result
+        (network.new ≡ posted_to network.old from bytes.now (filter (λ c. node_of setup.now c == node.0) (core ∷ []))) }
     ensures between { IsNetworkOf (cores_of setup.now) network.new }
 {
     let runs = node_of(setup, core);
@@ -110,7 +113,7 @@ fn post_if_runs(
     post_to(network, cores_of(setup), from, core, bytes)
 }
 
-// Posts a packet to one core of the `n`.
+// Posts a packet to core `core` of `n`.
 fn post_to(
     network: &mut Network,
     n: u32,
@@ -120,7 +123,8 @@ fn post_to(
 ) -> Result<(), NoMemory>
     requires between { IsNetworkOf n network.old }
     requires core { core < n }
-    ensures posted { OnOk result (network.new ≡ posted network.old (record { from = from; to = core; bytes = bytes.now })) }
+    ensures posted { OnOk result
+        (network.new ≡ posted network.old (record { from = from; to = core; bytes = bytes.now })) }
     ensures between { IsNetworkOf n network.new }
 {
     prove!(core < n);

@@ -1,4 +1,4 @@
-//! A client's request, as a packet.
+//! A client's request as a packet.
 ghost use Rattle.std.specs.Prelude.{◌≡◌, ◌<◌, ◌≤◌, ◌^◌, IfOk, length};
 ghost use Rattle.iss_rules.specs.Concrete.{keys_of, request_of};
 ghost use Rattle.iss_rules.specs.Formats.{formats_of};
@@ -12,7 +12,8 @@ use iss_sb::Sequenced;
 use iss_segment::sign_request;
 use std::alloc::Global;
 
-/// The packet of a request that its client signs, by the leaf of the request's number.
+/// The packet of a request that its client signs, with the leaf whose index is the request's number. The only error is
+/// out of memory.
 // rule: Signatures: A request of a schedule is signed by its client, with the leaf of its number
 pub fn request_packet<M: Sequenced>(
     alloc: Global,

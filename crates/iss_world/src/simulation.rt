@@ -1,4 +1,4 @@
-//! The running cores of a cluster and the network between them, as long as there is memory.
+//! The cores of a cluster and the network between them, while memory suffices.
 ghost use Rattle.std.specs.Prelude.{◌≡◌, ◌<◌, IfOk, Some, reverse, slice_get, true, false};
 ghost use Rattle.iss_base.specs.Lists.{nth};
 ghost use Rattle.iss_model.specs.Run.{cores_of, node_of};
@@ -28,16 +28,16 @@ use iss_schedule::Event;
 use std::alloc::Global;
 use std::marker::Model;
 
-/// The cores of a cluster, the network between them, and the books of what was signed and hashed.
+/// The cores of a cluster, the network between them, and records of what was signed and hashed.
 #[derive(Drop)]
 pub struct Simulation<M: Sequenced> {
     pub(crate) setup: Setup,
-    // the keys of all nodes and clients
+    // The keys of all nodes and clients.
     pub(crate) directory: SharedDirectory,
-    // core `i` is the `i`-th, and each has a disk of its own
+    // Core `i` is at index `i`, and each core has its own disk.
     pub(crate) nodes: Vec<Kept<M, MemoryDisk>>,
     pub(crate) network: Network,
-    // what correct nodes sent as signed of their own, and what was hashed
+    // The statements that correct nodes signed, and the strings that were hashed.
     pub(crate) signed: Claims,
     pub(crate) hashed: Strings,
 }
@@ -50,14 +50,22 @@ impl<M: Sequenced> Model for Simulation<M> {
 
     ghost Value = { SimulationState M M.Msg };
 
-    ghost view = { λ w. record { setup = w.setup; nodes = w.nodes.items; network = w.network; signed = w.signed; hashed = w.hashed } };
+    ghost view = { λ w. record {
+      setup = w.setup;
+      nodes = w.nodes.items;
+      network = w.network;
+      signed = w.signed;
+      hashed = w.hashed;
+    } };
 
     ghost invariant = { λ w. IsSimulation M.spec
-        (record { setup = w.setup; nodes = w.nodes.items; network = w.network; signed = w.signed; hashed = w.hashed }) × (w.directory ≡ keys_of w.setup) };
+        (record { setup = w.setup; nodes = w.nodes.items; network = w.network; signed = w.signed; hashed = w.hashed })
+        × (w.directory ≡ keys_of w.setup) };
 }
 
 impl<M: Sequenced> Simulation<M> {
-    /// Cores that have taken nothing, each with its node's keys, no packets, and nothing in the books but the empty string.
+    /// The start of a run. No core has taken an event, each has its node's keys, there are no packets, nothing was
+    /// signed, and only the empty string counts as hashed.
     pub fn start(alloc: Global, setup: &Setup) -> Result<Simulation<M>, NoMemory>
         requires { IsSetupOf M.spec setup.now }
         ensures refines { IfOk result (λ v. RefinesMachines M.spec M.refines v (begin_machines setup.now)) }
@@ -74,7 +82,7 @@ impl<M: Sequenced> Simulation<M> {
         })
     }
 
-    /// The event happens. After want of memory nothing is said of the cores.
+    /// Applies one event. The only error is out of memory; after that nothing is known about the cores.
     // rule: Network: An ask goes to each core of the node that is asked, for the asker's own epoch
     pub fn event(&mut self, alloc: Global, event: &Event) -> Result<EventOutcome, NoMemory>
         requires range { IsInRange self.old.setup event.now }
@@ -114,7 +122,7 @@ impl<M: Sequenced> Simulation<M> {
         }
     }
 
-    // A core takes the packet of a client's request.
+    // A core receives the packet of a client's request.
     fn request(
         &mut self,
         alloc: Global,
@@ -125,7 +133,9 @@ impl<M: Sequenced> Simulation<M> {
         requires range { IsInRange self.old.setup (Event.Request core id.client id.number payload.now) }
         requires standing { RefinesSome M.spec M.refines self.old }
         ensures happened { IfOk result (λ r. (w : Machines M.Msg) → RefinesMachines M.spec M.refines self.old w →
-            HasChanged M.spec M.refines self.new (apply_event_in (frame_of self.old.setup M.spec) w (Event.Request core id.client id.number payload.now)) r) }
+            HasChanged M.spec M.refines self.new
+            (apply_event_in (frame_of self.old.setup M.spec) w (Event.Request core id.client id.number payload.now))
+            r) }
         ensures same { self.new.setup ≡ self.old.setup }
     {
         let directory = self.directory.directory();
@@ -133,7 +143,7 @@ impl<M: Sequenced> Simulation<M> {
         self.take(alloc, core, NodeEvent::Packet(packet))
     }
 
-    // A packet is taken by its core, whether or not it waits.
+    // Delivers a packet to its core, also one that was delivered or lost before (a duplicate).
     // rule: Network: A delivered packet is taken by its core, whether or not it still waits
     // rule: Recovery: A missing packet is reported before the disk is asked
     fn deliver(&mut self, alloc: Global, packet: u64) -> Result<EventOutcome, NoMemory>
@@ -151,7 +161,7 @@ impl<M: Sequenced> Simulation<M> {
         self.take(alloc, core, NodeEvent::Packet(bytes))
     }
 
-    // A packet waits no more.
+    // Loses a packet: it is no longer in flight.
     // rule: Network: A lost packet waits no more
     fn lose(&mut self, packet: u64) -> EventOutcome
         ensures happened { (w : Machines M.Msg) → RefinesMachines M.spec M.refines self.old w →
@@ -167,7 +177,7 @@ impl<M: Sequenced> Simulation<M> {
         }
     }
 
-    // What waits for cores that are not held, ascending.
+    // The packets in flight for cores that are not held, ascending.
     fn due(&mut self, alloc: Global) -> Result<Vec<u64>, NoMemory>
         ensures same { self.new ≡ self.old }
         ensures found { IfOk result (λ packets. packets.items ≡ due self.old.network) }
@@ -175,7 +185,7 @@ impl<M: Sequenced> Simulation<M> {
         self.network.due(alloc)
     }
 
-    // What waits for cores that are not held is taken, ascending, up to a delivery that ends the run.
+    // Delivers all packets in flight for cores that are not held, ascending. Stops if a delivery reveals evidence.
     fn pump(&mut self, alloc: Global) -> Result<EventOutcome, NoMemory>
         requires { RefinesSome M.spec M.refines self.old }
         ensures happened { IfOk result (λ r. (w : Machines M.Msg) → RefinesMachines M.spec M.refines self.old w →
@@ -186,7 +196,7 @@ impl<M: Sequenced> Simulation<M> {
         self.deliver_each(alloc, packets.as_slice())
     }
 
-    // The packets are taken, in this order, up to a delivery that ends the run.
+    // Delivers these packets in order. Stops if a delivery reveals evidence.
     fn deliver_each(&mut self, alloc: Global, packets: &[u64]) -> Result<EventOutcome, NoMemory>
         requires { RefinesSome M.spec M.refines self.old }
         ensures happened { IfOk result (λ r. (w : Machines M.Msg) → RefinesMachines M.spec M.refines self.old w →
@@ -201,7 +211,7 @@ impl<M: Sequenced> Simulation<M> {
         Ok(EventOutcome::Done)
     }
 
-    // So many pumps, fewer where one finds nothing, or ends the run.
+    // At most `most` pumps. Stops early if nothing is in flight, or if a delivery reveals evidence.
     // rule: Network: A calm is n pumps, fewer if one finds nothing or ends the run
     fn calm(&mut self, alloc: Global, most: u32) -> Result<EventOutcome, NoMemory>
         requires { RefinesSome M.spec M.refines self.old }
@@ -221,46 +231,51 @@ impl<M: Sequenced> Simulation<M> {
         Ok(EventOutcome::Done)
     }
 
-    // Pumps pass over a core from now on.
+    // Holds a core: pumps no longer deliver to it.
     fn hold(&mut self, core: u32) -> EventOutcome
         requires { core < cores_of self.old.setup }
         ensures happened { (w : Machines M.Msg) → RefinesMachines M.spec M.refines self.old w →
-            HasChanged M.spec M.refines self.new (machines_done (with_packets w (held_to w.held.net.network core true))) result }
+            HasChanged M.spec M.refines self.new
+            (machines_done (with_packets w (held_to w.held.net.network core true))) result }
         ensures same { self.new.setup ≡ self.old.setup }
     {
         self.network.hold(core);
         EventOutcome::Done
     }
 
-    // Pumps pass over a core no longer.
+    // Frees a core: pumps deliver to it again.
     fn free(&mut self, core: u32) -> EventOutcome
         requires { core < cores_of self.old.setup }
         ensures happened { (w : Machines M.Msg) → RefinesMachines M.spec M.refines self.old w →
-            HasChanged M.spec M.refines self.new (machines_done (with_packets w (held_to w.held.net.network core false))) result }
+            HasChanged M.spec M.refines self.new
+            (machines_done (with_packets w (held_to w.held.net.network core false))) result }
         ensures same { self.new.setup ≡ self.old.setup }
     {
         self.network.free(core);
         EventOutcome::Done
     }
 
-    // No packet for a core waits any more.
+    // Loses all packets in flight for a core.
     fn clear(&mut self, core: u32) -> EventOutcome
         requires { core < cores_of self.old.setup }
         ensures happened { (w : Machines M.Msg) → RefinesMachines M.spec M.refines self.old w →
-            HasChanged M.spec M.refines self.new (machines_done (with_packets w (cleared w.held.net.network core))) result }
+            HasChanged M.spec M.refines self.new
+            (machines_done (with_packets w (cleared w.held.net.network core))) result }
         ensures same { self.new.setup ≡ self.old.setup }
     {
         self.network.drop_for(core);
         EventOutcome::Done
     }
 
-    // A core is made anew of what its disk keeps. What waits for it, and whether pumps pass over it, stays.
+    // Restarts a core: it recovers from what its disk has synced. Packets in flight for it stay, and so does whether it
+    // is held.
     // rule: Recovery: A recovered core is that of its kept events; it sends nothing and its packets still wait
     fn restart(&mut self, core: u32) -> Result<EventOutcome, NoMemory>
         requires core { core < cores_of self.old.setup }
         requires standing { RefinesSome M.spec M.refines self.old }
         ensures happened { IfOk result (λ r. (w : Machines M.Msg) → RefinesMachines M.spec M.refines self.old w →
-            HasChanged M.spec M.refines self.new (machines_done (recover_in (frame_of self.old.setup M.spec) w core)) r) }
+            HasChanged M.spec M.refines self.new
+            (machines_done (recover_in (frame_of self.old.setup M.spec) w core)) r) }
         ensures same { self.new.setup ≡ self.old.setup }
     {
         let node = &mut self.nodes[core as usize];
@@ -269,19 +284,20 @@ impl<M: Sequenced> Simulation<M> {
         Ok(EventOutcome::Done)
     }
 
-    // So many calls of a core's disk pass from now on, and all others fail until it is made anew.
+    // Lets the next `calls` calls of a core's disk succeed. All later ones fail until the core is restarted.
     // rule: Recovery: After a crash n more disk calls of a core pass, and all others fail until it recovers
     fn crash(&mut self, core: u32, calls: u32) -> EventOutcome
         requires { core < cores_of self.old.setup }
         ensures happened { (w : Machines M.Msg) → RefinesMachines M.spec M.refines self.old w →
-            HasChanged M.spec M.refines self.new (machines_done (with_disk w core (fused (w.disks core) calls))) result }
+            HasChanged M.spec M.refines self.new
+            (machines_done (with_disk w core (fused (w.disks core) calls))) result }
         ensures same { self.new.setup ≡ self.old.setup }
     {
         self.nodes[core as usize].fuse(calls as u64);
         EventOutcome::Done
     }
 
-    // A core takes bytes from nowhere, where nodes may do anything.
+    // Byzantine delivery: a core receives bytes that no core sent. Only for modules that tolerate Byzantine nodes.
     fn inject(&mut self, alloc: Global, core: u32, bytes: &Bytes) -> Result<EventOutcome, NoMemory>
         requires kind { self.old.setup.kind ≡ Kind.Byzantine }
         requires core { core < cores_of self.old.setup }
@@ -314,7 +330,7 @@ impl<M: Sequenced> Simulation<M> {
         &self.nodes[core as usize]
     }
 
-    /// A core's log.
+    /// The log of a core.
     pub fn log(&self, core: u32) -> &Log
         requires { core < cores_of self.now.setup }
         ensures { (w : Machines M.Msg) → RefinesOrShows M.spec M.refines self.now w →
@@ -323,7 +339,7 @@ impl<M: Sequenced> Simulation<M> {
         self.node(core).log()
     }
 
-    /// The values of a core's log, in the order of the slots.
+    /// The values of a core's log, by slot.
     pub fn entries(&self, core: u32) -> &[Value]
         requires { core < cores_of self.now.setup }
         ensures { (w : Machines M.Msg) → RefinesOrShows M.spec M.refines self.now w →
@@ -332,10 +348,11 @@ impl<M: Sequenced> Simulation<M> {
         self.log(core).entries()
     }
 
-    /// A core's epoch.
+    /// The epoch of a core.
     pub fn epoch(&self, core: u32) -> Epoch
         requires { core < cores_of self.now.setup }
-        ensures { (w : Machines M.Msg) → RefinesOrShows M.spec M.refines self.now w → result.0 ≡ (w.held.net.cores core).past.epoch }
+        ensures { (w : Machines M.Msg) → RefinesOrShows M.spec M.refines self.now w →
+            result.0 ≡ (w.held.net.cores core).past.epoch }
     {
         self.node(core).epoch()
     }

@@ -1,4 +1,5 @@
-//! One event at a core: what it claims is tested, the core takes it, and what it made is tested, booked and posted.
+//! One event at a core. First the signatures that it claims are tested, then the core takes it. What the step made is
+//! then tested, recorded and posted.
 ghost use Rattle.std.specs.Prelude.{◌≡◌, ◌<◌, ◌≤◌, ℕ, false, IfOk, List, None, Some, length, option_map, slice_get};
 ghost use Rattle.iss_base.specs.Lists.{push_all};
 ghost use Rattle.iss_rules.specs.Books.{Signed};
@@ -32,7 +33,7 @@ use iss_rules::{NodeEvent, Why};
 use iss_sb::{Claim, Sequenced};
 use std::alloc::Global;
 
-// What an event claims that nodes signed, as its core reads it.
+// The signatures that an event claims, as its core reads them.
 fn claims_at<M: Sequenced>(
     alloc: Global,
     node: &Kept<M, MemoryDisk>,
@@ -49,7 +50,7 @@ fn claims_at<M: Sequenced>(
     }
 }
 
-// A kept node takes an event. The number of slots of its log and its epoch from before it are told too.
+// Steps a kept node. Also returns its number of slots and its epoch from before the event, to which it can retreat.
 fn take_with_savepoint<M: Sequenced>(
     node: &mut Kept<M, MemoryDisk>,
     event: NodeEvent,
@@ -66,8 +67,8 @@ fn take_with_savepoint<M: Sequenced>(
     (node.take(event), slots, epoch)
 }
 
-// Why a step ends the run, if it does: by a claim of what had come early, or by a string. Where it does not, its strings are
-// booked.
+// The evidence that a step reveals, if any: a forged claim in a message that arrived early, or a collision. Without
+// evidence, the step's strings are recorded as hashed.
 fn ends(
     alloc: Global,
     setup: &Setup,
@@ -77,7 +78,8 @@ fn ends(
     outcome: &Outcome,
 ) -> Result<Option<Evidence>, NoMemory>
     requires { directory.now ≡ keys_of setup.now }
-    ensures told { IfOk result (λ end. (claims : List Signed) (strings : List (List ℕ)) → AreSigned signed.now claims → AreHashed hashed.old strings →
+    ensures told { IfOk result (λ end. (claims : List Signed) (strings : List (List ℕ)) → AreSigned signed.now claims →
+        AreHashed hashed.old strings →
         option_map end_of end ≡ ends_by setup.now claims strings outcome.now.early outcome.now.hashed) }
     ensures booked { IfOk result (λ end. (strings : List (List ℕ)) → AreHashed hashed.old strings → end ≡ None →
         AreHashed hashed.new (push_all outcome.now.hashed strings)) }
@@ -90,7 +92,8 @@ fn ends(
 }
 
 impl<M: Sequenced> Simulation<M> {
-    // A core takes an event, unless its disk has failed, or what the event claims is forged.
+    // A core takes an event. It is lost if the core's disk has failed. It stops the run if the event claims a forged
+    // signature.
     // rule: Evidence: A verified claim that its correct signer never sent ends the run before the step
     // rule: Recovery: A core whose disk has failed takes and reads nothing until it recovers
     pub(crate) fn take(
@@ -121,13 +124,14 @@ impl<M: Sequenced> Simulation<M> {
         }
     }
 
-    // A core whose disk has not failed takes an event whose claims were tested.
+    // A core with a working disk takes an event whose claims were tested.
     // rule: Recovery: An event that is not kept is lost (`Stopped`), and the core is as it was before
     fn step(&mut self, alloc: Global, core: u32, event: NodeEvent) -> Result<EventOutcome, NoMemory>
         requires core { core < cores_of self.old.setup }
         requires nodes { IsOfNodes self.old.setup.n event }
         requires working { IsWorking M.spec M.refines self.old core }
-        ensures happened { IfOk result (λ r. (w : Machines M.Msg) → RefinesMachines M.spec M.refines self.old w → (w.disks core).failed ≡ false →
+        ensures happened { IfOk result (λ r. (w : Machines M.Msg) → RefinesMachines M.spec M.refines self.old w →
+            (w.disks core).failed ≡ false →
             HasChanged M.spec M.refines self.new (kept_to self.old.setup w core event
             (step_in (frame_of self.old.setup M.spec) (node_of self.old.setup core) (w.held.net.cores core) event)) r) }
         ensures same { self.new.setup ≡ self.old.setup }
@@ -141,7 +145,8 @@ impl<M: Sequenced> Simulation<M> {
         }
     }
 
-    // A core has taken a step and kept it, which ends the run or is done.
+    // A core accepted and journaled an event. Either its outcome reveals evidence and the core retreats, or its
+    // signatures are recorded and its packets posted.
     // rule: Evidence: A world whose run has ended repeats its evidence and shows the state before it
     fn taken(
         &mut self,
@@ -153,11 +158,14 @@ impl<M: Sequenced> Simulation<M> {
     ) -> Result<EventOutcome, NoMemory>
         requires core { core < cores_of self.old.setup }
         requires addressed { AreToNodes self.old.setup.n outcome.now.sends }
-        requires slots { (g : KeptState M M.Msg MemoryDisk) → slice_get self.old.nodes core ≡ Some g → slots ≤ length g.node.state.log.entries }
-        requires epoch { (g : KeptState M M.Msg MemoryDisk) → slice_get self.old.nodes core ≡ Some g → epoch.0 ≤ g.node.state.epoch }
+        requires slots { (g : KeptState M M.Msg MemoryDisk) → slice_get self.old.nodes core ≡ Some g →
+            slots ≤ length g.node.state.log.entries }
+        requires epoch { (g : KeptState M M.Msg MemoryDisk) → slice_get self.old.nodes core ≡ Some g →
+            epoch.0 ≤ g.node.state.epoch }
         ensures happened { IfOk result (λ r. (w : Machines M.Msg) (behind : ℕ → Disk) (t : Turn M.Msg) →
             IsBehind M.spec M.refines self.old w behind core t slots epoch.0 → IsMade t outcome.now →
-            HasChanged M.spec M.refines self.new (with_disks w behind (stepped_to self.old.setup w.held core (Taken t))) r) }
+            HasChanged M.spec M.refines self.new
+            (with_disks w behind (stepped_to self.old.setup w.held core (Taken t))) r) }
         ensures same { self.new.setup ≡ self.old.setup }
     {
         let directory = self.directory.directory();

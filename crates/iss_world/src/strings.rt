@@ -1,4 +1,4 @@
-//! The book of what was hashed, which shows different strings of one digest.
+//! The strings that were hashed, to detect collisions.
 ghost use Rattle.std.specs.Prelude.{◌≡◌, ◌∷◌, [], ℕ, List, None, IfOk, option_map};
 ghost use Rattle.iss_base.specs.Lists.{push_all, same_bytes};
 ghost use Rattle.iss_model.specs.Run.{collision_in, collision_with};
@@ -13,7 +13,7 @@ use std::alloc::Global;
 use std::collections::BTreeMap;
 use std::marker::Model;
 
-/// The strings that were hashed, each by its digest.
+/// The hashed strings, by digest.
 #[derive(Drop)]
 pub struct Strings {
     all: BTreeMap<[u8; 32], Bytes>,
@@ -27,7 +27,7 @@ impl Model for Strings {
     ghost view = { λ v. v.all.entries };
 }
 
-// The digest of a string, which the directory remembers where a node took it lately. The empty one has 32 zero bytes.
+// The SHA-256 digest of a string, which the directory caches. By convention the empty string has 32 zero bytes.
 fn digest(directory: &Directory, string: &[u8]) -> [u8; 32]
     ensures { result ≡ digest string.now }
 {
@@ -38,7 +38,7 @@ fn digest(directory: &Directory, string: &[u8]) -> [u8; 32]
 }
 
 impl Strings {
-    /// The empty string alone.
+    /// Holds only the empty string. The only error is out of memory.
     pub fn new(alloc: Global) -> Result<Strings, NoMemory>
         ensures { IfOk result (λ v. AreHashed v ([] ∷ [])) }
     {
@@ -47,10 +47,13 @@ impl Strings {
         Ok(Strings { all })
     }
 
-    // One string more, unless a different one of its digest is there.
+    // Adds a string. Returns the collision if another string has the same digest.
     fn add(&mut self, directory: &Directory, string: &Bytes) -> Result<Option<Evidence>, NoMemory>
-        ensures told { IfOk result (λ end. (book : List (List ℕ)) → AreHashed self.old book → option_map end_of end ≡ collision_with string.now book) }
-        ensures booked { IfOk result (λ end. (book : List (List ℕ)) → AreHashed self.old book → end ≡ None → AreHashed self.new (string.now ∷ book)) }
+        ensures told { IfOk result
+            (λ end. (book : List (List ℕ)) → AreHashed self.old book →
+            option_map end_of end ≡ collision_with string.now book) }
+        ensures booked { IfOk result (λ end. (book : List (List ℕ)) → AreHashed self.old book → end ≡ None →
+            AreHashed self.new (string.now ∷ book)) }
     {
         let digest = digest(directory, string.as_slice());
         if let Some(first) = self.all.get(&digest) {
@@ -60,15 +63,18 @@ impl Strings {
         Ok(None)
     }
 
-    /// Books the strings of a step, one after the other, up to one that differs from a string of its digest.
+    /// Adds the strings of a step, in order. Stops at the first that collides, and returns the collision.
     // rule: Evidence: Two strings of one digest end the run, and the earlier one is named first
     pub fn book(
         &mut self,
         directory: &Directory,
         strings: &[Bytes],
     ) -> Result<Option<Evidence>, NoMemory>
-        ensures told { IfOk result (λ end. (book : List (List ℕ)) → AreHashed self.old book → option_map end_of end ≡ collision_in strings.now book) }
-        ensures booked { IfOk result (λ end. (book : List (List ℕ)) → AreHashed self.old book → end ≡ None → AreHashed self.new (push_all strings.now book)) }
+        ensures told { IfOk result
+            (λ end. (book : List (List ℕ)) → AreHashed self.old book →
+            option_map end_of end ≡ collision_in strings.now book) }
+        ensures booked { IfOk result (λ end. (book : List (List ℕ)) → AreHashed self.old book → end ≡ None →
+            AreHashed self.new (push_all strings.now book)) }
     {
         for string in strings {
             let end = self.add(directory, string)?;
@@ -80,14 +86,14 @@ impl Strings {
     }
 }
 
-// Whether two strings are equal.
+// Whether the strings are equal.
 fn same(a: &[u8], b: &[u8]) -> bool
     ensures { result ≡ same_bytes a.now b.now }
 {
     a == b
 }
 
-// The collision of two strings of one digest, if they differ.
+// The collision of two strings with one digest, if they differ.
 fn collision(first: &Bytes, second: &Bytes) -> Result<Option<Evidence>, NoMemory>
     ensures { IfOk result (λ end. option_map end_of end ≡ difference first.now second.now) }
 {

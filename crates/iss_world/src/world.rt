@@ -1,4 +1,4 @@
-//! The world of a cluster, which says of itself when its run has ended, and when memory was wanting.
+//! The world of a cluster, with the evidence that stopped its run and whether memory ran out.
 ghost use Rattle.std.specs.Prelude.{◌≡◌, ◌<◌, ◌++◌, ◌∷◌, [], IfOk, List, None, OnOk, reverse};
 ghost use Rattle.iss_model.specs.Run.{cores_of, node_of};
 ghost use Rattle.iss_model.specs.Frames.{frame_of};
@@ -25,39 +25,39 @@ use iss_theorems::restarts_change_nothing;
 use std::alloc::Global;
 use std::marker::Model;
 
-/// What an event did.
+/// The result of an event.
 #[derive(Drop)]
 pub enum EventResult {
     Done,
-    /// Nothing has changed, for this cause.
+    /// The event had no effect, for this reason.
     Lost(Why),
-    /// The run has ended, in this event or before: a claim of a correct node was read, with a signature that verifies, which the
-    /// node never sent as its own.
+    /// The run has stopped, at this event or an earlier one. A core read a claim of a correct node with a valid
+    /// signature that the node never made.
     Forged {
         by: NodeId,
         statement: Bytes,
         sig: Bytes,
     },
-    /// The run has ended, in this event or before: two different strings were hashed, of one digest. `first` was in the book, or
-    /// came earlier in the event; `second` is the first string of the event that collides with one before it.
+    /// The run has stopped, at this event or an earlier one. Two different strings with one SHA-256 digest were hashed.
+    /// `first` was hashed earlier; `second` is the first string of the event that collides with an earlier one.
     Collision {
         first: Bytes,
         second: Bytes,
     },
-    /// Memory was wanting in the midst of it. The world is stale from now on.
+    /// Out of memory during this event. The world is stale from now on.
     NoMemory,
-    /// Memory was wanting in an earlier event. Nothing has changed.
+    /// Out of memory in an earlier event. Nothing has changed.
     Stale,
 }
 
-/// The cores of a cluster, and the network between them. Core `i` is node `i`; behind these each faulty node has a second core,
-/// its twin, with the same keys.
+/// The cores of a cluster and the network between them. Core `i` runs node `i`. Each faulty node also has a twin: a
+/// second core with the same keys, after the first `n`.
 #[derive(Drop)]
 pub struct World<M: Sequenced> {
     simulation: Simulation<M>,
-    // why the run ended, if it has: nothing happens any more
+    // The evidence that stopped the run, if any. No event has an effect afterwards.
     ended: Option<Evidence>,
-    // set where memory was wanting: what an event left half done stands for nothing
+    // Set when memory ran out: the state is half updated, and nothing is known about it.
     stale: bool,
 }
 
@@ -69,11 +69,13 @@ impl<M: Sequenced> Model for World<M> {
 
     ghost view = { λ w. record { simulation = w.simulation; ended = w.ended; stale = w.stale } };
 
-    ghost invariant = { λ w. IsWorld M.spec M.refines (record { simulation = w.simulation; ended = w.ended; stale = w.stale }) };
+    ghost invariant = { λ w. IsWorld M.spec M.refines
+        (record { simulation = w.simulation; ended = w.ended; stale = w.stale }) };
 }
 
 impl<M: Sequenced> World<M> {
-    /// Cores that have taken nothing, each with its node's keys, and no packets.
+    /// The start of a run: no core has taken an event, each has its node's keys, and there are no packets. The only
+    /// error is out of memory.
     pub fn start(alloc: Global, setup: &Setup) -> Result<World<M>, NoMemory>
         requires { IsSetupOf M.spec setup.now }
         ensures refines { IfOk result (λ v. WorldRefinesMachines M.spec M.refines v (begin_machines setup.now)) }
@@ -88,15 +90,9 @@ impl<M: Sequenced> World<M> {
         })
     }
 
-    /// The event happens. It ends the run where a claim of a correct node is read that verifies and that the node never sent as its
-    /// own, or where two different strings were hashed that have one digest, of which the one that was in the book or came earlier in
-    /// the event is told first: then the world shows what it showed before the delivery that did so, and answers each further event
-    /// by the same evidence. After want of memory each further event answers that the world is stale. A world that stood for the run
-    /// of some events then stands for the run with this one more, whatever disks failed and cores were made anew: the logs of correct
-    /// nodes are of one log, in which no request stands twice and each batch was accepted as valid by a correct node, and each request
-    /// that a correct node took and kept is in its log, waits there or is in flight. The certificates that correct nodes keep are of logs
-    /// of correct nodes, and what correct nodes adopted was delivered at one (ISS, whole protocol; crashes and recovery). No leaf of a
-    /// core's keys signs two statements, over all restarts.
+    /// Applies one event. If it reveals evidence, the world rolls back to before that delivery and answers every later
+    /// event with the same evidence. After `NoMemory` the world is stale. Otherwise the world refines the run with this
+    /// event added (`happened`), for which the headline holds (`headline`, see `IsHeadline`).
     // rule: Runs: A node or a world that ran out of memory says so from then on
     // rule: Runs: After each event the world refines the run with that event
     // rule: Checkpoints: A certificate that a correct node keeps certifies the log of a correct signer
@@ -104,7 +100,8 @@ impl<M: Sequenced> World<M> {
     pub fn event(&mut self, alloc: Global, event: &Event) -> EventResult
         requires { IsInRange self.old.simulation.setup event.now }
         ensures happened { (p : Course M.Msg) → RefinesRun M.spec M.refines self.old p →
-            HasHappened M.spec M.refines self.new p (run_event_if_open_in (frame_of self.old.simulation.setup M.spec) p event.now) result }
+            HasHappened M.spec M.refines self.new p
+            (run_event_if_open_in (frame_of self.old.simulation.setup M.spec) p event.now) result }
         ensures headline { (events : List ScheduleEvent) → AreInRange self.old.simulation.setup events →
             RefinesEvents self.old.simulation.setup M.spec M.refines self.old events → IsAnswered result →
             IsHeadline self.old.simulation.setup M.spec M.refines self.new (events ++ event.now ∷ []) }
@@ -137,18 +134,19 @@ impl<M: Sequenced> World<M> {
         self.running.setup()
     }
 
-    /// The kept node that a core runs, whose calls show the core as long as the run goes on and its disk has not failed: what it
-    /// accepted, what waits and is in flight there, and whether it can cast.
+    /// The kept node of a core. Its calls report the core's state while the run goes on and the core's disk has not
+    /// failed.
     pub fn node(&self, core: u32) -> &Kept<M, MemoryDisk>
         requires { core < cores_of self.now.simulation.setup }
         ensures refines { (w : Machines M.Msg) → WorldRefinesMachines M.spec M.refines self.now w →
             RefinesMachine M.spec M.refines result.now (w.held.net.cores core) (w.disks core) }
-        ensures same { (result.now.setup ≡ self.now.simulation.setup) × (result.now.me.0 ≡ node_of self.now.simulation.setup core) }
+        ensures same { (result.now.setup ≡ self.now.simulation.setup)
+            × (result.now.me.0 ≡ node_of self.now.simulation.setup core) }
     {
         self.running.node(core)
     }
 
-    /// A core's log.
+    /// The log of a core.
     pub fn log(&self, core: u32) -> &Log
         requires { core < cores_of self.now.simulation.setup }
         ensures { (p : Course M.Msg) → RefinesRun M.spec M.refines self.now p →
@@ -157,7 +155,7 @@ impl<M: Sequenced> World<M> {
         self.running.log(core)
     }
 
-    /// The values of a core's log, in the order of the slots.
+    /// The values of a core's log, by slot.
     pub fn entries(&self, core: u32) -> &[Value]
         requires { core < cores_of self.now.simulation.setup }
         ensures { (p : Course M.Msg) → RefinesRun M.spec M.refines self.now p →
@@ -166,16 +164,17 @@ impl<M: Sequenced> World<M> {
         self.running.entries(core)
     }
 
-    /// A core's epoch.
+    /// The epoch of a core.
     pub fn epoch(&self, core: u32) -> Epoch
         requires { core < cores_of self.now.simulation.setup }
-        ensures { (p : Course M.Msg) → RefinesRun M.spec M.refines self.now p → result.0 ≡ (p.machines.held.net.cores core).past.epoch }
+        ensures { (p : Course M.Msg) → RefinesRun M.spec M.refines self.now p →
+            result.0 ≡ (p.machines.held.net.cores core).past.epoch }
     {
         self.running.epoch(core)
     }
 }
 
-// The event happens, if the run goes on; if it has ended, its end is told again.
+// Applies the event, or repeats the evidence if the run has stopped.
 fn run_event<M: Sequenced>(
     alloc: Global,
     simulation: &mut Simulation<M>,
@@ -184,8 +183,10 @@ fn run_event<M: Sequenced>(
 ) -> Result<EventResult, NoMemory>
     requires range { IsInRange simulation.old.setup event.now }
     requires standing { ended.old ≡ None → RefinesSome M.spec M.refines simulation.old }
-    ensures happened { IfOk result (λ r. (p : Course M.Msg) → RefinesRun M.spec M.refines (awake simulation.old ended.old) p →
-        HasHappened M.spec M.refines (awake simulation.new ended.new) p (run_event_if_open_in (frame_of simulation.old.setup M.spec) p event.now) r) }
+    ensures happened { IfOk result
+        (λ r. (p : Course M.Msg) → RefinesRun M.spec M.refines (awake simulation.old ended.old) p →
+        HasHappened M.spec M.refines (awake simulation.new ended.new) p
+        (run_event_if_open_in (frame_of simulation.old.setup M.spec) p event.now) r) }
     ensures answered { IfOk result (λ r. IsAnswered r) }
     ensures world { OnOk result (IsWorld M.spec M.refines (awake simulation.new ended.new)) }
     ensures over { IsOverOr (awake simulation.old ended.old) (awake simulation.new ended.new) }
@@ -205,7 +206,7 @@ fn run_event<M: Sequenced>(
     }
 }
 
-// The answer to an event of a run that has ended.
+// The result of an event once this evidence has stopped the run.
 fn repeat_evidence(end: &Evidence) -> Result<EventResult, NoMemory>
     ensures { IfOk result (λ r. r ≡ result_of end.now) }
 {

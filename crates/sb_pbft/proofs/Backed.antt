@@ -66,7 +66,7 @@ module _ (p : Params) (good : IsGoodParams pbft p) (w : World Message) (legal : 
         apart = v.apart;
         below = v.below;
         first = h.signed (claim (primary p c.view) (state_at p 1 c.view c.slot.0 d) c.sig) (inl refl);
-        rest = λ j m. let x = node-vote j c.prepares m in subst (λ (z : ℕ). Granted p w z (state_at p 2 c.view c.slot.0 d)) x.2 (h.signed (claim x.0.node.0 (state_at p 2 c.view c.slot.0 d) x.0.sig) (inr (vote-in p c.view c.slot.0 d x.0 c.prepares x.1)));
+        rest = λ j m. let x = node-vote j c.prepares m in subst (λ (z : ℕ). Granted p w z (state_at p 2 c.view c.slot.0 d)) x.2 (h.signed (claim x.0.by.0 (state_at p 2 c.view c.slot.0 d) x.0.sig) (inr (vote-in p c.view c.slot.0 d x.0 c.prepares x.1)));
         known = h.known;
       }
 

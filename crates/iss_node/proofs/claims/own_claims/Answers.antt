@@ -1,6 +1,6 @@
 use Rattle.std.proofs.Common.{◌∙◌, ◌++◌, ◌<◌, ap, length, arith}
 use Rattle.iss_model.specs.Node.{only_by}
-use Rattle.iss_node.proofs.ClaimLemmas.{own-next}
+use Rattle.iss_node.proofs.Wire.ClaimsAgree.{own-next}
 use Rattle.iss_node.proofs.claims.own_claims.Goals as goal
 
 pub loop-msg-preserved : goal.loop-msg-preserved

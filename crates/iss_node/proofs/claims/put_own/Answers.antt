@@ -1,5 +1,5 @@
 use Rattle.std.proofs.Common.{◌∙◌}
-use Rattle.iss_node.proofs.ClaimLemmas.{own-left, own-put}
+use Rattle.iss_node.proofs.Wire.ClaimsAgree.{own-left, own-put}
 use Rattle.iss_node.proofs.claims.put_own.Goals as goal
 
 pub loop-claim-preserved-in-Continue-1 : goal.loop-claim-preserved-in-Continue-1

@@ -1,4 +1,4 @@
-use Rattle.iss_node.proofs.ClaimLemmas.{verified-is}
+use Rattle.iss_node.proofs.Wire.ClaimsAgree.{verified-is}
 use Rattle.iss_node.proofs.claims.verifies.Goals as goal
 
 pub returns : goal.returns

@@ -1,4 +1,4 @@
-use Rattle.iss_node.proofs.CellsLemmas.{filled-next}
+use Rattle.iss_node.proofs.Log.SlotsKeepValues.{filled-next}
 use Rattle.iss_node.proofs.growth.fill_all.Goals as goal
 
 pub loop-slot-preserved : goal.loop-slot-preserved

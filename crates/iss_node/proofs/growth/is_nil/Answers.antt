@@ -1,7 +1,7 @@
 use Rattle.std.proofs.Common.{◌∙◌, ◌<◌, ◌≤◌, length, not, reverse, get_or, sym, ap, arith}
 use Rattle.std.proofs.lemmas.List.{length-reverse}
 use Rattle.iss_request.specs.Formats.{is_batch}
-use Rattle.iss_node.proofs.NilLemmas.{nil-at, nil-past}
+use Rattle.iss_node.proofs.Log.NilSlots.{nil-at, nil-past}
 use Rattle.iss_node.proofs.growth.is_nil.Goals as goal
 
 pub returns-then-slot-entries : goal.returns-then-slot-entries

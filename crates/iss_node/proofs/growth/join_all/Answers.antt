@@ -1,5 +1,5 @@
 use Rattle.std.proofs.Common.{◌∙◌, arith, refl}
-use Rattle.iss_node.proofs.JoinLemmas.{join-all, join-none, join-one}
+use Rattle.iss_node.proofs.Log.ChainExtends.{join-all, join-none, join-one}
 use Rattle.iss_node.proofs.growth.join_all.Goals as goal
 
 pub loop-value-init : goal.loop-value-init

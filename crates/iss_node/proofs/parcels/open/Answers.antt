@@ -1,4 +1,4 @@
-use Rattle.iss_node.proofs.SenderLemmas.{carried-from, from-any, from-node, from-of, sender-below}
+use Rattle.iss_node.proofs.Wire.SendersExist.{carried-from, from-any, from-node, from-of, sender-below}
 use Rattle.iss_packet.specs.declared.packets.PacketKind.TheVariants.{Ask, Piece, Vote}
 use Rattle.iss_node.proofs.parcels.open.Goals as goal
 

@@ -1,7 +1,7 @@
 use Rattle.std.proofs.Common.{◌∙◌, ap, ◌<◌, ◌++◌, ◌∷◌, [], length, arith, refl}
 use Rattle.iss_rules.specs.Formats.{formats_of}
 use Rattle.iss_rules.specs.Parcels.{OfModule}
-use Rattle.iss_node.proofs.ParcelLemmas.{packed-next}
+use Rattle.iss_node.proofs.Wire.DecodingRefines.{packed-next}
 use Rattle.iss_node.proofs.parcels.pack.Goals as goal
 
 pub loop-to-preserved : goal.loop-to-preserved

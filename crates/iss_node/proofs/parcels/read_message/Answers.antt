@@ -1,5 +1,5 @@
 use Rattle.std.proofs.Common.{sym, refl}
-use Rattle.iss_node.proofs.ParcelLemmas.{bad-whole}
+use Rattle.iss_node.proofs.Wire.DecodingRefines.{bad-whole}
 use Rattle.iss_node.proofs.parcels.read_message.Goals as goal
 
 pub returns-in-Err-BadField : goal.returns-in-Err-BadField

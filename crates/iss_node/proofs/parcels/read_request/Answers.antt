@@ -1,5 +1,5 @@
 use Rattle.std.proofs.Common.{sym, refl}
-use Rattle.iss_node.proofs.ParcelLemmas.{bad-whole}
+use Rattle.iss_node.proofs.Wire.DecodingRefines.{bad-whole}
 use Rattle.iss_request.specs.Formats.{parse_request}
 use Rattle.iss_node.proofs.parcels.read_request.Goals as goal
 

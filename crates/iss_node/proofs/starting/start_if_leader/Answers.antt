@@ -1,5 +1,5 @@
 use Rattle.std.proofs.Common.{◌∙◌, sym}
-use Rattle.iss_node.proofs.StartLemmas.{good-copy}
+use Rattle.iss_node.proofs.EpochEnd.InstancesStart.{good-copy}
 use Rattle.iss_node.proofs.starting.start_if_leader.Goals as goal
 
 pub start-requires-clause-good : goal.start-requires-clause-good

@@ -1,5 +1,5 @@
 use Rattle.std.proofs.Common.{◌≡◌, subst, sym, ◌+◌, arith}
-use Rattle.iss_node.proofs.StartLemmas.{AreBegun, begun-all, begun-next}
+use Rattle.iss_node.proofs.EpochEnd.InstancesStart.{AreBegun, begun-all, begun-next}
 use Rattle.iss_node.proofs.starting.start_segments.Goals as goal
 
 pub loop-node-preserved : goal.loop-node-preserved

@@ -1,4 +1,4 @@
-use Rattle.iss_node.proofs.StartLemmas.{AreBegun}
+use Rattle.iss_node.proofs.EpochEnd.InstancesStart.{AreBegun}
 use Rattle.iss_node.proofs.starting.start_segments.Given as goal
 
 abbrev pub invariant-loop-node : goal.invariant-loop-node

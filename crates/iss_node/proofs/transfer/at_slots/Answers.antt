@@ -1,5 +1,5 @@
 use Rattle.std.proofs.Common.{arith, ◌∙◌, ◌++◌, ◌∷◌, [], List, ap, length-append, sym}
-use Rattle.iss_node.proofs.SlotLemmas.{at-next}
+use Rattle.iss_node.proofs.Log.EpochSlots.{at-next}
 use Rattle.iss_node.specs.Transfers.{at_slots}
 use Rattle.iss_request.specs.declared.ids.Slot.{Slot}
 use Rattle.iss_request.specs.declared.requests.Value.{Value}

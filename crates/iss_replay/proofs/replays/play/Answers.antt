@@ -15,7 +15,7 @@ go_on-requires g c =
     in-range-at c.args.schedule.now.setup c.loop-place.world.simulation.setup c.args.schedule.now.events c.loop-place.place c.index-events-place.result c.loop-place.invariant.same c.requires.range lt
     (subst (λ (es : List Event). c.index-events-place.result ≡ get_or es c.loop-place.place c.index-events-place.result) c.as_slice-events.ensures c.index-events-place.is)
 
--- the event in which the run ends: what comes after it changes nothing
+-- The event that reveals the evidence. Later events change nothing.
 pub returns-in-Some-clause-run : goal.returns-in-Some-clause-run
 returns-in-Some-clause-run g c =
     let m = g.M.Sequenced.spec in

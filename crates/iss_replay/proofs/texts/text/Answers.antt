@@ -1,6 +1,6 @@
 use Rattle.iss_theorems.specs.Headline.{course_after}
 use Rattle.iss_model.proofs.Ranges.{at-cores}
-use Rattle.iss_node.proofs.SettleLemmas.{if-ok}
+use Rattle.iss_node.proofs.EpochEnd.StepCompletes.{if-ok}
 use Rattle.iss_replay.proofs.texts.text.Goals as goal
 
 pub returns-clause-reports : goal.returns-clause-reports

@@ -1,6 +1,6 @@
 use Rattle.std.proofs.Common.{◌∙◌, ◌<◌, ◌≤◌, ◌&&◌, not, ap, arith}
 use Rattle.iss_request.specs.Log.{has_id, ids}
-use Rattle.iss_node.proofs.FlightLemmas.{kept-gone, kept-ids, kept-left, landed-gone, landed-ids, landed-left}
+use Rattle.iss_node.proofs.WaitingRequests.ProposalsComplete.{kept-gone, kept-ids, kept-left, landed-gone, landed-ids, landed-left}
 use Rattle.iss_node.proofs.flight.Flight.take_completed.Goals as goal
 
 pub loop-slot-preserved-in-Continue-1 : goal.loop-slot-preserved-in-Continue-1

@@ -3,7 +3,7 @@ use Rattle.iss_ballots.specs.Ballots.{BallotsState}
 use Rattle.iss_checkpoint.specs.Votes.{voters_of}
 use Rattle.iss_keys.specs.Directories.{DirectoryView}
 use Rattle.iss_model.specs.Node.{initial_core}
-use Rattle.iss_node.proofs.StartLemmas.{begun-refines, begun-shape}
+use Rattle.iss_node.proofs.EpochEnd.InstancesStart.{begun-refines, begun-shape}
 use Rattle.iss_node.proofs.node.Node.start.Goals as goal
 
 pub invariant_of-state : goal.invariant_of-state

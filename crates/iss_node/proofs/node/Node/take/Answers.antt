@@ -2,7 +2,7 @@ use Rattle.std.proofs.Common.{ap, rules, ◌≡◌, Bool, false, refl, sym, subs
 use Rattle.iss_rules.specs.Concrete.{rules_of}
 use Rattle.iss_rules.specs.Formats.{formats_of}
 use Rattle.iss_model.specs.Node.{step}
-use Rattle.iss_node.proofs.NodeLemmas.{answer-taken, node-taken}
+use Rattle.iss_node.proofs.Steps.AnswersRefine.{answer-taken, node-taken}
 use Rattle.iss_node.specs.Shape.{IsNode}
 use Rattle.iss_node.specs.State.{NodeView, RefinesCore, StateView}
 use Rattle.iss_node.specs.Steps.{IsHeldStepOf, IsOfNodes, IsTurn}

@@ -1,7 +1,7 @@
 use Rattle.std.proofs.Common.{◌≡◌, ◌∙◌, ◌+◌, map, refl, sym, subst}
 use Rattle.iss_rules.specs.Concrete.{rules_of}
 use Rattle.iss_model.specs.Views.{is_unfilled, unfilled}
-use Rattle.iss_node.proofs.ViewLemmas.{unfilled-more, unfilled-same}
+use Rattle.iss_node.proofs.Steps.ReportsAgree.{unfilled-more, unfilled-same}
 use Rattle.iss_node.specs.State.{NodeView, RefinesPast}
 use Rattle.iss_node.proofs.node.Node.unfilled.Goals as goal
 use Rattle.iss_node.proofs.node.Node.unfilled.Goals.{then-is_unfilled+in_ok-push, else-is_unfilled}

@@ -2,7 +2,7 @@ use Rattle.std.proofs.Common.{◌≡◌, ◌∙◌, ℕ, List, ap, subst, sym}
 use Rattle.std.proofs.lemmas.Result.{IfOk-weaker}
 use Rattle.iss_ballots.specs.Ballots.{AreKept, BallotsState}
 use Rattle.iss_model.specs.Node.{takes_each, then_turn}
-use Rattle.iss_node.proofs.AdoptLemmas.{adopted-all, kept-same, same-on}
+use Rattle.iss_node.proofs.StateTransfer.AdoptionRefines.{adopted-all, kept-same, same-on}
 use Rattle.iss_node.specs.Inputs.{HasAppliedDeliveries}
 use Rattle.iss_node.specs.Shape.{IsNodeState}
 use Rattle.iss_node.specs.State.{StateView, seen_early}

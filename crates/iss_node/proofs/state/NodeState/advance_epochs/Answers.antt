@@ -1,8 +1,8 @@
 use Rattle.std.proofs.Common.{true, false, subst}
 use Rattle.std.proofs.lemmas.Result.{IfOk-weaker}
 use Rattle.iss_model.specs.Node.{advance_epochs, takes_each, then_turn}
-use Rattle.iss_node.proofs.NextLemmas.{is-over}
-use Rattle.iss_node.proofs.SettleLemmas.{settles-not, settles-on}
+use Rattle.iss_node.proofs.EpochEnd.NextEpochStarts.{is-over}
+use Rattle.iss_node.proofs.EpochEnd.StepCompletes.{settles-not, settles-on}
 use Rattle.iss_node.specs.Epochs.{appended}
 use Rattle.iss_node.specs.State.{seen_early}
 use Rattle.iss_node.specs.Steps.{IsTurnBehind}

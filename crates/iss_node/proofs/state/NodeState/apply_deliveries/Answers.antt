@@ -1,5 +1,5 @@
 use Rattle.std.proofs.Common.{◌∙◌, ap, refl, sym}
-use Rattle.iss_node.proofs.RequestLemmas.{chained-all, grown-all}
+use Rattle.iss_node.proofs.WaitingRequests.RequestRefines.{chained-all, grown-all}
 use Rattle.iss_node.proofs.state.NodeState.apply_deliveries.Goals as goal
 
 pub returns-clause-grown : goal.returns-clause-grown

@@ -2,8 +2,8 @@ use Rattle.std.proofs.Common.{ap, subst}
 use Rattle.std.proofs.lemmas.Result.{IfOk-weaker}
 use Rattle.iss_rules.specs.Formats.{formats_of}
 use Rattle.iss_model.specs.Node.{step_unjudged}
-use Rattle.iss_node.proofs.CastLemmas.{cast-turned}
-use Rattle.iss_node.proofs.NextLemmas.{uncut-shape}
+use Rattle.iss_node.proofs.Instances.ProposalRefines.{cast-turned}
+use Rattle.iss_node.proofs.EpochEnd.NextEpochStarts.{uncut-shape}
 use Rattle.iss_node.specs.Casts.{casting}
 use Rattle.iss_node.specs.Shape.{IsNodeState}
 use Rattle.iss_node.specs.State.{StateView}

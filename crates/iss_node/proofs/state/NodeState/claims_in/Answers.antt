@@ -3,7 +3,7 @@ use Rattle.std.proofs.lemmas.Result.{IfOk-weaker}
 use Rattle.iss_rules.specs.Concrete.{rules_of}
 use Rattle.iss_model.specs.Node.{claims_in}
 use Rattle.iss_rules.specs.Past.{Past}
-use Rattle.iss_node.proofs.ClaimLemmas.{claims-led}
+use Rattle.iss_node.proofs.Wire.ClaimsAgree.{claims-led}
 use Rattle.iss_node.specs.State.{RefinesPast}
 use Rattle.iss_node.proofs.state.NodeState.claims_in.Goals as goal
 

@@ -1,5 +1,5 @@
 use Rattle.std.proofs.Common.{length, refl, ap}
-use Rattle.iss_node.proofs.RequestLemmas.{landed-all}
+use Rattle.iss_node.proofs.WaitingRequests.RequestRefines.{landed-all}
 use Rattle.iss_node.proofs.state.NodeState.complete_casts.Goals as goal
 
 pub returns-clause-landed : goal.returns-clause-landed

@@ -1,7 +1,7 @@
 use Rattle.std.proofs.Common.{◌∙◌, ◌++◌, ◌∷◌, [], refl, ap}
 use Rattle.iss_buckets.specs.Waiting.{cut, may_cast, uncut}
 use Rattle.iss_window.specs.Ids.{and_ids}
-use Rattle.iss_node.proofs.StepLemmas.{place}
+use Rattle.iss_node.proofs.Instances.InputKeepsInvariant.{place}
 use Rattle.iss_node.proofs.state.NodeState.cut.Goals as goal
 
 pub returns-clause-cut : goal.returns-clause-cut

@@ -1,5 +1,5 @@
 use Rattle.std.proofs.Common.{subst}
-use Rattle.iss_node.proofs.VoteLemmas.{ended-all}
+use Rattle.iss_node.proofs.EpochEnd.VoteRefines.{ended-all}
 use Rattle.iss_node.specs.Shape.{IsNodeState}
 use Rattle.iss_node.specs.State.{StateView}
 use Rattle.iss_node.proofs.state.NodeState.end_epoch.Goals as goal

@@ -1,4 +1,4 @@
-use Rattle.iss_node.proofs.SettleLemmas.{settled-dropped, settled-taken}
+use Rattle.iss_node.proofs.EpochEnd.StepCompletes.{settled-dropped, settled-taken}
 use Rattle.iss_node.proofs.state.NodeState.finish_step.Goals as goal
 
 pub returns-in_ok-advance_epochs-in-Taken-clause-answer : goal.returns-in_ok-advance_epochs-in-Taken-clause-answer

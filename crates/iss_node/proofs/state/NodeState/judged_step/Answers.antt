@@ -1,4 +1,4 @@
-use Rattle.iss_node.proofs.StepLemmas.{good-input, judged-input, placed, same-shape}
+use Rattle.iss_node.proofs.Instances.InputKeepsInvariant.{good-input, judged-input, placed, same-shape}
 use Rattle.iss_node.proofs.state.NodeState.judged_step.Goals as goal
 
 pub step-requires : goal.step-requires

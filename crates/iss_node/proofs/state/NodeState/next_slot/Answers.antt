@@ -1,6 +1,6 @@
 use Rattle.std.proofs.Common.{◌≡◌, ◌∙◌, ap, sym, subst, Some}
 use Rattle.iss_model.specs.Node.{first_slot}
-use Rattle.iss_node.proofs.CastLemmas.{next-is}
+use Rattle.iss_node.proofs.Instances.ProposalRefines.{next-is}
 use Rattle.iss_node.specs.Casts.{is_open}
 use Rattle.iss_node.specs.Shape.{IsNodeState}
 use Rattle.iss_node.specs.State.{StateView, led}

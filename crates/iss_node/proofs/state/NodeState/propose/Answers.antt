@@ -1,7 +1,7 @@
 use Rattle.std.proofs.Common.{◌≡◌, ◌∙◌, ap, sym, subst, true}
 use Rattle.std.specs.Prelude.{is_some}
-use Rattle.iss_node.proofs.InstanceLemmas.{leads-is, leaves-is}
-use Rattle.iss_node.proofs.ProposeLemmas.{no-keys, no-slot, proposed-so}
+use Rattle.iss_node.proofs.Instances.ChecksRefine.{leads-is, leaves-is}
+use Rattle.iss_node.proofs.Instances.ProposalChecks.{no-keys, no-slot, proposed-so}
 use Rattle.iss_node.specs.Shape.{IsNodeState}
 use Rattle.iss_node.specs.State.{StateView, led}
 use Rattle.iss_node.proofs.state.NodeState.propose.Goals as goal

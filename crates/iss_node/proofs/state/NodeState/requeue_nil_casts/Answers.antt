@@ -1,6 +1,6 @@
 use Rattle.std.proofs.Common.{◌∙◌, ◌++◌, reverse, sym, ap}
 use Rattle.iss_model.specs.Node.{is_nil_at}
-use Rattle.iss_node.proofs.RequestLemmas.{back-none, back-some, logged-still, rest-more, whole-next}
+use Rattle.iss_node.proofs.WaitingRequests.RequestRefines.{back-none, back-some, logged-still, rest-more, whole-next}
 use Rattle.iss_node.proofs.state.NodeState.requeue_nil_casts.Goals as goal
 
 pub loop-slot-preserved : goal.loop-slot-preserved

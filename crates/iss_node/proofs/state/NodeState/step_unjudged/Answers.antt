@@ -1,5 +1,5 @@
 use Rattle.std.proofs.Common.{subst}
-use Rattle.iss_node.proofs.InstanceLemmas.{input-turn}
+use Rattle.iss_node.proofs.Instances.ChecksRefine.{input-turn}
 use Rattle.iss_node.specs.Shape.{IsNodeState}
 use Rattle.iss_node.specs.State.{StateView}
 use Rattle.iss_node.proofs.state.NodeState.step_unjudged.Goals as goal

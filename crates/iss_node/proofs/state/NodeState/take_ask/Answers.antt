@@ -1,6 +1,6 @@
 use Rattle.std.proofs.Common.{◌∙◌, Some, refl, ap, subst, sym}
 use Rattle.iss_ballots.specs.Ballots.{AreKept}
-use Rattle.iss_node.proofs.TransferLemmas.{hands-short, hands-so}
+use Rattle.iss_node.proofs.StateTransfer.HandOutRefines.{hands-short, hands-so}
 use Rattle.iss_node.specs.State.{StateView}
 use Rattle.iss_node.proofs.state.NodeState.take_ask.Goals as goal
 

@@ -1,9 +1,9 @@
 use Rattle.std.proofs.Common.{arith, rules, ◌≡◌, ◌∙◌, ◌++◌, ◌∷◌, [], ◌<◌, List, ap, sym, subst}
 use Rattle.std.proofs.lemmas.List.{append-nil}
-use Rattle.iss_node.proofs.InstanceLemmas.{later-refl, later-trans}
-use Rattle.iss_node.proofs.NextLemmas.{empty}
-use Rattle.iss_node.proofs.RequestLemmas.{whole-next}
-use Rattle.iss_node.proofs.SettleLemmas.{Owes, owes-first, owes-last, owes-next, owes-none}
+use Rattle.iss_node.proofs.Instances.ChecksRefine.{later-refl, later-trans}
+use Rattle.iss_node.proofs.EpochEnd.NextEpochStarts.{empty}
+use Rattle.iss_node.proofs.WaitingRequests.RequestRefines.{whole-next}
+use Rattle.iss_node.proofs.EpochEnd.StepCompletes.{Owes, owes-first, owes-last, owes-next, owes-none}
 use Rattle.iss_node.specs.Shape.{AreFrom}
 use Rattle.iss_node.specs.declared.answers.Early.{Early}
 use Rattle.iss_request.specs.declared.setups.Setup.{Setup}

@@ -1,6 +1,6 @@
 use Rattle.std.proofs.Common.{◌≡◌, ◌++◌}
 use Rattle.iss_model.specs.Node.{Turn}
-use Rattle.iss_node.proofs.SettleLemmas.{Owes}
+use Rattle.iss_node.proofs.EpochEnd.StepCompletes.{Owes}
 use Rattle.iss_node.specs.Shape.{AreFrom}
 use Rattle.iss_node.specs.Steps.{IsLater, IsTurned}
 use Rattle.iss_node.proofs.state.NodeState.take_each.Given as goal

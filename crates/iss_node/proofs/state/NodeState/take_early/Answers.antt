@@ -1,6 +1,6 @@
 use Rattle.std.proofs.Common.{◌∙◌, ap, subst, sym}
-use Rattle.iss_node.proofs.InstanceLemmas.{later-trans}
-use Rattle.iss_node.proofs.NextLemmas.{early-goes, early-stays}
+use Rattle.iss_node.proofs.Instances.ChecksRefine.{later-trans}
+use Rattle.iss_node.proofs.EpochEnd.NextEpochStarts.{early-goes, early-stays}
 use Rattle.iss_node.specs.State.{StateView}
 use Rattle.iss_node.specs.Steps.{IsLater}
 use Rattle.iss_node.specs.declared.answers.Outcome.{Outcome}

@@ -1,6 +1,6 @@
 use Rattle.iss_model.specs.Node.{takes_message, takes_request}
-use Rattle.iss_node.proofs.HeldLemmas.{message-held, request-held}
-use Rattle.iss_node.proofs.LiftLemmas.{held-ok}
+use Rattle.iss_node.proofs.Steps.VotesDoNotMatter.{message-held, request-held}
+use Rattle.iss_node.proofs.Steps.StepsCompose.{held-ok}
 use Rattle.iss_node.proofs.state.NodeState.take_parcel.Goals as goal
 
 pub returns-in-Request-clause-answer : goal.returns-in-Request-clause-answer

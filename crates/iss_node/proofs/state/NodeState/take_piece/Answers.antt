@@ -1,6 +1,6 @@
 use Rattle.std.proofs.Common.{arith, ◌≤◌, ap, subst}
 use Rattle.iss_rules.specs.declared.events.Why.TheVariants.{BadClaim, OtherEpoch, WrongChain}
-use Rattle.iss_node.proofs.PieceLemmas.{piece-refused, piece-taken, step_by}
+use Rattle.iss_node.proofs.StateTransfer.PieceChecks.{piece-refused, piece-taken, step_by}
 use Rattle.iss_node.specs.Shape.{IsNodeState}
 use Rattle.iss_node.specs.State.{StateView}
 use Rattle.iss_node.proofs.state.NodeState.take_piece.Goals as goal

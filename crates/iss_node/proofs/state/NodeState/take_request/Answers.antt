@@ -2,9 +2,9 @@ use Rattle.std.proofs.Common.{◌≡◌, ◌++◌, ◌∷◌, [], true, false, r
 use Rattle.iss_rules.specs.Concrete.{rules_of}
 use Rattle.iss_model.specs.Node.{unchanged}
 use Rattle.iss_rules.specs.Past.{before_own, log_of}
-use Rattle.iss_node.proofs.InstanceLemmas.{same-parts}
-use Rattle.iss_node.proofs.MadeLemmas.{nothing-made, nothing-sent}
-use Rattle.iss_node.proofs.RequestLemmas.{inside-found, known-is, known-waits, logged-all, request-is, waits-parts}
+use Rattle.iss_node.proofs.Instances.ChecksRefine.{same-parts}
+use Rattle.iss_node.proofs.Steps.OutcomesCompose.{nothing-made, nothing-sent}
+use Rattle.iss_node.proofs.WaitingRequests.RequestRefines.{inside-found, known-is, known-waits, logged-all, request-is, waits-parts}
 use Rattle.iss_node.specs.Shape.{IsNodeState}
 use Rattle.iss_node.specs.State.{StateView, core_of}
 use Rattle.iss_request.specs.Log.{log_ids}

@@ -1,5 +1,5 @@
 use Rattle.std.proofs.Common.{◌∙◌, refl, sym}
-use Rattle.iss_node.proofs.CountLemmas.{vote-bad, vote-counted, vote-known}
+use Rattle.iss_node.proofs.EpochEnd.VotesAreCounted.{vote-bad, vote-counted, vote-known}
 use Rattle.iss_node.proofs.state.NodeState.take_vote.Goals as goal
 use Rattle.iss_node.proofs.state.NodeState.take_vote.Goals.{in-Counted, in-BadSignature, in-Known}
 

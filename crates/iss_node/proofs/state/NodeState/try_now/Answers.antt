@@ -2,7 +2,7 @@ use Rattle.std.proofs.Common.{subst}
 use Rattle.iss_rules.specs.Concrete.{rules_of}
 use Rattle.iss_rules.specs.Formats.{formats_of}
 use Rattle.iss_model.specs.Node.{try_step}
-use Rattle.iss_node.proofs.SettleLemmas.{tried-dropped, tried-taken}
+use Rattle.iss_node.proofs.EpochEnd.StepCompletes.{tried-dropped, tried-taken}
 use Rattle.iss_node.specs.State.{core_of}
 use Rattle.iss_node.specs.Steps.{IsStep}
 use Rattle.iss_sb.specs.declared.effects.Input.TheVariants.{Receive}

@@ -1,6 +1,6 @@
 use Rattle.std.proofs.Common.{◌∙◌, subst, sym, true}
 use Rattle.iss_rules.specs.Formats.{formats_of}
-use Rattle.iss_node.proofs.InstanceLemmas.{drops-claims, drops-keys, drops-refused, leads-is, takes-input, turned}
+use Rattle.iss_node.proofs.Instances.ChecksRefine.{drops-claims, drops-keys, drops-refused, leads-is, takes-input, turned}
 use Rattle.iss_node.specs.Shape.{IsNodeState}
 use Rattle.iss_node.specs.State.{StateView}
 use Rattle.iss_node.proofs.state.NodeState.try_step.Goals as goal

@@ -1,8 +1,8 @@
 use Rattle.iss_model.specs.Node.{finish_step, step, try_step}
 use Rattle.iss_rules.specs.declared.events.NodeEvent.TheVariants.{Propose}
-use Rattle.iss_node.proofs.HeldLemmas.{fired-held, proposed-held}
-use Rattle.iss_node.proofs.InstanceLemmas.{later-trans}
-use Rattle.iss_node.proofs.LiftLemmas.{held-ok, settled-ok}
+use Rattle.iss_node.proofs.Steps.VotesDoNotMatter.{fired-held, proposed-held}
+use Rattle.iss_node.proofs.Instances.ChecksRefine.{later-trans}
+use Rattle.iss_node.proofs.Steps.StepsCompose.{held-ok, settled-ok}
 use Rattle.iss_sb.specs.declared.effects.Input.TheVariants.{Timeout}
 use Rattle.iss_node.proofs.state.NodeState.turn.Goals as goal
 

@@ -1,4 +1,4 @@
-use Rattle.iss_node.proofs.StepLemmas.{good-input, input-taken, placed, same-shape}
+use Rattle.iss_node.proofs.Instances.InputKeepsInvariant.{good-input, input-taken, placed, same-shape}
 use Rattle.iss_node.proofs.state.NodeState.unjudged_step.Goals as goal
 
 pub take-requires : goal.take-requires

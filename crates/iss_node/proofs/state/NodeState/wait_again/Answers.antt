@@ -1,5 +1,5 @@
 use Rattle.std.proofs.Common.{◌∙◌, ◌++◌, sym, ap}
-use Rattle.iss_node.proofs.RequestLemmas.{again-logged, again-waits, logged-still, rest-more, whole-next}
+use Rattle.iss_node.proofs.WaitingRequests.RequestRefines.{again-logged, again-waits, logged-still, rest-more, whole-next}
 use Rattle.iss_node.proofs.state.NodeState.wait_again.Goals as goal
 
 pub loop-request-preserved : goal.loop-request-preserved

@@ -7,11 +7,11 @@ use Rattle.sb_echo.proofs.echo.EchoSequenced.apply.Goals as goal
 pub returns-in-Say : goal.returns-in-Say
 returns-in-Say c = rw (c.in-Receive.is, c.in-Say.is) (IfOk-weaker c.take_say.result _ _ (λ e h. h c.in-Say.sig) c.take_say.ensures)
 
-pub returns-in-Echo : goal.returns-in-Echo
-returns-in-Echo c = rw (c.in-Receive.is, c.in-Echo.is) (IfOk-weaker c.take_echo.result _ _ (λ e h. h c.in-Echo.sig c.args.keys.now c.requires.enough) c.take_echo.ensures)
+pub returns-in-Receive : goal.returns-in-Receive
+returns-in-Receive c = rw (c.in-Receive.is, c.in-Echo.is) (IfOk-weaker c.take_echo.result _ _ (λ e h. h c.in-Echo.sig c.args.keys.now c.requires.enough) c.take_echo.ensures)
 
-pub returns-in-Timeout : goal.returns-in-Timeout
-returns-in-Timeout c =
+pub returns : goal.returns
+returns c =
     let nothing = c.nothing.ensures in
     let enough = c.requires.enough in
     rw c.in-Timeout.is (record {

@@ -1,0 +1,3 @@
+pub mod AdoptionRefines
+pub mod HandOutRefines
+pub mod PieceChecks

@@ -1,0 +1,374 @@
+-- Adopting a piece refines the model's step.
+use Rattle.std.proofs.Common.{arith, inl, inr, ◌≡◌, ℕ, suc, ◌+◌, ◌-◌, ◌*◌, ◌<◌, ◌≤◌, Bool, true, false, ◌&&◌, ◌==◌, ◌||◌, cond, List, [], ◌∷◌, ◌++◌, Option, Some, None, length, length-append, reverse, refl, sym, ap, ◌∙◌, subst, le_antisymm}
+use Rattle.std.specs.Prelude.{fold}
+use Rattle.std.proofs.lemmas.Bool.Decides.{leb_tells}
+use Rattle.std.proofs.lemmas.List.{append-nil, length-reverse, reverse-reverse}
+use Rattle.iss_ballots.specs.Ballots.{AreKept, BallotsState}
+use Rattle.iss_base.specs.Lists.{Extends, first_of, nth, oldest}
+use Rattle.iss_base.proofs.Lists.{and-true, eqb-same, extends-length, extends-refl, first-some, is-eq, none-some, nth-beyond, nth-some, oldest-all}
+use Rattle.iss_buckets.specs.Waiting.{AreNew, absent}
+use Rattle.iss_checkpoint.specs.Votes.{Voters, is_cert, voters_of}
+use Rattle.iss_checkpoint.specs.declared.votes.Cert.{Cert}
+use Rattle.iss_checkpoint.specs.declared.votes.Vote.{Vote}
+use Rattle.iss_keys.specs.Directories.{DirectoryView}
+use Rattle.iss_log.specs.Chains.{ChainsState, IsChainOf, chain_of, end_of, strings_from}
+use Rattle.iss_log.specs.LogState.{LogState, value_at}
+use Rattle.iss_model.proofs.Casts.{adopts-sound, kept-sound}
+use Rattle.iss_rules.proofs.Checked.{cert-same, end-same, strings-same}
+use Rattle.iss_rules.proofs.Logs.{Settled, log-chain, log-kept, IsLog}
+use Rattle.iss_rules.proofs.Longest.{Bounded}
+use Rattle.iss_rules.proofs.Pieces.{adopts-later, adopts-settled}
+use Rattle.iss_model.proofs.Steps.{IsAdopted}
+use Rattle.iss_rules.proofs.Windows.{are-windows}
+use Rattle.iss_rules.specs.Concrete.{rules_of}
+use Rattle.iss_rules.specs.Formats.{formats_of}
+use Rattle.iss_rules.specs.Parcels.{Formats}
+use Rattle.iss_rules.specs.Votes.{cert_on, keeping}
+use Rattle.iss_model.specs.Node.{Core, Early as Kept_early, Turn, adopts_piece, grown_strings, in_next_epoch, joined, returned, takes_each, then_turn}
+use Rattle.iss_rules.specs.Past.{Past, Piece, adopted_at, adopts, before_own, cell, log_of}
+use Rattle.iss_rules.specs.Rules.{Rules}
+use Rattle.iss_model.specs.Sound.{IsSoundCore}
+use Rattle.iss_node.proofs.EpochEnd.EpochEndRefines.{IsOver}
+use Rattle.iss_node.proofs.Steps.VotesDoNotMatter.{each-held, onward-held, with_turn}
+use Rattle.iss_node.proofs.Instances.ChecksRefine.{goes-trans}
+use Rattle.iss_node.proofs.EpochEnd.NextEpochStarts.{next-parts}
+use Rattle.iss_node.proofs.Log.LogIsDelivered.{epoch-cell, goes-on, has-slots, log-is, nothing-adopted, start-is}
+use Rattle.iss_node.proofs.Log.EpochSlots.{given-at, not-empty}
+use Rattle.iss_node.proofs.Log.LogIsExtended.{AreRefiled, are-refiled, bf-long, bf-part, bounded, grown-is}
+use Rattle.iss_node.specs.Flights.{FlightState, IsCompleted}
+use Rattle.iss_node.specs.Growth.{IsGrown, and_values, waits_on}
+use Rattle.iss_node.specs.Inputs.{HasAppliedDeliveries, IsChained}
+use Rattle.iss_node.specs.Shape.{IsNodeState}
+use Rattle.iss_node.specs.State.{RefinesBareCore, RefinesPast, StateView, bare, core_of, seen_early, slot_value}
+use Rattle.iss_node.specs.Steps.{IsHeldTurn, IsLater, IsNextEpoch, IsSameNode, IsTurnBehind, IsTurned}
+use Rattle.iss_node.specs.Transfers.{IsAdoptedBy, at_slots}
+use Rattle.iss_node.specs.declared.answers.Early.{Early}
+use Rattle.iss_node.specs.declared.answers.Outcome.{Outcome}
+use Rattle.iss_request.specs.Log.{has_id, log_ids}
+use Rattle.iss_request.specs.declared.ids.NodeId.{NodeId}
+use Rattle.iss_request.specs.declared.ids.ReqId.{ReqId}
+use Rattle.iss_request.specs.declared.requests.Request.{Request}
+use Rattle.iss_request.specs.declared.requests.Value.{Value}
+use Rattle.iss_request.specs.declared.setups.Setup.{Setup}
+use Rattle.iss_sb.specs.Calls.{AreToNodes}
+use Rattle.iss_sb.specs.Evidence.{Item, Module, delivered}
+use Rattle.iss_sb.specs.declared.effects.Params.{Params}
+use Rattle.iss_sb.specs.declared.effects.To.{To}
+use Rattle.iss_segment.specs.Ground.{noted_before}
+use Rattle.iss_transfer.specs.Adoption.{adopted_log, adoption, has_shape, log_before, said_in, same_end}
+use Rattle.iss_transfer.specs.declared.adopting.Adoption.TheVariants.{Adopt, BadCert, WrongChain, WrongEpoch}
+use Rattle.iss_transfer.specs.declared.pieces.Piece.{Piece as Sent_piece}
+use Rattle.iss_window.specs.Kept.{RefinesNoted}
+
+-- ---- the result of the check
+
+pub record IsAdoptable (s : Setup) (w : Voters) (log : List Value) (e : ℕ) (p : Sent_piece) (hashed : List (List ℕ)) : Type 0 where
+  pub epoch : p.epoch.0 ≡ e
+  pub of_epoch : p.cert.epoch.0 ≡ e
+  pub whole : length p.values ≡ s.epoch
+  pub cert : is_cert w p.cert ≡ true
+  pub leads : same_end (end_of s.version (adopted_log s log e p)) (said_in p.cert) ≡ true
+  pub strings : hashed ≡ strings_from s.version (chain_of s.version (log_before s log e)) p.values
+
+pub adoption-tells : (s : Setup) (w : Voters) (log : List Value) (e : ℕ) (p : Sent_piece) (hashed : List (List ℕ)) → adoption s w log e p ≡ Adopt hashed → IsAdoptable s w log e p hashed
+adoption-tells s w log e p hashed h = go (has_shape s e p) refl (is_cert w p.cert) refl (same_end (end_of s.version (adopted_log s log e p)) (said_in p.cert)) refl h
+  where
+    wrong : WrongEpoch ≡ Adopt hashed → ⊥
+    wrong q = cc
+
+    bad : BadCert ≡ Adopt hashed → ⊥
+    bad q = cc
+
+    apart : {a b : _} → WrongChain a b ≡ Adopt hashed → ⊥
+    apart q = cc
+
+    same : (x : List (List ℕ)) → Adopt x ≡ Adopt hashed → hashed ≡ x
+    same x q = cc
+
+    go : (a : Bool) → has_shape s e p ≡ a → (b : Bool) → is_cert w p.cert ≡ b → (d : Bool) → same_end (end_of s.version (adopted_log s log e p)) (said_in p.cert) ≡ d →
+        adoption s w log e p ≡ Adopt hashed → IsAdoptable s w log e p hashed
+    go true qa true qb true qd r =
+        let parts = and-true (p.epoch.0 == e) ((p.cert.epoch.0 == e) && (length p.values == s.epoch)) qa in
+        let more = and-true (p.cert.epoch.0 == e) (length p.values == s.epoch) parts.1 in
+        record {
+          epoch = is-eq p.epoch.0 e parts.0;
+          of_epoch = is-eq p.cert.epoch.0 e more.0;
+          whole = is-eq (length p.values) s.epoch more.1;
+          cert = qb;
+          leads = qd;
+          strings = same (strings_from s.version (chain_of s.version (log_before s log e)) p.values) (rw (qa, qb, qd) at r);
+        }
+    go true qa true qb false qd r = absurd (apart (rw (qa, qb, qd) at r))
+    go true qa false qb d qd r = absurd (bad (rw (qa, qb) at r))
+    go false qa b qb d qd r = absurd (wrong (rw qa at r))
+
+-- ---- the log with the values of a piece
+
+module _ {M Msg : Type 0} (m : Module Msg) (refines : M → Params → ℕ → List (Item Msg) → Type 0)
+    (v : StateView M Msg) (shape : IsNodeState m v) (past : Past Msg) (tied : RefinesPast m refines v past) (p : Sent_piece) (hashed : List (List ℕ))
+    (told : IsAdoptable v.setup (voters_of v.setup v.directory) v.log.entries v.epoch p hashed)
+    (log : LogState) (count : ℕ) (grown : IsGrown v.log (at_slots v.plan.start p.values) log count) where
+  abbrev pub piece : Piece
+  piece = record { epoch = past.epoch; values = p.values }
+
+  abbrev pub next : Past Msg
+  next = adopts past piece
+
+  abbrev pub before : List Value
+  before = before_own (rules_of v.setup) m v.me.0 past
+
+  settled : Settled (rules_of v.setup) past
+  settled = record { all = tied.sound.settled }
+
+  next-bounded : Bounded next
+  next-bounded = record { evidence = λ e l lt. tied.sound.unborn e l (omega (arith, lt)); adopted = (adopts-settled (rules_of v.setup) past piece refl settled).all }
+
+  value-is : (k : ℕ) → v.plan.start ≤ k → value_at log k ≡ first_of (value_at v.log k) (nth p.values (k - v.plan.start))
+  value-is k le = grown.values k ∙ ap (λ (o : Option Value). first_of (value_at v.log k) o) (given-at v.plan.start p.values k le)
+
+  outside : (k : ℕ) → v.plan.start + v.setup.epoch ≤ k → value_at log k ≡ None
+  outside k le =
+      let whole = told.whole in
+      value-is k (omega (arith, le)) ∙ ap (λ (o : Option Value). first_of o (nth p.values (k - v.plan.start))) (tied.outside k le)
+      ∙ nth-beyond p.values (k - v.plan.start) (omega (arith, le, whole))
+
+  filled : (k : ℕ) → v.plan.start ≤ k → k < v.plan.start + v.setup.epoch → value_at log k ≡ None → ⊥
+  filled k lo hi none =
+      let whole = told.whole in
+      let n = nth-some p.values (k - v.plan.start) (omega (arith, lo, hi, whole)) in
+      first-some (value_at v.log k) None (nth p.values (k - v.plan.start)) n.0 n.1 (sym (value-is k lo) ∙ none)
+
+  -- The log ends with the epoch.
+  size : length log.entries ≡ v.plan.start + v.setup.epoch
+  size =
+      let more = ap (λ (ys : List Value). length ys) grown.entries in
+      let long = length-append v.log.entries grown.joined in
+      let low : v.plan.start ≤ length log.entries = let b = tied.begun in omega (arith, b, more, long) in
+      let few : length log.entries ≤ v.plan.start + v.setup.epoch = elim (leb_tells (suc (v.plan.start + v.setup.epoch)) (length log.entries)) [
+        | inl t ↦ absurd (not-empty log (v.plan.start + v.setup.epoch) t.1 (outside (v.plan.start + v.setup.epoch) (let q : v.plan.start + v.setup.epoch ≤ v.plan.start + v.setup.epoch = omega arith in q)))
+        | inr t ↦ omega (arith, t.1)
+      ] in
+      let far : v.plan.start + v.setup.epoch ≤ length log.entries = elim (leb_tells (v.plan.start + v.setup.epoch) (length log.entries)) [
+        | inl t ↦ t.1
+        | inr t ↦ absurd (filled (length log.entries) low t.1 grown.hole)
+      ] in
+      le_antisymm few far
+
+  pub long : length (reverse log.entries) ≡ suc past.epoch * v.setup.epoch
+  long = let n = length-reverse log.entries in let k = size in let q = tied.start in omega (arith, n, k, q)
+
+  adopted-is : (i : ℕ) → adopted_at (piece ∷ past.adopted) past.epoch i ≡ nth p.values i
+  adopted-is i =
+      ap (λ (b : Bool). first_of (adopted_at past.adopted past.epoch i) (cond b (nth p.values i) None)) (eqb-same past.epoch)
+      ∙ ap (λ (o : Option Value). first_of o (nth p.values i)) (nothing-adopted v.setup shape.good.good m v.me.0 past (bounded m refines v shape past tied) before (bf-long m refines v shape past tied) i)
+
+  cell-is : (older : List Value) → Extends before older → length older < v.plan.start + v.setup.epoch →
+      cell (rules_of v.setup) m v.me.0 next older ≡ first_of (slot_value (rules_of v.setup) m v.me.0 before past (length older)) (nth p.values (length older - v.plan.start))
+  cell-is older x lt =
+      let q = tied.start in
+      let n = bf-long m refines v shape past tied in
+      epoch-cell v.setup shape.good.good m v.me.0 next past.epoch before n older x (omega (arith, lt, q))
+      ∙ ap (λ (o : Option Value). first_of (slot_value (rules_of v.setup) m v.me.0 before past (length older)) o) (adopted-is (length older - length before))
+      ∙ ap (λ (k : ℕ). first_of (slot_value (rules_of v.setup) m v.me.0 before past (length older)) (nth p.values (length older - k))) (n ∙ sym q)
+
+  holds : (front : List Value) → Extends before (reverse front) → (x : Value) → value_at log (length front) ≡ Some x → cell (rules_of v.setup) m v.me.0 next (reverse front) ≡ Some x
+  holds front over x is =
+      let n = length-reverse front in
+      let low = extends-length before (reverse front) over in
+      let len = bf-long m refines v shape past tied in
+      let q = tied.start in
+      elim (leb_tells (v.plan.start + v.setup.epoch) (length front)) [
+        | inl t ↦ absurd (none-some x (sym (outside (length front) t.1) ∙ is))
+        | inr t ↦
+            let lt : length (reverse front) < v.plan.start + v.setup.epoch = omega (arith, n, t.1) in
+            let lo : v.plan.start ≤ length front = omega (arith, n, low, len, q) in
+            cell-is (reverse front) over lt
+            ∙ ap (λ (k : ℕ). first_of (slot_value (rules_of v.setup) m v.me.0 before past k) (nth p.values (k - v.plan.start))) n
+            ∙ ap (λ (o : Option Value). first_of o (nth p.values (length front - v.plan.start))) (sym (tied.cells (length front) lo t.1))
+            ∙ sym (value-is (length front) lo) ∙ is
+      ]
+
+  pub whole-log : Extends before (reverse log.entries) × IsLog (rules_of v.setup) m v.me.0 next (reverse log.entries)
+  whole-log =
+      let was : IsLog (rules_of v.setup) m v.me.0 past (reverse v.log.entries) = subst (λ (ys : List Value). IsLog (rules_of v.setup) m v.me.0 past ys) tied.log (log-chain (rules_of v.setup) m v.me.0 past) in
+      goes-on v.setup m v.me.0 next before log holds grown.joined v.log.entries grown.entries (bf-part m refines v shape past tied)
+      (log-kept (rules_of v.setup) m v.me.0 past next (adopts-later (rules_of v.setup) past piece settled) (reverse v.log.entries) was)
+
+  pub new-log : log_of (rules_of v.setup) m v.me.0 next ≡ reverse log.entries
+  new-log =
+      let q = tied.start in
+      let over : (k : ℕ) → suc past.epoch * v.setup.epoch ≤ k → value_at log k ≡ None = λ k le. outside k (omega (arith, q, le)) in
+      let none : (k : ℕ) → slot_value (rules_of v.setup) m v.me.0 (reverse log.entries) next k ≡ None = λ k.
+      let l = (rules_of v.setup).leader (reverse log.entries) (suc past.epoch) k in
+      ap (λ (ys : List (Item Msg)). delivered m ((rules_of v.setup).params (reverse log.entries) (suc past.epoch) l) v.me.0 ys k) (tied.sound.unborn (suc past.epoch) l (omega arith)) in
+      log-is v.setup shape.good.good m v.me.0 next next-bounded (reverse log.entries) long log
+      (λ k lo hi. over k lo ∙ sym (none k)) (λ k le. over k (omega (arith, le))) grown.hole
+      log.entries [] (sym (append-nil log.entries)) (extends-refl (reverse log.entries)) whole-log.1
+
+  pub next-own : before_own (rules_of v.setup) m v.me.0 next ≡ reverse log.entries
+  next-own =
+      ap (λ (k : ℕ). oldest k (log_of (rules_of v.setup) m v.me.0 next)) (start-is v.setup (log_of (rules_of v.setup) m v.me.0 next) (suc past.epoch))
+      ∙ ap (λ (ys : List Value). oldest (suc past.epoch * v.setup.epoch) ys) new-log
+      ∙ oldest-all (suc past.epoch * v.setup.epoch) (reverse log.entries) (let n = long in omega (arith, n))
+
+  -- ---- the model adopts it too
+
+  turned-log : v.log.entries ≡ reverse (log_of (rules_of v.setup) m v.me.0 past)
+  turned-log = sym (ap (λ (ys : List Value). reverse ys) tied.log ∙ reverse-reverse v.log.entries)
+
+  is-adopted : (F : Formats Msg) → IsAdopted F (rules_of v.setup) m v.me.0 (core_of v past) p
+      (then_turn (adopts_piece (rules_of v.setup) m v.me.0 (core_of v past) p) (takes_each F (rules_of v.setup) m v.me.0 (suc past.epoch) (core_of v past).early))
+  is-adopted F = record {
+    epoch = told.epoch ∙ tied.epoch;
+    of_epoch = told.of_epoch ∙ tied.epoch;
+    whole = told.whole;
+    certified = sym (cert-same v.setup p.cert) ∙ ap (λ (d : DirectoryView). is_cert (voters_of v.setup d) p.cert) (sym shape.directory) ∙ told.cert;
+    leads =
+        ap (λ (x : _). same_end x (said_in p.cert)) (sym (end-same v.setup (log_of (rules_of v.setup) m v.me.0 past) past.epoch p tied.sound.reached))
+        ∙ ap (λ (ys : List Value). same_end (end_of v.setup.version (adopted_log v.setup ys past.epoch p)) (said_in p.cert)) (sym turned-log)
+        ∙ ap (λ (e : ℕ). same_end (end_of v.setup.version (adopted_log v.setup v.log.entries e p)) (said_in p.cert)) (sym tied.epoch)
+        ∙ told.leads;
+    is = refl;
+  }
+
+  turn-sound : IsSoundCore (rules_of v.setup) m v.me.0 (adopts_piece (rules_of v.setup) m v.me.0 (core_of v past) p).core
+  turn-sound =
+      adopts-sound (formats_of v.setup m) (rules_of v.setup) m v.me.0 (has-slots v.setup shape.good.good) (are-windows v.setup) (core_of v past) p _ tied.sound (is-adopted (formats_of v.setup m))
+
+  pub strings-are : (chain : List (List ℕ)) → chain ≡ hashed ++ strings_from v.chains.version (chain_of v.chains.version v.log.entries) grown.joined →
+      chain ≡ (rules_of v.setup).hashes before p.values ++ grown_strings (rules_of v.setup) (log_of (rules_of v.setup) m v.me.0 past) (log_of (rules_of v.setup) m v.me.0 next)
+  strings-are chain is =
+      let own : hashed ≡ (rules_of v.setup).hashes before p.values =
+      told.strings
+      ∙ ap (λ (e : ℕ). strings_from v.setup.version (chain_of v.setup.version (log_before v.setup v.log.entries e)) p.values) tied.epoch
+      ∙ ap (λ (ys : List Value). strings_from v.setup.version (chain_of v.setup.version (log_before v.setup ys past.epoch)) p.values) turned-log
+      ∙ strings-same v.setup (log_of (rules_of v.setup) m v.me.0 past) past.epoch p tied.sound.reached in
+      is
+      ∙ ap (λ (xs : List (List ℕ)). xs ++ strings_from v.chains.version (chain_of v.chains.version v.log.entries) grown.joined) own
+      ∙ ap (λ (k : ℕ). (rules_of v.setup).hashes before p.values ++ strings_from k (chain_of k v.log.entries) grown.joined) shape.version
+      ∙ ap (λ (xs : List (List ℕ)). (rules_of v.setup).hashes before p.values ++ xs) (sym (grown-is v.setup v.log.entries grown.joined _ _ tied.log (new-log ∙ ap (λ (ys : List Value). reverse ys) grown.entries)))
+
+  -- ---- the state before the next epoch starts
+
+  module _ (chains : ChainsState) (chained : IsChainOf chains (v.log.entries ++ grown.joined)) (waiting : List Request) (flight : FlightState) (logged : List ReqId) (ballots : BallotsState)
+      (joins : logged ≡ fold and_values v.logged grown.joined)
+      (lands : IsCompleted v.flight flight (length log.entries))
+      (returns : (all : List ReqId) (bf : List Value) → RefinesNoted v.windows (noted_before bf) → ((x : ReqId) → has_id x all ≡ (has_id x logged || has_id x (log_ids bf))) →
+      AreNew (fold waits_on v.waiting grown.joined) (absent all (returned (reverse log.entries) v.flight.casts)) →
+      waiting ≡ fold waits_on v.waiting grown.joined ++ absent all (returned (reverse log.entries) v.flight.casts)) where
+    abbrev pub after : StateView M Msg
+    after = record v { log = log; chains = chains; logged = logged; flight = flight; waiting = waiting; ballots = ballots }
+
+    -- The history with the adopted epoch.
+    abbrev pub with_it : Past Msg
+    with_it = record past { adopted = piece ∷ past.adopted }
+
+    filed : AreRefiled m v past next v.keys.used waiting flight logged
+    filed = are-refiled m refines v shape past tied next v.keys.used log grown.joined grown.entries new-log turn-sound.different waiting flight logged joins lands returns
+
+    pub core-is : bare (adopts_piece (rules_of v.setup) m v.me.0 (core_of v past) p).core ≡ in_next_epoch (core_of after with_it)
+    core-is = λ t. record { past = next; waiting = sym filed.waits t; flight = sym filed.flies t; early = []; votes = []; certs = []; leaf = v.keys.used }
+
+    pub is-over : IsOver m after before with_it
+    is-over = record {
+      epoch = tied.epoch;
+      log = new-log;
+      own = next-own;
+      long = long;
+      chained = subst (λ (ys : List Value). IsChainOf chains ys) (sym grown.entries) chained;
+      rests = tied.rests;
+      standing = tied.standing;
+      start = tied.start;
+      size = bf-long m refines v shape past tied;
+      part = whole-log.0;
+      outside = outside;
+      hole = grown.hole;
+      logged = λ x. filed.noted x ∙ ap (λ (ys : List Value). has_id x (log_ids (joined v.plan.start ys))) new-log;
+      flown = filed.same;
+      unborn = λ l. tied.sound.unborn (suc past.epoch) l (omega arith);
+      sound = subst (λ (c : Core Msg). IsSoundCore (rules_of v.setup) m v.me.0 c) core-is
+          (kept-sound (formats_of v.setup m) (rules_of v.setup) m v.me.0 (adopts_piece (rules_of v.setup) m v.me.0 (core_of v past) p).core [] [] [] v.keys.used turn-sound);
+      keys = tied.keys;
+    }
+
+-- ---- set-up and identity are the same
+
+-- Votes and certificates do not matter for this.
+pub kept-same : {M Msg : Type 0} (v u w : StateView M Msg) (ballots : BallotsState) → IsLater v u → IsLater (record u { ballots = ballots }) w → IsSameNode v w
+kept-same v u w ballots h g = record { setup = g.setup ∙ h.setup; me = g.me ∙ h.me; log = goes-trans v.log.entries u.log.entries w.log.entries h.log g.log }
+
+pub same-on : {M Msg : Type 0} (v w x : StateView M Msg) → IsSameNode v w → IsLater w x → IsSameNode v x
+same-on v w x h g = record { setup = g.setup ∙ h.setup; me = g.me ∙ h.me; log = goes-trans v.log.entries w.log.entries x.log.entries h.log g.log }
+
+-- ---- the whole adoption
+
+-- The turn of a core without votes and certificates.
+abbrev bare_turn : {Msg : Type 0} → Rules → Module Msg → ℕ → Core Msg → Sent_piece → Turn Msg
+bare_turn R m me c p = let t = adopts_piece R m me c p in record t { core = bare t.core }
+
+module _ {M Msg : Type 0} (m : Module Msg) (refines : M → Params → ℕ → List (Item Msg) → Type 0)
+    (v u w new : StateView M Msg) (shape : IsNodeState m v) (p : Sent_piece) (hashed strings : List (List ℕ)) (ballots : BallotsState) (early : List (Early Msg)) (first o : Outcome)
+    (grown : HasAppliedDeliveries v u (at_slots v.plan.start p.values)) (chained : IsChained v u hashed strings)
+    (keeps : (votes : List Vote) (certs : List Cert) → AreKept u.ballots votes certs → AreKept ballots votes (keeping certs p.cert (cert_on certs p.cert.epoch.0)))
+    (begun : IsNextEpoch refines (record u { ballots = ballots }) w early) (later : IsLater (record u { ballots = ballots }) w)
+    (is_first : first ≡ record { sends = []; own = []; early = []; hashed = strings })
+    (each : IsTurnBehind m refines w (λ F R me t. then_turn t (takes_each F R m me w.epoch (seen_early early))) first new o) (last : IsLater w new) where
+  first-turn : (past : Past Msg) → RefinesPast m refines v past → IsAdoptable v.setup (voters_of v.setup v.directory) v.log.entries v.epoch p hashed →
+      IsTurned m refines (bare_turn (rules_of v.setup) m v.me.0 (core_of v past) p) w first
+  first-turn past tied told =
+      let g = grown in
+      let chain = chained.joined g.grown.joined g.grown.entries tied.chained in
+      let returns : (all : List ReqId) (bf : List Value) → RefinesNoted v.windows (noted_before bf) → ((x : ReqId) → has_id x all ≡ (has_id x u.logged || has_id x (log_ids bf))) →
+      AreNew (fold waits_on v.waiting g.grown.joined) (absent all (returned (reverse u.log.entries) v.flight.casts)) →
+      u.waiting ≡ fold waits_on v.waiting g.grown.joined ++ absent all (returned (reverse u.log.entries) v.flight.casts) =
+      λ all bf noted members fresh. g.landed.waiting all (record { before = bf; noted = noted; members = members }) fresh in
+      let over = is-over m refines v shape past tied p hashed told u.log g.held g.grown u.chains chain.chained u.waiting u.flight u.logged ballots g.logged g.landed.landed returns in
+      let is = core-is m refines v shape past tied p hashed told u.log g.held g.grown u.chains chain.chained u.waiting u.flight u.logged ballots g.logged g.landed.landed returns in
+      let with_ballots : StateView M Msg → StateView M Msg = λ z. record z { ballots = ballots } in
+      let from : IsNextEpoch refines (record v { log = u.log; chains = u.chains; logged = u.logged; flight = u.flight; waiting = u.waiting; ballots = ballots }) w early =
+      subst (λ (z : StateView M Msg). IsNextEpoch refines z w early) (ap with_ballots g.rest) begun in
+      record {
+        refined = subst (λ (c : Core Msg). RefinesBareCore m refines w c) (sym is) (next-parts m refines _ shape.slots _ _ over w early from);
+        made = record {
+          sends = ap (λ (z : Outcome). z.sends) is_first;
+          own = ap (λ (z : Outcome). z.own) is_first;
+          early = ap (λ (z : Outcome). z.early) is_first;
+          hashed = ap (λ (z : Outcome). z.hashed) is_first ∙ strings-are m refines v shape past tied p hashed told u.log g.held g.grown strings chain.strings;
+        };
+        addressed = subst (λ (xs : List (To × List ℕ)). AreToNodes w.setup.n xs) (sym (ap (λ (z : Outcome). z.sends) is_first)) tt;
+      }
+
+  pub adopted-all : IsAdoptedBy m refines v p hashed new o
+  adopted-all c h found =
+      let F = formats_of v.setup m in
+      let R = rules_of v.setup in
+      let me = v.me.0 in
+      let tied = h.state.tied in
+      let told = adoption-tells v.setup (voters_of v.setup v.directory) v.log.entries v.epoch p hashed found in
+      let e = suc c.past.epoch in
+      let certs = keeping c.certs p.cert (cert_on c.certs c.past.epoch) in
+      let start : Turn Msg = bare_turn R m me (bare c) p in
+      let turned : IsTurned m refines start w first = subst (λ (d : Core Msg). IsTurned m refines (bare_turn R m me d p) w first) (sym h.state.core) (first-turn c.past tied told) in
+      let setup : w.setup ≡ v.setup = later.setup ∙ ap (λ (z : StateView M Msg). z.setup) grown.rest in
+      let node : w.me ≡ v.me = later.me ∙ ap (λ (z : StateView M Msg). z.me) grown.rest in
+      let epoch : w.epoch ≡ e = turned.refined.tied.epoch in
+      let kept : seen_early early ≡ c.early =
+      ap (λ (xs : List (Early Msg)). seen_early xs) (begun.kept ∙ ap (λ (z : StateView M Msg). z.early) grown.rest) ∙ sym (ap (λ (d : Core Msg). d.early) h.state.core) in
+      let there : IsTurned m refines (then_turn start (takes_each F R m me e c.early)) new o =
+      subst (λ (xs : List (Kept_early Msg)). IsTurned m refines (then_turn start (takes_each F R m me e xs)) new o) kept
+      (subst (λ (k : ℕ). IsTurned m refines (then_turn start (takes_each F R m me k (seen_early early))) new o) epoch
+      (subst (λ (i : NodeId). IsTurned m refines (then_turn start (takes_each F R m i.0 w.epoch (seen_early early))) new o) node
+      (subst (λ (s : Setup). IsTurned m refines (then_turn start (takes_each (formats_of s m) (rules_of s) m w.me.0 w.epoch (seen_early early))) new o) setup (each start turned)))) in
+      let framed : then_turn (adopts_piece R m me c p) (takes_each F R m me e c.early) ≡ with_turn F R m me c.votes certs (then_turn start (takes_each F R m me e c.early)) =
+      onward-held F R m me c.votes certs start (takes_each F R m me e c.early) (each-held F R m me c.votes certs e c.early) in
+      let own : AreKept ballots c.votes certs =
+      subst (λ (k : ℕ). AreKept ballots c.votes (keeping c.certs p.cert (cert_on c.certs k))) (told.of_epoch ∙ tied.epoch)
+      (keeps c.votes c.certs (subst (λ (b : BallotsState). AreKept b c.votes c.certs) (sym (ap (λ (z : StateView M Msg). z.ballots) grown.rest)) h.kept)) in
+      subst (λ (z : Turn Msg). IsHeldTurn m refines (Unit {0}) z new o) (sym framed) (record {
+        refined = record {
+          state = record { core = ap (λ (z : Core Msg). bare z) there.refined.core; tied = there.refined.tied };
+          kept = subst (λ (b : BallotsState). AreKept b c.votes certs) (sym (last.ballots ∙ later.ballots)) own;
+        };
+        made = record { sends = there.made.sends; own = there.made.own; early = there.made.early; hashed = there.made.hashed };
+        addressed = λ a. there.addressed;
+      })

@@ -1,0 +1,6 @@
+pub mod AnswersRefine
+pub mod OutcomesCompose
+pub mod QueriesAgree
+pub mod ReportsAgree
+pub mod StepsCompose
+pub mod VotesDoNotMatter

@@ -1,0 +1,55 @@
+-- A node's answers follow from the steps of its parts.
+use Rattle.std.proofs.Common.{arith, inl, inr, ◌≡◌, ℕ, ◌≤◌, Bool, false, List, [], ◌∷◌, ◌++◌, length, length-append, take, refl, sym, ap, ◌∙◌, true≢false}
+use Rattle.iss_log.specs.LogState.{GoesOn}
+use Rattle.iss_rules.specs.Concrete.{rules_of}
+use Rattle.iss_rules.specs.Formats.{formats_of}
+use Rattle.iss_model.specs.Node.{Core, step}
+use Rattle.iss_rules.specs.declared.events.NodeEvent.{NodeEvent}
+use Rattle.iss_rules.specs.declared.events.Why.{Why}
+use Rattle.iss_node.specs.Shape.{IsNode}
+use Rattle.iss_node.specs.State.{RefinesCore, StateView}
+use Rattle.iss_node.specs.Steps.{IsAnswer, IsHeldStepOf, IsOfNodes}
+use Rattle.iss_node.specs.declared.answers.Answer.TheVariants.{Dropped as Node_dropped, Taken as Node_taken}
+use Rattle.iss_node.specs.declared.answers.Outcome.{Outcome}
+use Rattle.iss_node.specs.declared.answers.StepResult.TheVariants.{Dropped as Result_dropped, Taken as Result_taken}
+use Rattle.iss_request.specs.declared.requests.Value.{Value}
+use Rattle.iss_sb.specs.Evidence.{Item, Module}
+use Rattle.iss_sb.specs.declared.effects.Params.{Params}
+
+module _ {M Msg : Type 0} (m : Module Msg) (refines : M → Params → ℕ → List (Item Msg) → Type 0) (v w : StateView M Msg) (s : Bool) (event : NodeEvent) where
+  abbrev pub asked : Type 0
+  asked = IsOfNodes v.setup.n event
+
+  pub answer-taken : (o : Outcome) → IsHeldStepOf m refines asked v (λ F R me c. step F R m me c event) w (Result_taken o) → (c : Core Msg) → RefinesCore m refines (record { state = v; stale = s }) c →
+      IsAnswer m refines asked c (step (formats_of v.setup m) (rules_of v.setup) m v.me.0 c event) (record { state = w; stale = s }) (Node_taken o)
+  answer-taken o h c st =
+      let all = h c st.held in
+      record { turn = all.turn; step_is = all.step_is; refined = record { fresh = st.fresh; held = all.turned.refined }; made = all.turned.made; addressed = all.turned.addressed }
+
+  pub answer-dropped : (why : Why) → IsHeldStepOf m refines asked v (λ F R me c. step F R m me c event) w (Result_dropped why) → (c : Core Msg) → RefinesCore m refines (record { state = v; stale = s }) c →
+      IsAnswer m refines asked c (step (formats_of v.setup m) (rules_of v.setup) m v.me.0 c event) (record { state = w; stale = s }) (Node_dropped why)
+  answer-dropped why h c st =
+      let all = h c st.held in
+      record { step_is = all.step_is; refined = record { fresh = st.fresh; held = all.refined } }
+
+  fresh-core : s ≡ false → IsNode m refines (record { state = v; stale = s }) → (c : Core Msg) × RefinesCore m refines (record { state = v; stale = s }) c
+  fresh-core q (inl t) = absurd (true≢false (sym t ∙ q))
+  fresh-core q (inr h) = h
+
+  pub node-taken : (o : Outcome) → IsHeldStepOf m refines asked v (λ F R me c. step F R m me c event) w (Result_taken o) → s ≡ false → IsNode m refines (record { state = v; stale = s }) → IsNode m refines (record { state = w; stale = s })
+  node-taken o h q n = let c = fresh-core q n in let a = answer-taken o h c.0 c.1 in inr (a.turn.core, a.refined)
+
+  pub node-dropped : (why : Why) → IsHeldStepOf m refines asked v (λ F R me c. step F R m me c event) w (Result_dropped why) → s ≡ false → IsNode m refines (record { state = v; stale = s }) → IsNode m refines (record { state = w; stale = s })
+  node-dropped why h q n = let c = fresh-core q n in let a = answer-dropped why h c.0 c.1 in inr (c.0, a.refined)
+
+-- ---- the log that a stale node reports
+
+front-of : (a b : List Value) → take (length a) (a ++ b) ≡ a
+front-of [] b = refl
+front-of (x ∷ a) b = ap (λ (ys : List Value). x ∷ ys) (front-of a b)
+
+pub shown-again : (a b : List Value) (n : ℕ) → GoesOn a b → n ≡ length a → take n b ≡ a
+shown-again a b n h is = ap (λ (k : ℕ). take k b) is ∙ ap (λ (ys : List Value). take (length a) ys) h.1 ∙ front-of a h.0
+
+pub long-enough : (a b : List Value) (n : ℕ) → GoesOn a b → n ≡ length a → n ≤ length b
+long-enough a b n h is = let l = ap (λ (ys : List Value). length ys) h.1 in let k = length-append a h.0 in omega (arith, is, l, k)

@@ -1,0 +1,3 @@
+pub mod OrderedLeaveWaiting
+pub mod ProposalsComplete
+pub mod RequestRefines

@@ -1,0 +1,3 @@
+pub mod ClaimsAgree
+pub mod DecodingRefines
+pub mod SendersExist
