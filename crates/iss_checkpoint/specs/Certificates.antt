@@ -40,6 +40,7 @@ pub record IsSpelledCert (e : ℕ) (c : Cert) (bytes : List ℕ) : Type 0 where
 
 -- ---- decoding
 
+-- decodes a certificate of epoch e
 unfoldable pub parse_cert : ℕ → Parser Cert
 parse_cert e = do
   chain ← block 32

@@ -15,6 +15,7 @@ use Rattle.iss_sb.specs.declared.signers.Signed.{Signed}
 use Rattle.iss_checkpoint.specs.declared.votes.Vote.{Vote}
 use Rattle.iss_checkpoint.specs.Votes.{Voters, is_cert, is_signed, statement_of}
 
+-- the votes for one epoch
 pub record TallyState : Type 0 where
   pub voters : Voters
   pub epoch : ℕ

@@ -20,6 +20,7 @@ spell_content version Mark = 2 ∷ []
 
 -- ---- the table as a relation between contents and bytes
 
+-- the row of the table for each kind
 abbrev pub IsSpelledContent : ℕ → Content → List ℕ → Type 0
 IsSpelledContent version Nil bytes = bytes ≡ 0 ∷ []
 IsSpelledContent version (Holds batch) bytes = (value : List ℕ) × IsSpelledValue version (Value_batch batch) value

@@ -33,9 +33,11 @@ use Rattle.iss_model.specs.Run.{Held, node_of}
 use Rattle.iss_model.specs.Runs.{AreAtCores, IsPrefix, pasts_of}
 use Rattle.iss_model.specs.Courses.{Course, Machines, Upshot, apply_event, begin_course, core_of, course, run_event_if_open}
 
+-- the run of these events, with disk failures
 abbrev pub course_after : {Msg : Type 0} → Setup → Module Msg → List Event → Course Msg
 course_after s M events = course s (formats_of s M) (rules_of s) M (begin_course s) events
 
+-- its state: cores, network and books
 abbrev pub held_after : {Msg : Type 0} → Setup → Module Msg → List Event → Held Msg
 held_after s M events = (course_after s M events).machines.held
 
@@ -58,10 +60,12 @@ IsUndisturbed (Restart c) = ⊥
 IsUndisturbed (Crash c calls) = ⊥
 IsUndisturbed (Bytes c bytes) = Unit {0}
 
+-- the same of all events
 abbrev pub AreUndisturbed : List Event → Type 0
 AreUndisturbed [] = Unit {0}
 AreUndisturbed (e ∷ es) = IsUndisturbed e × AreUndisturbed es
 
+-- the evidence, without the number of the event
 abbrev pub why_ended : Option (ℕ × End) → Option End
 why_ended None = None
 why_ended (Some at) = Some at.1
