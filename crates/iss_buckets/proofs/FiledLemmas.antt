@@ -18,7 +18,7 @@ Entries = List (ℕ × Request)
 abbrev pub without : ℕ → List (ℕ × Request) → List (ℕ × Request)
 without k es = remove_entry (λ j. is_eq (nat_cmp k j)) es
 
--- ---- the request under a number
+-- ---- the request with an arrival number
 
 kept_here : (e : ℕ × Request) (es : Entries) (k : ℕ) → k ≡ e.0 → kept_at (e ∷ es) k ≡ Some e.1
 kept_here e es k is = rw (same_number k e.0 ∙ ap (λ j. eqb k j) (sym is) ∙ eqb-same k) refl
@@ -46,7 +46,7 @@ head_not e es from k q h is at = let low = kept_from (suc e.0) es k q h.2 is in 
 pub kept_tail : (e : ℕ × Request) (es : Entries) (from k : ℕ) (q : Request) → AreFiled from (e ∷ es) → kept_at es k ≡ Some q → kept_at (e ∷ es) k ≡ Some q
 kept_tail e es from k q h is = kept_later e es k (head_not e es from k q h is) ∙ is
 
--- ---- the number of an identity
+-- ---- the arrival number of an identity
 
 number_here : (e : ℕ × Request) (es : Entries) (id : ReqId) → same_id id e.1.id ≡ true → number_of (e ∷ es) id ≡ Some e.0
 number_here e es id is = rw is refl
@@ -123,7 +123,7 @@ pub filed_different : (from : ℕ) (es : Entries) → AreFiled from es → Diffe
 filed_different from [] h = tt
 filed_different from (e ∷ es) h = (apart_ids es e.1.id h.1, filed_different (suc e.0) es h.2)
 
--- ---- a request more
+-- ---- one more request
 
 pub kept_more : (es : Entries) (n : ℕ) (q : Request) (k : ℕ) → kept_at (es ++ (n, q) ∷ []) k ≡ first_of (kept_at es k) (cond (eqb k n) (Some q) None)
 kept_more [] n q k = rw (same_number k n) refl
@@ -195,7 +195,7 @@ below_more es n q below = λ k r is. go k r (kept_at es k) refl (eqb k n) refl (
     go k r None kept true at h = let e = is-eq k n at in omega (arith, e)
     go k r None kept false at h = cc
 
--- ---- a request less
+-- ---- one request less
 
 lower : (from low : ℕ) (es : Entries) → low ≤ from → AreFiled from es → AreFiled low es
 lower from low [] le h = tt

@@ -77,7 +77,7 @@ take_none p from (e ∷ es) m h fail =
       uncut = uncut-skip p m e.1 (values_of es) miss ∙ ap (λ ys. e.1 ∷ ys) rest.uncut;
     }
 
--- ---- where a cut stands
+-- ---- how far a cut has come
 
 pub record Cutting (p : Request → Bool) (max : ℕ) (old out : List Request) (es : List (ℕ × Request)) (from : ℕ) : Type 0 where
   pub some : length out ≤ max

@@ -34,7 +34,7 @@ shelf_less next es ns later n q h is known = record {
   known = λ id. known id ∙ ap (λ (o : Option ℕ). cond (same_id q.id id) None o) (h.known id) ∙ known_less 0 es n q id h.filed is;
 }
 
--- ---- all requests in turn
+-- ---- all requests, one by one
 
 filed_at : (from : ℕ) (done : List (ℕ × Request)) (k : ℕ) (q : Request) (rest : List (ℕ × Request)) → AreFiled from (done ++ (k, q) ∷ rest) → from ≤ k
 filed_at from [] k q rest h = h.0
@@ -67,7 +67,7 @@ filing_end es queues f = subst (λ (xs : List (ℕ × Request)). AreQueued xs qu
 pub ids_next : (found : List ReqId) (q : Request) (rest all : List Request) → found ++ ids (q ∷ rest) ≡ ids all → (found ++ q.id ∷ []) ++ ids rest ≡ ids all
 ids_next found q rest all h = append_assoc found (q.id ∷ []) (ids rest) ∙ h
 
--- ---- answers
+-- ---- results
 
 pub from_ok : {X E P : Type 0} (r : Result X E) → is_ok r ≡ true → OnOk r P → P
 from_ok (Ok x) h p = p

@@ -9,7 +9,7 @@ use Rattle.iss_request.proofs.Identities.{any-has_id, has_id-append, same_id-fli
 use Rattle.iss_layout.specs.Layout.{Plan, is_node, bucket_owner, bucket_of}
 use Rattle.iss_buckets.specs.Waiting.{may_cast, cut, uncut, absent}
 
--- ---- requests that are taken out by their identities
+-- ---- requests that are removed by identity
 
 pub ids_more : (qs : List Request) (q : Request) → ids (qs ++ q ∷ []) ≡ ids qs ++ q.id ∷ []
 ids_more [] q = refl

@@ -81,7 +81,7 @@ row-again e c bytes rest h =
     let first = then_good (block 32) (after_chain at) all (count ++ behind) rest c.chain c (block_again c.chain (count ++ behind) 32 h.chain_fits) second in
     ap (parse_cert at) (row-flat c.chain count text rest many) ∙ same-parser (parse_cert at) (block 32 >>= after_chain at) all (parse_cert-is at) ∙ first
 
--- ---- one signer, whose signature has height 1
+-- ---- one signer, whose signature has height 1: no certificate
 
 abbrev ones : ℕ
 ones = 72340172838076673
@@ -105,7 +105,7 @@ never e rest =
     let first = then_bad (block 32) (after_chain e) (chain ++ (count ++ (1 ∷ text))) (count ++ (1 ∷ text)) chain _ (block_again chain (count ++ (1 ∷ text)) 32 refl) second in
     (_, same-parser (parse_cert e) (block 32 >>= after_chain e) (no_cert ++ rest) (parse_cert-is e) ∙ first)
 
--- ---- what is read
+-- ---- what decodes
 
 record WasRead (e : ℕ) (bytes rest : List ℕ) (c : Cert) : Type 0 where
   spelled : IsSpelledCert e c (cert_row c)

@@ -95,7 +95,7 @@ signed-means w st by sig = (
   λ h. both (nat_lt by w.n) (is_verified_by w.keys by st sig) (lt-ltb by w.n h.0) ((verified-by w.keys by st sig).1 h.1),
 )
 
--- ---- a row of them
+-- ---- a list of them
 
 pub first-low : (w : Voters) (st : List ℕ) (from : ℕ) (x : Signed) (xs : List Signed) → x.by.0 < from → false ≡ are_signed w st from (x ∷ xs)
 first-low w st from x xs h = let low : nat_le from x.by.0 ≡ false = lt-leb from x.by.0 h in rw low refl
@@ -131,7 +131,7 @@ cert-means w c = (
   λ h. both (length c.signers == w.quorum) (are_signed w (cert_statement w c) 0 c.signers) ((Decides-eqb (length c.signers) w.quorum).1 h.quorum) (signed-all w (cert_statement w c) 0 c.signers h.signed),
 )
 
--- ---- among a quorum's signers one is correct
+-- ---- a quorum has a correct signer
 
 numbers : List Signed → List ℕ
 numbers [] = []

@@ -13,7 +13,7 @@ use Rattle.iss_checkpoint.specs.declared.votes.Vote.{Vote}
 use Rattle.iss_checkpoint.specs.Votes.{Voters, are_signed, cert_statement, is_cert, is_signed, statement_of}
 use Rattle.iss_checkpoint.specs.Tallies.{AreVotes, IsVoteOf, TallyState, certificate_by, refusal, say_same, signed_below, signed_if, vote_at, with_vote}
 
--- ---- the nodes' votes, one more
+-- ---- the nodes' votes, with one more
 
 pub with-here : (votes : List (ℕ × Vote)) (v : Vote) (k : ℕ) → v.by.0 ≡ k → with_vote votes v k ≡ Some v
 with-here votes v k e = let t : (v.by.0 == k) ≡ true = rw e (eqb-same k) in rw t refl
@@ -55,7 +55,7 @@ with-votes t v none all k u = go (v.by.0 == k) refl
 pub put-votes : (t : TallyState) (new : List (ℕ × Vote)) (v : Vote) → refusal t v ≡ None → AreVotes t.voters t.epoch t.votes → ((k : ℕ) → vote_at new k ≡ with_vote t.votes v k) → AreVotes t.voters t.epoch new
 put-votes t new v none all at k u h = with-votes t v none all k u (sym (at k) ∙ h)
 
--- ---- those that say the same
+-- ---- equal votes
 
 pub below-none : (f : ℕ → Option Vote) (v : Vote) → [] ≡ signed_below f v 0
 below-none f v = refl
@@ -89,7 +89,7 @@ pub many-if : (v u : Vote) (r : Bool) → r ≡ say_same v u → cond r 1 0 ≡ 
 many-if v u true h = ap length (sym (one-if v u (sym h)))
 many-if v u false h = ap length (sym (none-if v u (sym h)))
 
--- ---- such a certificate is true
+-- ---- such a certificate is valid
 
 in-if : (x : Signed) (v u : Vote) → In x (signed_if v (Some u)) → x.by ≡ u.by
 in-if x v u = go (say_same v u)

@@ -26,7 +26,7 @@ parse_vote-is : (by e : ℕ) → parse_vote by e ≡ (block 32 >>= after_chain b
 unfolding parse_vote
 parse_vote-is by e = refl
 
--- ---- what fits is read again, whatever stands behind
+-- ---- what fits decodes again, whatever follows
 
 row-again : (v : Vote) (rest : List ℕ) → length v.chain ≡ 32 → v.requests < 2 ^ 64 → is_signature v.sig ≡ true → parse_vote v.by.0 v.epoch.0 (vote_row v ++ rest) ≡ Good v rest
 row-again v rest long low shape =
@@ -39,7 +39,7 @@ row-again v rest long low shape =
     let flat : vote_row v ++ rest ≡ v.chain ++ (count ++ (v.sig ++ rest)) = append_assoc v.chain (count ++ v.sig) rest ∙ ap (λ (x : List ℕ). v.chain ++ x) (append_assoc count v.sig rest) in
     ap (λ (x : List ℕ). parse_vote by e x) flat ∙ ap (λ (p : Parser Vote). p (v.chain ++ (count ++ (v.sig ++ rest)))) (parse_vote-is by e) ∙ first
 
--- ---- no signature begins with a byte that is no height
+-- ---- no signature begins with a byte that is not a height
 
 pub low-never : (h : ℕ) → is_height h ≡ false → (rest : List ℕ) → IsBad (parse_signature (h ∷ rest))
 unfolding parse_signature
@@ -55,7 +55,7 @@ never by e rest =
     let first = then_bad (block 32) (after_chain by e) (chain ++ (count ++ (0 ∷ rest))) (count ++ (0 ∷ rest)) chain _ (block_again chain (count ++ (0 ∷ rest)) 32 refl) second in
     (_, ap (λ (p : Parser Vote). p (no_vote ++ rest)) (parse_vote-is by e) ∙ first)
 
--- ---- what is read
+-- ---- what decodes
 
 record WasRead (by e : ℕ) (bytes rest : List ℕ) (v : Vote) : Type 0 where
   own : v.by.0 ≡ by

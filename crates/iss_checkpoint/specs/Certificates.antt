@@ -38,8 +38,9 @@ pub record IsSpelledCert (e : ℕ) (c : Cert) (bytes : List ℕ) : Type 0 where
   pub signers : AreSigners 0 c.signers
   pub row : bytes ≡ cert_row c
 
--- ---- reading
+-- ---- decoding
 
+-- decodes a certificate of epoch e
 unfoldable pub parse_cert : ℕ → Parser Cert
 parse_cert e = do
   chain ← block 32

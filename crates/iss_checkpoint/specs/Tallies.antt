@@ -15,6 +15,7 @@ use Rattle.iss_sb.specs.declared.signers.Signed.{Signed}
 use Rattle.iss_checkpoint.specs.declared.votes.Vote.{Vote}
 use Rattle.iss_checkpoint.specs.Votes.{Voters, is_cert, is_signed, statement_of}
 
+-- the votes for one epoch
 pub record TallyState : Type 0 where
   pub voters : Voters
   pub epoch : ℕ
@@ -29,7 +30,7 @@ vote_at votes k = lookup (λ j. is_eq (nat_cmp k j)) votes
 abbrev pub with_vote : List (ℕ × Vote) → Vote → ℕ → Option Vote
 with_vote votes v k = if v.by.0 == k then Some v else vote_at votes k
 
--- ---- why a vote is not counted, by the first cause that holds
+-- ---- why a vote is not counted: the first reason that holds
 
 -- rule: Checkpoints: A tally refuses a vote for its first fault: other epoch, bad signature, repeated
 abbrev pub refusal : TallyState → Vote → Option Refusal
@@ -67,7 +68,7 @@ certificate_by vote_of v n = record {
 abbrev pub certificate : TallyState → Vote → Cert
 certificate t v = certificate_by (vote_at t.votes) v t.voters.n
 
--- ---- what becomes of a vote
+-- ---- the result of adding a vote
 
 -- the vote was counted, and nothing else changed
 pub record IsCounted (old : TallyState) (v : Vote) (new : TallyState) : Type 0 where
@@ -91,7 +92,7 @@ IsChecked w (Ok (Stable c)) = is_cert w c ≡ true
 IsChecked w (Ok (Refused cause)) = Unit {0}
 IsChecked w (Err e) = Unit {0}
 
--- ---- what a tally holds is true: each vote stands at its node, which signed it on this epoch
+-- ---- a tally holds valid votes: each is its node's, for this epoch
 
 -- the vote is node k's for epoch e, and its signature is valid
 pub record IsVoteOf (w : Voters) (e k : ℕ) (v : Vote) : Type 0 where

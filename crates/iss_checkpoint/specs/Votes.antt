@@ -23,6 +23,7 @@ pub record Voters : Type 0 where
 abbrev pub voters_in : List ℕ → ℕ → ℕ → DirectoryView → Voters
 voters_in tag n quorum d = record { tag = tag; n = n; quorum = quorum; keys = d.nodes }
 
+-- the voters of a set-up
 abbrev pub voters_of : Setup → DirectoryView → Voters
 voters_of s d = voters_in s.tag s.n s.quorum d
 
@@ -55,16 +56,19 @@ are_signed w statement from (x ∷ xs) =
 abbrev pub is_cert : Voters → Cert → Bool
 is_cert w c = (length c.signers == w.quorum) && are_signed w (cert_statement w c) 0 c.signers
 
--- ---- the same in words
+-- ---- the same as a relation
 
+-- the signature is valid, and its signer exists
 abbrev pub HasSigned : Voters → List ℕ → ℕ → List ℕ → Type 0
 HasSigned w statement by sig = (by < w.n) × VerifiesBy w.keys by statement sig
 
+-- the same of strictly ascending signers
 abbrev pub HaveSigned : Voters → List ℕ → ℕ → List Signed → Type 0
 HaveSigned w statement from [] = Unit {0}
 HaveSigned w statement from (x ∷ xs) = (from ≤ x.by.0) × HasSigned w statement x.by.0 x.sig
     × HaveSigned w statement (suc x.by.0) xs
 
+-- a certificate is valid
 pub record IsCert (w : Voters) (c : Cert) : Type 0 where
   pub quorum : length c.signers ≡ w.quorum
   pub signed : HaveSigned w (cert_statement w c) 0 c.signers

@@ -11,7 +11,7 @@ use std::alloc::Global;
 // Written for a certificate without an encoding: its one signature has height 1, so it decodes to no certificate.
 const NO_CERT: [u8; 43] = [1; 43];
 
-// ---- writing
+// ---- encoding
 
 fn has_spelling(cert: &Cert) -> bool
     ensures { result ≡ cert_fits cert.now }

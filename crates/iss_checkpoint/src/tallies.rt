@@ -181,7 +181,6 @@ impl Tally {
             (with_vote self.now.votes vote.now node)) }
     {
         if vote.by.0 == node {
-            /// Appends the vote's signature.
             return push_signed(vote, signers);
         }
         if let Some(other) = self.votes.get(&node)
@@ -212,6 +211,7 @@ fn say_same(vote: &Vote, other: &Vote) -> bool
     other.requests == vote.requests && other.chain == vote.chain
 }
 
+// Appends the vote's signature.
 fn push_signed(vote: &Vote, signers: &mut Seq<Signed>) -> Result<(), NoMemory>
     ensures { OnOk result (signers.new ≡ signers.old ++ record { by = vote.now.by; sig = vote.now.sig } ∷ []) }
 {

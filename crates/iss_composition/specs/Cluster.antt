@@ -186,6 +186,7 @@ pub record Cert : Type 0 where
   pub number : ℕ
   pub signed : List Signature
 
+-- the nodes that signed
 abbrev pub signers : List Signature → List ℕ
 signers [] = []
 signers (x ∷ xs) = x.by ∷ signers xs

@@ -56,7 +56,7 @@ of-the-past s e log newer held =
       starts = slots-in s e log;
     }
 
--- ---- a log whose values stand in the order of the slots
+-- ---- a log with the oldest value first
 
 nil-first : (log : List Value) (x : Value) → is_nil_at (log ++ x ∷ []) 0 ≡ not (is_batch x)
 nil-first [] x = refl

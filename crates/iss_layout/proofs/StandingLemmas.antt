@@ -38,7 +38,7 @@ past_some t (x ∷ xs) = go (t x) (past_some t xs)
     go true rest = positive x.0 (past_all (filter t xs))
     go false rest = rest
 
--- ---- one epoch more
+-- ---- one more epoch
 
 pub changed_is : (x : Ended) (past : List Ended) (i : ℕ) (c : Conduct) → c ≡ conduct_of past i
     → changed c (leads x.plan i) (past_all (filter (is_slot_of_leader x.plan i) x.nils)) ≡ conduct_of (x ∷ past) i
@@ -47,7 +47,7 @@ changed_is x past i c is =
     let worst = past_both (filter (is_slot_of_leader x.plan i) x.nils) (nils_under past i) in
     subst (λ (d : Conduct). changed d (leads x.plan i) (past_all (filter (is_slot_of_leader x.plan i) x.nils)) ≡ conduct_of (x ∷ past) i) (sym is) (rw (test, worst) refl)
 
--- ---- nodes of one conduct lead alike
+-- ---- equal conducts give equal leaders
 
 abbrev pub Same : ℕ → (ℕ → Conduct) → (ℕ → Conduct) → Type 0
 Same n a b = (i : ℕ) → i < n → a i ≡ b i
@@ -85,7 +85,7 @@ plan_same s e start past cs same =
     ap (λ (ls : List NodeId). record { epoch = e; start = start; nodes = s.n; slots = s.epoch; buckets = s.buckets; leaders = ls })
     (leaders_same s (carried cs) (conduct_of past) same)
 
--- ---- one node more
+-- ---- one more node
 
 pub filter_more_node : (f : NodeId → Bool) (i : ℕ) → f (node i) ≡ true → filter f (nodes_below (i + 1)) ≡ filter f (nodes_below i) ++ node i ∷ []
 filter_more_node f i h = ap (λ k. filter f (nodes_below k)) (add-one i) ∙ filter-append f (nodes_below i) (node i ∷ []) ∙ rw h refl
@@ -93,7 +93,7 @@ filter_more_node f i h = ap (λ k. filter f (nodes_below k)) (add-one i) ∙ fil
 pub filter_less_node : (f : NodeId → Bool) (i : ℕ) → f (node i) ≡ false → filter f (nodes_below (i + 1)) ≡ filter f (nodes_below i)
 filter_less_node f i h = ap (λ k. filter f (nodes_below k)) (add-one i) ∙ filter-append f (nodes_below i) (node i ∷ []) ∙ rw h (append-nil (filter f (nodes_below i)))
 
--- ---- one slot more
+-- ---- one more slot
 
 pub past_more : (t : Slot → Bool) (xs : List Slot) (x : Slot) → past_all (filter t (xs ++ x ∷ [])) ≡ max (past_all (filter t xs)) (past_all (filter t (x ∷ [])))
 past_more t xs x = ap past_all (filter-append t xs (x ∷ [])) ∙ past_both (filter t xs) (filter t (x ∷ []))
@@ -124,7 +124,7 @@ worst_miss p i xs k d l worst within leader same so_far =
     past_miss t (take k xs) (get_or xs k d) worst so_far (ap (λ (o : Option NodeId). is_node i o) leader ∙ same)
     ∙ ap (λ ys. past_all (filter t ys)) (sym (take_more xs k d within))
 
--- ---- records in place of conduct
+-- ---- conduct as it is stored
 
 abbrev pub unknown : Record
 unknown = record { weight = 0; ban = 0; worst = None }

@@ -87,7 +87,7 @@ is_slot_of_leader p i s = is_node i (slot_leader p s.0)
 abbrev pub segment : Plan → ℕ → List Slot
 segment p i = filter (is_slot_of_leader p i) (slots_from (first_slot p) p.slots)
 
--- ---- who leads
+-- ---- leaders
 
 -- an epoch that has ended: its plan, and its slots that became nil
 pub record Ended : Type 0 where

@@ -13,7 +13,7 @@ pub on_err : {X E P : Type 0} (r : Result X E) → P → OnErr r P
 on_err (Ok x) p = tt
 on_err (Err e) p = p
 
--- ---- lists at a place
+-- ---- lists at an index
 
 pub past_none : {X : Type 0} (xs : List X) (k : ℕ) → length xs ≤ k → slice_get xs k ≡ None
 past_none [] k h = refl
@@ -23,7 +23,7 @@ past_none (x ∷ xs) (suc k) h = let lt : length xs ≤ k = omega arith in past_
 pub eqb_means : (a b : ℕ) → eqb a b ≡ true → a ≡ b
 eqb_means a b h = grind arith
 
--- ---- a slot behind the log takes a value
+-- ---- a slot ahead of the log takes a value
 
 pub filled_at : (es : List Value) (slot s : ℕ) (v : Value) (before later : Option Value) → length es ≤ slot
     → later ≡ cond (eqb slot s) (Some v) before → first_of (slice_get es s) later ≡ cond (eqb slot s) (Some v) (first_of (slice_get es s) before)
@@ -36,7 +36,7 @@ filled_at es slot s v before later past e = go (eqb slot s) refl e
         rw (past_none es s le) e
     go false is e = ap (λ x. first_of (slice_get es s) x) e
 
--- ---- the value behind the log joins it
+-- ---- the next value joins the log
 
 pub joined_at : (es : List Value) (v : Value) (s : ℕ) (before later : Option Value) → (s ≡ length es → before ≡ Some v)
     → (s ≢ length es → later ≡ before) → first_of (slice_get (es ++ v ∷ []) s) later ≡ first_of (slice_get es s) before

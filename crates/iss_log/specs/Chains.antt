@@ -49,7 +49,7 @@ abbrev pub end_from : ℕ → End → List Value → End
 end_from version before [] = before
 end_from version before (v ∷ vs) = end_from version (next_end version before v) vs
 
--- ---- what is kept: an end for each front of the log
+-- ---- what is kept: an end for each prefix of the log
 
 pub record ChainsState : Type 0 where
   pub version : ℕ

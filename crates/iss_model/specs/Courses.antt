@@ -41,9 +41,11 @@ machines_done w = record { machines = w; lost = None; ended = None }
 abbrev pub machines_lost : {Msg : Type 0} → Machines Msg → Why → Upshot Msg
 machines_lost w why = record { machines = w; lost = Some why; ended = None }
 
+-- only one disk changes
 abbrev pub with_disk : {Msg : Type 0} → Machines Msg → ℕ → Disk → Machines Msg
 with_disk w c d = record { held = w.held; disks = set_at w.disks c d }
 
+-- only the network changes
 abbrev pub with_packets : {Msg : Type 0} → Machines Msg → Network → Machines Msg
 with_packets w network = record { held = with_network w.held network; disks = w.disks }
 
@@ -196,9 +198,11 @@ pub record Course (Msg : Type 0) : Type 0 where
   pub drops : List (ℕ × Why)
   pub ended : Option (ℕ × End)
 
+-- a run of no events
 abbrev pub begin_course : {Msg : Type 0} → Setup → Course Msg
 begin_course s = record { machines = begin_machines s; event = 0; drops = []; ended = None }
 
+-- a run with one more event
 abbrev pub run_event : {Msg : Type 0} → Setup → Formats Msg → Rules → Module Msg → Course Msg → Event → Course Msg
 run_event s F R M p e =
     let d = apply_event s F R M p.machines e in
@@ -215,6 +219,7 @@ abbrev pub run_event_if_open : {Msg : Type 0} → Option (ℕ × End) → Setup 
 run_event_if_open None s F R M p e = run_event s F R M p e
 run_event_if_open (Some end) s F R M p e = p
 
+-- a run with these events, oldest first
 abbrev pub course : {Msg : Type 0} → Setup → Formats Msg → Rules → Module Msg → Course Msg → List Event → Course Msg
 course s F R M p [] = p
 course s F R M p (e ∷ es) = course s F R M (run_event_if_open p.ended s F R M p e) es

@@ -3,6 +3,7 @@
 use Rattle.std.specs.Prelude.{ℕ, ◌-◌, nat_le, Bool, true, false, List, [], ◌∷◌, Option, Some, None}
 use Rattle.iss_rules.specs.declared.events.NodeEvent.{NodeEvent}
 
+-- the disk of one core
 pub record Disk : Type 0 where
   -- the journaled events, newest first
   pub kept : List NodeEvent
@@ -11,6 +12,7 @@ pub record Disk : Type 0 where
   -- whether a call has failed since the core was last recovered
   pub failed : Bool
 
+-- an empty disk that works
 abbrev pub new_disk : Disk
 new_disk = record { kept = []; passes = None; failed = false }
 

@@ -21,6 +21,7 @@ pub record Frame (Msg : Type 0) : Type 1 where
   pub rules : Rules
   pub spec : Module Msg
 
+-- the frame of a set-up and a module
 abbrev pub frame_of : {Msg : Type 0} → Setup → Module Msg → Frame Msg
 frame_of s M = record { setup = s; formats = formats_of s M; rules = rules_of s; spec = M }
 

@@ -415,6 +415,7 @@ takes_parcel F R M me c from e (OfVote v) = takes_vote R c v
 takes_parcel F R M me c from e OfAsk = hands_out F R M me c from e (cert_on c.certs e)
 takes_parcel F R M me c from e (OfPiece p) = takes_piece F R M me c p
 
+-- bytes that are no packet are dropped
 abbrev pub takes_bytes : {Msg : Type 0} → Formats Msg → Rules → Module Msg → ℕ → Core Msg →
     Option (Parcel Msg) → Stepped Msg
 takes_bytes F R M me c None = Dropped NotPacket
@@ -426,6 +427,7 @@ is_mine R M me c q =
     (R.owner (before_own R M me c.past) c.past.epoch q.id == me) &&
     not (has_id q.id (marks (accepts (taken_in c.past me))))
 
+-- whether something is in flight at the slot
 abbrev pub has_slot : ℕ → List (Slot × Batch) → Bool
 has_slot s [] = false
 has_slot s (x ∷ xs) = (x.0.0 == s) || has_slot s xs

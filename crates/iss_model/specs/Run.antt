@@ -58,12 +58,15 @@ pub record Happening (Msg : Type 0) : Type 0 where
   pub lost : Option Why
   pub ended : Option End
 
+-- the event took effect
 abbrev pub done : {Msg : Type 0} → Held Msg → Happening Msg
 done h = record { held = h; lost = None; ended = None }
 
+-- the event was lost
 abbrev pub lost_by : {Msg : Type 0} → Held Msg → Why → Happening Msg
 lost_by h why = record { held = h; lost = Some why; ended = None }
 
+-- the event stopped the run
 abbrev pub ended_by : {Msg : Type 0} → Held Msg → End → Happening Msg
 ended_by h end = record { held = h; lost = None; ended = Some end }
 
@@ -103,6 +106,7 @@ abbrev pub early_of : {Msg : Type 0} → Stepped Msg → List Claim
 early_of (Dropped why) = []
 early_of (Taken t) = t.early
 
+-- whether the book has this statement of node i
 abbrev pub has_signed : ℕ → List ℕ → List Signed → Bool
 has_signed i statement [] = false
 has_signed i statement (x ∷ xs) = cond ((x.by == i) && same_bytes x.statement statement) true
@@ -113,6 +117,7 @@ abbrev pub is_forged : Setup → Rules → List Signed → Claim → Bool
 is_forged s R book c = R.verifies c.by.0 c.statement c.sig &&
     (is_correct s c.by.0 && not (has_signed c.by.0 c.statement book))
 
+-- the first forged claim of a list
 abbrev pub first_forged : Setup → Rules → List Signed → List Claim → Option Claim
 first_forged s R book [] = None
 first_forged s R book (c ∷ cs) = cond (is_forged s R book c) (Some c) (first_forged s R book cs)
@@ -149,6 +154,7 @@ turned_to s h c t =
       hashed = push_all t.strings h.hashed;
     }
 
+-- a collision stops the run
 abbrev pub by_collision : {Msg : Type 0} → Option End → Held Msg → Held Msg → Happening Msg
 by_collision None h next = done next
 by_collision (Some end) h next = ended_by h end
@@ -157,6 +163,7 @@ abbrev pub after_step : {Msg : Type 0} → Setup → Held Msg → ℕ → Steppe
 after_step s h c (Dropped why) = lost_by h why
 after_step s h c (Taken t) = by_collision (collision_in t.strings h.hashed) h (turned_to s h c t)
 
+-- a forged claim stops the run
 abbrev pub by_forged : {Msg : Type 0} → Option Claim → Held Msg → Happening Msg → Happening Msg
 by_forged None h next = next
 by_forged (Some claim) h next = ended_by h (Forged claim)
@@ -183,6 +190,7 @@ abbrev pub delivered_to : {Msg : Type 0} → Setup → Formats Msg → Rules →
 delivered_to s F R M h k None = lost_by h NoPacket
 delivered_to s F R M h k (Some p) = at_core s F R M (with_network h (settled h.net.network k)) p.to (On_packet p.bytes)
 
+-- delivers packet k
 abbrev pub delivers : {Msg : Type 0} → Setup → Formats Msg → Rules → Module Msg → Held Msg → ℕ → Happening Msg
 delivers s F R M h k = delivered_to s F R M h k (nth h.net.network.packets k)
 
@@ -237,6 +245,7 @@ apply_event s F R M h (Bytes c bytes) = injects s F R M h c bytes
 abbrev pub begin_net : {Msg : Type 0} → Setup → Net Msg
 begin_net s = record { cores = λ i. initial_core; network = empty_network (cores_of s) }
 
+-- nothing was signed; the empty string counts as hashed
 abbrev pub begin_held : {Msg : Type 0} → Setup → Held Msg
 begin_held s = record { net = begin_net s; signed = []; hashed = [] ∷ [] }
 
@@ -248,6 +257,7 @@ pub record Progress (Msg : Type 0) : Type 0 where
   pub drops : List (ℕ × Why)
   pub ended : Option (ℕ × End)
 
+-- a run of no events
 abbrev pub begin_run : {Msg : Type 0} → Setup → Progress Msg
 begin_run s = record { held = begin_held s; event = 0; drops = []; ended = None }
 
@@ -259,6 +269,7 @@ abbrev pub ended_at : ℕ → Option End → Option (ℕ × End)
 ended_at k None = None
 ended_at k (Some end) = Some (k, end)
 
+-- a run with one more event
 abbrev pub run_event : {Msg : Type 0} → Setup → Formats Msg → Rules → Module Msg → Progress Msg → Event → Progress Msg
 run_event s F R M p e =
     let d = apply_event s F R M p.held e in
@@ -275,6 +286,7 @@ abbrev pub run_event_if_open : {Msg : Type 0} → Option (ℕ × End) → Setup 
 run_event_if_open None s F R M p e = run_event s F R M p e
 run_event_if_open (Some end) s F R M p e = p
 
+-- a run with these events, oldest first
 abbrev pub run : {Msg : Type 0} → Setup → Formats Msg → Rules → Module Msg → Progress Msg → List Event → Progress Msg
 run s F R M p [] = p
 run s F R M p (e ∷ es) = run s F R M (run_event_if_open p.ended s F R M p e) es

@@ -11,6 +11,7 @@ use Rattle.iss_model.specs.Run.{Net, cores_of}
 abbrev pub pasts_of : {Msg : Type 0} → Net Msg → ℕ → Past Msg
 pasts_of w i = (w.cores i).past
 
+-- a is a prefix of b
 abbrev pub IsPrefix : List Value → List Value → Type 0
 IsPrefix a b = (rest : List Value) × (b ≡ a ++ rest)
 
@@ -31,6 +32,7 @@ IsAtCore s (Restart c) = Unit {0}
 IsAtCore s (Crash c calls) = Unit {0}
 IsAtCore s (Bytes c bytes) = Unit {0}
 
+-- the same of all events
 abbrev pub AreAtCores : Setup → List Event → Type 0
 AreAtCores s [] = Unit {0}
 AreAtCores s (e ∷ es) = IsAtCore s e × AreAtCores s es

@@ -20,6 +20,7 @@ use Rattle.iss_window.specs.Window.{is_inside, place_of}
 use Rattle.iss_rules.specs.Past.{start_by}
 use Rattle.iss_rules.specs.Rules.{Rules}
 
+-- a node's number, 0 if there is none
 abbrev pub number_of : Option NodeId → ℕ
 number_of None = 0
 number_of (Some l) = l.0
@@ -28,6 +29,7 @@ number_of (Some l) = l.0
 abbrev pub slots_at : Setup → List Value → ℕ → ℕ
 slots_at s log e = s.epoch
 
+-- the smaller number
 abbrev pub least : ℕ → ℕ → ℕ
 least a b = cond (nat_le a b) a b
 

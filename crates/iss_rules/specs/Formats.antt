@@ -78,6 +78,7 @@ abbrev pub piece_in : {Msg : Type 0} → Packet → Option Sent_piece → Option
 piece_in p None = None
 piece_in p (Some x) = Some (record { from = p.from; epoch = p.epoch.0; body = OfPiece x })
 
+-- decodes the content of a packet by its kind
 abbrev pub parcel_of_kind : {Msg : Type 0} → Module Msg → ℕ → Packet → PacketKind → Option (Parcel Msg)
 parcel_of_kind M version p Message = message_in p (whole (M.parse version p.body))
 parcel_of_kind M version p Vote = vote_in p (whole (parse_vote p.from p.epoch.0 p.body))
@@ -85,6 +86,7 @@ parcel_of_kind M version p Ask = ask_in p (whole (parse_ask p.epoch.0 p.body))
 parcel_of_kind M version p Piece = piece_in p (whole (parse_piece version p.epoch.0 p.body))
 parcel_of_kind M version p Kind_request = request_in p (whole (parse_request p.body))
 
+-- the same of a packet, if the bytes are one
 abbrev pub parcel_in : {Msg : Type 0} → Module Msg → ℕ → Option Packet → Option (Parcel Msg)
 parcel_in M version None = None
 parcel_in M version (Some p) = parcel_of_kind M version p p.kind

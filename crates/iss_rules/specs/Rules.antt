@@ -8,6 +8,7 @@ use Rattle.iss_request.specs.declared.requests.Request.{Request}
 use Rattle.iss_request.specs.declared.requests.Value.{Value}
 use Rattle.iss_sb.specs.declared.effects.Params.{Params}
 
+-- the rules of a cluster
 pub record Rules : Type 0 where
   -- the number of slots of an epoch, and a bound on it
   pub slots : List Value → ℕ → ℕ

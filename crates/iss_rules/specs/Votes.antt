@@ -39,6 +39,7 @@ abbrev pub claims_by : List ℕ → List Signed → List Claim
 claims_by statement [] = []
 claims_by statement (x ∷ xs) = record { by = x.by; statement = statement; sig = x.sig } ∷ claims_by statement xs
 
+-- the claims of a whole certificate
 abbrev pub claims_of_cert : Rules → Cert → List Claim
 claims_of_cert R c = claims_by (R.voted c.epoch.0 c.chain c.requests) c.signers
 

@@ -60,7 +60,7 @@ module _ {A : Type 0} (one : ℕ → Parser A) (number : A → ℕ) where
           counted = ap suc others.counted;
         })
 
-  -- ---- read one after the other
+  -- ---- read one after another
 
   read-more : (more from : ℕ) {a b c : Reading} {x : A} {xs : List A} → IsRead (one from) a b x → IsRead (ascending one number more (suc (number x))) b c xs → IsRead (ascending one number (suc more) from) a c (x ∷ xs)
   unfolding ascending

@@ -32,7 +32,7 @@ module _ (version : ℕ) where
   unfolding parse_batch_content
   parse_batch_content-is = refl
 
-  -- ---- what is read is spelled so
+  -- ---- what decodes was encoded so
 
   value-is : (v : Value) → is_batch v ≡ true → v ≡ Value_batch (batch_of v)
   value-is Value_nil h = absurd (true≢false (sym h))
@@ -75,7 +75,7 @@ module _ (version : ℕ) where
           let d = done_parts Mark c mid rest read in
           ap (λ (x : ℕ). x ∷ mid) two ∙ subst (λ (x : Content). 2 ∷ mid ≡ spell_content version x ++ rest) d.0 (ap (λ (x : List ℕ). 2 ∷ x) d.1)
 
-  -- ---- what is spelled is read
+  -- ---- what is encoded decodes
 
   kind-is : (n : ℕ) (text : List ℕ) → is_kind n ≡ true → such_that is_kind byte (n ∷ text) ≡ Good n text
   kind-is n text h = test_passed is_kind byte (n ∷ text) text n (byte_again n text) h

@@ -21,7 +21,7 @@ count-read n lt h = read_passed few byte h (lt-ltb n 256 lt)
 pub count-unread : {a : Reading} {at : ℕ} → IsUnreadable byte a at → IsUnreadable (such_that few byte) a at
 count-unread h = unread_tested few byte h
 
--- ---- a number that passes a test, and the fields that stand behind it
+-- ---- a number that passes a test, and the fields after it
 
 module _ {M : Type 0} (known : ℕ → Bool) (fields : ℕ → Parser M) where
   pub number-unread : {a : Reading} {at : ℕ} → IsUnreadable byte a at → IsUnreadable (such_that known byte >>= fields) a at

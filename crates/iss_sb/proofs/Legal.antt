@@ -87,7 +87,7 @@ kept-safe m safe = record {
   gives = λ p w good legal h sep. safe p w good h sep;
 }
 
--- ---- where an item was made
+-- ---- the history at which an entry was made
 
 pub front_self : {A : Type 0} (l : List A) → Front l l
 front_self [] = refl
@@ -124,7 +124,7 @@ module _ {M : Type 0} (m : Module M) (p : Params) (me : ℕ) where
   made-front a (x ∷ l) (inl q) h = subst (λ (z : List (Item M)). AreMade m p me z) (sym q) h
   made-front a (x ∷ l) (inr f) h = made-front a l f h.1
 
--- ---- who is correct
+-- ---- correct nodes
 
 below-all : (i n : ℕ) → i < n → (nat_lt i n && not false) ≡ true
 below-all i n h = let t : nat_lt i n ≡ true = lt-ltb i n h in rw t refl

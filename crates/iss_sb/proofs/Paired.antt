@@ -44,7 +44,7 @@ value-pair s x (t ∷ ss) (v ∷ vs) h = go (t.0 == s.0) refl h (value-pair s x 
         inl (λ i. (slot i, is i))
     go false q k more = inr (more k)
 
--- ---- they ascend, and are of the segment
+-- ---- they ascend, and are in the segment
 
 lower : (a b : ℕ) (ss : List Slot) → a ≤ b → AreAscending b ss → AreAscending a ss
 lower a b [] le h = tt

@@ -13,7 +13,7 @@ use Rattle.iss_sb.specs.declared.signers.Signed.{Signed}
 use Rattle.iss_sb.specs.Signers.{AreSigners, are_signers, is_signer, parse_signed, parse_signers, signer_of, spell_signed}
 use Rattle.iss_sb.proofs.Ascending.{IsExact, IsText, ascending-again, ascending-parts, in-front}
 
--- ---- the test, and the same in words
+-- ---- the test, and the same as a relation
 
 pub signers-fit : (from : ℕ) (xs : List Signed) → AreSigners from xs → are_signers from xs ≡ true
 signers-fit from [] h = refl

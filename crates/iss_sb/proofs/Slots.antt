@@ -44,7 +44,7 @@ place-below s [] k h = absurd (true≢false (sym h))
 place-below s (t ∷ slots) zero h = omega arith
 place-below s (t ∷ slots) (suc k) h = let r = place-below s slots k h in omega (arith, r)
 
--- ---- slots that rise
+-- ---- slots that ascend
 
 pub ascending-above : (low : ℕ) (s : Slot) (ss : List Slot) → AreAscending low ss → In s ss → low ≤ s.0
 ascending-above low s [] a h = absurd h

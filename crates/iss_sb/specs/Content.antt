@@ -10,7 +10,7 @@ use Rattle.iss_request.specs.declared.requests.Value.TheVariants.{Batch as Value
 use Rattle.iss_sb.specs.declared.content.Content.{Content}
 use Rattle.iss_sb.specs.declared.content.Content.TheVariants.{Nil, Holds, Mark}
 
--- ---- spelling
+-- ---- encoding
 
 -- rule: Raft: An entry holds nil, a batch or a mark
 abbrev pub spell_content : ℕ → Content → List ℕ
@@ -20,13 +20,14 @@ spell_content version Mark = 2 ∷ []
 
 -- ---- the table as a relation between contents and bytes
 
+-- the row of the table for each kind
 abbrev pub IsSpelledContent : ℕ → Content → List ℕ → Type 0
 IsSpelledContent version Nil bytes = bytes ≡ 0 ∷ []
 IsSpelledContent version (Holds batch) bytes = (value : List ℕ) × IsSpelledValue version (Value_batch batch) value
     × (bytes ≡ 1 ∷ value)
 IsSpelledContent version Mark bytes = bytes ≡ 2 ∷ []
 
--- ---- reading
+-- ---- decoding
 
 unfoldable pub parse_batch_content : ℕ → Parser Content
 parse_batch_content version = do

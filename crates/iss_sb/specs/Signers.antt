@@ -12,9 +12,11 @@ signer_of x = x.by.0
 abbrev pub is_signer : ℕ → Signed → Bool
 is_signer from x = nat_le from x.by.0 && is_signature x.sig
 
+-- the same of strictly ascending signers
 abbrev pub are_signers : ℕ → List Signed → Bool
 are_signers from xs = all_ascend is_signer signer_of from xs
 
+-- the same as a relation
 abbrev pub AreSigners : ℕ → List Signed → Type 0
 AreSigners from [] = Unit {0}
 AreSigners from (x ∷ xs) = (from ≤ x.by.0) × (is_signature x.sig ≡ true) × AreSigners (suc x.by.0) xs

@@ -33,13 +33,15 @@ use Rattle.iss_model.specs.Run.{Held, node_of}
 use Rattle.iss_model.specs.Runs.{AreAtCores, IsPrefix, pasts_of}
 use Rattle.iss_model.specs.Courses.{Course, Machines, Upshot, apply_event, begin_course, core_of, course, run_event_if_open}
 
+-- the run of these events, with disk failures
 abbrev pub course_after : {Msg : Type 0} → Setup → Module Msg → List Event → Course Msg
 course_after s M events = course s (formats_of s M) (rules_of s) M (begin_course s) events
 
+-- its state: cores, network and books
 abbrev pub held_after : {Msg : Type 0} → Setup → Module Msg → List Event → Held Msg
 held_after s M events = (course_after s M events).machines.held
 
--- ---- what enters
+-- ---- crash recovery
 
 -- the event is neither a crash nor a restart
 abbrev pub IsUndisturbed : Event → Type 0
@@ -58,10 +60,12 @@ IsUndisturbed (Restart c) = ⊥
 IsUndisturbed (Crash c calls) = ⊥
 IsUndisturbed (Bytes c bytes) = Unit {0}
 
+-- the same of all events
 abbrev pub AreUndisturbed : List Event → Type 0
 AreUndisturbed [] = Unit {0}
 AreUndisturbed (e ∷ es) = IsUndisturbed e × AreUndisturbed es
 
+-- the evidence, without the number of the event
 abbrev pub why_ended : Option (ℕ × End) → Option End
 why_ended None = None
 why_ended (Some at) = Some at.1
@@ -79,7 +83,7 @@ pub record Enters {Msg : Type 0} (s : Setup) (M : Module Msg) (events : List Eve
 abbrev pub AreOfTheirDisks : {Msg : Type 0} → Setup → Formats Msg → Rules → Module Msg → Machines Msg → Type 0
 AreOfTheirDisks s F R M w = (c : ℕ) → w.held.net.cores c ≡ core_of F R M (node_of s c) (w.disks c).kept
 
--- ---- one log
+-- ---- agreement
 
 -- What the cores took is reached by moves of a cluster with the same books. So the composition theorem holds.
 pub record AreOfCluster {Msg : Type 0} (s : Setup) (M : Module Msg) (h : Held Msg) : Type 0 where
@@ -141,7 +145,7 @@ WasAsked s F R M p (e ∷ es) i x =
     In x (unless_ended p.ended (asked_in i e (apply_event s F R M p.machines e))) ⊎
     WasAsked s F R M (run_event_if_open p.ended s F R M p e) es i x
 
--- ---- all of it
+-- ---- the headline
 
 -- The headline. It holds for every ordering module and every schedule: for any faulty nodes, network, disk failures and
 -- restarts. It assumes nothing of signatures or SHA-256: a run that breaks one of them stops and shows the evidence.

@@ -19,6 +19,7 @@ use Rattle.iss_model.specs.Run.{Progress, begin_run}
 use Rattle.iss_model.specs.Runs.{AreAtCores, IsPrefix, pasts_of}
 use Rattle.iss_model.specs.Frames.{frame_of, run_in}
 
+-- the failure-free run of these events
 abbrev pub run_after : {Msg : Type 0} → Setup → Module Msg → List Event → Progress Msg
 run_after s M events = run_in (frame_of s M) (begin_run s) events
 

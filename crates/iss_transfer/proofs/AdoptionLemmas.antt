@@ -110,7 +110,7 @@ one-log s w log theirs e p hashed all h said long sep ours others =
     let chains : chain_of s.version theirs ≡ chain_of s.version (adopted_log s log e p) = ap (λ (x : End). x.chain) (said ∙ sym is.ends) in
     (chains-same s.version all sep (digest []) (digest []) refl refl theirs (adopted_log s log e p) long others.spelled ours.spelled others.strings ours.strings chains).values
 
--- ---- one value after the other
+-- ---- one value after another
 
 take-suc : (xs : List Value) (i : ℕ) (v : Value) → i < length xs → v ≡ get_or xs i v → take (suc i) xs ≡ take i xs ++ v ∷ []
 take-suc [] i v lt h = absurd (omega (arith, lt))
@@ -130,7 +130,7 @@ strings-next version start end a b v first before later he hb hl hx =
     let more = strings-more version start.chain a v in
     rw (hx, hl, hb, chain, more) (append_assoc first (strings_from version start.chain a) (strings_of version (chain_from version start.chain a) v))
 
--- ---- the exits of an adoption
+-- ---- the results of an adoption
 
 pub end-there : (ends : List End) (k : ℕ) → k < length ends → slice_get ends k ≡ None → ⊥
 end-there [] k lt h = omega (arith, lt)

@@ -78,7 +78,7 @@ parse_piece-is version e = refl
 piece-by : (version e : ℕ) (bytes : List ℕ) → parse_piece version e bytes ≡ (such_that few byte >>= after_count version e) bytes
 piece-by version e bytes = ap (λ (p : Parser Piece). p bytes) (parse_piece-is version e)
 
--- ---- values in a row
+-- ---- values in sequence
 
 module _ (version : ℕ) where
   value-flat : (v : Value) (bytes : List ℕ) → IsSpelledValue version v bytes → bytes ≡ spell_value version v
@@ -118,7 +118,7 @@ module _ (version : ℕ) where
       let others = values-related count a.mid b.mid b.thing b.first in
       subst (λ (x : List Value). AreSpelledValues version x (flat_map (spell_value version) x)) ends.0 (spell_value version a.thing, flat_map (spell_value version) b.thing, first, others, refl)
 
-  -- ---- what is written is read again, or nothing is
+  -- ---- what is written decodes to itself, or to nothing
 
   abbrev text_of : Piece → List ℕ
   text_of p = flat_map (spell_value version) p.values
@@ -199,7 +199,7 @@ module _ (version : ℕ) where
           rw q (row-whole p (ltb-true (length p.values) 256 a.1) (is-eq p.cert.epoch.0 p.epoch.0 a.0))
       go false q = rw q (inr (λ rest. never p.epoch.0 rest))
 
-  -- ---- what is read
+  -- ---- what decodes
 
   record WasRead (e : ℕ) (bytes rest : List ℕ) (p : Piece) : Type 0 where
     spelled : IsSpelledPiece version e p (piece_row version p)

@@ -51,7 +51,7 @@ fn said_in(cert: &Cert) -> End
     }
 }
 
-/// Whether both are of the same log.
+// Whether both are of the same log.
 fn same_end(ours: &End, theirs: &End) -> bool
     ensures { result ≡ same_end ours.now theirs.now }
 {

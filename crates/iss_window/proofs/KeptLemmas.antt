@@ -17,7 +17,7 @@ use Rattle.iss_window.proofs.LowLemmas.{low-is, low-same}
 pub same-number : (a b : ReqId) → same_id a b ≡ true → a.number ≡ b.number
 same-number a b h = is-eq a.number b.number (and-true (eqb a.client b.client) (eqb a.number b.number) h).1
 
--- ---- a place to a window
+-- ---- a place relative to a window
 
 pub is-below : (w : ℕ) (closed : List ReqId) (id : ReqId) (at : ℕ) → IsLow closed id.client at → id.number < at → Below ≡ place_of w closed id
 is-below w closed id at h lt =
@@ -94,7 +94,7 @@ refines-same k n m st all closed = record {
   lows = λ client lt. low-same n.closed m.closed client (slice_index k.lows client) closed (st.lows client lt);
 }
 
--- ---- numbers of a client are taken out
+-- ---- numbers of a client are removed
 
 pub left-is : (c low next : ℕ) (id : ReqId) → low ≤ next → is_taken c low (next + 1) id ≡ (is_taken c low next id || same_id (id_of c next) id)
 left-is c low next id le = tests id.client id.number c low next le

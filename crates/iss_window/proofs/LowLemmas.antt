@@ -8,7 +8,7 @@ use Rattle.iss_request.specs.Log.{has_id}
 use Rattle.iss_request.specs.declared.ids.ReqId.{ReqId}
 use Rattle.iss_window.specs.Window.{IsLow, id_of, low, low_from}
 
--- ---- some number is not among the identities
+-- ---- some number is not in the list
 
 abbrev numbers : List ReqId → List ℕ
 numbers [] = []

@@ -75,7 +75,7 @@ module _ {Msg : Type 0} (s : Setup) (F : Formats Msg) (R : Rules) (M : Module Ms
   abbrev none : ℕ → ReqId → Type 0
   none i x = nobody s F R M i x
 
-  -- ---- each core is that of its disk
+  -- ---- each core is the replay of its journal
 
   -- a disk changes, and keeps the same events
   disk-kept : (w : Machines Msg) → Own w → (c : ℕ) (d : Disk) → d.kept ≡ (w.disks c).kept → Own (with_disk w c d)
@@ -95,7 +95,7 @@ module _ {Msg : Type 0} (s : Setup) (F : Formats Msg) (R : Rules) (M : Module Ms
         | inr ne ↦ rw (set_at-other w.held.net.cores c t.core j ne, set_at-other w.disks c (keeps (w.disks c) event) j ne) (own j)
       ]
 
-  -- ---- what an event leads to, from what was held before it
+  -- ---- what an event leads to, from the state before it
 
   pub record Goes (asks : ℕ → ReqId → Type 0) (h : Held Msg) (d : Upshot Msg) : Type 0 where
     pub leads : (n : ℕ) (drops : List (ℕ × Why)) → By asks (at_start h n drops) d.machines.held d.ended
@@ -303,7 +303,7 @@ module _ {Msg : Type 0} (s : Setup) (F : Formats Msg) (R : Rules) (M : Module Ms
   happens-goes w own (Crash c calls) low = quiet (Crash c calls) (λ i o. refl) (crash-goes w own c calls)
   happens-goes w own (Bytes c bytes) low = quiet (Bytes c bytes) (λ i o. refl) (inject-goes w own c bytes M.stopping refl)
 
-  -- ---- courses
+  -- ---- runs with disk failures
 
   pub record Follows (asks : ℕ → ReqId → Type 0) (h : Held Msg) (p : Course Msg) : Type 0 where
     pub leads : (n : ℕ) (drops : List (ℕ × Why)) → By asks (at_start h n drops) p.machines.held (why_ended p.ended)

@@ -54,7 +54,7 @@ ended-then n (Some other) k end q =
     (sym (ap (λ (x : ℕ × End). x.0) same), ap (λ (x : ℕ × End). Some x.1) same)
 
 module _ {Msg : Type 0} (s : Setup) (F : Formats Msg) (R : Rules) (M : Module Msg) where
-  -- ---- an event in which a run ends is not lost
+  -- ---- an event that stops a run is not lost
 
   abbrev pub IsToldOnce : Upshot Msg → Type 0
   IsToldOnce d = (end : End) → d.ended ≡ Some end → d.lost ≡ None
@@ -156,7 +156,7 @@ module _ {Msg : Type 0} (s : Setup) (F : Formats Msg) (R : Rules) (M : Module Ms
   pub end-notes-nothing : (p : Course Msg) (e : Event) (end : End) → (apply_event s F R M p.machines e).ended ≡ Some end → (run_event s F R M p e).drops ≡ p.drops
   end-notes-nothing p e end q = ap (λ (o : Option Why). noted p.event o p.drops) (told-once p.machines e end q)
 
-  -- ---- an event more, and what comes after the end
+  -- ---- one more event, and events after the stop
 
   pub further-on : (p : Course Msg) (e : Event) → p.ended ≡ None → run_event_if_open p.ended s F R M p e ≡ run_event s F R M p e
   further-on p e going = ap (λ (o : Option (ℕ × End)). run_event_if_open o s F R M p e) going
@@ -168,7 +168,7 @@ module _ {Msg : Type 0} (s : Setup) (F : Formats Msg) (R : Rules) (M : Module Ms
   course-stays [] p at q = refl
   course-stays (e ∷ es) p at q = ap (λ (z : Course Msg). course s F R M z es) (further-stays p e at q) ∙ course-stays es p at q
 
-  -- ---- numbers of a course
+  -- ---- numbers of a run with disk failures
 
   -- lost events are numbered in order, and so is the event that stopped the run
   pub record IsCounted (p : Course Msg) : Type 0 where

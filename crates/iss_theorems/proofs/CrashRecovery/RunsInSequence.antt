@@ -35,7 +35,7 @@ module _ {Msg : Type 0} (s : Setup) (F : Formats Msg) (R : Rules) (M : Module Ms
   asked-append (e ∷ es) fs q i x (inl (inr a)) = inr (asked-append es fs (free_run_event q.ended s F R M q e) i x (inl a))
   asked-append (e ∷ es) fs q i x (inr b) = inr (asked-append es fs (free_run_event q.ended s F R M q e) i x (inr b))
 
-  -- ---- a run of nodes that goes on
+  -- ---- a failure-free run that has not stopped
 
   abbrev pub standing : Held Msg → ℕ → List (ℕ × Why) → Progress Msg
   standing h n drops = record { held = h; event = n; drops = drops; ended = None }
@@ -86,7 +86,7 @@ module _ {Msg : Type 0} (s : Setup) (F : Formats Msg) (R : Rules) (M : Module Ms
     asked = λ i x f. a.asked i x (sub i x f);
   }
 
-  -- ---- one behind another
+  -- ---- runs in sequence
 
   no-end : (o : Option (ℕ × End)) → why_ended o ≡ None → o ≡ None
   no-end None q = refl
@@ -120,7 +120,7 @@ module _ {Msg : Type 0} (s : Setup) (F : Formats Msg) (R : Rules) (M : Module Ms
         ];
       }
 
-  -- ---- courses
+  -- ---- runs with disk failures
 
   abbrev pub going : Machines Msg → ℕ → List (ℕ × Why) → Course Msg
   going w n drops = record { machines = w; event = n; drops = drops; ended = None }

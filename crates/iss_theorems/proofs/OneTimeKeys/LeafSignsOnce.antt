@@ -47,7 +47,7 @@ use Rattle.iss_theorems.specs.Leaves.{AreOfRow, Deed, IsLife, IsOfRow, SignsOnce
 use Rattle.iss_theorems.proofs.Checkpoints.KeptVotesAreValid.{IsVoteOf, cert-there, in-below, in-claims, vote-there}
 use Rattle.iss_theorems.proofs.Refinement.DeliveryChecks.{only-by, own-claim}
 
--- ---- places in a row
+-- ---- places in a list
 
 module _ (R : Rules) (me : ℕ) where
   row-more : (row more : List (List ℕ)) (c : Claim) → IsOfRow R me row c → IsOfRow R me (row ++ more) c
@@ -199,7 +199,7 @@ module _ {Msg : Type 0} (s : Setup) (F : Formats Msg) (R : Rules) (M : Module Ms
         let o = own-claim M p me item.made.sends y i in
         goes-known y o.by (record { to = o.to; msg = o.msg; sent = o.sent; holds = o.made })
 
-  -- ---- a turn, from a row on
+  -- ---- a step, given the statements so far
 
   record Accounted (first : List (List ℕ)) (heard : List Claim) (t : Turn Msg) : Type 0 where
     row : List (List ℕ)
@@ -422,7 +422,7 @@ module _ {Msg : Type 0} (s : Setup) (F : Formats Msg) (R : Rules) (M : Module Ms
         is-turn t (advance_epochs F R M me u) is
         (settles-fair first heard u (is-turn u _ i.is first_move) (λ y m. early y (subst (λ (z : Turn Msg). In y z.early) (sym is) m)))
 
-  -- ---- a life
+  -- ---- a history
 
   record Lived (deeds : List (Deed Msg)) : Type 0 where
     row : List (List ℕ)
