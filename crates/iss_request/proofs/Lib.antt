@@ -1,7 +1,7 @@
 mod Examples
 pub mod FormatLemmas
 pub mod Identities
-pub mod Kinds
+pub mod StoppingKinds
 pub mod OneSpelling
 pub mod ParserLemmas
 pub mod Parts

@@ -3,7 +3,7 @@ use Rattle.std.proofs.Common.{◌≡◌, ◌≤◌, ◌&&◌, ◌||◌, ◌==◌
 use Rattle.std.specs.Prelude.{nat_le, nat_lt}
 use Rattle.std.proofs.lemmas.Bool.{eq-eqb, eqb-true, leb-true, ltb-true}
 use Rattle.iss_base.proofs.Lists.{and-true}
-use Rattle.iss_request.proofs.Kinds.{is_stopping, stops}
+use Rattle.iss_request.proofs.StoppingKinds.{is_stopping, stops}
 use Rattle.iss_request.specs.Setup.{AreRising, IsFewFaulty, IsGoodSetup, node_count, quorum_count}
 use Rattle.iss_request.specs.declared.ids.NodeId.{NodeId}
 use Rattle.iss_request.specs.declared.setups.Kind.{Kind}

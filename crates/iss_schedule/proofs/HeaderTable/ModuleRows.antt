@@ -5,7 +5,7 @@ use Rattle.iss_base.proofs.Lists.{and-true, not-true}
 use Rattle.iss_request.specs.declared.setups.Kind.TheVariants.{Byzantine, Stopping}
 use Rattle.iss_schedule.specs.declared.modules.Module.{Module}
 use Rattle.iss_schedule.specs.Headers.{IsOneOf, ModuleRow, lines_of_rows, module_rows, place_among, relay_row, row_at, see, see_all}
-use Rattle.iss_request.proofs.Kinds.{is_stopping, stops}
+use Rattle.iss_request.proofs.StoppingKinds.{is_stopping, stops}
 use Rattle.iss_schedule.proofs.HeaderTable.TestsDecide.{is_equal, is_small, is_zero, no_equal}
 
 -- ---- tests of all rows
