@@ -1,8 +1,8 @@
 pub mod Basics
-pub mod Code
 pub mod Examples
 pub mod History
 pub mod Messages
 pub mod Model
+pub mod Refinement
 pub mod Safety
 pub mod ViewChange

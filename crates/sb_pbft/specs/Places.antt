@@ -16,7 +16,7 @@ use Rattle.sb_pbft.specs.declared.prepared.PreparedCertificates.{PreparedCertifi
 use Rattle.sb_pbft.specs.declared.tallies.Mark.{Mark}
 use Rattle.sb_pbft.specs.declared.tallies.Voted.{Voted}
 use Rattle.sb_pbft.specs.declared.tallies.Votes.{Votes}
-use Rattle.sb_pbft.specs.contracts.changes.MakerOrd.TheImpl as maker_ord
+use Rattle.sb_pbft.specs.contracts.view_changes.MakerOrd.TheImpl as maker_ord
 use Rattle.sb_pbft.specs.contracts.proposals.PlaceOrd.TheImpl as place_ord
 use Rattle.sb_pbft.specs.contracts.tallies.MarkOrd.TheImpl as mark_ord
 use Rattle.sb_pbft.specs.Rules.{Ballot}

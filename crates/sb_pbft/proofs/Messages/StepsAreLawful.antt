@@ -27,7 +27,7 @@ use Rattle.sb_pbft.specs.Pbft.{pbft}
 use Rattle.sb_pbft.specs.Rules.{Mode, asked, changes, completes, enters, mode, passes, proposal}
 use Rattle.sb_pbft.proofs.History.AcceptedAndDecided.{asked-is, cast-when, cast_test, decided-is, offer-within, proposal-within}
 use Rattle.sb_pbft.proofs.Messages.SentDecodes.{sent-again}
-use Rattle.sb_pbft.proofs.Code.SettleRefines.{uses-both}
+use Rattle.sb_pbft.proofs.Refinement.SettleRefines.{uses-both}
 
 casts : (p : Params) (me : ℕ) (xs : List (Item Message)) (s : Slot) (b : Batch) (x : Slot × Batch) →
     ◌≡◌ {A = Option (Slot × Batch)} (asked p me (inputs xs) (Cast s b)) (Some x) → ◌≡◌ {A = Slot × Batch} x (s, b)

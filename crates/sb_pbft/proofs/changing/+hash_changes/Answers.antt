@@ -1,4 +1,4 @@
-use Rattle.sb_pbft.proofs.Code.ViewChangeRefines.{hashed-changes}
+use Rattle.sb_pbft.proofs.Refinement.ViewChangeRefines.{hashed-changes}
 use Rattle.sb_pbft.proofs.changing.+hash_changes.Goals as goal
 
 pub returns : goal.returns

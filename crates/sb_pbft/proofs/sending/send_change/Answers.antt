@@ -4,7 +4,7 @@ use Rattle.pbft_wire.specs.declared.messages.Certificate.{Certificate}
 use Rattle.pbft_wire.specs.Statements.{state_change}
 use Rattle.pbft_wire.specs.declared.messages.Message.TheVariants.{ViewChange}
 use Rattle.sb_pbft.specs.Makes.{DraftViewChange}
-use Rattle.sb_pbft.proofs.Code.SettleRefines.{sent-one}
+use Rattle.sb_pbft.proofs.Refinement.SettleRefines.{sent-one}
 use Rattle.sb_pbft.proofs.sending.send_change.Goals as goal
 
 pub returns : goal.returns

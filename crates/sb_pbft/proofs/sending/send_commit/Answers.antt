@@ -1,7 +1,7 @@
 use Rattle.std.proofs.Common.{ℕ, List, refl, ap}
 use Rattle.pbft_wire.specs.declared.messages.Message.TheVariants.{Commit}
 use Rattle.sb_pbft.specs.Makes.{DraftCommit}
-use Rattle.sb_pbft.proofs.Code.SettleRefines.{sent-one}
+use Rattle.sb_pbft.proofs.Refinement.SettleRefines.{sent-one}
 use Rattle.sb_pbft.proofs.sending.send_commit.Goals as goal
 
 pub returns-clause-sent : goal.returns-clause-sent

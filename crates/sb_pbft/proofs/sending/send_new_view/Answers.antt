@@ -6,7 +6,7 @@ use Rattle.pbft_wire.specs.declared.messages.Change.{Change}
 use Rattle.pbft_wire.specs.declared.messages.Message.TheVariants.{NewView}
 use Rattle.pbft_wire.specs.Statements.{state_new}
 use Rattle.sb_pbft.specs.Makes.{DraftNewView, choice_sigs}
-use Rattle.sb_pbft.proofs.Code.SettleRefines.{own-later, sent-by}
+use Rattle.sb_pbft.proofs.Refinement.SettleRefines.{own-later, sent-by}
 use Rattle.sb_pbft.proofs.sending.send_new_view.Goals as goal
 
 pub returns : goal.returns

@@ -1,7 +1,7 @@
 use Rattle.std.proofs.Common.{ℕ, List, refl, ap}
 use Rattle.pbft_wire.specs.declared.messages.Message.TheVariants.{Prepare}
 use Rattle.sb_pbft.specs.Makes.{DraftPrepare}
-use Rattle.sb_pbft.proofs.Code.SettleRefines.{sent-one}
+use Rattle.sb_pbft.proofs.Refinement.SettleRefines.{sent-one}
 use Rattle.sb_pbft.proofs.sending.send_prepare.Goals as goal
 
 pub returns-clause-sent : goal.returns-clause-sent

@@ -1,5 +1,5 @@
 use Rattle.std.proofs.Common.{true, false, refl}
-use Rattle.sb_pbft.proofs.Code.CallsRefine.{asks-of-told}
+use Rattle.sb_pbft.proofs.Refinement.CallsRefine.{asks-of-told}
 use Rattle.sb_pbft.proofs.pbft.Pbft.offers.Goals as goal
 
 pub returns-then-may_take : goal.returns-then-may_take

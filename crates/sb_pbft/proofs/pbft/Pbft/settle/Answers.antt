@@ -1,5 +1,5 @@
 use Rattle.std.proofs.Common.{arith, length, get_or}
-use Rattle.sb_pbft.proofs.Code.SettleRefines.{left-more, owes-more, owes-none}
+use Rattle.sb_pbft.proofs.Refinement.SettleRefines.{left-more, owes-more, owes-none}
 use Rattle.sb_pbft.proofs.pbft.Pbft.settle.Goals as goal
 
 pub loop-slot-init : goal.loop-slot-init

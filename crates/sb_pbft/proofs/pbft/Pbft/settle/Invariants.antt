@@ -1,6 +1,6 @@
 use Rattle.std.proofs.Common.{◌*◌, ◌-◌, ◌≤◌, drop, length}
 use Rattle.iss_keys.specs.KeyStates.{left_of}
-use Rattle.sb_pbft.proofs.Code.SettleRefines.{Owes}
+use Rattle.sb_pbft.proofs.Refinement.SettleRefines.{Owes}
 use Rattle.sb_pbft.proofs.pbft.Pbft.settle.Given as goal
 
 abbrev pub invariant-loop-slot : goal.invariant-loop-slot

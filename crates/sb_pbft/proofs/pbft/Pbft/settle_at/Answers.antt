@@ -1,4 +1,4 @@
-use Rattle.sb_pbft.proofs.Code.SettleRefines.{settles-one}
+use Rattle.sb_pbft.proofs.Refinement.SettleRefines.{settles-one}
 use Rattle.sb_pbft.proofs.pbft.Pbft.settle_at.Goals as goal
 
 pub returns : goal.returns

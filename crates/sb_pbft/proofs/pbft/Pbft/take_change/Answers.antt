@@ -1,8 +1,8 @@
 use Rattle.std.proofs.Common.{sym}
 use Rattle.iss_sb.specs.declared.effects.Input.TheVariants.{Receive}
 use Rattle.pbft_wire.specs.declared.messages.Message.TheVariants.{ViewChange}
-use Rattle.sb_pbft.proofs.Code.ViewChangeRefines.{change-does, change-idle}
-use Rattle.sb_pbft.proofs.Code.RulesCompose.{does-nothing}
+use Rattle.sb_pbft.proofs.Refinement.ViewChangeRefines.{change-does, change-idle}
+use Rattle.sb_pbft.proofs.Refinement.RulesCompose.{does-nothing}
 use Rattle.sb_pbft.proofs.pbft.Pbft.take_change.Goals as goal
 
 pub returns-then-not-keeps : goal.returns-then-not-keeps

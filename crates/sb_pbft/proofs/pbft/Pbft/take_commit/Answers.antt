@@ -4,9 +4,9 @@ use Rattle.iss_sb.specs.declared.effects.Input.TheVariants.{Receive}
 use Rattle.pbft_wire.specs.declared.messages.Message.TheVariants.{Commit}
 use Rattle.sb_pbft.specs.Refines.{held}
 use Rattle.sb_pbft.specs.Turns.{and_commit}
-use Rattle.sb_pbft.proofs.Code.RulesCompose.{does-nothing, does-settled}
-use Rattle.sb_pbft.proofs.Code.SettleRefines.{sent-none}
-use Rattle.sb_pbft.proofs.Code.TablesRefine.{commit-held, commit-idle, commit-turn}
+use Rattle.sb_pbft.proofs.Refinement.RulesCompose.{does-nothing, does-settled}
+use Rattle.sb_pbft.proofs.Refinement.SettleRefines.{sent-none}
+use Rattle.sb_pbft.proofs.Refinement.TablesRefine.{commit-held, commit-idle, commit-turn}
 use Rattle.sb_pbft.proofs.pbft.Pbft.take_commit.Goals as goal
 
 pub returns-then-not-has_slot : goal.returns-then-not-has_slot

@@ -1,5 +1,5 @@
 use Rattle.std.proofs.Common.{sym}
-use Rattle.sb_pbft.proofs.Code.ViewChangeRefines.{begun-does, skipped-does}
+use Rattle.sb_pbft.proofs.Refinement.ViewChangeRefines.{begun-does, skipped-does}
 use Rattle.sb_pbft.proofs.pbft.Pbft.take_new_view.Goals as goal
 
 pub returns-then-not-enters : goal.returns-then-not-enters

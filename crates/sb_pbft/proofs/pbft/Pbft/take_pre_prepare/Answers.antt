@@ -7,8 +7,8 @@ use Rattle.pbft_wire.specs.Statements.{string_of}
 use Rattle.sb_pbft.specs.Makes.{first_draft}
 use Rattle.sb_pbft.specs.Refines.{held, is_free}
 use Rattle.sb_pbft.specs.Turns.{first_proposal, with_proposal}
-use Rattle.sb_pbft.proofs.Code.RulesCompose.{does-nothing, does-settled}
-use Rattle.sb_pbft.proofs.Code.ProposalRefines.{first-few, free-slot, not-is, proposal-held, same-proposal, told-idle, told-sent, told-turn}
+use Rattle.sb_pbft.proofs.Refinement.RulesCompose.{does-nothing, does-settled}
+use Rattle.sb_pbft.proofs.Refinement.ProposalRefines.{first-few, free-slot, not-is, proposal-held, same-proposal, told-idle, told-sent, told-turn}
 use Rattle.sb_pbft.proofs.pbft.Pbft.take_pre_prepare.Goals as goal
 
 pub returns-then-not-may_take : goal.returns-then-not-may_take

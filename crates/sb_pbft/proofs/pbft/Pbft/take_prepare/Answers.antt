@@ -7,9 +7,9 @@ use Rattle.pbft_wire.specs.declared.messages.Message.TheVariants.{Prepare}
 use Rattle.pbft_views.specs.Good.{primary}
 use Rattle.sb_pbft.specs.Refines.{held}
 use Rattle.sb_pbft.specs.Turns.{and_prepare}
-use Rattle.sb_pbft.proofs.Code.RulesCompose.{does-nothing, does-settled}
-use Rattle.sb_pbft.proofs.Code.SettleRefines.{sent-none}
-use Rattle.sb_pbft.proofs.Code.TablesRefine.{prepare-held, prepare-idle, prepare-turn}
+use Rattle.sb_pbft.proofs.Refinement.RulesCompose.{does-nothing, does-settled}
+use Rattle.sb_pbft.proofs.Refinement.SettleRefines.{sent-none}
+use Rattle.sb_pbft.proofs.Refinement.TablesRefine.{prepare-held, prepare-idle, prepare-turn}
 use Rattle.sb_pbft.proofs.pbft.Pbft.take_prepare.Goals as goal
 
 pub returns-then-not-counts : goal.returns-then-not-counts

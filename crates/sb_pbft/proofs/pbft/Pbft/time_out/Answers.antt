@@ -4,8 +4,8 @@ use Rattle.iss_sb.specs.declared.effects.Input.TheVariants.{Timeout}
 use Rattle.sb_pbft.specs.Makes.{DraftViewChange}
 use Rattle.sb_pbft.specs.Refines.{held}
 use Rattle.sb_pbft.specs.Turns.{tops_of}
-use Rattle.sb_pbft.proofs.Code.ViewChangeRefines.{passed, timed-sent, tops-few}
-use Rattle.sb_pbft.proofs.Code.RulesCompose.{does-sent}
+use Rattle.sb_pbft.proofs.Refinement.ViewChangeRefines.{passed, timed-sent, tops-few}
+use Rattle.sb_pbft.proofs.Refinement.RulesCompose.{does-sent}
 use Rattle.sb_pbft.proofs.pbft.Pbft.time_out.Goals as goal
 
 pub send_change-requires-clause-few : goal.send_change-requires-clause-few

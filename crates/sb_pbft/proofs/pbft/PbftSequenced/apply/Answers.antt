@@ -1,6 +1,6 @@
 use Rattle.std.proofs.lemmas.Result.{IfOk-weaker}
 use Rattle.iss_sb.specs.declared.effects.Input.TheVariants.{Cast, Receive, Timeout}
-use Rattle.sb_pbft.proofs.Code.CallsRefine.{true-step}
+use Rattle.sb_pbft.proofs.Refinement.CallsRefine.{true-step}
 use Rattle.sb_pbft.proofs.pbft.PbftSequenced.apply.Goals as goal
 
 pub returns-in-Cast : goal.returns-in-Cast

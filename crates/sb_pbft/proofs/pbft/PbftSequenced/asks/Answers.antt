@@ -1,5 +1,5 @@
 use Rattle.std.proofs.Common.{◌∙◌}
-use Rattle.sb_pbft.proofs.Code.CallsRefine.{asks-of-cast}
+use Rattle.sb_pbft.proofs.Refinement.CallsRefine.{asks-of-cast}
 use Rattle.sb_pbft.proofs.pbft.PbftSequenced.asks.Goals as goal
 
 pub returns-in-Cast : goal.returns-in-Cast

@@ -1,4 +1,4 @@
-use Rattle.sb_pbft.proofs.Code.CallsRefine.{casts-means}
+use Rattle.sb_pbft.proofs.Refinement.CallsRefine.{casts-means}
 use Rattle.sb_pbft.proofs.pbft.PbftSequenced.casts.Goals as goal
 
 pub returns : goal.returns

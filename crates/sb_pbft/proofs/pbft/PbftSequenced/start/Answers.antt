@@ -1,5 +1,5 @@
 use Rattle.std.proofs.Common.{refl}
-use Rattle.sb_pbft.proofs.Code.CallsRefine.{starts}
+use Rattle.sb_pbft.proofs.Refinement.CallsRefine.{starts}
 use Rattle.sb_pbft.proofs.pbft.PbftSequenced.start.Goals as goal
 
 pub returns : goal.returns

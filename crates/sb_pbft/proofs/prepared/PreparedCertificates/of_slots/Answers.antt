@@ -1,6 +1,6 @@
 use Rattle.std.proofs.Common.{◌∙◌, sym}
 use Rattle.sb_pbft.specs.Places.{top_at}
-use Rattle.sb_pbft.proofs.Code.LoopsOverTables.{tops-step, tops-still}
+use Rattle.sb_pbft.proofs.Refinement.LoopsOverTables.{tops-step, tops-still}
 use Rattle.sb_pbft.proofs.prepared.PreparedCertificates.of_slots.Goals as goal
 use Rattle.sb_pbft.proofs.prepared.PreparedCertificates.of_slots.Goals.{in-Some+in_ok-copy+in_ok-push, in_default}
 

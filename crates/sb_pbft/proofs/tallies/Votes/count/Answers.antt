@@ -1,5 +1,5 @@
 use Rattle.sb_pbft.specs.Places.{vote_at}
-use Rattle.sb_pbft.proofs.Code.LoopsOverTables.{count-step, count-still}
+use Rattle.sb_pbft.proofs.Refinement.LoopsOverTables.{count-step, count-still}
 use Rattle.sb_pbft.proofs.tallies.Votes.count.Goals as goal
 use Rattle.sb_pbft.proofs.tallies.Votes.count.Goals.{then-has_voted, else-has_voted}
 

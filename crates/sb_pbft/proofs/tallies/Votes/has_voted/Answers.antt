@@ -1,7 +1,7 @@
 use Rattle.std.proofs.Common.{◌∙◌, Option, ap}
 use Rattle.sb_pbft.specs.declared.tallies.Voted.{Voted}
 use Rattle.sb_pbft.specs.Places.{ballot_of, has_voted}
-use Rattle.sb_pbft.proofs.Code.LoopsOverTables.{voted-is}
+use Rattle.sb_pbft.proofs.Refinement.LoopsOverTables.{voted-is}
 use Rattle.sb_pbft.proofs.tallies.Votes.has_voted.Goals as goal
 
 pub returns-in-Some : goal.returns-in-Some

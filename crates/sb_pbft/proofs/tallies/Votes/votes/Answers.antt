@@ -1,7 +1,7 @@
 use Rattle.std.proofs.Common.{◌∙◌, ℕ, List, ap, arith}
 use Rattle.iss_sb.specs.declared.signers.Signed.{Signed}
 use Rattle.sb_pbft.specs.Places.{vote_at}
-use Rattle.sb_pbft.proofs.Code.LoopsOverTables.{votes-full, votes-out, votes-step}
+use Rattle.sb_pbft.proofs.Refinement.LoopsOverTables.{votes-full, votes-out, votes-step}
 use Rattle.sb_pbft.proofs.tallies.Votes.votes.Goals as goal
 use Rattle.sb_pbft.proofs.tallies.Votes.votes.Goals.{then-len-most+then-has_voted+in_ok-sig+in_ok-push, else-len-most, else-len-most-via-then-len-most+else-has_voted, else-len-most-via-else-len-most}
 

@@ -1,6 +1,6 @@
 use Rattle.std.proofs.Common.{◌∙◌, sym}
 use Rattle.sb_pbft.specs.Places.{change_at}
-use Rattle.sb_pbft.proofs.Code.LoopsOverTables.{change-step, change-still}
+use Rattle.sb_pbft.proofs.Refinement.LoopsOverTables.{change-step, change-still}
 use Rattle.sb_pbft.proofs.view_changes.ViewChanges.all.Goals as goal
 use Rattle.sb_pbft.proofs.view_changes.ViewChanges.all.Goals.{in-Some+in_ok-copy+in_ok-push, in_default}
 

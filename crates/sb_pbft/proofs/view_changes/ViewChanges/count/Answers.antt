@@ -1,5 +1,5 @@
 use Rattle.sb_pbft.specs.Places.{change_at}
-use Rattle.sb_pbft.proofs.Code.LoopsOverTables.{change-count-step, change-count-still}
+use Rattle.sb_pbft.proofs.Refinement.LoopsOverTables.{change-count-step, change-count-still}
 use Rattle.sb_pbft.proofs.view_changes.ViewChanges.count.Goals as goal
 use Rattle.sb_pbft.proofs.view_changes.ViewChanges.count.Goals.{then-has, else-has}
 

@@ -25,7 +25,7 @@ use Rattle.sb_pbft.specs.Places.{change_at, proposal_at, top_at, vote_at}
 use Rattle.sb_pbft.specs.Rules.{when}
 use Rattle.sb_pbft.specs.Refines.{Does, IsTurn, Refines, held, may_cast, may_take}
 use Rattle.sb_pbft.specs.Turns.{Held, accepts_of, asked_at, idle, model, turn}
-use Rattle.sb_pbft.proofs.Code.ProposalRefines.{cast-asked, told-asked}
+use Rattle.sb_pbft.proofs.Refinement.ProposalRefines.{cast-asked, told-asked}
 use Rattle.sb_pbft.proofs.Model.TurnsAreAsDefined.{turn-is}
 
 -- ---- a new instance

@@ -28,8 +28,8 @@ use Rattle.sb_pbft.specs.Rules.{is_open, when}
 use Rattle.sb_pbft.specs.Refines.{Sent, held, is_free, may_cast, may_take}
 use Rattle.sb_pbft.specs.Turns.{Held, accepts_of, asked_at, first_proposal, free, idle, turn, with_proposal}
 use Rattle.iss_sb.specs.Calls.{has_slot}
-use Rattle.sb_pbft.proofs.Code.RulesCompose.{turned}
-use Rattle.sb_pbft.proofs.Code.SettleRefines.{sent-one}
+use Rattle.sb_pbft.proofs.Refinement.RulesCompose.{turned}
+use Rattle.sb_pbft.proofs.Refinement.SettleRefines.{sent-one}
 
 -- an offer, if there is no proposal yet
 free-when : (h : Held) (x : Slot × Batch) (a b : Bool) →
