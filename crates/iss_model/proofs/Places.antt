@@ -59,7 +59,7 @@ module _ {Msg : Type 0} (R : Rules) (M : Module Msg) (i : ℕ) where
     pub begun : start_of R (log_of R M i past) e ≤ f.0.0
 
   pub record Filed (past : Past Msg) (waiting : List Request) (flight : List (Slot × Batch)) : Type 0 where
-    pub finish_step : Settled R past
+    pub settled : Settled R past
     pub unborn : (e l : ℕ) → past.epoch < e → past.evidence e l ≡ []
     pub reached : start_of R (log_of R M i past) past.epoch ≤ length (log_of R M i past)
     pub waiting_once : Different (ids waiting)
@@ -155,8 +155,8 @@ module _ {Msg : Type 0} (R : Rules) (M : Module Msg) (i : ℕ) where
     refile-filed : start_of R log new.epoch ≤ length log → Settled R new → ((e l : ℕ) → new.epoch < e → new.evidence e l ≡ []) → Different (ids waiting) → Different (flown flight) →
         ((x : ReqId) → In x (ids waiting) → In x (flown flight) → ⊥) → ((x : ReqId) → In x (ids waiting) → In x (log_ids before_log) → ⊥) →
         ((f : Slot × Batch) → In f (flying (length log) flight) → WasCast new new.epoch f) → Filed new (left ++ back) (flying (length log) flight)
-    refile-filed far finish_step unborn w1 f1 apart unlogged cast = record {
-      settled = finish_step;
+    refile-filed far settled unborn w1 f1 apart unlogged cast = record {
+      settled = settled;
       unborn = unborn;
       reached = far;
       waiting_once = ids-once left back (absent-once gone waiting w1) (absent-once (log_ids log) (returned log flight) (returned-once log flight f1))

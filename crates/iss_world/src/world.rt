@@ -112,12 +112,12 @@ impl<M: Sequenced> World<M> {
         composition::<M>();
         restarts_change_nothing::<M>();
         leaves_are_of_one_statement::<M>();
-        let _setup = self.running.setup();
+        let _setup = self.simulation.setup();
         if self.stale {
             return EventResult::Stale;
         }
         self.stale = true;
-        match run_event(alloc, &mut self.running, &mut self.ended, event) {
+        match run_event(alloc, &mut self.simulation, &mut self.ended, event) {
             Ok(happened) => {
                 self.stale = false;
                 happened
@@ -131,7 +131,7 @@ impl<M: Sequenced> World<M> {
         ensures same { result.now ≡ self.now.simulation.setup }
         ensures good { IsSetupOf M.spec result.now }
     {
-        self.running.setup()
+        self.simulation.setup()
     }
 
     /// The kept node of a core. Its calls report the core's state while the run goes on and the core's disk has not
@@ -143,7 +143,7 @@ impl<M: Sequenced> World<M> {
         ensures same { (result.now.setup ≡ self.now.simulation.setup)
             × (result.now.me.0 ≡ node_of self.now.simulation.setup core) }
     {
-        self.running.node(core)
+        self.simulation.node(core)
     }
 
     /// The log of a core.
@@ -152,7 +152,7 @@ impl<M: Sequenced> World<M> {
         ensures { (p : Course M.Msg) → RefinesRun M.spec M.refines self.now p →
             log_at self.now.simulation.setup M.spec p.machines.held core ≡ reverse result.now.entries }
     {
-        self.running.log(core)
+        self.simulation.log(core)
     }
 
     /// The values of a core's log, by slot.
@@ -161,7 +161,7 @@ impl<M: Sequenced> World<M> {
         ensures { (p : Course M.Msg) → RefinesRun M.spec M.refines self.now p →
             log_at self.now.simulation.setup M.spec p.machines.held core ≡ reverse result.now }
     {
-        self.running.entries(core)
+        self.simulation.entries(core)
     }
 
     /// The epoch of a core.
@@ -170,7 +170,7 @@ impl<M: Sequenced> World<M> {
         ensures { (p : Course M.Msg) → RefinesRun M.spec M.refines self.now p →
             result.0 ≡ (p.machines.held.net.cores core).past.epoch }
     {
-        self.running.epoch(core)
+        self.simulation.epoch(core)
     }
 }
 
