@@ -165,7 +165,7 @@ pub fn digests_of_verifications(count: u32, height: u8) -> Digests
     }
 }
 
-/// The nanoseconds since then. The contract of a clock says only how large they may be.
+/// The nanoseconds that have passed since this time. The contract of a clock says only how large they may be.
 pub fn nanos_since(rt: &HostRuntime, start: Instant) -> Result<u64, Fail>
     ensures { IfOk result (λ nanos. nanos < 2 ^ 64) }
 {

@@ -12,7 +12,7 @@ pub const HEIGHT: u8 = 7;
 /// The number of clients. There are fewer nodes.
 pub const CLIENTS: u8 = 12;
 
-/// Three nodes with the relay. An epoch has so many slots that none ends.
+/// Three nodes with the relay. An epoch is so long that none ends.
 pub(crate) fn of_relay(alloc: Global) -> Setup
     ensures { IsSetupOf relay result }
 {
@@ -35,7 +35,7 @@ pub(crate) fn of_relay(alloc: Global) -> Setup
     }
 }
 
-/// Four nodes with echo. An epoch has so many slots that none ends.
+/// Four nodes with echo. An epoch is so long that none ends.
 pub(crate) fn of_echo(alloc: Global) -> Setup
     ensures { IsSetupOf echo result }
 {

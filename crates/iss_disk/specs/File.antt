@@ -10,7 +10,7 @@ pub record File : Type 0 where
   pub content : List ℕ
   -- what a read returned at the last sync
   pub kept : List ℕ
-  -- the writes since then, newest first: offset and bytes of each
+  -- the writes after the last sync, newest first: offset and bytes of each
   pub written : List (ℕ × List ℕ)
   -- The least length that the file had at the last sync or when a write began. From there on a crash may leave
   -- anything.

@@ -42,7 +42,7 @@ pub enum Said {
     Timeout,
 }
 
-// Bytes in the place of a signature.
+// Bytes that stand where a signature would.
 fn signature(alloc: Global) -> Result<Bytes, NoMemory> {
     let mut out = Writer::new(alloc, 1);
     out.put_u8(2)?;

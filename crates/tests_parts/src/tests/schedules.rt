@@ -118,8 +118,9 @@ fn lines_that_are_cut_and_bytes_that_are_no_text(rt: HostRuntime) -> Result<(), 
         ("iss 1\n", 2),
         ("iss 1\nmodule relay\nf 0\nepoch 3", 4),
     ] {
+        let answer = read(alloc, text.as_bytes());
         let cut =
-            matches!(read(alloc, text.as_bytes()), Err(ReadError::BadLine { line, why: LineFault::Cut }) if line == number);
+            matches!(answer, Err(ReadError::BadLine { line, why: LineFault::Cut }) if line == number);
         assert!(rt; cut, "at {text}");
     }
     let mut text = String::from_str(alloc, HEADER)?;
@@ -214,8 +215,9 @@ fn a_twin_is_a_core_that_crashes_and_is_made_anew(rt: HostRuntime) -> Result<(),
     for event in ["restart 5\n", "crash 5 0\n"] {
         let mut text = String::from_str(alloc, TWIN_HEADER)?;
         text.push_str(event)?;
+        let answer = read(alloc, text.as_bytes());
         let refused =
-            matches!(read(alloc, text.as_bytes()), Err(ReadError::BadLine { line, why: LineFault::Range }) if line == 12);
+            matches!(answer, Err(ReadError::BadLine { line, why: LineFault::Range }) if line == 12);
         assert!(rt; refused, "at {event}");
     }
     Ok(())
