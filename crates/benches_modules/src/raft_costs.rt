@@ -225,7 +225,7 @@ fn print(rt: &HostRuntime, what: Work, cost: Cost) -> Timed<()> {
     let copying = cost.copying / messages;
     let cloning = cost.cloning / messages;
     println!(rt;
-        "    of which copying bytes takes {copying}, and cloning what is kept, sent and delivered ({} batches) {cloning}",
+        "    of which copying bytes takes {copying}, cloning what is kept, sent and delivered ({} batches) {cloning}",
         cost.batches
     )?;
     Ok(())
