@@ -1,0 +1,5 @@
+pub mod Commands
+pub mod Answers
+pub mod Held
+pub mod Replies
+pub mod Repliers
