@@ -1,3 +1,6 @@
-pub mod RequestLemmas
+pub mod ClientLemmas
+mod Examples
+pub mod LawLemmas
 pub mod ReplierLemmas
+pub mod RequestLemmas
 pub mod StoreLemmas

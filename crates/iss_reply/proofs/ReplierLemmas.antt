@@ -40,3 +40,20 @@ answered-more old new log s p r a there le at number slot place store =
           ∙ ap (λ rs. held_after rs key) (sym (take-more (requests_of log) old.number r there.request))
           ∙ ap (λ i. held_after (take i (requests_of log)) key) (sym one);
     }
+
+take-none : {A : Type 0} (xs : List A) → take 0 xs ≡ []
+take-none [] = refl
+take-none (x ∷ xs) = refl
+
+-- a new replier answered no request of any log
+pub answered-none : (r : ReplierState) (log : List Value) → r.number ≡ 0 → r.slot ≡ 0 → r.place ≡ 0 → r.store ≡ [] → Answered r log
+answered-none r log n s p st =
+    let e : requests (take r.slot log) ≡ 0 = ap (λ k. requests (take k log)) s ∙ ap requests (take-none log) in
+    record {
+      position = omega (arith, n, e, p);
+      slot = omega (arith, s);
+      number = omega (arith, n);
+      held = λ key.
+          ap (λ es. held_in es key) st
+          ∙ sym (ap (λ k. held_after (take k (requests_of log)) key) n ∙ ap (λ rs. held_after rs key) (take-none (requests_of log)));
+    }

@@ -27,7 +27,9 @@ fits Delete n m = n == m
 abbrev pub command_in : Option Action → ℕ → List ℕ → Option CommandView
 command_in None n rest = None
 command_in (Some action) n rest =
-    if fits action n (length rest) then Some (record { action = action; key = take n rest; value = drop n rest }) else None
+    if fits action n (length rest) then
+      Some (record { action = action; key = take n rest; value = drop n rest })
+    else None
 
 -- the command of a payload, if it is not malformed
 -- rule: Replies: A payload is a get, put or delete of a key, with bytes behind the key only in a put

@@ -3,3 +3,4 @@ pub mod Answers
 pub mod Held
 pub mod Replies
 pub mod Repliers
+pub mod Clients

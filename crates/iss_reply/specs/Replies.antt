@@ -1,8 +1,8 @@
 -- Reply keys, and what a reply signs. A node has a key of its own for replies, whose secret follows from its number
 -- alone. It signs the reply to request q with leaf q, so it signs one reply with each leaf.
 --
---   statement   cluster tag (32 bytes), epoch (8), 254, 0, 0, client (1), number (4), q (8), answer's length (2), answer
-use Rattle.std.specs.Prelude.{ℕ, suc, ◌-◌, ◌/◌, ◌%◌, nat_lt, if◌then◌else◌, List, [], ◌∷◌, ◌++◌, length, take, Option, Some, None, slice_get}
+--   statement   cluster tag (32 bytes), epoch (8), 254, 0, 0, client (1), number (4), q (8), length (2), answer
+use Rattle.std.specs.Prelude.{◌≡◌, ℕ, suc, ◌-◌, ◌/◌, ◌%◌, nat_lt, if◌then◌else◌, List, [], ◌∷◌, ◌++◌, length, take, Option, Some, None, slice_get}
 use Rattle.std.specs.Int.{w16, w32, w64, to_be_bytes}
 use Rattle.sha2.specs.Sha256.{sha256}
 use Rattle.iss_keys.specs.KeyStates.{KeyState}
@@ -72,3 +72,13 @@ reply_to w log q (Some r) =
 
 abbrev pub reply_at : Replying → List Value → ℕ → Option Reply
 reply_at w log q = reply_to w log q (slice_get (requests_of log) q)
+
+-- ---- reply keys are apart from all others
+
+-- SHA-256 does not collide on these two strings
+abbrev pub Separates : List ℕ → List ℕ → Type 0
+Separates a b = sha256 a ≡ sha256 b → a ≡ b
+
+-- the strings hashed for the start of a chain, and for a secret
+abbrev pub chain_string : List ℕ → ℕ → ℕ → List ℕ
+chain_string secret q i = 0x10 ∷ secret ++ to_be_bytes w32 q ++ to_be_bytes w16 i

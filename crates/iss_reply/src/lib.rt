@@ -2,12 +2,16 @@
 //! with a key of their own, and what a client believes (PBFT: f + 1 equal replies).
 #![tactic(auto)]
 
+pub mod clients;
 pub mod commands;
+pub mod laws;
 pub mod repliers;
 pub mod replies;
 pub mod stores;
 
+pub use clients::{Client, Refusal, Stated, Taken};
 pub use commands::Action;
+pub use laws::{replies_are_their_nodes, repliers_follow_the_log, reply_keys_are_apart};
 pub use repliers::{Next, Replier};
 pub use replies::{Reply, reply_statement};
 pub use stores::Store;

@@ -1,7 +1,8 @@
 //! The replies of a node to the requests of its log, in the order of their numbers.
-ghost use Rattle.std.specs.Prelude.{◌≡◌, ◌^◌, ◌<◌, ◌≤◌, [], length, IfOk, IsSome, option_copied};
+ghost use Rattle.std.specs.Prelude.{◌≡◌, ◌^◌, ◌<◌, ◌≤◌, List, length, IfOk, IsSome, option_copied};
 ghost use Rattle.iss_request.specs.Log.{size_of};
 ghost use Rattle.iss_request.specs.Setup.{IsGoodSetup};
+ghost use Rattle.iss_request.specs.declared.requests.Value.{Value};
 ghost use Rattle.iss_reply.specs.Answers.{answer_to};
 ghost use Rattle.iss_reply.specs.Held.{held_in};
 ghost use Rattle.iss_reply.specs.Replies.{replying, signed_reply};
@@ -66,11 +67,11 @@ impl Model for Replier {
 }
 
 impl Replier {
-    /// A replier that answered nothing. The only error is out of memory.
+    /// A replier that answered no request, of any log. The only error is out of memory.
     pub fn make(alloc: Global, setup: &Setup, me: NodeId) -> Result<Replier, NoMemory>
         requires { IsGoodSetup setup.now }
         ensures who { IfOk result (λ r. r.who ≡ replying setup.now me.0) }
-        ensures none { IfOk result (λ r. Answered r []) }
+        ensures none { IfOk result (λ r. (log : List Value) → Answered r log) }
     {
         let height = setup.keys as u8;
         let Ok(key) = reply_key(alloc, me.0, height) else {
