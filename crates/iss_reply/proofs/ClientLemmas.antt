@@ -122,9 +122,10 @@ eqb-turned a b h = grind arith
 one-more : (bs : List Stated) (x : Stated) → OneEach bs → has_reply_of x.by.0 bs ≡ false → OneEach (bs ++ x ∷ [])
 one-more [] x one new = (refl, tt)
 one-more (b ∷ bs) x one new =
-    let apart = or-false (b.by.0 == x.by.0) (has_reply_of x.by.0 bs) new in
-    (has-append b.by.0 bs (x ∷ []) ∙ neither (has_reply_of b.by.0 bs) (has_reply_of b.by.0 (x ∷ [])) one.0 (neither (x.by.0 == b.by.0) false (eqb-turned b.by.0 x.by.0 apart.0) refl),
-    one-more bs x one.1 apart.1)
+    let apart = or-false (b.by.0 == x.by.0) (has_reply_of x.by.0 bs) new in (
+      has-append b.by.0 bs (x ∷ []) ∙ neither (has_reply_of b.by.0 bs) (has_reply_of b.by.0 (x ∷ [])) one.0 (neither (x.by.0 == b.by.0) false (eqb-turned b.by.0 x.by.0 apart.0) refl),
+      one-more bs x one.1 apart.1,
+    )
 
 pub one-each : (c : Cluster) (replies : List Reply) (id : ReqId) → OneEach (stated_to id (counted c replies))
 one-each c [] id = tt

@@ -90,6 +90,6 @@ chains-apart kind i j q r k l other h g e =
     let b = sha256 (kind ∷ j ∷ []) in
     let same = rest-same 0x10 0x10 _ _ (g e) in
     let turned : a ++ (to_be_bytes w32 q ++ to_be_bytes w16 k) ≡ b ++ (to_be_bytes w32 r ++ to_be_bytes w16 l) =
-        sym (append_assoc a (to_be_bytes w32 q) (to_be_bytes w16 k)) ∙ same ∙ append_assoc b (to_be_bytes w32 r) (to_be_bytes w16 l) in
+    sym (append_assoc a (to_be_bytes w32 q) (to_be_bytes w16 k)) ∙ same ∙ append_assoc b (to_be_bytes w32 r) (to_be_bytes w16 l) in
     let long : length a ≡ length b = length-sha256 (0x22 ∷ i ∷ []) ∙ sym (length-sha256 (kind ∷ j ∷ [])) in
     secrets-apart kind i j other h (ends-same a b (to_be_bytes w32 q ++ to_be_bytes w16 k) (to_be_bytes w32 r ++ to_be_bytes w16 l) long turned).0

@@ -27,8 +27,7 @@ fits Delete n m = n == m
 abbrev pub command_in : Option Action → ℕ → List ℕ → Option CommandView
 command_in None n rest = None
 command_in (Some action) n rest =
-    if fits action n (length rest) then
-      Some (record { action = action; key = take n rest; value = drop n rest })
+    if fits action n (length rest) then Some (record { action = action; key = take n rest; value = drop n rest })
     else None
 
 -- the command of a payload, if it is not malformed

@@ -11,7 +11,7 @@ pub mod stores;
 
 pub use clients::{Client, Refusal, Stated, Taken};
 pub use commands::Action;
-pub use laws::{replies_are_their_nodes, repliers_follow_the_log, reply_keys_are_apart};
+pub use laws::{repliers_follow_the_log, replies_are_their_nodes, reply_keys_are_apart};
 pub use repliers::{Next, Replier};
 pub use replies::{Reply, reply_statement};
 pub use stores::Store;

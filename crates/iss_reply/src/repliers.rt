@@ -128,8 +128,14 @@ impl Replier {
     {
         let q = self.number;
         let answer = self.store.answer(request.payload.as_slice())?;
-        let statement =
-            reply_statement(self.alloc, &self.tag, epoch, request.id, q, answer.as_slice())?;
+        let statement = reply_statement(
+            self.alloc,
+            &self.tag,
+            epoch,
+            request.id,
+            q,
+            answer.as_slice(),
+        )?;
         let Ok(sig) = self.key.sign_at(q as u32, statement.as_slice()) else {
             return Err(NoMemory);
         };

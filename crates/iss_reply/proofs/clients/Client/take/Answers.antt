@@ -9,6 +9,6 @@ pub returns-clause-believed : goal.returns-clause-believed
 returns-clause-believed c = λ s correct log replies own taken honest.
     let r = c.args.reply.now in
     let is = c.in_ok-taken.ensures
-        ∙ ap (λ (all : List Stated). judged c.args.self.now.cluster all r) (taken r.id)
-        ∙ ap (λ (k : Cluster). outcome k replies r) own in
+    ∙ ap (λ (all : List Stated). judged c.args.self.now.cluster all r) (taken r.id)
+    ∙ ap (λ (k : Cluster). outcome k replies r) own in
     subst (λ (t : Taken). IsBelieved log r t) (sym is) (believed s correct log replies r honest)

@@ -16,14 +16,16 @@ returns-clause-next c =
     let p = c.seek-at.result.place in
     let r = c.in-Some.request.now in
     let at : number_at log s p ≡ c.args.self.now.number =
-        ap (λ es. number_at es s p) (sym c.entries.ensures) ∙ c.seek-at.ensures.same
-        ∙ ap (λ es. number_at es c.self.inside.at.slot c.self.inside.at.place) c.entries.ensures
-        ∙ ap (λ v. number_at log v.slot v.place) c.self.view_is ∙ sym c.requires.position in
+    ap (λ es. number_at es s p) (sym c.entries.ensures) ∙ c.seek-at.ensures.same
+    ∙ ap (λ es. number_at es c.self.inside.at.slot c.self.inside.at.place) c.entries.ensures
+    ∙ ap (λ v. number_at log v.slot v.place) c.self.view_is ∙ sym c.requires.position in
     let here : request_at log s p ≡ Some r = sym (c.in-Some.ensures ∙ ap (λ es. request_at es s p) c.entries-2.ensures) in
-    let there = is-there log s p c.args.self.now.number r here at in
-    (reply-made c.args.self.now log s r c.in_ok-reply.reply c.requires there
-    (c.in_ok-reply.ensures ∙ ap (λ k. signed_reply c.args.self.now.who (s / k) r.id c.args.self.now.number (answer_to (held_in c.args.self.now.store) r.payload)) (ap (λ v. v.who.slots) c.self.view_is)),
-    ap (λ v. v.number + 1) c.self.view_is, ap (λ v. v.who) c.self.view_is)
+    let there = is-there log s p c.args.self.now.number r here at in (
+      reply-made c.args.self.now log s r c.in_ok-reply.reply c.requires there
+          (c.in_ok-reply.ensures ∙ ap (λ k. signed_reply c.args.self.now.who (s / k) r.id c.args.self.now.number (answer_to (held_in c.args.self.now.store) r.payload)) (ap (λ v. v.who.slots) c.self.view_is)),
+      ap (λ v. v.number + 1) c.self.view_is,
+      ap (λ v. v.who) c.self.view_is,
+    )
 
 pub returns-clause-answered : goal.returns-clause-answered
 returns-clause-answered c =
@@ -32,9 +34,9 @@ returns-clause-answered c =
     let p = c.seek-at.result.place in
     let r = c.in-Some.request.now in
     let at : number_at log s p ≡ c.args.self.now.number =
-        ap (λ es. number_at es s p) (sym c.entries.ensures) ∙ c.seek-at.ensures.same
-        ∙ ap (λ es. number_at es c.self.inside.at.slot c.self.inside.at.place) c.entries.ensures
-        ∙ ap (λ v. number_at log v.slot v.place) c.self.view_is ∙ sym c.requires.position in
+    ap (λ es. number_at es s p) (sym c.entries.ensures) ∙ c.seek-at.ensures.same
+    ∙ ap (λ es. number_at es c.self.inside.at.slot c.self.inside.at.place) c.entries.ensures
+    ∙ ap (λ v. number_at log v.slot v.place) c.self.view_is ∙ sym c.requires.position in
     let here : request_at log s p ≡ Some r = sym (c.in-Some.ensures ∙ ap (λ es. request_at es s p) c.entries-2.ensures) in
     let there = is-there log s p c.args.self.now.number r here at in
     let payload : c.as_slice.result.now ≡ r.payload = search rules in
