@@ -1,5 +1,5 @@
 -- What a client counts, and why it may believe an accepted answer.
-use Rattle.std.proofs.Common.{◌≡◌, refl, sym, ap, subst, ◌∙◌, inl, inr, ◌⊎◌, IsTrue, ◌↔◌, ℕ, zero, suc, ◌+◌, ◌<◌, ◌≤◌, Bool, true, false, true≢false, cond, ◌&&◌, ◌||◌, ◌==◌, List, [], ◌∷◌, ◌++◌, length, map, Option, Some, None, arith}
+use Rattle.std.proofs.Common.{◌≡◌, refl, sym, ap, subst, ◌∙◌, inl, inr, ◌⊎◌, IsTrue, ◌↔◌, ℕ, zero, suc, ◌+◌, ◌<◌, Bool, true, false, true≢false, cond, ◌&&◌, ◌||◌, ◌==◌, List, [], ◌∷◌, ◌++◌, length, map, Option, Some, None, arith}
 use Rattle.std.specs.Prelude.{not, nat_lt, slice_get, unwrap_or, IsSomeAnd, OnErr, Result, Ok, Err}
 use Rattle.std.proofs.Common.{◌/◌, take}
 use Rattle.std.proofs.lemmas.Bool.{lt-ltb}
@@ -9,8 +9,8 @@ use Rattle.std.specs.Option.{option_map}
 use Rattle.std.specs.Str.{bytes_eq}
 use Rattle.std.proofs.lemmas.Option.{slice_get-map}
 use Rattle.iss_base.specs.Lists.{In}
-use Rattle.iss_base.specs.Quorum.{all_below, count_below, distinct, mem}
-use Rattle.iss_base.proofs.Lists.{and-true, both, eqb-same, in_append, is-eq, not-false, or-cases, or-false, neither, or-assoc, same-test, some-injective}
+use Rattle.iss_base.specs.Quorum.{all_below, distinct, mem}
+use Rattle.iss_base.proofs.Lists.{and-true, both, in_append, is-eq, or-cases, or-false, neither, or-assoc, same-test, some-injective}
 use Rattle.iss_base.proofs.Quorum.{count-distinct, count-less, count-some}
 use Rattle.iss_keys.proofs.DirectoryLemmas.{verified-by}
 use Rattle.iss_keys.proofs.ListedLemmas.{length-listed}
@@ -18,20 +18,19 @@ use Rattle.iss_keys.specs.Directories.{VerifiesBy, public_keys_of}
 use Rattle.iss_keys.specs.KeyStates.{KeyState, PublicKeyView, public_key, public_of}
 use Rattle.iss_keys.specs.Signatures.{Verifies}
 use Rattle.iss_keys.specs.VerifiedBy.{is_verified_by}
-use Rattle.iss_request.proofs.Identities.{same_id-self, same_id-tells}
+use Rattle.iss_request.proofs.Identities.{same_id-tells}
 use Rattle.iss_request.specs.Log.{same_id}
 use Rattle.iss_request.specs.declared.ids.ReqId.{ReqId}
 use Rattle.iss_request.specs.declared.requests.Request.{Request}
 use Rattle.iss_request.specs.declared.requests.Value.{Value}
 use Rattle.iss_request.specs.declared.setups.Setup.{Setup}
 use Rattle.iss_reply.specs.declared.clients.Stated.{Stated}
-use Rattle.iss_reply.specs.declared.clients.Taken.{Taken}
 use Rattle.iss_reply.specs.declared.clients.Taken.TheVariants.{Counted, Accepted, Late, Refused}
 use Rattle.iss_reply.specs.declared.clients.Refusal.TheVariants.{BadReply, Twice}
 use Rattle.iss_reply.specs.declared.replies.Reply.{Reply}
-use Rattle.iss_reply.specs.Answers.{answer_after, answer_at, answer_to, held_after, requests_of}
-use Rattle.iss_reply.specs.Clients.{AreHonest, Cluster, IsAnswer, IsBelieved, IsReplyOf, accepted_with, agree, agreeing, cluster_of, counted, counts, has_reply_of, is_answered, is_signed, judged, outcome, outcome_after, stated_by, stated_in, stated_to}
-use Rattle.iss_reply.specs.Replies.{reply_at, reply_secret, reply_to, replying, signed_reply, slot_of}
+use Rattle.iss_reply.specs.Answers.{answer_after, answer_to, held_after, requests_of}
+use Rattle.iss_reply.specs.Clients.{AreHonest, Cluster, IsAnswer, IsBelieved, IsReplyOf, accepted_with, agree, agreeing, cluster_of, counted, counts, has_reply_of, is_answered, is_signed, judged, outcome, stated_by, stated_in, stated_to}
+use Rattle.iss_reply.specs.Replies.{reply_secret, reply_to, replying, signed_reply, slot_of}
 
 -- ---- one signature
 

@@ -8,7 +8,7 @@ use Rattle.iss_request.specs.declared.requests.Value.TheVariants.{Nil, Batch as 
 use Rattle.iss_reply.specs.declared.clients.Stated.{Stated}
 use Rattle.iss_reply.specs.declared.clients.Taken.TheVariants.{Counted, Accepted}
 use Rattle.iss_reply.specs.declared.replies.Reply.{Reply}
-use Rattle.iss_reply.specs.Answers.{answer_at, held_after, requests_of}
+use Rattle.iss_reply.specs.Answers.{answer_at}
 use Rattle.iss_reply.specs.Clients.{accepted_with, agreeing, has_reply_of, is_answered, stated_by, stated_to}
 use Rattle.iss_reply.specs.Commands.{command_of}
 use Rattle.iss_reply.specs.Replies.{reply_statement, slot_of}

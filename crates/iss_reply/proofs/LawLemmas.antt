@@ -1,18 +1,25 @@
 -- What the laws of replies rest on.
-use Rattle.std.proofs.Common.{◌≡◌, ◌≢◌, refl, sym, ap, subst, ◌∙◌, ℕ, zero, suc, ◌+◌, ◌/◌, ◌≤◌, List, [], ◌∷◌, ◌++◌, length, length-append, append_assoc, take, Option, Some, None, arith}
-use Rattle.std.specs.Prelude.{slice_get}
+use Rattle.std.proofs.Common.{◌≡◌, ◌≢◌, refl, sym, ap, subst, ◌∙◌, ℕ, zero, suc, ◌+◌, ◌/◌, ◌^◌, ◌<◌, ◌≤◌, true, List, [], ◌∷◌, ◌++◌, length, length-append, append_assoc, take, Option, Some, None, arith}
+use Rattle.std.specs.Prelude.{IsSomeAnd, slice_get}
 use Rattle.std.specs.Int.{w16, w32, to_be_bytes}
 use Rattle.sha2.specs.Sha256.{sha256}
 use Rattle.sha2.proofs.Facts256.{length-sha256}
 use Rattle.iss_base.proofs.Lists.{ends-same, some-injective}
 use Rattle.iss_keys.specs.Chains.{chain_start}
-use Rattle.iss_request.specs.Log.{requests, size_of}
+use Rattle.iss_keys.specs.Directories.{public_keys_of}
+use Rattle.iss_keys.specs.KeyStates.{public_key}
+use Rattle.iss_keys.specs.Signatures.{Verifies, signature_of}
+use Rattle.iss_keys.specs.VerifiedBy.{is_verified_by}
+use Rattle.iss_keys.proofs.DirectoryLemmas.{verified-by}
+use Rattle.iss_keys.proofs.ListedLemmas.{slice_get-listed}
+use Rattle.iss_keys.proofs.VerifyLemmas.{signature_verifies}
+use Rattle.iss_request.specs.Log.{requests}
 use Rattle.iss_request.specs.declared.requests.Request.{Request}
 use Rattle.iss_request.specs.declared.requests.Value.{Value}
 use Rattle.iss_request.specs.declared.setups.Setup.{Setup}
 use Rattle.iss_reply.specs.declared.replies.Reply.{Reply}
 use Rattle.iss_reply.specs.Answers.{answer_to, held_after, requests_in, requests_of}
-use Rattle.iss_reply.specs.Clients.{IsReplyOf}
+use Rattle.iss_reply.specs.Clients.{IsReplyOf, cluster_of, is_signed}
 use Rattle.iss_reply.specs.Replies.{Separates, chain_string, replying, reply_at, reply_secret, reply_to, signed_reply, slot_of}
 use Rattle.iss_reply.specs.Repliers.{Answered, ReplierState}
 use Rattle.iss_reply.proofs.RequestLemmas.{requests-length}
@@ -70,6 +77,24 @@ own-reply s me q log r h = go (slice_get (requests_of log) q) h
           id = refl;
           answer = refl;
         }
+
+-- a reply that a node made is signed by it
+pub own-signed : (s : Setup) (me q : ℕ) (log : List Value) (r : Reply) → me < s.n → s.keys ≤ 12 → q < 2 ^ s.keys
+    → reply_at (replying s me) log q ≡ Some r → is_signed (cluster_of s) r ≡ true
+own-signed s me q log r below high lt h = go (slice_get (requests_of log) q) h
+  where
+    verifies : (st : List ℕ) → is_verified_by (public_keys_of reply_secret s.keys s.n) me st (signature_of (reply_secret me) s.keys q st) ≡ true
+    verifies st =
+        (verified-by (public_keys_of reply_secret s.keys s.n) me st (signature_of (reply_secret me) s.keys q st)).1
+        (subst (λ o. IsSomeAnd o (λ key. Verifies key.root key.height st (signature_of (reply_secret me) s.keys q st)))
+        (sym (slice_get-listed (λ i. public_key (reply_secret i) s.keys) s.n me below))
+        (signature_verifies (reply_secret me) st s.keys q high lt))
+
+    go : (o : Option Request) → reply_to (replying s me) log q o ≡ Some r → is_signed (cluster_of s) r ≡ true
+    go None e = let clash : None ≡ Some r → ⊥ = λ e. cc in absurd (clash e)
+    go (Some x) e =
+        let same = some-injective (signed_reply (replying s me) (slot_of log q / s.epoch) x.id q (answer_to (held_after (take q (requests_of log))) x.payload)) r e in
+        subst (λ (y : Reply). is_signed (cluster_of s) y ≡ true) same (verifies _)
 
 -- ---- keys of different kinds
 

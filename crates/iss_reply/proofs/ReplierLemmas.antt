@@ -1,5 +1,5 @@
 -- A replier's next reply, and what it answered then.
-use Rattle.std.proofs.Common.{◌≡◌, refl, sym, ap, subst, ◌∙◌, ℕ, suc, ◌+◌, ◌/◌, ◌<◌, ◌≤◌, List, [], ◌∷◌, ◌++◌, length, take, Option, Some, None, arith}
+use Rattle.std.proofs.Common.{◌≡◌, refl, sym, ap, subst, ◌∙◌, ℕ, suc, ◌+◌, ◌/◌, ◌≤◌, List, [], ◌∷◌, length, take, Some, arith}
 use Rattle.iss_request.specs.Log.{requests}
 use Rattle.iss_request.specs.declared.requests.Request.{Request}
 use Rattle.iss_request.specs.declared.requests.Value.{Value}
@@ -7,7 +7,7 @@ use Rattle.iss_reply.specs.declared.replies.Reply.{Reply}
 use Rattle.iss_reply.specs.Answers.{answer_to, held_after, left_under, or_before, requests_of}
 use Rattle.iss_reply.specs.Commands.{command_of}
 use Rattle.iss_reply.specs.Held.{held_in}
-use Rattle.iss_reply.specs.Replies.{Replying, reply_at, reply_to, signed_reply, slot_of}
+use Rattle.iss_reply.specs.Replies.{reply_at, reply_to, signed_reply}
 use Rattle.iss_reply.specs.Repliers.{Answered, ReplierState}
 use Rattle.iss_reply.proofs.RequestLemmas.{IsThere, answer-same, get-below, held-more, requests-length, take-more}
 

@@ -13,7 +13,6 @@ use Rattle.iss_request.specs.declared.ids.ReqId.{ReqId}
 use Rattle.iss_request.specs.declared.requests.Request.{Request}
 use Rattle.iss_request.specs.declared.requests.Value.{Value}
 use Rattle.iss_request.specs.declared.setups.Setup.{Setup}
-use Rattle.iss_reply.specs.declared.clients.Refusal.{Refusal}
 use Rattle.iss_reply.specs.declared.clients.Refusal.TheVariants.{BadReply, Twice}
 use Rattle.iss_reply.specs.declared.clients.Stated.{Stated}
 use Rattle.iss_reply.specs.declared.clients.Taken.{Taken}

@@ -1,4 +1,4 @@
-use Rattle.std.proofs.Common.{◌∙◌, ap, refl, rules}
+use Rattle.std.proofs.Common.{ap}
 use Rattle.std.proofs.lemmas.List.{map-append}
 use Rattle.iss_keys.specs.KeyStates.{public_key, public_of}
 use Rattle.iss_keys.proofs.ListedLemmas.{listed_more, listed_none}

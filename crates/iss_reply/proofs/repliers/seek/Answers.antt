@@ -1,7 +1,6 @@
-use Rattle.std.proofs.Common.{◌≡◌, ◌∙◌, ◌+◌, suc, take, Some, sym, ap, arith}
+use Rattle.std.proofs.Common.{◌≡◌, ◌+◌, suc, take, Some, sym, ap, arith}
 use Rattle.std.specs.Prelude.{slice_get}
 use Rattle.iss_request.specs.Log.{requests}
-use Rattle.iss_reply.specs.Repliers.{number_at}
 use Rattle.iss_reply.proofs.RequestLemmas.{get-read, number-more}
 use Rattle.iss_reply.proofs.repliers.seek.Goals as goal
 

@@ -1,11 +1,10 @@
-use Rattle.std.proofs.Common.{rules, ◌≡◌, ◌∙◌, ◌+◌, ◌/◌, Some, sym, ap, subst, refl, arith}
-use Rattle.iss_request.specs.Log.{requests}
+use Rattle.std.proofs.Common.{rules, ◌≡◌, ◌∙◌, ◌+◌, ◌/◌, Some, sym, ap, refl}
 use Rattle.iss_reply.specs.Answers.{answer_to, left_under, or_before}
 use Rattle.iss_reply.specs.Commands.{command_of}
 use Rattle.iss_reply.specs.Held.{held_in}
 use Rattle.iss_reply.specs.Replies.{signed_reply}
 use Rattle.iss_reply.specs.Repliers.{number_at, request_at}
-use Rattle.iss_reply.proofs.RequestLemmas.{IsThere, is-there}
+use Rattle.iss_reply.proofs.RequestLemmas.{is-there}
 use Rattle.iss_reply.proofs.ReplierLemmas.{answered-more, reply-made}
 use Rattle.iss_reply.proofs.repliers.Replier.next.Goals as goal
 
