@@ -1,0 +1,120 @@
+-- What the laws of replies rest on.
+use Rattle.std.proofs.Common.{◌≡◌, ◌≢◌, refl, sym, ap, subst, ◌∙◌, ℕ, zero, suc, ◌+◌, ◌/◌, ◌^◌, ◌<◌, ◌≤◌, true, List, [], ◌∷◌, ◌++◌, length, length-append, append_assoc, take, Option, Some, None, arith}
+use Rattle.std.specs.Prelude.{IsSomeAnd, slice_get}
+use Rattle.std.specs.Int.{w16, w32, to_be_bytes}
+use Rattle.sha2.specs.Sha256.{sha256}
+use Rattle.sha2.proofs.Facts256.{length-sha256}
+use Rattle.iss_base.proofs.Lists.{ends-same, some-injective}
+use Rattle.iss_keys.specs.Chains.{chain_start}
+use Rattle.iss_keys.specs.Directories.{public_keys_of}
+use Rattle.iss_keys.specs.KeyStates.{public_key}
+use Rattle.iss_keys.specs.Signatures.{Verifies, signature_of}
+use Rattle.iss_keys.specs.VerifiedBy.{is_verified_by}
+use Rattle.iss_keys.proofs.DirectoryLemmas.{verified-by}
+use Rattle.iss_keys.proofs.ListedLemmas.{slice_get-listed}
+use Rattle.iss_keys.proofs.VerifyLemmas.{signature_verifies}
+use Rattle.iss_request.specs.Log.{requests}
+use Rattle.iss_request.specs.declared.requests.Request.{Request}
+use Rattle.iss_request.specs.declared.requests.Value.{Value}
+use Rattle.iss_request.specs.declared.setups.Setup.{Setup}
+use Rattle.iss_reply.specs.declared.replies.Reply.{Reply}
+use Rattle.iss_reply.specs.Answers.{answer_to, held_after, requests_in, requests_of}
+use Rattle.iss_reply.specs.Clients.{IsReplyOf, cluster_of, is_signed}
+use Rattle.iss_reply.specs.Replies.{Separates, chain_string, replying, reply_at, reply_secret, reply_to, signed_reply, slot_of}
+use Rattle.iss_reply.specs.Repliers.{Answered, ReplierState}
+use Rattle.iss_reply.proofs.RequestLemmas.{requests-length}
+
+-- ---- longer logs
+
+take-front : {A : Type 0} (xs ys : List A) (k : ℕ) → k ≤ length xs → take k (xs ++ ys) ≡ take k xs
+take-front [] [] zero h = refl
+take-front [] (y ∷ ys) zero h = refl
+take-front [] ys (suc k) h = absurd (omega arith)
+take-front (x ∷ xs) ys zero h = refl
+take-front (x ∷ xs) ys (suc k) h = let le : k ≤ length xs = omega arith in ap (λ zs. x ∷ zs) (take-front xs ys k le)
+
+requests-append : (log more : List Value) → requests (log ++ more) ≡ requests log + requests more
+requests-append [] more = omega arith
+requests-append (v ∷ log) more = let ih = requests-append log more in omega (arith, ih)
+
+all-append : (log more : List Value) → requests_of (log ++ more) ≡ requests_of log ++ requests_of more
+all-append [] more = refl
+all-append (v ∷ log) more =
+    ap (λ (rs : List Request). requests_in v ++ rs) (all-append log more) ∙ sym (append_assoc (requests_in v) (requests_of log) (requests_of more))
+
+pub answered-longer : (r : ReplierState) (log more : List Value) → Answered r log → Answered r (log ++ more)
+answered-longer r log more a =
+    let long = length-append log more in
+    let sum = requests-append log more in
+    let number = a.number in
+    let slot = a.slot in
+    let all = requests-length log in
+    let le : r.number ≤ length (requests_of log) = omega (arith, number, all) in
+    record {
+      position = a.position ∙ ap (λ (es : List Value). requests es + r.place) (sym (take-front log more r.slot slot));
+      slot = omega (arith, long, slot);
+      number = omega (arith, sum, number);
+      held = λ key.
+          a.held key
+          ∙ ap (λ (rs : List Request). held_after rs key) (sym (ap (λ (rs : List Request). take r.number rs) (all-append log more) ∙ take-front (requests_of log) (requests_of more) r.number le));
+    }
+
+-- ---- a node's replies
+
+pub own-reply : (s : Setup) (me q : ℕ) (log : List Value) (r : Reply) → reply_at (replying s me) log q ≡ Some r → IsReplyOf s log r
+own-reply s me q log r h = go (slice_get (requests_of log) q) h
+  where
+    go : (o : Option Request) → reply_to (replying s me) log q o ≡ Some r → IsReplyOf s log r
+    go None e = let clash : None ≡ Some r → ⊥ = λ e. cc in absurd (clash e)
+    go (Some x) e =
+        let same = some-injective (signed_reply (replying s me) (slot_of log q / s.epoch) x.id q (answer_to (held_after (take q (requests_of log))) x.payload)) r e in
+        let by : me ≡ r.by.0 = ap (λ (y : Reply). y.by.0) same in
+        let number : q ≡ r.q = ap (λ (y : Reply). y.q) same in
+        record {
+          own = r;
+          made = subst (λ i. reply_at (replying s i) log r.q ≡ Some r) by (subst (λ i. reply_at (replying s me) log i ≡ Some r) number h);
+          epoch = refl;
+          id = refl;
+          answer = refl;
+        }
+
+-- a reply that a node made is signed by it
+pub own-signed : (s : Setup) (me q : ℕ) (log : List Value) (r : Reply) → me < s.n → s.keys ≤ 12 → q < 2 ^ s.keys
+    → reply_at (replying s me) log q ≡ Some r → is_signed (cluster_of s) r ≡ true
+own-signed s me q log r below high lt h = go (slice_get (requests_of log) q) h
+  where
+    verifies : (st : List ℕ) → is_verified_by (public_keys_of reply_secret s.keys s.n) me st (signature_of (reply_secret me) s.keys q st) ≡ true
+    verifies st =
+        (verified-by (public_keys_of reply_secret s.keys s.n) me st (signature_of (reply_secret me) s.keys q st)).1
+        (subst (λ o. IsSomeAnd o (λ key. Verifies key.root key.height st (signature_of (reply_secret me) s.keys q st)))
+        (sym (slice_get-listed (λ i. public_key (reply_secret i) s.keys) s.n me below))
+        (signature_verifies (reply_secret me) st s.keys q high lt))
+
+    go : (o : Option Request) → reply_to (replying s me) log q o ≡ Some r → is_signed (cluster_of s) r ≡ true
+    go None e = let clash : None ≡ Some r → ⊥ = λ e. cc in absurd (clash e)
+    go (Some x) e =
+        let same = some-injective (signed_reply (replying s me) (slot_of log q / s.epoch) x.id q (answer_to (held_after (take q (requests_of log))) x.payload)) r e in
+        subst (λ (y : Reply). is_signed (cluster_of s) y ≡ true) same (verifies _)
+
+-- ---- keys of different kinds
+
+first-same : (a b : ℕ) (xs ys : List ℕ) → (a ∷ xs) ≡ (b ∷ ys) → a ≡ b
+first-same a b xs ys h = cc
+
+rest-same : (a b : ℕ) (xs ys : List ℕ) → (a ∷ xs) ≡ (b ∷ ys) → xs ≡ ys
+rest-same a b xs ys h = cc
+
+pub secrets-apart : (kind i j : ℕ) → kind ≢ 0x22 → Separates (0x22 ∷ i ∷ []) (kind ∷ j ∷ []) → reply_secret i ≢ sha256 (kind ∷ j ∷ [])
+secrets-apart kind i j other h e = other (sym (first-same 0x22 kind (i ∷ []) (j ∷ []) (h e)))
+
+pub chains-apart : (kind i j q r k l : ℕ) → kind ≢ 0x22 → Separates (0x22 ∷ i ∷ []) (kind ∷ j ∷ [])
+    → Separates (chain_string (reply_secret i) q k) (chain_string (sha256 (kind ∷ j ∷ [])) r l)
+    → chain_start (reply_secret i) q k ≢ chain_start (sha256 (kind ∷ j ∷ [])) r l
+chains-apart kind i j q r k l other h g e =
+    let a = reply_secret i in
+    let b = sha256 (kind ∷ j ∷ []) in
+    let same = rest-same 0x10 0x10 _ _ (g e) in
+    let turned : a ++ (to_be_bytes w32 q ++ to_be_bytes w16 k) ≡ b ++ (to_be_bytes w32 r ++ to_be_bytes w16 l) =
+    sym (append_assoc a (to_be_bytes w32 q) (to_be_bytes w16 k)) ∙ same ∙ append_assoc b (to_be_bytes w32 r) (to_be_bytes w16 l) in
+    let long : length a ≡ length b = length-sha256 (0x22 ∷ i ∷ []) ∙ sym (length-sha256 (kind ∷ j ∷ [])) in
+    secrets-apart kind i j other h (ends-same a b (to_be_bytes w32 q ++ to_be_bytes w16 k) (to_be_bytes w32 r ++ to_be_bytes w16 l) long turned).0

@@ -1,0 +1,146 @@
+-- The requests of a log by number, and what the keys hold after them.
+use Rattle.std.proofs.Common.{◌≡◌, refl, sym, ap, ◌∙◌, ℕ, zero, suc, ◌+◌, ◌-◌, ◌<◌, ◌≤◌, true, false, cond, List, [], ◌∷◌, ◌++◌, length, length-append, take, get_or, Option, Some, None, arith}
+use Rattle.std.specs.Prelude.{slice_get, nat_lt}
+use Rattle.iss_base.specs.Lists.{first_of}
+use Rattle.iss_request.specs.Log.{requests, size_of}
+use Rattle.iss_request.specs.declared.requests.Request.{Request}
+use Rattle.iss_request.specs.declared.requests.Value.{Value}
+use Rattle.iss_request.specs.declared.requests.Value.TheVariants.{Nil, Batch as Value_batch}
+use Rattle.iss_reply.specs.Commands.{CommandView, command_of}
+use Rattle.iss_reply.specs.Answers.{answer_by, answer_for, held_after, last_left, left_under, or_before, requests_in, requests_of}
+use Rattle.iss_reply.specs.Replies.{slot_of}
+use Rattle.iss_reply.specs.Repliers.{number_at, request_at, request_in}
+
+-- ---- lists
+
+pub get-front : {A : Type 0} (xs ys : List A) (k : ℕ) → k < length xs → slice_get (xs ++ ys) k ≡ slice_get xs k
+get-front [] ys k h = absurd (omega arith)
+get-front (x ∷ xs) ys zero h = refl
+get-front (x ∷ xs) ys (suc k) h = let lt : k < length xs = omega arith in get-front xs ys k lt
+
+pub get-behind : {A : Type 0} (xs ys : List A) (k : ℕ) → slice_get (xs ++ ys) (length xs + k) ≡ slice_get ys k
+get-behind [] ys k = let e : 0 + k ≡ k = omega arith in ap (λ i. slice_get ys i) e
+get-behind (x ∷ xs) ys k = let e : suc (length xs) + k ≡ suc (length xs + k) = omega arith in ap (λ i. slice_get (x ∷ (xs ++ ys)) i) e ∙ get-behind xs ys k
+
+pub get-below : {A : Type 0} (xs : List A) (k : ℕ) (x : A) → slice_get xs k ≡ Some x → k < length xs
+get-below [] k x h = let clash : None ≡ Some x → ⊥ = λ e. cc in absurd (clash h)
+get-below (y ∷ xs) zero x h = omega arith
+get-below (y ∷ xs) (suc k) x h = let lt = get-below xs k x h in omega (arith, lt)
+
+pub take-more : {A : Type 0} (xs : List A) (k : ℕ) (x : A) → slice_get xs k ≡ Some x → take (suc k) xs ≡ take k xs ++ x ∷ []
+take-more [] k x h = let clash : None ≡ Some x → ⊥ = λ e. cc in absurd (clash h)
+take-more (y ∷ xs) zero x h = let e : Some y ≡ Some x → y ≡ x = λ h. cc in ap (λ z. z ∷ []) (e h)
+take-more (y ∷ xs) (suc k) x h = ap (λ zs. y ∷ zs) (take-more xs k x h)
+
+-- an element that is read is there
+pub get-read : {A : Type 0} (xs : List A) (k : ℕ) (x : A) → k < length xs → get_or xs k x ≡ x → slice_get xs k ≡ Some x
+get-read [] k x h e = absurd (omega arith)
+get-read (y ∷ xs) zero x h e = ap Some e
+get-read (y ∷ xs) (suc k) x h e = let lt : k < length xs = omega arith in get-read xs k x lt e
+
+-- ---- requests by number
+
+pub size-in : (v : Value) → size_of v ≡ length (requests_in v)
+size-in Nil = refl
+size-in (Value_batch b) = refl
+
+pub requests-length : (log : List Value) → length (requests_of log) ≡ requests log
+requests-length [] = refl
+requests-length (v ∷ log) =
+    let long = length-append (requests_in v) (requests_of log) in
+    let size = size-in v in
+    let ih = requests-length log in
+    omega (arith, long, size, ih)
+
+-- the requests of one slot more
+pub number-more : (log : List Value) (s : ℕ) (v : Value) → slice_get log s ≡ Some v → requests (take (suc s) log) ≡ requests (take s log) + size_of v
+number-more [] s v h = let clash : None ≡ Some v → ⊥ = λ e. cc in absurd (clash h)
+number-more (x ∷ log) zero v h =
+    let e : Some x ≡ Some v → x ≡ v = λ h. cc in
+    let same = ap size_of (e h) in
+    omega (arith, same)
+number-more (x ∷ log) (suc s) v h = let ih = number-more log s v h in omega (arith, ih)
+
+pub number-most : (log : List Value) (s : ℕ) → length log ≤ s → requests (take s log) ≡ requests log
+number-most [] zero h = refl
+number-most [] (suc s) h = refl
+number-most (x ∷ log) zero h = absurd (omega arith)
+number-most (x ∷ log) (suc s) h = let le : length log ≤ s = omega arith in ap (λ k. size_of x + k) (number-most log s le)
+
+-- the request at a place of a slot has the number of that position
+get-at : (log : List Value) (s p : ℕ) (v : Value) → slice_get log s ≡ Some v → p < size_of v → slice_get (requests_of log) (requests (take s log) + p) ≡ slice_get (requests_in v) p
+get-at [] s p v h lt = let clash : None ≡ Some v → ⊥ = λ e. cc in absurd (clash h)
+get-at (x ∷ log) zero p v h lt =
+    let e : Some x ≡ Some v → x ≡ v = λ h. cc in
+    let size = size-in v in
+    let within : p < length (requests_in v) = omega (arith, size) in
+    let front : 0 + p ≡ p = omega arith in
+    ap (λ i. slice_get (requests_in x ++ requests_of log) i) front
+    ∙ ap (λ y. slice_get (requests_in y ++ requests_of log) p) (e h) ∙ get-front (requests_in v) (requests_of log) p within
+get-at (x ∷ log) (suc s) p v h lt =
+    let size = size-in x in
+    let e : (size_of x + requests (take s log)) + p ≡ length (requests_in x) + (requests (take s log) + p) = omega (arith, size) in
+    ap (λ i. slice_get (requests_in x ++ requests_of log) i) e
+    ∙ get-behind (requests_in x) (requests_of log) (requests (take s log) + p) ∙ get-at log s p v h lt
+
+slot-at : (log : List Value) (s p : ℕ) (v : Value) → slice_get log s ≡ Some v → p < size_of v → slot_of log (requests (take s log) + p) ≡ s
+slot-at [] s p v h lt = let clash : None ≡ Some v → ⊥ = λ e. cc in absurd (clash h)
+slot-at (x ∷ log) zero p v h lt =
+    let e : Some x ≡ Some v → x ≡ v = λ h. cc in
+    let same = ap size_of (e h) in
+    let below : nat_lt (0 + p) (size_of x) ≡ true = grind (arith, same, lt) in
+    ap (λ b. cond b 0 (suc (slot_of log ((0 + p) - size_of x)))) below
+slot-at (x ∷ log) (suc s) p v h lt =
+    let above : nat_lt ((size_of x + requests (take s log)) + p) (size_of x) ≡ false = grind arith in
+    let e : ((size_of x + requests (take s log)) + p) - size_of x ≡ requests (take s log) + p = omega arith in
+    ap (λ b. cond b 0 (suc (slot_of log (((size_of x + requests (take s log)) + p) - size_of x)))) above
+    ∙ ap (λ i. suc (slot_of log i)) e ∙ ap suc (slot-at log s p v h lt)
+
+-- what a position says of its number: the request, and its slot
+pub record IsThere (log : List Value) (s q : ℕ) (r : Request) : Type 0 where
+  pub request : slice_get (requests_of log) q ≡ Some r
+  pub slot : slot_of log q ≡ s
+
+pub is-there : (log : List Value) (s p q : ℕ) (r : Request) → request_at log s p ≡ Some r → number_at log s p ≡ q → IsThere log s q r
+is-there log s p q r h e = go (slice_get log s) refl h
+  where
+    go : (o : Option Value) → slice_get log s ≡ o → request_in o p ≡ Some r → IsThere log s q r
+    go None at k = let clash : None ≡ Some r → ⊥ = λ e. cc in absurd (clash k)
+    go (Some v) at k =
+        let size = size-in v in
+        let within = get-below (requests_in v) p r k in
+        let lt : p < size_of v = omega (arith, size, within) in
+        record {
+          request = ap (λ i. slice_get (requests_of log) i) (sym e) ∙ get-at log s p v at lt ∙ k;
+          slot = ap (λ i. slot_of log i) (sym e) ∙ slot-at log s p v at lt;
+        }
+
+-- ---- what a key holds
+
+first-none : {A : Type 0} (o : Option A) → first_of o None ≡ o
+first-none None = refl
+first-none (Some x) = refl
+
+first-assoc : {A : Type 0} (a b c : Option A) → first_of (first_of a b) c ≡ first_of a (first_of b c)
+first-assoc None b c = refl
+first-assoc (Some x) b c = refl
+
+last-more : (key : List ℕ) (rs : List Request) (r : Request) → last_left key (rs ++ r ∷ []) ≡ first_of (left_under key (command_of r.payload)) (last_left key rs)
+last-more key [] r = sym (first-none (left_under key (command_of r.payload)))
+last-more key (x ∷ rs) r =
+    ap (λ o. first_of o (left_under key (command_of x.payload))) (last-more key rs r)
+    ∙ first-assoc (left_under key (command_of r.payload)) (last_left key rs) (left_under key (command_of x.payload))
+
+before-first : (a b : Option (Option (List ℕ))) → or_before None (first_of a b) ≡ or_before (or_before None b) a
+before-first None b = refl
+before-first (Some x) b = refl
+
+-- what a key holds after one request more
+pub held-more : (key : List ℕ) (rs : List Request) (r : Request) → held_after (rs ++ r ∷ []) key ≡ or_before (held_after rs key) (left_under key (command_of r.payload))
+held-more key rs r =
+    ap (λ o. or_before None o) (last-more key rs r) ∙ before-first (left_under key (command_of r.payload)) (last_left key rs)
+
+-- an answer depends only on what the keys hold
+pub answer-same : (f g : List ℕ → Option (List ℕ)) → ((key : List ℕ) → f key ≡ g key) → (o : Option CommandView) → answer_by f o ≡ answer_by g o
+answer-same f g h None = refl
+answer-same f g h (Some c) = ap answer_for (h c.key)

@@ -1,0 +1,35 @@
+//! Theorems about replies, each as a call without a body.
+ghost use Rattle.std.specs.Prelude.{◌≡◌, ◌≢◌, ◌^◌, ◌<◌, ◌≤◌, ◌++◌, ◌∷◌, [], ℕ, List, Some, true};
+ghost use Rattle.iss_keys.specs.Chains.{chain_start};
+ghost use Rattle.iss_request.specs.declared.requests.Value.{Value};
+ghost use Rattle.iss_request.specs.declared.setups.Setup.{Setup};
+ghost use Rattle.iss_reply.specs.declared.replies.Reply.{Reply};
+ghost use Rattle.iss_reply.specs.Clients.{IsReplyOf, cluster_of, is_signed};
+ghost use Rattle.iss_reply.specs.Replies.{Separates, chain_string, replying, reply_at, reply_secret};
+ghost use Rattle.iss_reply.specs.Repliers.{Answered, ReplierState};
+ghost use Rattle.sha2.specs.Sha256.{sha256};
+
+/// What a replier answered of a log it answered of each longer one.
+pub fn repliers_follow_the_log()
+    ensures { (r : ReplierState) (log more : List Value) → Answered r log → Answered r (log ++ more) }
+{}
+
+/// A replier's replies are those that a client may believe: each is its node's reply to a request of the log, and is
+/// signed.
+pub fn replies_are_their_nodes()
+    ensures own { (s : Setup) (me q : ℕ) (log : List Value) (r : Reply) → reply_at (replying s me) log q ≡ Some r →
+        IsReplyOf s log r }
+    ensures signed { (s : Setup) (me q : ℕ) (log : List Value) (r : Reply) → me < s.n → s.keys ≤ 12 →
+        q < 2 ^ s.keys → reply_at (replying s me) log q ≡ Some r → is_signed (cluster_of s) r ≡ true }
+{}
+
+/// A reply key has no secret and no start of a chain in common with a key of another kind, whose secret is hashed
+/// behind another byte, unless SHA-256 collides.
+// rule: Replies: A node's reply key has a secret of its own, made behind a byte that no other key uses
+pub fn reply_keys_are_apart()
+    ensures secrets { (kind i j : ℕ) → kind ≢ 0x22 → Separates (0x22 ∷ i ∷ []) (kind ∷ j ∷ []) →
+        reply_secret i ≢ sha256 (kind ∷ j ∷ []) }
+    ensures chains { (kind i j q r k l : ℕ) → kind ≢ 0x22 → Separates (0x22 ∷ i ∷ []) (kind ∷ j ∷ []) →
+        Separates (chain_string (reply_secret i) q k) (chain_string (sha256 (kind ∷ j ∷ [])) r l) →
+        chain_start (reply_secret i) q k ≢ chain_start (sha256 (kind ∷ j ∷ [])) r l }
+{}
