@@ -1,0 +1,6 @@
+mod FrameLemmas
+mod MapLemmas
+mod PartLemmas
+mod RunLemmas
+mod SentLemmas
+mod JoinedLemmas

@@ -1,0 +1,6 @@
+//! Tests of links: over memory, with scripted failures, and over UDP sockets of this machine. They are a crate of their
+//! own, since a crate that has tests is proved twice.
+#![tactic(auto)]
+
+#[cfg(test)]
+mod tests;
