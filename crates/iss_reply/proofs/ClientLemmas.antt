@@ -12,6 +12,7 @@ use Rattle.iss_base.specs.Lists.{In}
 use Rattle.iss_base.specs.Quorum.{all_below, distinct, mem}
 use Rattle.iss_base.proofs.Lists.{and-true, both, in_append, is-eq, or-cases, or-false, neither, or-assoc, same-test, some-injective}
 use Rattle.iss_base.proofs.Quorum.{count-distinct, count-less, count-some}
+use Rattle.iss_reply.proofs.RequestLemmas.{get-below}
 use Rattle.iss_keys.proofs.DirectoryLemmas.{verified-by}
 use Rattle.iss_keys.proofs.ListedLemmas.{length-listed}
 use Rattle.iss_keys.specs.Directories.{VerifiesBy, public_keys_of}
@@ -235,17 +236,12 @@ who-stated id (r ∷ earlier) b = go (λ i. who-stated id earlier b i) (same_id 
 
 -- ---- a signed reply is of a node below n
 
-get-within : {A : Type 0} (xs : List A) (k : ℕ) (x : A) → slice_get xs k ≡ Some x → k < length xs
-get-within [] k x h = let clash : None ≡ Some x → ⊥ = λ e. cc in absurd (clash h)
-get-within (y ∷ xs) zero x h = omega arith
-get-within (y ∷ xs) (suc k) x h = let lt = get-within xs k x h in omega (arith, lt)
-
 within : (keys : List PublicKeyView) (i : ℕ) (s sig : List ℕ) → VerifiesBy keys i s sig → i < length keys
 within keys i s sig = go (slice_get keys i) refl
   where
     go : (o : Option PublicKeyView) → slice_get keys i ≡ o → IsSomeAnd o (λ key. Verifies key.root key.height s sig) → i < length keys
     go None q h = absurd h
-    go (Some key) q h = get-within keys i key q
+    go (Some key) q h = get-below keys i key q
 
 signed-within : (s : Setup) (r : Reply) → is_signed (cluster_of s) r ≡ true → r.by.0 < s.n
 signed-within s r h =

@@ -2,6 +2,7 @@
 use Rattle.std.proofs.Common.{◌≡◌, refl, sym, ap, ◌∙◌, ℕ, zero, suc, ◌+◌, ◌-◌, ◌<◌, ◌≤◌, true, false, cond, List, [], ◌∷◌, ◌++◌, length, length-append, take, get_or, Option, Some, None, arith}
 use Rattle.std.specs.Prelude.{slice_get, nat_lt}
 use Rattle.iss_base.specs.Lists.{first_of}
+use Rattle.iss_base.proofs.Lists.{first_of-none}
 use Rattle.iss_request.specs.Log.{requests, size_of}
 use Rattle.iss_request.specs.declared.requests.Request.{Request}
 use Rattle.iss_request.specs.declared.requests.Value.{Value}
@@ -117,16 +118,12 @@ is-there log s p q r h e = go (slice_get log s) refl h
 
 -- ---- what a key holds
 
-first-none : {A : Type 0} (o : Option A) → first_of o None ≡ o
-first-none None = refl
-first-none (Some x) = refl
-
 first-assoc : {A : Type 0} (a b c : Option A) → first_of (first_of a b) c ≡ first_of a (first_of b c)
 first-assoc None b c = refl
 first-assoc (Some x) b c = refl
 
 last-more : (key : List ℕ) (rs : List Request) (r : Request) → last_left key (rs ++ r ∷ []) ≡ first_of (left_under key (command_of r.payload)) (last_left key rs)
-last-more key [] r = sym (first-none (left_under key (command_of r.payload)))
+last-more key [] r = sym (first_of-none (left_under key (command_of r.payload)))
 last-more key (x ∷ rs) r =
     ap (λ o. first_of o (left_under key (command_of x.payload))) (last-more key rs r)
     ∙ first-assoc (left_under key (command_of r.payload)) (last_left key rs) (left_under key (command_of x.payload))

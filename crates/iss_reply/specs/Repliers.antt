@@ -20,7 +20,7 @@ pub record ReplierState : Type 0 where
   pub place : ℕ
   pub store : List (List ℕ × List ℕ)
 
--- a position in a log: so many requests come before it
+-- the number of requests before a position in a log
 abbrev pub number_at : List Value → ℕ → ℕ → ℕ
 number_at log slot place = requests (take slot log) + place
 
