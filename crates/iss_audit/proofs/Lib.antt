@@ -1,0 +1,3 @@
+pub mod EpochLemmas
+pub mod LineLemmas
+pub mod ReadLemmas
