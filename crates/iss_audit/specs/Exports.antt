@@ -4,15 +4,18 @@
 use Rattle.std.specs.Prelude.{◌≡◌, ℕ, ◌≤◌, true, List, [], ◌∷◌, ◌++◌, length, map, codes}
 use Rattle.std.specs.List.{AllByRecursion}
 use Rattle.hex.specs.Hex.{IsBytes}
-use Rattle.iss_keys.specs.Directories.{DirectoryView, directory_of}
+use Rattle.iss_base.specs.Lists.{In}
+use Rattle.iss_keys.specs.Directories.{DirectoryView, VerifiesBy, directory_of}
 use Rattle.iss_log.specs.Chains.{end_of}
 use Rattle.iss_log.specs.declared.chains.End.{End}
 use Rattle.iss_request.specs.Fields.{Good}
 use Rattle.iss_request.specs.Formats.{parse_value, spell_value}
 use Rattle.iss_request.specs.declared.requests.Value.{Value}
 use Rattle.iss_request.specs.declared.setups.Setup.{Setup}
+use Rattle.iss_sb.specs.Evidence.{is_correct}
+use Rattle.iss_sb.specs.declared.signers.Signed.{Signed}
 use Rattle.iss_checkpoint.specs.Certificates.{parse_cert, spell_cert}
-use Rattle.iss_checkpoint.specs.Votes.{Voters, is_cert, voters_of}
+use Rattle.iss_checkpoint.specs.Votes.{HaveSigned, Voters, is_cert, vote_statement, voters_of}
 use Rattle.iss_checkpoint.specs.declared.votes.Cert.{Cert}
 use Rattle.iss_schedule.specs.Schedules.{IsKnown, header_lines, most_bytes, most_events}
 use Rattle.iss_schedule.specs.Words.{ended, word_of}
@@ -33,7 +36,8 @@ abbrev pub slots_of : Setup → ℕ → List Value → ℕ
 slots_of s e log = s.epoch
 
 -- each epoch has the property, given the epochs before it; `before` are those before the first one
-abbrev pub EachEpoch : (List CertifiedEpoch → CertifiedEpoch → Type 0) → List CertifiedEpoch → List CertifiedEpoch → Type 0
+abbrev pub EachEpoch : (List CertifiedEpoch → CertifiedEpoch → Type 0) → List CertifiedEpoch → List CertifiedEpoch →
+    Type 0
 EachEpoch P before [] = Unit {0}
 EachEpoch P before (x ∷ xs) = P before x × EachEpoch P (before ++ x ∷ []) xs
 
@@ -111,3 +115,20 @@ keys_of s = directory_of s.n s.clients s.keys
 pub record IsCertifiedText (bytes : List ℕ) (x : Export) : Type 0 where
   pub export : IsExport bytes x
   pub certified : EachEpoch (IsCertified x.setup (voters_of x.setup (keys_of x.setup))) [] x.epochs
+
+-- what a vote signs at the end of the epoch after these
+abbrev pub statement_after : Setup → List CertifiedEpoch → CertifiedEpoch → List ℕ
+statement_after s before x =
+    let end = end_of s.version (log_of before ++ x.values) in
+    vote_statement s.tag (length before) end.chain end.requests
+
+-- Exactly a quorum of different nodes validly signed, for the epoch after these, the chain digest and the number of
+-- requests of the log with its values. One of them is correct.
+pub record IsSignedByQuorum (s : Setup) (d : DirectoryView) (before : List CertifiedEpoch) (x : CertifiedEpoch)
+    : Type 0 where
+  pub quorum : length x.cert.signers ≡ s.quorum
+  pub signed : HaveSigned (voters_of s d) (statement_after s before x) 0 x.cert.signers
+  pub signer : Signed
+  pub among : In signer x.cert.signers
+  pub correct : is_correct s signer.by.0 ≡ true
+  pub said : VerifiesBy d.nodes signer.by.0 (statement_after s before x) signer.sig

@@ -114,7 +114,8 @@ IsEpochFault s w before x BadCert = is_cert w x.cert ≡ false
 IsEpochFault s w before x WrongChain = (is_cert w x.cert ≡ true)
     × (stated_in x.cert ≢ end_of s.version (log_of before ++ x.values))
 
-pub record IsFirstUncertified (s : Setup) (w : Voters) (epochs : List CertifiedEpoch) (e : ℕ) (why : EpochFault) : Type 0 where
+pub record IsFirstUncertified (s : Setup) (w : Voters) (epochs : List CertifiedEpoch) (e : ℕ) (why : EpochFault)
+    : Type 0 where
   pub before : List CertifiedEpoch
   pub epoch : CertifiedEpoch
   pub after : List CertifiedEpoch

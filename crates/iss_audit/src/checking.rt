@@ -94,8 +94,8 @@ fn check_epoch(
 ///
 /// # Errors
 ///
-/// `BadEpoch` for the first epoch that is not certified, with the first reason. `NoMemory` if out of memory, also if the
-/// requests pass 2^64 - 1.
+/// `BadEpoch` for the first epoch that is not certified, with the first reason. `NoMemory` if out of memory, also if
+/// the requests pass 2^64 - 1.
 // rule: Audit: A log is certified if each epoch's certificate is valid and states the chain and count so far
 pub fn check_epochs(
     alloc: Global,

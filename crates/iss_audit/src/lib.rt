@@ -7,6 +7,7 @@ pub mod auditing;
 pub mod checking;
 pub mod errors;
 pub mod exports;
+pub mod laws;
 mod lines;
 mod reading;
 
@@ -14,3 +15,4 @@ pub use auditing::check_text;
 pub use checking::check_epochs;
 pub use errors::{AuditError, EpochFault};
 pub use exports::{CertifiedEpoch, Export};
+pub use laws::{quorums_signed_each_epoch, texts_and_exports};
