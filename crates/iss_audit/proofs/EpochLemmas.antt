@@ -1,5 +1,5 @@
 -- Epochs one after the other, and the end of the log that they make.
-use Rattle.std.proofs.Common.{◌≡◌, ℕ, zero, suc, ◌+◌, ◌<◌, List, [], ◌∷◌, ◌++◌, length, take, drop, append_assoc, refl, sym, true, ap, ◌∙◌, subst, arith, get_or}
+use Rattle.std.proofs.Common.{◌≡◌, ℕ, zero, suc, ◌+◌, ◌<◌, List, [], ◌∷◌, ◌++◌, length, take, drop, append_assoc, append-nil, refl, sym, true, ap, ◌∙◌, subst, arith, get_or}
 use Rattle.iss_log.specs.Chains.{end_from, end_of, next_end}
 use Rattle.iss_log.specs.declared.chains.End.{End}
 use Rattle.iss_log.proofs.ChainLemmas.{end-append, end-from}
@@ -26,11 +26,7 @@ end-next version start end next a b v he hn hb = hn ∙ ap (λ (x : End). next_e
 -- ---- each epoch, given those before it
 
 pub each-push : (P : List CertifiedEpoch → CertifiedEpoch → Type 0) (before xs : List CertifiedEpoch) (x : CertifiedEpoch) → EachEpoch P before xs → P (before ++ xs) x → EachEpoch P before (xs ++ x ∷ [])
-each-push P before [] x each is = (subst (λ (b : List CertifiedEpoch). P b x) (nothing before) is, tt)
-  where
-    nothing : (b : List CertifiedEpoch) → b ++ [] ≡ b
-    nothing [] = refl
-    nothing (y ∷ ys) = ap (λ (zs : List CertifiedEpoch). y ∷ zs) (nothing ys)
+each-push P before [] x each is = (subst (λ (b : List CertifiedEpoch). P b x) (append-nil before) is, tt)
 each-push P before (y ∷ xs) x each is =
     (each.0, each-push P (before ++ y ∷ []) xs x each.1 (subst (λ (b : List CertifiedEpoch). P b x) (sym (append_assoc before (y ∷ []) xs)) is))
 
@@ -38,11 +34,7 @@ pub each-at : (P : List CertifiedEpoch → CertifiedEpoch → Type 0) (before xs
 each-at P before [] i x d each lt is = absurd (omega (arith, lt))
 each-at P before (y ∷ xs) zero x d each lt is =
     let same : x ≡ y = is in
-    subst (λ (z : CertifiedEpoch). P (before ++ []) z) (sym same) (subst (λ (b : List CertifiedEpoch). P b y) (sym (nothing before)) each.0)
-  where
-    nothing : (b : List CertifiedEpoch) → b ++ [] ≡ b
-    nothing [] = refl
-    nothing (z ∷ zs) = ap (λ (ys : List CertifiedEpoch). z ∷ ys) (nothing zs)
+    subst (λ (z : CertifiedEpoch). P (before ++ []) z) (sym same) (subst (λ (b : List CertifiedEpoch). P b y) (sym (append-nil before)) each.0)
 each-at P before (y ∷ xs) (suc k) x d each lt is =
     let within : k < length xs = omega (arith, lt) in
     subst (λ (b : List CertifiedEpoch). P b x) (append_assoc before (y ∷ []) (take k xs)) (each-at P (before ++ y ∷ []) xs k x d each.1 within is)
@@ -54,16 +46,8 @@ each-weaker P Q more before (x ∷ xs) each = (more before x each.0, each-weaker
 -- ---- the log of epochs
 
 pub log-push : (xs : List CertifiedEpoch) (x : CertifiedEpoch) → log_of (xs ++ x ∷ []) ≡ log_of xs ++ x.values
-log-push [] x = nothing x.values
-  where
-    nothing : (vs : List Value) → vs ++ [] ≡ vs
-    nothing [] = refl
-    nothing (v ∷ vs) = ap (λ (ws : List Value). v ∷ ws) (nothing vs)
+log-push [] x = append-nil x.values
 log-push (y ∷ xs) x = ap (λ (vs : List Value). y.values ++ vs) (log-push xs x) ∙ sym (append_assoc y.values (log_of xs) x.values)
-
-pub length-push : (xs : List CertifiedEpoch) (x : CertifiedEpoch) → length (xs ++ x ∷ []) ≡ suc (length xs)
-length-push [] x = refl
-length-push (y ∷ xs) x = let one = length-push xs x in omega (arith, one)
 
 -- ---- one epoch after another is checked
 

@@ -1,6 +1,6 @@
 -- A line encodes at most one value or certificate, and what was decoded from it.
 use Rattle.std.specs.Prelude.{IfSome, IfNone}
-use Rattle.std.proofs.Common.{◌≡◌, ◌≢◌, ℕ, List, [], ◌∷◌, ◌++◌, Option, Some, None, refl, sym, ap, ◌∙◌, subst}
+use Rattle.std.proofs.Common.{append-nil, ◌≡◌, ◌≢◌, ℕ, List, [], ◌∷◌, ◌++◌, Option, Some, None, refl, sym, ap, ◌∙◌, subst}
 use Rattle.std.proofs.lemmas.List.{append_cancel_left}
 use Rattle.hex.specs.Hex.{IsBytes}
 use Rattle.iss_request.specs.Fields.{Parsed, Good, Bad}
@@ -10,10 +10,6 @@ use Rattle.iss_schedule.specs.Reads.{Reads}
 use Rattle.iss_schedule.specs.Words.{word_of}
 use Rattle.iss_schedule.proofs.Encoding.HexIsInjective.{word_injective}
 use Rattle.iss_audit.specs.Exports.{hex_line}
-
-nothing : (xs : List ℕ) → xs ++ [] ≡ xs
-nothing [] = refl
-nothing (x ∷ xs) = ap (λ (ys : List ℕ). x ∷ ys) (nothing xs)
 
 -- the words of two equal lines with one name are equal
 pub same-word : (name x y : List ℕ) → name ++ 32 ∷ x ≡ name ++ 32 ∷ y → x ≡ y
@@ -31,9 +27,6 @@ none-of {A} P o is h = subst (λ (p : Option A). IfNone p P) is h
 pub read-some : {A : Type 0} (spell : A → List ℕ) (Is : A → Type 0) (text : List ℕ) (o : Option A) (a : A) → o ≡ Some a → Reads spell Is text o → (text ≡ spell a) × Is a
 read-some {A} spell Is text o a is h = subst (λ (p : Option A). Reads spell Is text p) is h
 
-pub read-none : {A : Type 0} (spell : A → List ℕ) (Is : A → Type 0) (text : List ℕ) (o : Option A) → o ≡ None → Reads spell Is text o → (a : A) → Is a → text ≢ spell a
-read-none {A} spell Is text o is h = subst (λ (p : Option A). Reads spell Is text p) is h
-
 -- what is read of a line with these bytes
 pub found-bytes : (name line bytes : List ℕ) (o : Option (List ℕ)) → o ≡ Some bytes → Reads (hex_line name) IsBytes line o → (line ≡ hex_line name bytes) × IsBytes bytes
 found-bytes name line bytes o is reads = go (subst (λ (p : Option (List ℕ)). Reads (hex_line name) IsBytes line p) is reads)
@@ -47,7 +40,7 @@ Encodes spell parse a = IsBytes (spell a) × (parse (spell a) ≡ Good a [])
 
 pub line-is : {A : Type 0} (spell : A → List ℕ) (parse : List ℕ → Parsed A) (name line bytes : List ℕ) (a : A) → line ≡ hex_line name bytes → IsBytes bytes → parse bytes ≡ Good a [] → bytes ≡ spell a ++ [] → (line ≡ hex_line name (spell a)) × Encodes spell parse a
 line-is spell parse name line bytes a is fits read only =
-    let same : bytes ≡ spell a = only ∙ nothing (spell a) in
+    let same : bytes ≡ spell a = only ∙ append-nil (spell a) in
     (is ∙ ap (hex_line name) same, (subst IsBytes same fits, ap parse (sym same) ∙ read))
 
 at-end : {A : Type 0} (a : A) → at_end a [] ≡ Good a []

@@ -1,5 +1,5 @@
 -- A text with a bad line is the text of no export.
-use Rattle.std.proofs.Common.{◌≡◌, ◌≢◌, inl, inr, ◌⊎◌, ℕ, zero, suc, ◌+◌, ◌<◌, ◌≤◌, List, [], ◌∷◌, ◌++◌, codes, length, map, append_assoc, length-append, refl, sym, ap, ap₂, ◌∙◌, subst, arith}
+use Rattle.std.proofs.Common.{◌≡◌, ◌≢◌, inl, inr, ◌⊎◌, ℕ, zero, suc, ◌+◌, ◌<◌, ◌≤◌, List, [], ◌∷◌, ◌++◌, codes, length, map, append_assoc, append-nil, length-append, refl, sym, ap, ap₂, ◌∙◌, subst, arith}
 use Rattle.std.specs.List.{AllByRecursion}
 use Rattle.iss_base.proofs.Lists.{ends-same}
 use Rattle.iss_request.specs.declared.requests.Value.{Value}
@@ -20,7 +20,7 @@ use Rattle.iss_audit.specs.Exports.{EachEpoch, IsExport, IsValue, IsWhole, body_
 use Rattle.iss_audit.specs.Refusals.{IsBadAfter, IsBadAfterHeader, IsBadBehind, IsBadInside, IsBadNext, IsBadText, MayFollow, begun_lines}
 use Rattle.iss_audit.specs.declared.exports.CertifiedEpoch.{CertifiedEpoch}
 use Rattle.iss_audit.specs.declared.exports.Export.{Export}
-use Rattle.iss_audit.proofs.OneExport.{first-is, head-is, length-lines, nothing, rest-is, same-thing, same-values, whole-append, whole-body, whole-epochs, whole-header, whole-values}
+use Rattle.iss_audit.proofs.OneExport.{first-is, head-is, length-lines, rest-is, same-thing, same-values, whole-append, whole-body, whole-epochs, whole-header, whole-values}
 
 -- ---- no line of an epoch is the last line
 
@@ -97,9 +97,9 @@ follows : (s : Setup) (start before : List CertifiedEpoch) (values : List Value)
 follows s start [] [] [] m ms h few k e = inl (refl, sym (first-is _ _ _ _ e))
 follows s start [] (v ∷ vs) [] m ms h few k e = absurd (omega (arith, head-is _ _ _ _ (first-is _ _ _ _ e)))
 follows s start [] values (x ∷ xs) m ms h few k e =
-    subst (λ (b : List CertifiedEpoch). MayFollow s b values m) (sym (nothing start))
+    subst (λ (b : List CertifiedEpoch). MayFollow s b values m) (sym (append-nil start))
     (inside s start values x xs m ms k.0 (sym (epoch-parts s.version x xs) ∙ e)
-    (let low : length values ≤ slots_of s (length start) (log_of start) = subst (λ (b : List CertifiedEpoch). length values ≤ slots_of s (length b) (log_of b)) (nothing start) few in
+    (let low : length values ≤ slots_of s (length start) (log_of start) = subst (λ (b : List CertifiedEpoch). length values ≤ slots_of s (length b) (log_of b)) (append-nil start) few in
     choose (length values) (length x.values) (omega (arith, low, k.0.slots))))
 follows s start (b ∷ before) values [] m ms h few k e = absurd (
     not-first s.version b.values b.cert (begun_lines s.version before values ++ m ∷ ms) (e ∙ begun-parts s.version b before values (m ∷ ms))
@@ -140,7 +140,7 @@ first-whole (a ∷ ls) m ms h = first-whole ls m ms h.1
 
 bad-inside : (s : Setup) (xs : List CertifiedEpoch) (line : ℕ) (why : LineFault) → EachEpoch (IsWhole s) [] xs → length (body_lines s.version xs) ≤ most_events → IsBadInside s (ended (body_lines s.version xs)) line why → ⊥
 bad-inside s xs line why each few bad =
-    go (meets (begun_lines s.version bad.before bad.values) (body_lines s.version xs) bad.rest [] whole (whole-body s xs each) (sym bad.text ∙ sym (nothing (ended (body_lines s.version xs)))))
+    go (meets (begun_lines s.version bad.before bad.values) (body_lines s.version xs) bad.rest [] whole (whole-body s xs each) (sym bad.text ∙ sym (append-nil (ended (body_lines s.version xs)))))
   where
     whole : AreWhole (begun_lines s.version bad.before bad.values)
     whole = whole-append (epoch_lines s.version bad.before) (map (value_line s.version) bad.values) (whole-epochs s [] bad.before bad.begun.whole) (whole-values s.version bad.values bad.begun.valid)
@@ -165,7 +165,7 @@ bad-behind rest Range is h = h
 
 bad-after : (s : Setup) (xs : List CertifiedEpoch) (line : ℕ) (why : LineFault) → EachEpoch (IsWhole s) [] xs → IsBadAfter s (ended (body_lines s.version xs)) line why → ⊥
 bad-after s xs line why each bad =
-    go (meets (body_lines s.version bad.epochs) (body_lines s.version xs) bad.rest [] (whole-body s bad.epochs bad.whole) (whole-body s xs each) (sym bad.text ∙ sym (nothing (ended (body_lines s.version xs)))))
+    go (meets (body_lines s.version bad.epochs) (body_lines s.version xs) bad.rest [] (whole-body s bad.epochs bad.whole) (whole-body s xs each) (sym bad.text ∙ sym (append-nil (ended (body_lines s.version xs)))))
   where
     go : Meets (body_lines s.version bad.epochs) (body_lines s.version xs) bad.rest [] → ⊥
     go (Same e f) = bad-behind bad.rest why f bad.bad
@@ -233,7 +233,7 @@ first-bad bytes x line why is low bad =
           },
         ))
         (record {
-          text = ap ended (sym (nothing (header_lines x.setup)));
+          text = ap ended (sym (append-nil (header_lines x.setup)));
           fine = record { setup = is.setup; events = tt; few = omega arith };
           short = short;
         })

@@ -1,5 +1,5 @@
 -- A text is that of at most one export.
-use Rattle.std.proofs.Common.{◌≡◌, ℕ, suc, List, [], ◌∷◌, ◌++◌, codes, length, map, take, drop, append_assoc, refl, sym, ap, ap₂, ◌∙◌, subst, arith}
+use Rattle.std.proofs.Common.{◌≡◌, ℕ, suc, List, [], ◌∷◌, ◌++◌, codes, length, map, take, drop, append_assoc, append-nil, refl, sym, ap, ap₂, ◌∙◌, subst, arith}
 use Rattle.std.specs.List.{AllByRecursion}
 use Rattle.iss_base.proofs.Lists.{ends-same}
 use Rattle.iss_request.specs.Fields.{Parsed, Good}
@@ -23,10 +23,6 @@ use Rattle.iss_audit.proofs.LineLemmas.{Encodes, same-bytes}
 
 -- ---- no line feed in a line
 
-pub nothing : {A : Type 0} (xs : List A) → xs ++ [] ≡ xs
-nothing [] = refl
-nothing {A} (x ∷ xs) = ap (λ (ys : List A). x ∷ ys) (nothing xs)
-
 pub whole-append : (xs ys : List (List ℕ)) → AreWhole xs → AreWhole ys → AreWhole (xs ++ ys)
 whole-append [] ys h k = k
 whole-append (x ∷ xs) ys h k = (h.0, whole-append xs ys h.1 k)
@@ -45,7 +41,7 @@ whole-epochs s before (x ∷ xs) each =
     (whole-hex (codes "cert") (spell_cert x.cert) (lacks_by_test 10 (codes "cert") refl) each.0.cert.0, whole-epochs s (before ++ x ∷ []) xs each.1)
 
 pub whole-header : (s : Setup) → IsKnown s → AreWhole (header_lines s)
-whole-header s known = subst AreWhole (nothing (header_lines s)) (whole_lines (record { setup = s; events = [] }) (record { setup = known; events = tt; few = omega arith }))
+whole-header s known = subst AreWhole (append-nil (header_lines s)) (whole_lines (record { setup = s; events = [] }) (record { setup = known; events = tt; few = omega arith }))
 
 pub export-lines : Export → List (List ℕ)
 export-lines x = header_lines x.setup ++ body_lines x.setup.version x.epochs
@@ -120,7 +116,7 @@ same-lines xs ys (Right m ms e f) = absurd (nonempty m (ended ms ++ []) (sym (f 
 
 text-lines : (bytes : List ℕ) (x : Export) → IsExport bytes x → bytes ≡ ended (export-lines x) ++ []
 unfolding export-lines
-text-lines bytes x is = is.text ∙ sym (ended-append (header_lines x.setup) (body_lines x.setup.version x.epochs)) ∙ sym (nothing (ended (header_lines x.setup ++ body_lines x.setup.version x.epochs)))
+text-lines bytes x is = is.text ∙ sym (ended-append (header_lines x.setup) (body_lines x.setup.version x.epochs)) ∙ sym (append-nil (ended (header_lines x.setup ++ body_lines x.setup.version x.epochs)))
 
 pub one-export : (bytes : List ℕ) (x y : Export) → IsExport bytes x → IsExport bytes y → x ≡ y
 unfolding export-lines

@@ -1,21 +1,18 @@
 -- Where the reader of an export is, line by line, and why it refuses one.
-use Rattle.std.proofs.Common.{◌≡◌, ◌≢◌, inl, inr, ℕ, ◌+◌, ◌<◌, ◌≤◌, List, [], ◌∷◌, ◌++◌, length, map, append_assoc, length-append, refl, sym, ap, ◌∙◌, subst, arith}
+use Rattle.std.proofs.Common.{◌≡◌, inl, inr, ℕ, ◌+◌, ◌<◌, ◌≤◌, List, [], ◌∷◌, ◌++◌, length, map, append_assoc, append-nil, length-append, refl, sym, ap, ◌∙◌, subst, arith}
 use Rattle.std.specs.List.{AllByRecursion}
 use Rattle.iss_request.specs.declared.requests.Value.{Value}
 use Rattle.iss_request.specs.declared.setups.Setup.{Setup}
 use Rattle.iss_checkpoint.specs.Certificates.{spell_cert}
-use Rattle.iss_checkpoint.specs.declared.votes.Cert.{Cert}
-use Rattle.iss_schedule.specs.BadLines.{IsInHeader, IsRefused as IsScheduleRefused}
 use Rattle.iss_schedule.specs.Places.{GoesPast, Place}
-use Rattle.iss_schedule.specs.Schedules.{IsKnown, header_lines, most_bytes, most_events}
+use Rattle.iss_schedule.specs.Schedules.{most_events}
 use Rattle.iss_schedule.specs.Words.{ended}
 use Rattle.iss_schedule.specs.declared.errors.LineFault.{LineFault}
-use Rattle.iss_schedule.specs.declared.errors.LineFault.TheVariants.{Form}
 use Rattle.iss_schedule.specs.declared.errors.ReadError.{ReadError}
 use Rattle.iss_schedule.specs.declared.errors.ReadError.TheVariants.{BadLine, NoMemory}
 use Rattle.iss_schedule.proofs.BadLines.PrefixesAreRead.{past}
 use Rattle.iss_audit.specs.Exports.{EachEpoch, IsCertOf, IsValue, IsWhole, body_lines, cert_line, epoch_lines, last_line, log_of, slots_of, value_line}
-use Rattle.iss_audit.specs.Refusals.{IsBadNext, IsBegun, IsBehindRefused, IsBodyRefused, IsNextRefused, IsNoNext, IsReadRefused, MayFollow, begun_lines}
+use Rattle.iss_audit.specs.Refusals.{IsBadNext, IsBegun, IsBodyRefused, IsNextRefused, IsNoNext, MayFollow, begun_lines}
 use Rattle.iss_audit.specs.declared.exports.CertifiedEpoch.{CertifiedEpoch}
 use Rattle.iss_checkpoint.proofs.CertGrammar.{cert-related}
 use Rattle.iss_audit.proofs.EpochLemmas.{each-push, each-weaker}
@@ -27,19 +24,7 @@ pub record IsAt (s : Setup) (all : List ℕ) (before : List CertifiedEpoch) (val
   pub read : place.read ≡ 11 + length (begun_lines s.version before values)
   pub few : length (begun_lines s.version before values) ≤ most_events
 
-pub at-start : (s : Setup) (place : Place) → place.read ≡ 11 → IsAt s place.rest [] [] place
-at-start s place is = record {
-  text = refl;
-  begun = record { whole = tt; valid = tt; few = omega arith };
-  read = is;
-  few = omega arith;
-}
-
 -- ---- lines
-
-nothing : {A : Type 0} (xs : List A) → xs ++ [] ≡ xs
-nothing [] = refl
-nothing {A} (x ∷ xs) = ap (λ (ys : List A). x ∷ ys) (nothing xs)
 
 pub no-length : {A : Type 0} (xs : List A) → length xs ≡ 0 → xs ≡ []
 no-length [] h = refl
@@ -63,7 +48,7 @@ epochs-push version (y ∷ before) x =
     ∙ sym (append_assoc (map (value_line version) y.values ++ cert_line y.cert ∷ epoch_lines version before) (map (value_line version) x.values) (cert_line x.cert ∷ []))
 
 cert-lines : (version : ℕ) (before : List CertifiedEpoch) (x : CertifiedEpoch) → begun_lines version (before ++ x ∷ []) [] ≡ begun_lines version before x.values ++ cert_line x.cert ∷ []
-cert-lines version before x = nothing (epoch_lines version (before ++ x ∷ [])) ∙ epochs-push version before x
+cert-lines version before x = append-nil (epoch_lines version (before ++ x ∷ [])) ∙ epochs-push version before x
 
 one-more : (lines : List (List ℕ)) (line : List ℕ) → length (lines ++ line ∷ []) ≡ length lines + 1
 one-more lines line = length-append lines (line ∷ [])
@@ -125,7 +110,7 @@ pub record IsClosed (s : Setup) (all : List ℕ) (epochs : List CertifiedEpoch) 
 
 pub at-end : (s : Setup) (all : List ℕ) (before : List CertifiedEpoch) (values : List Value) (line : List ℕ) (old later : Place) → IsAt s all before values old → values ≡ [] → line ≡ last_line → GoesPast line old later → later.read ≡ old.read + 1 → old.read < 11 + most_events → IsClosed s all before later
 at-end s all before values line old later at empty is goes read few =
-    let same : begun_lines s.version before values ≡ epoch_lines s.version before = ap (begun_lines s.version before) empty ∙ nothing (epoch_lines s.version before) in
+    let same : begun_lines s.version before values ≡ epoch_lines s.version before = ap (begun_lines s.version before) empty ∙ append-nil (epoch_lines s.version before) in
     let lines : body_lines s.version before ≡ begun_lines s.version before values ++ line ∷ [] =
     ap (λ (ls : List (List ℕ)). ls ++ last_line ∷ []) (sym same) ∙ ap (λ (l : List ℕ). begun_lines s.version before values ++ l ∷ []) (sym is) in
     let count : length (body_lines s.version before) ≡ length (begun_lines s.version before values) + 1 = ap length lines ∙ one-more (begun_lines s.version before values) line in
@@ -153,53 +138,6 @@ no-next s all before values place (BadLine line why) at h = inl (record {
   bad = next-bad (length (begun_lines s.version before values)) (MayFollow s before values) place.rest why (h.1 (length (begun_lines s.version before values)) at.read);
 })
 no-next s all before values place NoMemory at h = tt
-
--- the line may not stand there
-pub not-there : (s : Setup) (all : List ℕ) (before : List CertifiedEpoch) (values : List Value) (line : List ℕ) (old later : Place) (e : ReadError) → IsAt s all before values old → GoesPast line old later → later.read ≡ old.read + 1 → old.read < 11 + most_events → e ≡ BadLine later.read Form → ¬ MayFollow s before values line → IsBodyRefused s all e
-not-there s all before values line old later e at goes read few is not = subst (IsBodyRefused s all) (sym is) (inl (record {
-  before = before;
-  values = values;
-  rest = old.rest;
-  text = at.text;
-  begun = at.begun;
-  number = omega (arith, read, at.read);
-  bad = (omega (arith, few, at.read), (line, (record { more = later.rest; text = goes.text; whole = goes.whole }, not)));
-}))
-
-pub no-value : (s : Setup) (before : List CertifiedEpoch) (values : List Value) (line : List ℕ) → (values ≡ [] → line ≡ last_line → ⊥) → length values < slots_of s (length before) (log_of before) → ((v : Value) → IsValue s.version v → line ≢ value_line s.version v) → ¬ MayFollow s before values line
-no-value s before values line closes room none (inl h) = closes h.0 h.1
-no-value s before values line closes room none (inr (inl h)) = none h.1.0 h.1.1.0 h.1.1.1
-no-value s before values line closes room none (inr (inr h)) = omega (arith, room, h.0)
-
-pub no-cert : (s : Setup) (before : List CertifiedEpoch) (values : List Value) (line : List ℕ) → (values ≡ [] → line ≡ last_line → ⊥) → (length values < slots_of s (length before) (log_of before) → ⊥) → ((c : Cert) → IsCertOf (length before) c → line ≢ cert_line c) → ¬ MayFollow s before values line
-no-cert s before values line closes full none (inl h) = closes h.0 h.1
-no-cert s before values line closes full none (inr (inl h)) = full h.0
-no-cert s before values line closes full none (inr (inr h)) = none h.1.0 h.1.1.0 h.1.1.1
-
-pub behind-refused : (s : Setup) (all : List ℕ) (epochs : List CertifiedEpoch) (place : Place) (e : ReadError) → IsClosed s all epochs place → IsBehindRefused place e → IsBodyRefused s all e
-behind-refused s all epochs place (BadLine line why) closed h = inr (record {
-  epochs = epochs;
-  rest = place.rest;
-  text = closed.text;
-  whole = closed.whole;
-  few = closed.few;
-  number = omega (arith, h.0, closed.count);
-  bad = h.1;
-})
-behind-refused s all epochs place NoMemory closed h = tt
-
--- ---- the whole text
-
-pub header-refused : (bytes : List ℕ) (e : ReadError) → IsScheduleRefused bytes e → IsInHeader e → IsReadRefused bytes e
-header-refused bytes (BadLine line why) h low = inl (low, h)
-header-refused bytes NoMemory h low = tt
-
-pub body-refused : (s : Setup) (bytes body : List ℕ) (e : ReadError) → IsKnown s → bytes ≡ ended (header_lines s) ++ body → length bytes ≤ most_bytes → IsBodyRefused s body e → IsReadRefused bytes e
-body-refused s bytes body (BadLine line why) known text short h = inr (record { setup = s; body = body; known = known; text = text; short = short; bad = h })
-body-refused s bytes body NoMemory known text short h = tt
-
-pub whole-text : (text lines rest : List ℕ) → text ≡ lines ++ rest → rest ≡ [] → text ≡ lines
-whole-text text lines rest is none = is ∙ ap (λ (r : List ℕ). lines ++ r) none ∙ nothing lines
 
 -- the certificate of each whole epoch is of its number
 pub numbered : (s : Setup) (xs read : List CertifiedEpoch) → EachEpoch (IsWhole s) [] xs → read ≡ xs → EachEpoch (λ (b : List CertifiedEpoch) (x : CertifiedEpoch). x.cert.epoch.0 ≡ length b) [] read

@@ -1,5 +1,5 @@
 -- What a certified log says of its signers, and why it has no epoch that is not certified.
-use Rattle.std.proofs.Common.{◌≡◌, true, false, ℕ, List, [], ◌∷◌, ◌++◌, length, append_assoc, refl, sym, ap, ◌∙◌, subst}
+use Rattle.std.proofs.Common.{◌≡◌, true, false, ℕ, List, [], ◌∷◌, ◌++◌, length, append_assoc, append-nil, sym, ap, ◌∙◌, subst}
 use Rattle.iss_keys.specs.Directories.{DirectoryView, VerifiesBy}
 use Rattle.iss_log.specs.Chains.{end_of}
 use Rattle.iss_log.specs.declared.chains.End.{End}
@@ -41,11 +41,7 @@ each-signed bytes x is =
     each-weaker (IsCertified x.setup (voters_of x.setup (keys_of x.setup))) (IsSignedByQuorum x.setup (keys_of x.setup)) (quorum-signed x.setup (keys_of x.setup) is.export.setup.good) [] x.epochs is.certified
 
 each-split : (P : List CertifiedEpoch → CertifiedEpoch → Type 0) (start before : List CertifiedEpoch) (x : CertifiedEpoch) (after : List CertifiedEpoch) → EachEpoch P start (before ++ x ∷ after) → P (start ++ before) x
-each-split P start [] x after each = subst (λ (b : List CertifiedEpoch). P b x) (sym (nothing start)) each.0
-  where
-    nothing : (xs : List CertifiedEpoch) → xs ++ [] ≡ xs
-    nothing [] = refl
-    nothing (y ∷ ys) = ap (λ (zs : List CertifiedEpoch). y ∷ zs) (nothing ys)
+each-split P start [] x after each = subst (λ (b : List CertifiedEpoch). P b x) (sym (append-nil start)) each.0
 each-split P start (y ∷ before) x after each =
     subst (λ (b : List CertifiedEpoch). P b x) (append_assoc start (y ∷ []) before) (each-split P (start ++ y ∷ []) before x after each.1)
 
