@@ -76,3 +76,8 @@ IsRefused bytes NoMemory = Unit {0}
 abbrev pub IsNoText : List ℕ → ReadError → Type 0
 IsNoText bytes (BadLine line why) = (s : Schedule) → ¬ IsSchedule bytes s
 IsNoText bytes NoMemory = Unit {0}
+
+-- the refusal is for a line of the header
+abbrev pub IsInHeader : ReadError → Type 0
+IsInHeader (BadLine line why) = line ≤ 11
+IsInHeader NoMemory = Unit {0}

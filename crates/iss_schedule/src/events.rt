@@ -44,8 +44,8 @@ fn packet_in(words: &mut Words) -> Option<u64>
     if words.is_done() { Some(number) } else { None }
 }
 
-// The same bytes, with the proof that each is below 256.
-fn bytes_from(all: Vec<u8>) -> Bytes
+/// The same bytes, with the proof that each is below 256.
+pub fn bytes_from(all: Vec<u8>) -> Bytes
     ensures same { result ≡ all.items }
     ensures bytes { IsBytes result }
 {

@@ -10,7 +10,7 @@ use crate::errors::LineFault;
 use crate::lines::Lines;
 use crate::modules::{Module, module_at, place_of};
 use crate::names::is_same;
-use crate::words::{cut_at, is_number, number_within};
+use crate::words::{behind, is_number, number_within};
 use iss_request::setups::{Kind, Nodes, Policy, Setup};
 use iss_request::versions::FIRST;
 use sha2::{Digest, Sha256};
@@ -134,22 +134,6 @@ fn policy(lines: &mut Lines) -> Result<u32, LineFault>
     }
 }
 
-// What follows the name and a space in the line.
-fn behind<'a>(line: &'a [u8], name: &[u8]) -> Option<&'a [u8]>
-    requires { Lacks 32 name.now }
-    ensures some { IfSome result (λ word. line.now ≡ name.now ++ 32 ∷ word.now) }
-    ensures none { IfNone result ((word : List ℕ) → line.now ≢ name.now ++ 32 ∷ word) }
-{
-    let Some((first, rest)) = cut_at(line, b' ') else {
-        return None;
-    };
-    if is_same(first, name) {
-        Some(rest)
-    } else {
-        None
-    }
-}
-
 // Consumes a line that must be this name and a number that is at least `low` and below `end`.
 fn number(lines: &mut Lines, name: &[u8], low: u32, end: u32) -> Result<u32, LineFault>
     requires few { lines.old.read < 11 }
@@ -199,6 +183,7 @@ fn read_field(lines: &mut Lines, above: &[u32]) -> Result<u32, LineFault>
 pub fn read_header(lines: &mut Lines) -> Result<[u32; 10], LineFault>
     requires { lines.old.read ≡ 0 }
     ensures read { OnOk result (lines.new.read ≡ 10) }
+    ensures few { lines.new.read ≤ 10 }
     ensures size { IfOk result (λ values. length values ≡ 10) }
     ensures ok { IfOk result (λ values. lines.old.rest ≡ ended (lines_of header_fields values) ++ lines.new.rest) }
     ensures range { IfOk result (AreValues header_fields []) }

@@ -16,6 +16,9 @@ mod words;
 mod writing;
 
 pub use errors::{LineFault, ReadError};
-pub use reading::{MOST_BYTES, MOST_EVENTS, read};
+pub use events::bytes_from;
+pub use lines::Lines;
+pub use reading::{MOST_BYTES, MOST_EVENTS, read, read_setup};
 pub use schedules::{Event, Schedule};
+pub use words::{behind, bytes_of};
 pub use writing::write;

@@ -1,7 +1,7 @@
 //! Reading a schedule's text.
 ghost use Rattle.std.specs.Prelude.{◌≡◌, ◌↔◌, ◌≤◌, ◌<◌, ◌+◌, ◌-◌, ◌^◌, ◌++◌, [], ℕ, List, IsTrue, IfOk, IfErr, OnOk, length, map};
 ghost use Rattle.iss_request.specs.Setup.{IsGoodSetup};
-ghost use Rattle.iss_schedule.specs.BadLines.{IsRefused, IsNoText};
+ghost use Rattle.iss_schedule.specs.BadLines.{IsInHeader, IsRefused, IsNoText};
 ghost use Rattle.iss_schedule.specs.Events.{spell_event, IsInRange, AreInRange};
 ghost use Rattle.iss_schedule.specs.Places.{GoesPast, IsEventRefused, IsEventsRefused};
 ghost use Rattle.iss_schedule.specs.Schedules.{IsSchedule, IsKnown, header_lines, most_bytes, most_events};
@@ -80,14 +80,20 @@ fn front<'a>(text: &'a [u8], rest: &[u8]) -> &'a [u8]
     &text[..text.len() - rest.len()]
 }
 
-// The set-up in the header of these bytes.
-fn read_setup(alloc: Global, bytes: &[u8], lines: &mut Lines) -> Result<Setup, ReadError>
+/// Reads the header at the front of a text, and returns its set-up. `lines` must be at the start of the text, and is at
+/// the line after the header afterwards.
+///
+/// # Errors
+///
+/// `BadLine` if the text has no header: the first bad line, which is at most 11. `NoMemory` if out of memory.
+pub fn read_setup(alloc: Global, bytes: &[u8], lines: &mut Lines) -> Result<Setup, ReadError>
     requires all { lines.old ≡ record { rest = bytes.now; read = 0 } }
     requires short { length bytes.now ≤ most_bytes }
     ensures known { IfOk result IsKnown }
     ensures text { IfOk result (λ s. bytes.now ≡ ended (header_lines s) ++ lines.new.rest) }
     ensures read { OnOk result (lines.new.read ≡ 11) }
     ensures bad { IfErr result (IsRefused bytes.now) }
+    ensures header { IfErr result IsInHeader }
 {
     let values = match read_header(lines) {
         Ok(values) => values,

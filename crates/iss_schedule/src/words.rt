@@ -26,6 +26,22 @@ pub fn cut_at(text: &[u8], byte: u8) -> Option<(&[u8], &[u8])>
     None
 }
 
+/// What follows the name and a space in the line.
+pub fn behind<'a>(line: &'a [u8], name: &[u8]) -> Option<&'a [u8]>
+    requires { Lacks 32 name.now }
+    ensures some { IfSome result (λ word. line.now ≡ name.now ++ 32 ∷ word.now) }
+    ensures none { IfNone result ((word : List ℕ) → line.now ≢ name.now ++ 32 ∷ word) }
+{
+    let Some((first, rest)) = cut_at(line, b' ') else {
+        return None;
+    };
+    if is_same(first, name) {
+        Some(rest)
+    } else {
+        None
+    }
+}
+
 /// The words of a line that are still to be read.
 #[derive(Drop)]
 pub struct Words<'a> {

@@ -1,5 +1,5 @@
 -- What tests of numbers and fault models decide.
-use Rattle.std.proofs.Common.{◌≡◌, ℕ, ◌≤◌, Bool, true, false, eqb, leb, refl, arith}
+use Rattle.std.proofs.Common.{◌≡◌, ℕ, ◌≤◌, true, false, eqb, leb, arith}
 
 pub is_small : (n : ℕ) → leb n 3 ≡ true → n ≤ 3
 is_small n t = grind (arith)

@@ -1,6 +1,6 @@
 use Rattle.std.proofs.lemmas.Bool.{iff_false}
 use Rattle.iss_schedule.proofs.Encoding.SplitsAreUnique.{uncut, behind_same}
-use Rattle.iss_schedule.proofs.header.behind.Goals as goal
+use Rattle.iss_schedule.proofs.words.behind.Goals as goal
 
 pub returns-in_default-clause-none : goal.returns-in_default-clause-none
 returns-in_default-clause-none c = λ word e. uncut 32 c.args.line.now c.args.name.now word c.in_default.ensures.none e

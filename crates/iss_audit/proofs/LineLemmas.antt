@@ -1,0 +1,59 @@
+-- A line encodes at most one value or certificate, and what was decoded from it.
+use Rattle.std.specs.Prelude.{IfSome, IfNone}
+use Rattle.std.proofs.Common.{append-nil, ◌≡◌, ◌≢◌, ℕ, List, [], ◌∷◌, ◌++◌, Option, Some, None, refl, sym, ap, ◌∙◌, subst}
+use Rattle.std.proofs.lemmas.List.{append_cancel_left}
+use Rattle.hex.specs.Hex.{IsBytes}
+use Rattle.iss_request.specs.Fields.{Parsed, Good, Bad}
+use Rattle.iss_request.specs.Parsing.{Parser, all_of, at_end}
+use Rattle.iss_request.proofs.ParserLemmas.{then_good}
+use Rattle.iss_schedule.specs.Reads.{Reads}
+use Rattle.iss_schedule.specs.Words.{word_of}
+use Rattle.iss_schedule.proofs.Encoding.HexIsInjective.{word_injective}
+use Rattle.iss_audit.specs.Exports.{hex_line}
+
+-- the words of two equal lines with one name are equal
+pub same-word : (name x y : List ℕ) → name ++ 32 ∷ x ≡ name ++ 32 ∷ y → x ≡ y
+same-word name x y e = let both = append_cancel_left name (32 ∷ x) (32 ∷ y) e in cc
+
+pub same-bytes : (name xs ys : List ℕ) → IsBytes xs → IsBytes ys → hex_line name xs ≡ hex_line name ys → xs ≡ ys
+same-bytes name xs ys fits fit e = word_injective xs ys fits fit (same-word name (word_of xs) (word_of ys) e)
+
+pub some-of : {A : Type 0} (P : A → Type 0) (o : Option A) (a : A) → o ≡ Some a → IfSome o P → P a
+some-of {A} P o a is h = subst (λ (p : Option A). IfSome p P) is h
+
+pub none-of : {A : Type 0} (P : Type 0) (o : Option A) → o ≡ None → IfNone o P → P
+none-of {A} P o is h = subst (λ (p : Option A). IfNone p P) is h
+
+pub read-some : {A : Type 0} (spell : A → List ℕ) (Is : A → Type 0) (text : List ℕ) (o : Option A) (a : A) → o ≡ Some a → Reads spell Is text o → (text ≡ spell a) × Is a
+read-some {A} spell Is text o a is h = subst (λ (p : Option A). Reads spell Is text p) is h
+
+-- what is read of a line with these bytes
+pub found-bytes : (name line bytes : List ℕ) (o : Option (List ℕ)) → o ≡ Some bytes → Reads (hex_line name) IsBytes line o → (line ≡ hex_line name bytes) × IsBytes bytes
+found-bytes name line bytes o is reads = go (subst (λ (p : Option (List ℕ)). Reads (hex_line name) IsBytes line p) is reads)
+  where
+    go : Reads (hex_line name) IsBytes line (Some bytes) → (line ≡ hex_line name bytes) × IsBytes bytes
+    go h = h
+
+-- the thing has an encoding
+abbrev pub Encodes : {A : Type 0} → (A → List ℕ) → (List ℕ → Parsed A) → A → Type 0
+Encodes spell parse a = IsBytes (spell a) × (parse (spell a) ≡ Good a [])
+
+pub line-is : {A : Type 0} (spell : A → List ℕ) (parse : List ℕ → Parsed A) (name line bytes : List ℕ) (a : A) → line ≡ hex_line name bytes → IsBytes bytes → parse bytes ≡ Good a [] → bytes ≡ spell a ++ [] → (line ≡ hex_line name (spell a)) × Encodes spell parse a
+line-is spell parse name line bytes a is fits read only =
+    let same : bytes ≡ spell a = only ∙ append-nil (spell a) in
+    (is ∙ ap (hex_line name) same, (subst IsBytes same fits, ap parse (sym same) ∙ read))
+
+at-end : {A : Type 0} (a : A) → at_end a [] ≡ Good a []
+unfolding at_end
+at-end a = refl
+
+whole-good : {A : Type 0} (parse : Parser A) (bytes : List ℕ) (a : A) → parse bytes ≡ Good a [] → all_of parse bytes ≡ Good a []
+unfolding all_of
+whole-good parse bytes a h = then_good parse at_end bytes [] [] a a h (at-end a)
+
+pub line-not : {A : Type 0} (spell : A → List ℕ) (parse : Parser A) (name line bytes : List ℕ) (at : ℕ) → line ≡ hex_line name bytes → IsBytes bytes → all_of parse bytes ≡ Bad at → (a : A) → Encodes spell parse a → line ≢ hex_line name (spell a)
+line-not spell parse name line bytes at is fits bad a encodes e =
+    let same : bytes ≡ spell a = same-bytes name bytes (spell a) fits encodes.0 (sym is ∙ e) in
+    let good : all_of parse bytes ≡ Good a [] = whole-good parse bytes a (ap parse same ∙ encodes.1) in
+    let both : Bad at ≡ Good a [] = sym bad ∙ good in
+    cc
