@@ -88,7 +88,7 @@ fn take_all(digests: Digests) -> u8 {
 
 /// The digests of a tree of this height.
 pub fn digests_of_tree(height: u8) -> Digests
-    requires { height ≤ 12 }
+    requires { height ≤ 20 }
     ensures { result.leaf ≡ 2 ^ height }
 {
     let leaves = 1u32 << height;

@@ -1,6 +1,7 @@
 //! Directories of keys: the cost of making one, and of verifying with one owner or several.
 
 ghost use Rattle.std.specs.Prelude.{◌<◌, ◌≤◌};
+ghost use Rattle.iss_base.specs.Heights.{IsHeight};
 
 use crate::times::print_times;
 use bench_digests::digests::{
@@ -23,8 +24,7 @@ const SIGNATURES: u32 = 200;
 fn directory_of(alloc: Global, nodes: u32, clients: u32, height: u8) -> Timed<Directory>
     requires nodes { nodes ≤ 256 }
     requires clients { clients ≤ 256 }
-    requires low { 2 ≤ height }
-    requires high { height ≤ 12 }
+    requires height { IsHeight height }
 {
     Ok(Directory::make(alloc, nodes, clients, height)?)
 }
@@ -33,8 +33,7 @@ fn directory_of(alloc: Global, nodes: u32, clients: u32, height: u8) -> Timed<Di
 fn shared_directory(alloc: Global, nodes: u32, clients: u32, height: u8) -> Timed<SharedDirectory>
     requires nodes { nodes ≤ 256 }
     requires clients { clients ≤ 256 }
-    requires low { 2 ≤ height }
-    requires high { height ≤ 12 }
+    requires height { IsHeight height }
 {
     Ok(SharedDirectory::make(alloc, nodes, clients, height)?)
 }
@@ -131,8 +130,7 @@ fn many_signatures(keys: &mut Keys, alloc: Global) -> Timed<Vec<Vec<u8>>> {
 fn time_making(rt: &HostRuntime, nodes: u32, clients: u32, height: u8) -> Timed<Directory>
     requires nodes { nodes ≤ 256 }
     requires clients { clients ≤ 256 }
-    requires low { 2 ≤ height }
-    requires high { height ≤ 12 }
+    requires height { IsHeight height }
 {
     let start = Instant::now(rt)?;
     let directory = directory_of(rt.alloc(), nodes, clients, height)?;
@@ -155,8 +153,7 @@ fn time_asking(rt: &HostRuntime, directory: &Directory, keys: &mut Keys, height:
 pub(crate) fn time_directory(rt: &HostRuntime, nodes: u32, clients: u32, height: u8) -> Timed<()>
     requires nodes { nodes ≤ 256 }
     requires clients { clients ≤ 256 }
-    requires low { 2 ≤ height }
-    requires high { height ≤ 12 }
+    requires height { IsHeight height }
 {
     let directory = time_making(rt, nodes, clients, height)?;
     let mut keys = client_key(rt.alloc(), CLIENT, height)?;
@@ -186,8 +183,7 @@ pub(crate) fn sign_for_ten(alloc: Global, nodes: u32, clients: u32, height: u8) 
     requires nodes { nodes ≤ 256 }
     requires few { 7 < clients }
     requires clients { clients ≤ 256 }
-    requires low { 2 ≤ height }
-    requires high { height ≤ 12 }
+    requires height { IsHeight height }
 {
     let shared = SharedDirectory::make(alloc, nodes, clients, height)?;
     let mut keys = shared.directory().keys_of_client(alloc, CLIENT);
@@ -201,8 +197,7 @@ fn time_whole(rt: &HostRuntime, nodes: u32, clients: u32, height: u8) -> Timed<u
     requires nodes { nodes ≤ 256 }
     requires few { 7 < clients }
     requires clients { clients ≤ 256 }
-    requires low { 2 ≤ height }
-    requires high { height ≤ 12 }
+    requires height { IsHeight height }
 {
     let start = Instant::now(rt)?;
     let verified = sign_for_ten(rt.alloc(), nodes, clients, height)?;
@@ -212,8 +207,7 @@ fn time_whole(rt: &HostRuntime, nodes: u32, clients: u32, height: u8) -> Timed<u
 
 // The time to compute the one tree that it needs.
 fn time_tree_alone(rt: &HostRuntime, height: u8) -> Timed<u64>
-    requires low { 2 ≤ height }
-    requires high { height ≤ 12 }
+    requires height { IsHeight height }
 {
     let start = Instant::now(rt)?;
     let keys = client_key(rt.alloc(), CLIENT, height)?;
@@ -226,8 +220,7 @@ pub(crate) fn time_one_tree(rt: &HostRuntime, nodes: u32, clients: u32, height: 
     requires nodes { nodes ≤ 256 }
     requires few { 7 < clients }
     requires clients { clients ≤ 256 }
-    requires low { 2 ≤ height }
-    requires high { height ≤ 12 }
+    requires height { IsHeight height }
 {
     let mut whole = u64::MAX;
     let mut tree = u64::MAX;
@@ -267,8 +260,7 @@ fn time_by_turns(rt: &HostRuntime, owners: &[SharedDirectory], keys: &mut Keys) 
 pub(crate) fn time_ten_checks(rt: &HostRuntime, nodes: u32, clients: u32, height: u8) -> Timed<()>
     requires nodes { nodes ≤ 256 }
     requires clients { clients ≤ 256 }
-    requires low { 2 ≤ height }
-    requires high { height ≤ 12 }
+    requires height { IsHeight height }
 {
     let shared = shared_directory(rt.alloc(), nodes, clients, height)?;
     let owners = owners_of(rt.alloc(), &shared, nodes)?;

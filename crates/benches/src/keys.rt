@@ -2,8 +2,10 @@
 //! secret the tactics would evaluate the keys. So these are parameters, and come from functions without contracts.
 
 ghost use Rattle.std.specs.Prelude.{◌≤◌};
+ghost use Rattle.iss_base.specs.Heights.{IsHeight};
 
 use crate::directories::{sign_for_ten, time_directory, time_one_tree, time_ten_checks};
+use crate::tall_keys;
 use crate::times::print_times;
 use bench_digests::digests::{
     Digests, NONE_YET, STATEMENT, digests_of_signatures, digests_of_tree, digests_of_verifications,
@@ -16,12 +18,12 @@ use std::time::Instant;
 
 type Timed<T> = Result<T, Fail>;
 
-fn public_of(keys: &Keys) -> PublicKey {
+pub(crate) fn public_of(keys: &Keys) -> PublicKey {
     keys.public()
 }
 
 // Signs this many times, and adds up the first bytes and the leaves' numbers.
-fn signatures(keys: &mut Keys, count: u32) -> Timed<u32> {
+pub(crate) fn signatures(keys: &mut Keys, count: u32) -> Timed<u32> {
     let mut bytes = 0u32;
     for _i in 0..count {
         let signature = signature_by(keys)?;
@@ -42,8 +44,7 @@ fn verifications(key: &PublicKey, signature: &[u8], count: u32) -> u32 {
 
 // The time to compute a tree.
 fn tree_once(rt: &HostRuntime, height: u8) -> Timed<u64>
-    requires low { 2 ≤ height }
-    requires high { height ≤ 12 }
+    requires height { IsHeight height }
 {
     let start = Instant::now(rt)?;
     let keys = key(rt.alloc(), [7; 32], height)?;
@@ -52,8 +53,7 @@ fn tree_once(rt: &HostRuntime, height: u8) -> Timed<u64>
 }
 
 fn time_tree(rt: &HostRuntime, height: u8, rounds: u32) -> Timed<()>
-    requires low { 2 ≤ height }
-    requires high { height ≤ 12 }
+    requires height { IsHeight height }
 {
     let mut best = NONE_YET;
     for _round in 0..rounds {
@@ -77,7 +77,12 @@ fn time_signing(rt: &HostRuntime, count: u32, rounds: u32) -> Timed<()> {
 }
 
 // The time of this many verifications; the maximal time if one fails.
-fn verify_once(rt: &HostRuntime, public: &PublicKey, signature: &[u8], count: u32) -> Timed<u64> {
+pub(crate) fn verify_once(
+    rt: &HostRuntime,
+    public: &PublicKey,
+    signature: &[u8],
+    count: u32,
+) -> Timed<u64> {
     let start = Instant::now(rt)?;
     let verified = verifications(public, signature, count);
     let nanos = nanos_since(rt, start)?;
@@ -124,6 +129,7 @@ pub(crate) fn time_all(rt: &HostRuntime) -> Timed<()> {
     time_trees(rt)?;
     time_signing(rt, 5, 200)?;
     time_verifying(rt, 5, 200)?;
+    tall_keys::time_all(rt, 20)?;
     time_directory(rt, 4, 256, 12)?;
     time_ten_checks(rt, 10, 256, 8)?;
     time_one_tree(rt, 10, 256, 12)

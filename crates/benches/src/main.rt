@@ -8,6 +8,7 @@ mod journal;
 mod keys;
 mod network;
 mod schedule;
+mod tall_keys;
 mod times;
 
 use std::env;

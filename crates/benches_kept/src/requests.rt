@@ -1,6 +1,7 @@
 //! The requests of clients, in packets. The helpers have no contracts: for a literal request the tactics would evaluate
 //! its bytes.
 ghost use Rattle.std.specs.Prelude.{◌≤◌};
+ghost use Rattle.iss_base.specs.Heights.{IsHeight};
 
 use crate::setups::{CLIENTS, HEIGHT};
 use bench_digests::signers::client_key;
@@ -66,8 +67,7 @@ fn put_client(
 }
 
 fn put_all(alloc: Global, height: u8, each: u32, all: &mut Vec<Bytes>) -> Result<(), Fail>
-    requires low { 2 ≤ height }
-    requires high { height ≤ 12 }
+    requires height { IsHeight height }
 {
     for client in 0..CLIENTS {
         let mut keys = client_key(alloc, client, height)?;

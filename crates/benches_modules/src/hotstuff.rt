@@ -1,5 +1,6 @@
 //! Nodes of HotStuff with their keys, and the messages between them: a segment of slots, and a view change after it.
 ghost use Rattle.std.specs.Prelude.{◌≡◌, ◌≤◌, ◌<◌, ◌+◌, ◌*◌, ◌^◌, IfOk, length};
+ghost use Rattle.iss_base.specs.Heights.{IsHeight};
 ghost use Rattle.iss_keys.specs.Directories.{directory_of};
 ghost use Rattle.iss_request.specs.Setup.{IsGoodSetup};
 ghost use Rattle.iss_request.specs.Slots.{AreAscending};
@@ -27,8 +28,7 @@ fn setup(alloc: Global, f: u32, n: u32, quorum: u32, keys: u32) -> Setup
     requires few { f ≤ 3 }
     requires nodes { n ≡ 3 * f + 1 }
     requires majority { quorum ≡ 2 * f + 1 }
-    requires low { 2 ≤ keys }
-    requires high { keys ≤ 12 }
+    requires height { IsHeight keys }
     ensures good { IsGoodSetup result }
     ensures tag { result.«module» ≡ 4 }
     ensures kind { result.kind ≡ Byzantine }
@@ -67,13 +67,12 @@ fn directory(alloc: Global, setup: &Setup) -> Result<SharedDirectory, NoMemory>
 
 fn instance(alloc: Global, setup: Setup, slots: Seq<Slot>) -> Result<Params, NoMemory>
     requires good { IsGoodSetup setup }
-    requires tag { setup.«module» ≡ 4 }
     requires kind { setup.kind ≡ Byzantine }
     requires nodes { setup.n ≡ 3 * setup.f + 1 }
     requires majority { setup.quorum ≡ 2 * setup.f + 1 }
     requires some { 1 ≤ length slots }
     requires few { length slots ≤ 64 }
-    requires rising { AreAscending 0 slots }
+    requires ascending { AreAscending 0 slots }
     requires low { AreBelow (2 ^ 64) slots }
     ensures good { IfOk result (λ p. IsGoodParams hotstuff p) }
 {
@@ -90,8 +89,7 @@ fn instance(alloc: Global, setup: Setup, slots: Seq<Slot>) -> Result<Params, NoM
 /// The instance for `f` faults, with this many slots, and keys of this height.
 pub fn segment(alloc: Global, f: u32, keys: u32, count: u64) -> Result<Params, NoMemory>
     requires faults { f ≤ 3 }
-    requires low { 2 ≤ keys }
-    requires high { keys ≤ 12 }
+    requires height { IsHeight keys }
     requires some { 1 ≤ count }
     requires few { count ≤ 64 }
     ensures good { IfOk result (λ p. IsGoodParams hotstuff p) }

@@ -2,6 +2,7 @@
 //! necessary: each signature is made once and verified once, each value is hashed once, and each node hashes each tree
 //! node once. What one node verified or hashed of a message, the others find in their shared directory.
 ghost use Rattle.std.specs.Prelude.{◌≤◌};
+ghost use Rattle.iss_base.specs.Heights.{IsHeight};
 ghost use Rattle.iss_sb.specs.Calls.{IsGoodParams};
 ghost use Rattle.sb_hotstuff.specs.HotStuff.{hotstuff};
 
@@ -175,8 +176,7 @@ fn print(rt: &HostRuntime, nodes: u32, what: Work, cost: Cost, best: Best) -> Ti
 // The best of several times, each in an instance of its own, so that nothing is cached from the one before.
 fn time_work(rt: &HostRuntime, f: u32, keys: u32, what: Work, times: u32) -> Timed<()>
     requires faults { f ≤ 3 }
-    requires low { 2 ≤ keys }
-    requires high { keys ≤ 12 }
+    requires height { IsHeight keys }
 {
     let mut best = NONE_YET;
     let mut last = NOTHING;
@@ -192,8 +192,7 @@ fn time_work(rt: &HostRuntime, f: u32, keys: u32, what: Work, times: u32) -> Tim
 // Workloads with as many nodes as tolerate `f` faults.
 fn time_works(rt: &HostRuntime, f: u32, keys: u32, times: u32) -> Timed<()>
     requires faults { f ≤ 3 }
-    requires low { 2 ≤ keys }
-    requires high { keys ≤ 12 }
+    requires height { IsHeight keys }
 {
     time_work(rt, f, keys, Work::Order(0), times)?;
     time_work(rt, f, keys, Work::Order(4), times)?;
@@ -222,8 +221,7 @@ fn count_these(rt: &HostRuntime, ordered: &Params, changed: &Params) -> Timed<()
 
 fn count_in(rt: &HostRuntime, f: u32, keys: u32, count: u64) -> Timed<()>
     requires faults { f ≤ 3 }
-    requires low { 2 ≤ keys }
-    requires high { keys ≤ 12 }
+    requires height { IsHeight keys }
     requires some { 1 ≤ count }
     requires few { count ≤ 64 }
 {

@@ -1,6 +1,7 @@
 //! Nodes of PBFT, and the messages between them as bytes: a segment in the normal case, and the view change after it.
 //! The receiver of a message decodes it, verifies all signatures in it, and makes a step.
 ghost use Rattle.std.specs.Prelude.{◌≡◌, ◌<◌, ◌≤◌, ◌^◌, IfOk, length};
+ghost use Rattle.iss_base.specs.Heights.{IsHeight};
 ghost use Rattle.iss_request.specs.Slots.{AreAscending};
 ghost use Rattle.iss_sb.specs.Calls.{AreBelow, IsGoodInput, IsGoodParams};
 ghost use Rattle.sb_pbft.specs.Pbft.{pbft};
@@ -29,11 +30,10 @@ const MOST: u32 = 100_000_000;
 // As many nodes as tolerate `f` Byzantine ones. Node 0 leads these slots.
 fn instance(alloc: Global, f: u32, height: u8, slots: Seq<Slot>) -> Result<Params, NoMemory>
     requires faults { f ≤ 3 }
-    requires low { 2 ≤ height }
-    requires high { height ≤ 12 }
+    requires height { IsHeight height }
     requires some { 1 ≤ length slots }
     requires few { length slots ≤ 64 }
-    requires rising { AreAscending 0 slots }
+    requires ascending { AreAscending 0 slots }
     requires slots_low { AreBelow (2 ^ 64) slots }
     ensures { IfOk result (λ p. IsGoodParams pbft p) }
 {
@@ -71,8 +71,7 @@ fn instance(alloc: Global, f: u32, height: u8, slots: Seq<Slot>) -> Result<Param
 /// caches no check.
 pub fn segment(alloc: Global, f: u32, height: u8, count: u64) -> Result<Params, NoMemory>
     requires faults { f ≤ 3 }
-    requires low { 2 ≤ height }
-    requires high { height ≤ 12 }
+    requires height { IsHeight height }
     requires some { 1 ≤ count }
     requires few { count ≤ 64 }
     ensures { IfOk result (λ p. IsGoodParams pbft p) }
@@ -132,8 +131,7 @@ fn check(alloc: Global, p: &Params, from: NodeId, msg: &Message) -> Timed<()>
 
 // The key of a node. Its tree is computed and its first leaf is used.
 fn key_with_tree(alloc: Global, node: u8, height: u8) -> Timed<Keys>
-    requires low { 2 ≤ height }
-    requires high { height ≤ 12 }
+    requires height { IsHeight height }
 {
     let mut key = node_key(alloc, node, height)?;
     let _first = signature_by(&mut key)?;
@@ -144,8 +142,7 @@ impl Cluster {
     /// New nodes.
     pub(crate) fn new(alloc: Global, p: &Params, height: u8) -> Timed<Cluster>
         requires good { IsGoodParams pbft p.now }
-        requires low { 2 ≤ height }
-        requires high { height ≤ 12 }
+        requires height { IsHeight height }
     {
         let mut nodes = Vec::new(alloc);
         let mut keys = Vec::new(alloc);

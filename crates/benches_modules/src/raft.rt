@@ -33,7 +33,7 @@ const MOST: u32 = 100_000_000;
 /// The slots below this number.
 pub fn slots(alloc: Global, count: u64) -> Result<Seq<Slot>, NoMemory>
     ensures length { IfOk result (λ s. length s ≡ count) }
-    ensures rising { IfOk result (λ s. AreAscending 0 s) }
+    ensures ascending { IfOk result (λ s. AreAscending 0 s) }
     ensures low { IfOk result (λ s. AreBelow (2 ^ 64) s) }
 {
     let mut slots = Seq::new(alloc);
@@ -47,7 +47,7 @@ pub fn slots(alloc: Global, count: u64) -> Result<Seq<Slot>, NoMemory>
 fn instance(alloc: Global, slots: Seq<Slot>) -> Result<Params, NoMemory>
     requires some { 1 ≤ length slots }
     requires few { length slots ≤ 64 }
-    requires rising { AreAscending 0 slots }
+    requires ascending { AreAscending 0 slots }
     requires low { AreBelow (2 ^ 64) slots }
     ensures good { IfOk result (λ p. IsGoodParams raft p) }
     ensures nodes { IfOk result (λ p. p.setup.n ≡ 7) }

@@ -11,6 +11,7 @@ use crate::digests::time_digests;
 use crate::plans::{HOTSTUFF, PBFT, Plan, with_large_batches};
 use crate::schedules::text_of;
 use iss_cli::answers::respond;
+use iss_words::Order;
 use std::alloc::Global;
 use std::env;
 use std::test::Fail;
@@ -28,7 +29,7 @@ fn lines_of(text: &[u8]) -> u32 {
 
 // Replays a schedule, and returns the number of lines of its report.
 fn replayed(alloc: Global, text: &[u8]) -> Result<u32, Fail> {
-    let answer = respond(alloc, text)?;
+    let answer = respond(alloc, Order::Replay, text)?;
     Ok(lines_of(answer.printed.as_slice()))
 }
 

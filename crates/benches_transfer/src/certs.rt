@@ -1,5 +1,6 @@
 //! Checkpoint certificates of two nodes at the end of an epoch, and the packets that carry pieces of the log.
 ghost use Rattle.std.specs.Prelude.{◌≤◌};
+ghost use Rattle.iss_base.specs.Heights.{IsHeight};
 
 use bench_digests::signers::{client_key, node_key, signature_by};
 use iss_ballots::pack_piece;
@@ -21,8 +22,7 @@ pub struct Signers {
 
 /// The signing keys, with no leaf used.
 pub(crate) fn keys_that_sign(alloc: Global, height: u8) -> Result<Signers, Fail>
-    requires low { 2 ≤ height }
-    requires high { height ≤ 12 }
+    requires height { IsHeight height }
 {
     let first = node_key(alloc, 0, height)?;
     let second = node_key(alloc, 1, height)?;
@@ -31,8 +31,7 @@ pub(crate) fn keys_that_sign(alloc: Global, height: u8) -> Result<Signers, Fail>
 
 /// A placeholder for clients' signatures, which an adopting node does not verify.
 pub(crate) fn client_signature(alloc: Global, height: u8) -> Result<Bytes, Fail>
-    requires low { 2 ≤ height }
-    requires high { height ≤ 12 }
+    requires height { IsHeight height }
 {
     let mut client = client_key(alloc, 0, height)?;
     Ok(Bytes::of(signature_by(&mut client)?))

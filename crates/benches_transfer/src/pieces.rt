@@ -86,31 +86,6 @@ fn certify(
     cert_of(alloc, signers, &statement, epoch, end)
 }
 
-// Appends the piece of one more epoch. Returns the chain digest after it.
-fn put_epoch(
-    alloc: Global,
-    directory: &Directory,
-    setup: &Setup,
-    signers: &mut Signers,
-    epoch: u64,
-    values: Seq<Value>,
-    end: End,
-    made: &mut Made,
-) -> Result<End, Fail> {
-    let end = join(
-        alloc,
-        directory,
-        setup.version,
-        end,
-        values.as_slice(),
-        &mut made.strings,
-    )?;
-    let cert = certify(alloc, setup, signers, epoch, &end, &mut made.checks)?;
-    let packet = packet_of(alloc, setup.version, epoch, values, cert)?;
-    made.packets.push(packet)?;
-    Ok(end)
-}
-
 // Appends the pieces of this many epochs, with this many requests in each batch.
 fn put_all(
     alloc: Global,
@@ -125,16 +100,18 @@ fn put_all(
     let mut end = empty_end();
     for epoch in 0..epochs {
         let values = values_of(alloc, &sig, epoch, requests)?;
-        end = put_epoch(
+        end = join(
             alloc,
             directory,
-            setup,
-            &mut signers,
-            u64::from(epoch),
-            values,
+            setup.version,
             end,
-            made,
+            values.as_slice(),
+            &mut made.strings,
         )?;
+        let epoch = u64::from(epoch);
+        let cert = certify(alloc, setup, &mut signers, epoch, &end, &mut made.checks)?;
+        let packet = packet_of(alloc, setup.version, epoch, values, cert)?;
+        made.packets.push(packet)?;
     }
     Ok(())
 }

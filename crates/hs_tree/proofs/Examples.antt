@@ -1,6 +1,7 @@
 -- Worked examples of the encodings and of a small tree.
 use Rattle.std.proofs.Common.{◌≡◌, ◌+◌, ◌*◌, ℕ, true, false, List, [], ◌∷◌, ◌++◌, Some, None, refl}
 use Rattle.std.specs.Prelude.{replicate}
+use Rattle.iss_base.specs.Heights.{digests_of_height}
 use Rattle.iss_keys.specs.Directories.{directory_of}
 use Rattle.iss_request.specs.Fields.{Good, Bad}
 use Rattle.iss_request.specs.Formats.{parse_signature, spell_batch, spell_count, spell_value}
@@ -52,6 +53,7 @@ root_spelled : spell_certificate 3 Root ≡ 0 ∷ 0 ∷ 0 ∷ 0 ∷ []
 root_spelled = refl
 
 shown_spelled : spell_certificate 3 shown ≡ 0 ∷ 1 ∷ 0 ∷ 1 ∷ 1 ∷ (d ++ (2 ∷ 0 ∷ (blank ++ (3 ∷ blank))))
+unfolding digests_of_height
 shown_spelled = refl
 
 -- a second phase, a repeated signer, descending signers, or view 0 have no encoding there
@@ -59,6 +61,7 @@ no_second_phase : spell_certificate 1 (Votes 65537 2 d []) ≡ 0 ∷ 0 ∷ 0 ∷
 no_second_phase = refl
 
 no_node_twice : spell_certificate 3 (Votes 65537 1 d (by 3 ∷ by 3 ∷ [])) ≡ 0 ∷ 0 ∷ 0 ∷ 1 ∷ 0 ∷ []
+unfolding digests_of_height
 no_node_twice = refl
 
 no_view : spell_certificate 3 (Votes 0 1 d []) ≡ 0 ∷ 0 ∷ 0 ∷ 1 ∷ 0 ∷ []
@@ -66,7 +69,7 @@ no_view = refl
 
 -- the second of two descending signers is the bad field, after the view, phase, digest, count and first vote
 falling : parse_certificate 3 (0 ∷ 1 ∷ 0 ∷ 1 ∷ 1 ∷ (d ++ (2 ∷ 3 ∷ (blank ++ (3 ∷ blank))))) ≡ Bad (38 + (1 + 2213))
-unfolding parse_certificate parse_votes ascending parse_signed parse_signature such_that byte number block digests done ◌>>=◌
+unfolding parse_certificate parse_votes ascending parse_signed parse_signature such_that byte number block digests done ◌>>=◌ digests_of_height
 falling = refl
 
 no_phase : parse_certificate 3 (0 ∷ 1 ∷ 0 ∷ 1 ∷ 4 ∷ d) ≡ Bad 4
@@ -75,53 +78,59 @@ no_phase = refl
 
 -- exactly a quorum's votes, of the given phase and view
 two_are_two : is_quorum 2 1 65537 shown ≡ true
+unfolding digests_of_height
 two_are_two = refl
 
 two_are_not_three : is_quorum 3 1 65537 shown ≡ false
+unfolding digests_of_height
 two_are_not_three = refl
 
 not_of_the_second : is_quorum 2 2 65537 shown ≡ false
+unfolding digests_of_height
 not_of_the_second = refl
 
 -- ---- Messages
 
 vote_spelled : spell 3 1 (Vote 2 258 d blank) ≡ 6 ∷ 2 ∷ 0 ∷ 0 ∷ 1 ∷ 2 ∷ (d ++ blank)
+unfolding digests_of_height
 vote_spelled = refl
 
 vote_read : parse 3 1 (6 ∷ 2 ∷ 0 ∷ 0 ∷ 1 ∷ 2 ∷ (d ++ (blank ++ (7 ∷ [])))) ≡ Good (Vote 2 258 d blank) (7 ∷ [])
-unfolding parse parse_vote parse_signature such_that byte number block digests done ◌>>=◌
+unfolding parse parse_vote parse_signature such_that byte number block digests done ◌>>=◌ digests_of_height
 vote_read = refl
 
 new_view_spelled : spell 3 1 (NewView 259 Root blank) ≡ 1 ∷ 1 ∷ 3 ∷ 0 ∷ 0 ∷ 0 ∷ 0 ∷ blank
+unfolding digests_of_height
 new_view_spelled = refl
 
 -- the empty batch in either version, and a mark
 prepare_spelled : spell 3 1 (Prepare 1 (Holds []) Root blank) ≡ 2 ∷ 0 ∷ 0 ∷ 0 ∷ 1 ∷ 1 ∷ 1 ∷ 0 ∷ 0 ∷ 0 ∷ 0 ∷ 0 ∷ blank
-unfolding spell_value spell_batch spell_count
+unfolding spell_value spell_batch spell_count digests_of_height
 prepare_spelled = refl
 
 second_spelled : spell 3 2 (Prepare 1 (Holds []) Root blank) ≡ 2 ∷ 0 ∷ 0 ∷ 0 ∷ 1 ∷ 1 ∷ 2 ∷ 0 ∷ 0 ∷ 0 ∷ 0 ∷ 0 ∷ 0 ∷ blank
-unfolding spell_value spell_batch spell_count
+unfolding spell_value spell_batch spell_count digests_of_height
 second_spelled = refl
 
 mark_read : parse 3 1 (2 ∷ 0 ∷ 0 ∷ 0 ∷ 1 ∷ 2 ∷ 0 ∷ 0 ∷ 0 ∷ 0 ∷ blank) ≡ Good (Prepare 1 Mark Root blank) []
-unfolding parse parse_prepare parse_content parse_certificate parse_votes parse_signature such_that byte number block digests done ◌>>=◌
+unfolding parse parse_prepare parse_content parse_certificate parse_votes parse_signature such_that byte number block digests done ◌>>=◌ digests_of_height
 mark_read = refl
 
 shows_spelled : (spell 3 1 (PreCommit 1 Root blank) ≡ 3 ∷ 0 ∷ 0 ∷ 0 ∷ 1 ∷ 0 ∷ 0 ∷ 0 ∷ 0 ∷ blank) × (spell 3 1 (Commit 1 Root blank) ≡ 4 ∷ 0 ∷ 0 ∷ 0 ∷ 1 ∷ 0 ∷ 0 ∷ 0 ∷ 0 ∷ blank) × (spell 3 1 (Decide 1 Root blank) ≡ 5 ∷ 0 ∷ 0 ∷ 0 ∷ 1 ∷ 0 ∷ 0 ∷ 0 ∷ 0 ∷ blank)
+unfolding digests_of_height
 shows_spelled = (refl, refl, refl)
 
 -- with one phase there are no Decide and no pre-commit votes
 no_decide : (spell 1 1 (Decide 1 Root blank) ≡ 0 ∷ []) × (parse 1 1 (5 ∷ 0 ∷ 0 ∷ 0 ∷ 1 ∷ 0 ∷ 0 ∷ 0 ∷ 0 ∷ blank) ≡ Bad 0)
-unfolding parse such_that byte ◌>>=◌
+unfolding parse such_that byte ◌>>=◌ digests_of_height
 no_decide = (refl, refl)
 
 no_second_vote : (spell 1 1 (Vote 2 258 d blank) ≡ 0 ∷ []) × (parse 1 1 (6 ∷ 2 ∷ []) ≡ Bad 1)
-unfolding parse parse_vote such_that byte ◌>>=◌
+unfolding parse parse_vote such_that byte ◌>>=◌ digests_of_height
 no_second_vote = (refl, refl)
 
 no_number : (parse 3 1 (0 ∷ blank) ≡ Bad 0) × (parse 3 1 (7 ∷ blank) ≡ Bad 0)
-unfolding parse such_that byte ◌>>=◌
+unfolding parse such_that byte ◌>>=◌ digests_of_height
 no_number = (refl, refl)
 
 -- ---- Statements and claims
@@ -153,16 +162,16 @@ abbrev head : List ℕ
 head = replicate 32 7 ++ (0 ∷ 0 ∷ 0 ∷ 0 ∷ 0 ∷ 0 ∷ 0 ∷ 2 ∷ 0 ∷ [])
 
 states_a_vote : own_statement basic p (Vote 2 258 d blank) ≡ head ++ (4 ∷ 6 ∷ 2 ∷ 0 ∷ 0 ∷ 1 ∷ 2 ∷ d)
-unfolding wide_bytes
+unfolding wide_bytes digests_of_height
 states_a_vote = refl
 
 -- chained HotStuff has its own tag
 states_chained : own_statement chained p (Vote 1 258 d blank) ≡ head ++ (5 ∷ 6 ∷ 1 ∷ 0 ∷ 0 ∷ 1 ∷ 2 ∷ d)
-unfolding wide_bytes
+unfolding wide_bytes digests_of_height
 states_chained = refl
 
 states_a_round : own_statement basic p (NewView 259 shown blank) ≡ head ++ (4 ∷ 1 ∷ 1 ∷ 3 ∷ 0 ∷ 1 ∷ 0 ∷ 1 ∷ [])
-unfolding wide_bytes
+unfolding wide_bytes digests_of_height
 states_a_round = refl
 
 -- first the votes of the certificate, each with a vote's statement; then the sender's own signature
@@ -170,6 +179,7 @@ claims_in_order : claims basic p 2 (Commit 65537 shown blank) ≡
     record { by = node 0; statement = own_statement basic p (Vote 1 65537 d blank); sig = blank } ∷
     record { by = node 3; statement = own_statement basic p (Vote 1 65537 d blank); sig = blank } ∷
     record { by = node 2; statement = own_statement basic p (Commit 65537 shown blank); sig = blank } ∷ []
+unfolding digests_of_height
 claims_in_order = refl
 
 -- ---- Nodes and branches

@@ -32,15 +32,15 @@ signers [] = []
 signers (v ∷ vs) = v.by.0 ∷ signers vs
 
 -- signers strictly ascending, from this number on
-abbrev pub is_rising : ℕ → List Signed → Bool
-is_rising from [] = true
-is_rising from (v ∷ vs) = nat_le from v.by.0 && is_rising (suc v.by.0) vs
+abbrev pub is_ascending : ℕ → List Signed → Bool
+is_ascending from [] = true
+is_ascending from (v ∷ vs) = nat_le from v.by.0 && is_ascending (suc v.by.0) vs
 
 -- a quorum certificate: exactly a quorum's votes for this phase in this view
 abbrev pub is_quorum : ℕ → ℕ → ℕ → Certificate → Bool
 is_quorum quorum phase view Root = false
 is_quorum quorum phase view (Votes w q d votes) = ((w == view) && (q == phase)) &&
-    ((length votes == quorum) && is_rising 0 votes)
+    ((length votes == quorum) && is_ascending 0 votes)
 
 -- ---- Encoding
 

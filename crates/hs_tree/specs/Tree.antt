@@ -50,8 +50,14 @@ abbrev pub plain_string : ℕ → ℕ → List ℕ → Content → List ℕ
 plain_string version view parent what = 0x41 ∷ parent ++ what_bytes version what
 
 -- the string of the chained form, in which each node has one view
+-- rule: Chained HotStuff: A node's digest covers its view
 abbrev pub viewed_string : ℕ → ℕ → List ℕ → Content → List ℕ
 viewed_string version view parent what = 0x44 ∷ four_bytes view ++ parent ++ what_bytes version what
+
+-- the string of a node that shows this view, or none
+abbrev pub string_in : ℕ → Option ℕ → List ℕ → Content → List ℕ
+string_in version None parent what = plain_string version 0 parent what
+string_in version (Some view) parent what = viewed_string version view parent what
 
 -- The differences between basic and chained HotStuff: the module's tag, the number of voting phases, and the string of
 -- a node by version, view, parent and content.

@@ -3,7 +3,7 @@ ghost use Rattle.std.specs.Prelude.{◌≡◌, ◌<◌, ◌≤◌, ℕ, List, le
 ghost use Rattle.iss_request.specs.Fields.{IsRead, IsUnreadable, and_bytes};
 ghost use Rattle.iss_request.specs.Parsing.{block, byte, such_that};
 ghost use Rattle.iss_request.specs.Formats.{is_signature};
-ghost use Rattle.hs_tree.specs.Certificates.{digest_of, fits, is_phase, is_quorum, is_rising, parse_certificate, parse_votes, spell_certificate, view_of, votes_row};
+ghost use Rattle.hs_tree.specs.Certificates.{digest_of, fits, is_phase, is_quorum, is_ascending, parse_certificate, parse_votes, spell_certificate, view_of, votes_row};
 
 use iss_request::{DecodeError, Fields, NoMemory, Seq, Writer};
 use iss_sb::{Signed, are_signers, copy_signers, put_signers, read_signers};
@@ -85,7 +85,7 @@ impl Certificate {
                 *view == in_view
                     && *phase == in_phase
                     && votes.len() == quorum as usize
-                    && are_rising(0, votes.as_slice())
+                    && are_ascending(0, votes.as_slice())
             }
         }
     }
@@ -101,15 +101,15 @@ pub fn is_phase(phases: u8, phase: u8) -> bool
 // ---- writing
 
 // Whether the signers are strictly ascending, from this number on.
-fn are_rising(from: u16, votes: &[Signed]) -> bool
+fn are_ascending(from: u16, votes: &[Signed]) -> bool
     requires { from ≤ 256 }
-    ensures { result ≡ is_rising from votes.now }
+    ensures { result ≡ is_ascending from votes.now }
 {
     match votes {
         [] => true,
         [first, others @ ..] => {
             let by = first.by.0 as u16;
-            from <= by && are_rising(by + 1, others)
+            from <= by && are_ascending(by + 1, others)
         }
     }
 }

@@ -1,10 +1,11 @@
 //! The strings that are hashed for a node, and the statements that are signed.
-ghost use Rattle.std.specs.Prelude.{◌≡◌, ℕ, ◌++◌, IfOk, OnOk};
+ghost use Rattle.std.specs.Prelude.{◌≡◌, [], ◌++◌, IfOk, OnOk};
 ghost use Rattle.iss_sb.specs.Evidence.{one_or_none};
 ghost use Rattle.iss_sb.specs.Statements.{claim, four_bytes, two_bytes};
-ghost use Rattle.hs_tree.specs.Hashed.{IsHashed};
+ghost use Rattle.iss_request.specs.Fields.{and_bytes};
+ghost use Rattle.hs_tree.specs.Hashed.{IsHashed, start_of};
 ghost use Rattle.hs_tree.specs.Statements.{certificate_claims, statement, vote_claims, vote_statement};
-ghost use Rattle.hs_tree.specs.Tree.{Form, kind_of, plain_string, strings_of, value_digest, value_of};
+ghost use Rattle.hs_tree.specs.Tree.{Form, kind_of, string_in, strings_of, value_digest, value_of};
 
 use crate::certificates::Certificate;
 use crate::wire::{NEW_VIEW, VOTE};
@@ -15,6 +16,9 @@ use std::alloc::Global;
 
 // The first byte of a node's hashed string.
 pub(crate) const NODE: u8 = 0x41;
+
+// The same in chained HotStuff, where the view follows.
+pub(crate) const VIEWED_NODE: u8 = 0x44;
 
 // ---- what is hashed
 
@@ -52,20 +56,34 @@ pub(crate) fn kind_of(what: &Content) -> u8
     }
 }
 
-/// The string of the node with this parent and content, by the digest of its value. The only error is out of memory.
+// Appends the start of a node's string: its number, in chained HotStuff with the view.
+// rule: Chained HotStuff: A node's digest covers its view
+fn put_start(view: Option<u32>, out: &mut Writer) -> Result<(), NoMemory>
+    ensures { OnOk result (out.new ≡ and_bytes out.old (start_of view)) }
+{
+    match view {
+        None => out.put_u8(NODE),
+        Some(view) => {
+            out.put_u8(VIEWED_NODE)?;
+            out.put_u32(view)
+        }
+    }
+}
+
+/// The string of the node with this parent and content, by the digest of its value; in chained HotStuff, of the one
+/// with this view. The only error is out of memory.
 // rule: HotStuff: A node's digest covers its parent, its kind and the digest of its value
 pub fn node_string(
-    alloc: Global,
-    version: u8,
+    mut out: Writer,
+    view: Option<u32>,
     parent: &[u8; 32],
     what: &Content,
     held: &[u8; 32],
 ) -> Result<Bytes, NoMemory>
-    requires { held.now ≡ value_digest version (value_of what.now) }
-    ensures { IfOk result (λ s. (view : ℕ) → s ≡ plain_string version view parent.now what.now) }
+    requires { held.now ≡ value_digest out.version (value_of what.now) }
+    ensures { IfOk result (λ s. out.bytes ≡ [] → s ≡ string_in out.version view parent.now what.now) }
 {
-    let mut out = Writer::new(alloc, version);
-    out.put_u8(NODE)?;
+    put_start(view, &mut out)?;
     out.put_bytes(parent)?;
     out.put_u8(kind_of(what))?;
     out.put_bytes(held)?;
@@ -79,19 +97,22 @@ pub struct Hashed {
     pub digest: [u8; 32],
 }
 
-/// Hashes the node with this parent and content. The only error is out of memory.
+/// Hashes the node with this parent and content; in chained HotStuff, the one with this view. The only error is out of
+/// memory.
 pub fn hash_node(
     alloc: Global,
     p: &Params,
+    view: Option<u32>,
     parent: &[u8; 32],
     what: &Content,
 ) -> Result<Hashed, NoMemory>
-    ensures { IfOk result (λ h. (view : ℕ) → IsHashed p.now.setup.version view parent.now what.now h) }
+    ensures { IfOk result (λ h. IsHashed p.now.setup.version view parent.now what.now h) }
 {
     let version = p.setup.version;
     let value = held_string(alloc, version, what)?;
     let held = held_digest(p, what, &value);
-    let node = node_string(alloc, version, parent, what, &held)?;
+    let out = Writer::new(alloc, version);
+    let node = node_string(out, view, parent, what, &held)?;
     let digest = Sha256::digest(node.as_slice());
     let mut strings = Seq::new(alloc);
     put_string(value, &mut strings)?;

@@ -1,8 +1,8 @@
 -- Epochs one after the other, and the end of the log that they make.
 use Rattle.std.proofs.Common.{◌≡◌, ℕ, zero, suc, ◌+◌, ◌<◌, List, [], ◌∷◌, ◌++◌, length, take, drop, append_assoc, append-nil, refl, sym, true, ap, ◌∙◌, subst, arith, get_or}
-use Rattle.iss_log.specs.Chains.{end_from, end_of, next_end}
+use Rattle.iss_log.specs.Chains.{end_from, end_of}
 use Rattle.iss_log.specs.declared.chains.End.{End}
-use Rattle.iss_log.proofs.ChainLemmas.{end-append, end-from}
+use Rattle.iss_log.proofs.ChainLemmas.{end-from}
 use Rattle.iss_request.specs.declared.requests.Value.{Value}
 use Rattle.iss_request.specs.declared.setups.Setup.{Setup}
 use Rattle.iss_checkpoint.specs.Votes.{Voters, is_cert}
@@ -11,17 +11,6 @@ use Rattle.iss_audit.specs.Refusals.{AreRefused, IsEpochRefused}
 use Rattle.iss_audit.specs.declared.errors.AuditError.{AuditError}
 use Rattle.iss_audit.specs.declared.errors.AuditError.TheVariants.{BadLine, BadEpoch, NoMemory}
 use Rattle.iss_audit.specs.declared.exports.CertifiedEpoch.{CertifiedEpoch}
-
-pub take-suc : {A : Type 0} (xs : List A) (i : ℕ) (v d : A) → i < length xs → v ≡ get_or xs i d → take (suc i) xs ≡ take i xs ++ v ∷ []
-take-suc [] i v d lt h = absurd (omega (arith, lt))
-take-suc (x ∷ xs) zero v d lt h = let same : v ≡ x = h in rw same refl
-take-suc {A} (x ∷ xs) (suc k) v d lt h = let within : k < length xs = omega (arith, lt) in ap (λ (ys : List A). x ∷ ys) (take-suc xs k v d within h)
-
-pub take-next : {A : Type 0} (xs : List A) (i : ℕ) (v : A) → i < length xs → v ≡ get_or xs i v → take (i + 1) xs ≡ take i xs ++ v ∷ []
-take-next xs i v lt h = let e : i + 1 ≡ suc i = omega arith in rw e (take-suc xs i v v lt h)
-
-pub end-next : (version : ℕ) (start end next : End) (a b : List Value) (v : Value) → end ≡ end_from version start a → next ≡ next_end version end v → b ≡ a ++ v ∷ [] → next ≡ end_from version start b
-end-next version start end next a b v he hn hb = hn ∙ ap (λ (x : End). next_end version x v) he ∙ sym (end-append version start a v) ∙ ap (λ (xs : List Value). end_from version start xs) (sym hb)
 
 -- ---- each epoch, given those before it
 

@@ -6,7 +6,7 @@ use Rattle.iss_log.specs.Chains.{end_of}
 use Rattle.iss_log.specs.declared.chains.End.{End}
 use Rattle.iss_request.specs.Formats.{spell_batch, spell_count, spell_value}
 use Rattle.iss_request.specs.declared.requests.Value.{Value}
-use Rattle.iss_request.specs.declared.requests.Value.TheVariants.{Nil, Batch}
+use Rattle.iss_request.specs.declared.requests.Value.TheVariants.{Nil as Value_nil, Batch as Value_batch}
 use Rattle.iss_checkpoint.specs.Votes.{Voters, is_cert}
 use Rattle.iss_checkpoint.specs.declared.votes.Cert.{Cert}
 use Rattle.iss_schedule.specs.Headers.{setup_with}
@@ -24,7 +24,7 @@ unsigned : Cert
 unsigned = record { epoch = record { 0 = 0 }; chain = replicate 32 171; requests = 0; signers = [] }
 
 empty : List Value
-empty = Batch [] ∷ Batch [] ∷ Batch [] ∷ []
+empty = Value_batch [] ∷ Value_batch [] ∷ Value_batch [] ∷ []
 
 worked_text : text_of (record { setup = three; epochs = record { values = empty; cert = unsigned } ∷ [] })
     ≡ codes "iss 1\nmodule relay\nf 0\nepoch 3\nbuckets 3\nbatch 4\nwindow 8\npolicy simple\nclients 1\nkeys 4\nfaulty none\n"
@@ -33,7 +33,7 @@ worked_text : text_of (record { setup = three; epochs = record { values = empty;
 unfolding three unsigned empty digits encode_with spell_value spell_batch spell_count
 worked_text = refl
 
-nil_line : value_line 1 Nil ≡ codes "value 00"
+nil_line : value_line 1 Value_nil ≡ codes "value 00"
 unfolding spell_value encode_with
 nil_line = refl
 

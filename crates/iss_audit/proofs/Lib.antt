@@ -5,3 +5,4 @@ pub mod NoExport
 pub mod OneExport
 pub mod ReadLemmas
 pub mod SignedEpochs
+pub mod WriteLemmas

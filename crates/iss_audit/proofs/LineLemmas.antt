@@ -43,17 +43,10 @@ line-is spell parse name line bytes a is fits read only =
     let same : bytes ≡ spell a = only ∙ append-nil (spell a) in
     (is ∙ ap (hex_line name) same, (subst IsBytes same fits, ap parse (sym same) ∙ read))
 
-at-end : {A : Type 0} (a : A) → at_end a [] ≡ Good a []
-unfolding at_end
-at-end a = refl
-
-whole-good : {A : Type 0} (parse : Parser A) (bytes : List ℕ) (a : A) → parse bytes ≡ Good a [] → all_of parse bytes ≡ Good a []
-unfolding all_of
-whole-good parse bytes a h = then_good parse at_end bytes [] [] a a h (at-end a)
-
 pub line-not : {A : Type 0} (spell : A → List ℕ) (parse : Parser A) (name line bytes : List ℕ) (at : ℕ) → line ≡ hex_line name bytes → IsBytes bytes → all_of parse bytes ≡ Bad at → (a : A) → Encodes spell parse a → line ≢ hex_line name (spell a)
+unfolding all_of at_end
 line-not spell parse name line bytes at is fits bad a encodes e =
     let same : bytes ≡ spell a = same-bytes name bytes (spell a) fits encodes.0 (sym is ∙ e) in
-    let good : all_of parse bytes ≡ Good a [] = whole-good parse bytes a (ap parse same ∙ encodes.1) in
+    let good : all_of parse bytes ≡ Good a [] = then_good parse at_end bytes [] [] a a (ap parse same ∙ encodes.1) refl in
     let both : Bad at ≡ Good a [] = sym bad ∙ good in
     cc

@@ -6,31 +6,20 @@ use Rattle.iss_request.specs.declared.requests.Value.{Value}
 use Rattle.iss_request.specs.declared.setups.Setup.{Setup}
 use Rattle.iss_checkpoint.specs.Certificates.{parse_cert, spell_cert}
 use Rattle.iss_checkpoint.specs.declared.votes.Cert.{Cert}
-use Rattle.iss_schedule.specs.BadLines.{IsBadLine, IsBadRest, IsFirstBad, IsNext}
-use Rattle.iss_schedule.specs.Schedules.{IsKnown, header_lines, most_bytes, most_events}
-use Rattle.iss_schedule.specs.Words.{Lacks, ended}
+use Rattle.iss_schedule.specs.Schedules.{most_events}
+use Rattle.iss_schedule.specs.Words.{ended}
 use Rattle.iss_schedule.specs.declared.errors.LineFault.{LineFault}
-use Rattle.iss_schedule.specs.declared.errors.LineFault.TheVariants.{Cut, Form, Faulty, Injected, Range, Size}
-use Rattle.iss_schedule.proofs.BadLines.LinesHaveTheirForm.{AreWhole, Left, Meets, Right, Same, meets, whole_lines, whole_take}
-use Rattle.iss_schedule.proofs.BadLines.OneFirstBadLine.{nonempty, refused_none}
-use Rattle.iss_schedule.proofs.BadLines.PrefixesAreRead.{ended-append}
-use Rattle.iss_schedule.proofs.Encoding.SplitsAreUnique.{cut_same, no_cut}
-use Rattle.iss_schedule.proofs.HeaderTable.ValuesDetermineSetup.{same_setup}
-use Rattle.iss_audit.specs.Exports.{EachEpoch, IsExport, IsValue, IsWhole, body_lines, cert_line, epoch_lines, last_line, log_of, slots_of, value_line}
-use Rattle.iss_audit.specs.Refusals.{IsBadAfter, IsBadAfterHeader, IsBadBehind, IsBadInside, IsBadNext, IsBadText, MayFollow, begun_lines}
+use Rattle.iss_schedule.proofs.BadLines.LinesHaveTheirForm.{AreWhole, Left, Meets, Right, Same, meets, whole_append}
+use Rattle.iss_texts.specs.Bodies.{last_line}
+use Rattle.iss_texts.proofs.BodyLemmas.{NoneLast, first-is, good-behind, good-next, has-last, none-append, not-inner, rest-is}
+use Rattle.iss_texts.proofs.HeaderLemmas.{first-whole, good-header, same-header}
+use Rattle.iss_audit.specs.Exports.{EachEpoch, IsExport, IsValue, IsWhole, body_lines, cert_line, epoch_lines, log_of, slots_of, value_line}
+use Rattle.iss_audit.specs.Refusals.{IsBadAfter, IsBadAfterHeader, IsBadInside, IsBadText, IsFault, MayFollow, begun_lines}
 use Rattle.iss_audit.specs.declared.exports.CertifiedEpoch.{CertifiedEpoch}
 use Rattle.iss_audit.specs.declared.exports.Export.{Export}
-use Rattle.iss_audit.proofs.OneExport.{first-is, head-is, length-lines, rest-is, same-thing, same-values, whole-append, whole-body, whole-epochs, whole-header, whole-values}
+use Rattle.iss_audit.proofs.OneExport.{head-is, length-lines, same-thing, same-values, whole-body, whole-epochs, whole-values}
 
 -- ---- no line of an epoch is the last line
-
-abbrev NoneLast : List (List ℕ) → Type 0
-NoneLast [] = Unit {0}
-NoneLast (line ∷ lines) = (line ≢ last_line) × NoneLast lines
-
-none-append : (xs ys : List (List ℕ)) → NoneLast xs → NoneLast ys → NoneLast (xs ++ ys)
-none-append [] ys h k = k
-none-append (x ∷ xs) ys h k = (h.0, none-append xs ys h.1 k)
 
 none-values : (version : ℕ) (vs : List Value) → NoneLast (map (value_line version) vs)
 none-values version [] = tt
@@ -40,21 +29,9 @@ none-epochs : (version : ℕ) (xs : List CertifiedEpoch) → NoneLast (epoch_lin
 none-epochs version [] = tt
 none-epochs version (x ∷ xs) = none-append (map (value_line version) x.values) (cert_line x.cert ∷ epoch_lines version xs) (none-values version x.values) ((λ e. omega (arith, head-is _ _ _ _ e)), none-epochs version xs)
 
-has-last : (xs ys : List (List ℕ)) → NoneLast (xs ++ last_line ∷ ys) → ⊥
-has-last [] ys h = h.0 refl
-has-last (x ∷ xs) ys h = has-last xs ys h.1
-
 none-begun : (version : ℕ) (before : List CertifiedEpoch) (values : List Value) (xs ys : List (List ℕ)) → begun_lines version before values ≡ xs ++ last_line ∷ ys → ⊥
 none-begun version before values xs ys e =
     has-last xs ys (subst NoneLast e (none-append (epoch_lines version before) (map (value_line version) values) (none-epochs version before) (none-values version values)))
-
-not-inner : (ls ks : List (List ℕ)) (m : List ℕ) (ms : List (List ℕ)) → NoneLast ls → ls ++ last_line ∷ [] ≡ (ks ++ last_line ∷ []) ++ m ∷ ms → ⊥
-not-inner [] [] m ms h e = let two : [] ≡ m ∷ ms = rest-is _ _ _ _ e in cc
-not-inner (a ∷ ls) [] m ms h e = h.0 (first-is _ _ _ _ e)
-not-inner [] (b ∷ ks) m ms h e =
-    let tail : [] ≡ (ks ++ last_line ∷ []) ++ m ∷ ms = rest-is _ _ _ _ e in
-    omega (arith, ap length tail, length-append (ks ++ last_line ∷ []) (m ∷ ms))
-not-inner (a ∷ ls) (b ∷ ks) m ms h e = not-inner ls ks m ms h.1 (rest-is _ _ _ _ e)
 
 -- ---- what follows a prefix of an export may follow it
 
@@ -124,64 +101,31 @@ follows s start (b ∷ before) values (x ∷ xs) m ms h few k e =
 
 -- ---- no bad line after the header
 
-bad-next : (count : ℕ) (May : List ℕ → Type 0) (m : List ℕ) (ms : List (List ℕ)) (all : ℕ) (rest : List ℕ) (why : LineFault) → all ≤ most_events → count + 1 ≤ all → Lacks 10 m → May m → rest ≡ m ++ 10 ∷ (ended ms ++ []) → IsBadNext count May rest why → ⊥
-bad-next count May m ms all rest Size few lt whole may is h = omega (arith, few, lt, h.0)
-bad-next count May m ms all rest Cut few lt whole may is h = no_cut 10 m (ended ms ++ []) (subst (Lacks 10) is h.1)
-bad-next count May m ms all rest Form few lt whole may is h =
-    let same = cut_same 10 h.1.0 m h.1.1.0.more (ended ms ++ []) h.1.1.0.whole whole (sym h.1.1.0.text ∙ is) in
-    h.1.1.1 (subst May (sym same.0) may)
-bad-next count May m ms all rest Faulty few lt whole may is h = h
-bad-next count May m ms all rest Injected few lt whole may is h = h
-bad-next count May m ms all rest Range few lt whole may is h = h
-
-first-whole : (ls : List (List ℕ)) (m : List ℕ) (ms : List (List ℕ)) → AreWhole (ls ++ m ∷ ms) → Lacks 10 m
-first-whole [] m ms h = h.0
-first-whole (a ∷ ls) m ms h = first-whole ls m ms h.1
-
 bad-inside : (s : Setup) (xs : List CertifiedEpoch) (line : ℕ) (why : LineFault) → EachEpoch (IsWhole s) [] xs → length (body_lines s.version xs) ≤ most_events → IsBadInside s (ended (body_lines s.version xs)) line why → ⊥
 bad-inside s xs line why each few bad =
     go (meets (begun_lines s.version bad.before bad.values) (body_lines s.version xs) bad.rest [] whole (whole-body s xs each) (sym bad.text ∙ sym (append-nil (ended (body_lines s.version xs)))))
   where
     whole : AreWhole (begun_lines s.version bad.before bad.values)
-    whole = whole-append (epoch_lines s.version bad.before) (map (value_line s.version) bad.values) (whole-epochs s [] bad.before bad.begun.whole) (whole-values s.version bad.values bad.begun.valid)
+    whole = whole_append (epoch_lines s.version bad.before) (map (value_line s.version) bad.values) (whole-epochs s [] bad.before bad.begun.whole) (whole-values s.version bad.values bad.begun.valid)
 
     go : Meets (begun_lines s.version bad.before bad.values) (body_lines s.version xs) bad.rest [] → ⊥
     go (Same e f) = none-begun s.version bad.before bad.values (epoch_lines s.version xs) [] e
     go (Right m ms e f) = none-begun s.version bad.before bad.values (epoch_lines s.version xs) (m ∷ ms) (e ∙ append_assoc (epoch_lines s.version xs) (last_line ∷ []) (m ∷ ms))
     go (Left m ms e f) =
-        bad-next (length (begun_lines s.version bad.before bad.values)) (MayFollow s bad.before bad.values) m ms (length (body_lines s.version xs)) bad.rest why few
+        good-next (length (begun_lines s.version bad.before bad.values)) (length (body_lines s.version xs)) (IsFault s bad.before bad.values) m (ended ms ++ []) bad.rest why few
         (omega (arith, ap length e, length-append (begun_lines s.version bad.before bad.values) (m ∷ ms)))
         (first-whole (begun_lines s.version bad.before bad.values) m ms (subst AreWhole e (whole-body s xs each)))
-        (follows s [] bad.before bad.values xs m ms bad.begun.whole bad.begun.few each e)
+        (λ w h. h.1 (follows s [] bad.before bad.values xs m ms bad.begun.whole bad.begun.few each e))
         (f ∙ append_assoc m (10 ∷ ended ms) []) bad.bad
-
-bad-behind : (rest : List ℕ) (why : LineFault) → rest ≡ [] → IsBadBehind rest why → ⊥
-bad-behind rest Cut is h = h.0 is
-bad-behind rest Form is h = nonempty h.0 h.1.more (sym h.1.text ∙ is)
-bad-behind rest Size is h = h
-bad-behind rest Faulty is h = h
-bad-behind rest Injected is h = h
-bad-behind rest Range is h = h
 
 bad-after : (s : Setup) (xs : List CertifiedEpoch) (line : ℕ) (why : LineFault) → EachEpoch (IsWhole s) [] xs → IsBadAfter s (ended (body_lines s.version xs)) line why → ⊥
 bad-after s xs line why each bad =
     go (meets (body_lines s.version bad.epochs) (body_lines s.version xs) bad.rest [] (whole-body s bad.epochs bad.whole) (whole-body s xs each) (sym bad.text ∙ sym (append-nil (ended (body_lines s.version xs)))))
   where
     go : Meets (body_lines s.version bad.epochs) (body_lines s.version xs) bad.rest [] → ⊥
-    go (Same e f) = bad-behind bad.rest why f bad.bad
+    go (Same e f) = good-behind bad.rest why f bad.bad
     go (Left m ms e f) = not-inner (epoch_lines s.version xs) (epoch_lines s.version bad.epochs) m ms (none-epochs s.version xs) e
     go (Right m ms e f) = not-inner (epoch_lines s.version bad.epochs) (epoch_lines s.version xs) m ms (none-epochs s.version bad.epochs) e
-
-header-length : (s : Setup) → length (header_lines s) ≡ 11
-header-length s = refl
-
-same-header : (s t : Setup) (a b : List ℕ) → IsKnown s → IsKnown t → ended (header_lines s) ++ a ≡ ended (header_lines t) ++ b → (s ≡ t) × (a ≡ b)
-same-header s t a b h k e = go (meets (header_lines s) (header_lines t) a b (whole-header s h) (whole-header t k) e)
-  where
-    go : Meets (header_lines s) (header_lines t) a b → (s ≡ t) × (a ≡ b)
-    go (Same p q) = (same_setup s t h k p, q)
-    go (Left m ms p q) = absurd (omega (arith, ap length p, length-append (header_lines s) (m ∷ ms), header-length s, header-length t))
-    go (Right m ms p q) = absurd (omega (arith, ap length p, length-append (header_lines t) (m ∷ ms), header-length s, header-length t))
 
 bad-body : (bytes : List ℕ) (x : Export) (line : ℕ) (why : LineFault) → IsExport bytes x → IsBadAfterHeader bytes line why → ⊥
 bad-body bytes x line why is bad = go bad.bad
@@ -193,55 +137,6 @@ bad-body bytes x line why is bad = go bad.bad
     go (inl h) = bad-inside x.setup x.epochs line why is.epochs is.few (subst (λ (s : Setup). IsBadInside s (ended (body_lines x.setup.version x.epochs)) line why) same.0 (subst (λ (b : List ℕ). IsBadInside bad.setup b line why) same.1 h))
     go (inr h) = bad-after x.setup x.epochs line why is.epochs (subst (λ (s : Setup). IsBadAfter s (ended (body_lines x.setup.version x.epochs)) line why) same.0 (subst (λ (b : List ℕ). IsBadAfter bad.setup b line why) same.1 h))
 
--- ---- no bad line in the header
-
-next-here : (l m : List ℕ) (ms : List (List ℕ)) (rest more : List ℕ) → Lacks 10 m → rest ≡ m ++ 10 ∷ more → IsNext l rest → IsNext l (ended (m ∷ ms))
-next-here l m ms rest more whole is next =
-    let same = cut_same 10 l m next.more more next.whole whole (sym next.text ∙ is) in
-    record { more = ended ms; text = ap (λ (z : List ℕ). z ++ 10 ∷ ended ms) (sym same.0); whole = next.whole }
-
-bad-here : (front : List (List ℕ)) (m : List ℕ) (ms : List (List ℕ)) (rest more : List ℕ) (why : LineFault) → length front ≤ 10 → Lacks 10 m → rest ≡ m ++ 10 ∷ more → IsBadRest front rest why → IsBadRest front (ended (m ∷ ms)) why
-bad-here front m ms rest more Size low whole is h = absurd (omega (arith, low, h.0))
-bad-here front m ms rest more Cut low whole is h = absurd (no_cut 10 m more (subst (Lacks 10) is h.1))
-bad-here front m ms rest more Form low whole is h = (h.0, (h.1.0, (next-here h.1.0 m ms rest more whole is h.1.1.0, h.1.1.1)))
-bad-here front m ms rest more Faulty low whole is h = (h.0, (h.1.0, (next-here h.1.0 m ms rest more whole is h.1.1.0, h.1.1.1)))
-bad-here front m ms rest more Injected low whole is h = (h.0, (h.1.0, (next-here h.1.0 m ms rest more whole is h.1.1.0, h.1.1.1)))
-bad-here front m ms rest more Range low whole is h = (h.0, (h.1.0, (next-here h.1.0 m ms rest more whole is h.1.1.0, h.1.1.1)))
-
-first-bad : (bytes : List ℕ) (x : Export) (line : ℕ) (why : LineFault) → IsExport bytes x → line ≤ 11 → IsFirstBad bytes line why → ⊥
-first-bad bytes x line why is low bad =
-    go (meets bad.front (header_lines x.setup) bad.rest (ended (body_lines x.setup.version x.epochs)) (subst AreWhole (sym bad.good.front) (whole_take (length bad.front) _ (whole_lines bad.good.schedule bad.good.fine))) (whole-header x.setup is.setup) (sym bad.text ∙ is.text))
-  where
-    short : length (ended (header_lines x.setup)) ≤ most_bytes
-    short = omega (arith, is.short, ap length is.text, length-append (ended (header_lines x.setup)) (ended (body_lines x.setup.version x.epochs)))
-
-    go : Meets bad.front (header_lines x.setup) bad.rest (ended (body_lines x.setup.version x.epochs)) → ⊥
-    go (Same p q) = omega (arith, ap length p, header-length x.setup, bad.number, low)
-    go (Right m ms p q) = omega (arith, ap length p, length-append (header_lines x.setup) (m ∷ ms), header-length x.setup, bad.number, low)
-    go (Left m ms p q) =
-        refused_none (ended (header_lines x.setup)) line why (record { setup = x.setup; events = [] })
-        (inr (
-          short,
-          record {
-            front = bad.front;
-            rest = ended (m ∷ ms);
-            text = ap ended p ∙ ended-append bad.front (m ∷ ms);
-            number = bad.number;
-            good = bad.good;
-            bad = bad-here bad.front m ms bad.rest (ended ms ++ ended (body_lines x.setup.version x.epochs)) why (omega (arith, bad.number, low)) (first-whole bad.front m ms (subst AreWhole p (whole-header x.setup is.setup)))
-                (q ∙ append_assoc m (10 ∷ ended ms) (ended (body_lines x.setup.version x.epochs))) bad.bad;
-          },
-        ))
-        (record {
-          text = ap ended (sym (append-nil (header_lines x.setup)));
-          fine = record { setup = is.setup; events = tt; few = omega arith };
-          short = short;
-        })
-
 pub no-export : (bytes : List ℕ) (line : ℕ) (why : LineFault) (x : Export) → IsBadText bytes line why → IsExport bytes x → ⊥
-no-export bytes line why x (inl h) is = go h.1
-  where
-    go : IsBadLine bytes line why → ⊥
-    go (inl long) = omega (arith, long.0, is.short)
-    go (inr bad) = first-bad bytes x line why is h.0 bad.1
+no-export bytes line why x (inl h) is = good-header bytes x.setup (ended (body_lines x.setup.version x.epochs)) line why is.setup is.text is.short h.0 h.1
 no-export bytes line why x (inr h) is = bad-body bytes x line why is h

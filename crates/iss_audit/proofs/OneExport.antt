@@ -10,22 +10,20 @@ use Rattle.iss_checkpoint.specs.Certificates.{parse_cert, spell_cert}
 use Rattle.iss_checkpoint.specs.declared.votes.Cert.{Cert}
 use Rattle.iss_schedule.specs.Schedules.{IsKnown, header_lines}
 use Rattle.iss_schedule.specs.Words.{Lacks, ended, word_of}
-use Rattle.iss_schedule.proofs.BadLines.LinesHaveTheirForm.{AreWhole, Left, Meets, Right, Same, meets, whole_lines}
-use Rattle.iss_schedule.proofs.BadLines.OneFirstBadLine.{nonempty}
+use Rattle.iss_schedule.proofs.BadLines.LinesHaveTheirForm.{AreWhole, meets, whole_append, whole_header}
+use Rattle.iss_schedule.proofs.OneScheduleAText.{same_lines}
 use Rattle.iss_schedule.proofs.BadLines.PrefixesAreRead.{ended-append}
 use Rattle.iss_schedule.proofs.Encoding.NoSeparatorInWords.{feed, lacks_append, lacks_by_test, lacks_word}
 use Rattle.iss_schedule.proofs.HeaderTable.ValuesDetermineSetup.{same_setup}
 use Rattle.hex.specs.Hex.{IsBytes}
-use Rattle.iss_audit.specs.Exports.{EachEpoch, IsExport, IsValue, IsWhole, body_lines, cert_line, epoch_lines, hex_line, last_line, value_line}
+use Rattle.iss_texts.specs.Bodies.{last_line}
+use Rattle.iss_texts.proofs.BodyLemmas.{first-is, rest-is}
+use Rattle.iss_audit.specs.Exports.{EachEpoch, IsExport, IsValue, IsWhole, body_lines, cert_line, epoch_lines, hex_line, value_line}
 use Rattle.iss_audit.specs.declared.exports.CertifiedEpoch.{CertifiedEpoch}
 use Rattle.iss_audit.specs.declared.exports.Export.{Export}
 use Rattle.iss_audit.proofs.LineLemmas.{Encodes, same-bytes}
 
 -- ---- no line feed in a line
-
-pub whole-append : (xs ys : List (List ℕ)) → AreWhole xs → AreWhole ys → AreWhole (xs ++ ys)
-whole-append [] ys h k = k
-whole-append (x ∷ xs) ys h k = (h.0, whole-append xs ys h.1 k)
 
 whole-hex : (name bytes : List ℕ) → Lacks 10 name → IsBytes bytes → Lacks 10 (hex_line name bytes)
 whole-hex name bytes whole fits = lacks_append 10 name (32 ∷ word_of bytes) whole ((λ e. omega (arith, e)), lacks_word 10 bytes feed fits)
@@ -37,22 +35,19 @@ whole-values version (v ∷ vs) all = (whole-hex (codes "value") (spell_value ve
 pub whole-epochs : (s : Setup) (before xs : List CertifiedEpoch) → EachEpoch (IsWhole s) before xs → AreWhole (epoch_lines s.version xs)
 whole-epochs s before [] each = tt
 whole-epochs s before (x ∷ xs) each =
-    whole-append (map (value_line s.version) x.values) (cert_line x.cert ∷ epoch_lines s.version xs) (whole-values s.version x.values each.0.values)
+    whole_append (map (value_line s.version) x.values) (cert_line x.cert ∷ epoch_lines s.version xs) (whole-values s.version x.values each.0.values)
     (whole-hex (codes "cert") (spell_cert x.cert) (lacks_by_test 10 (codes "cert") refl) each.0.cert.0, whole-epochs s (before ++ x ∷ []) xs each.1)
-
-pub whole-header : (s : Setup) → IsKnown s → AreWhole (header_lines s)
-whole-header s known = subst AreWhole (append-nil (header_lines s)) (whole_lines (record { setup = s; events = [] }) (record { setup = known; events = tt; few = omega arith }))
 
 pub export-lines : Export → List (List ℕ)
 export-lines x = header_lines x.setup ++ body_lines x.setup.version x.epochs
 
 pub whole-body : (s : Setup) (xs : List CertifiedEpoch) → EachEpoch (IsWhole s) [] xs → AreWhole (body_lines s.version xs)
-whole-body s xs each = whole-append (epoch_lines s.version xs) (last_line ∷ []) (whole-epochs s [] xs each) (lacks_by_test 10 last_line refl, tt)
+whole-body s xs each = whole_append (epoch_lines s.version xs) (last_line ∷ []) (whole-epochs s [] xs each) (lacks_by_test 10 last_line refl, tt)
 
 whole-export : (bytes : List ℕ) (x : Export) → IsExport bytes x → AreWhole (export-lines x)
 unfolding export-lines
 whole-export bytes x is =
-    whole-append (header_lines x.setup) (body_lines x.setup.version x.epochs) (whole-header x.setup is.setup)
+    whole_append (header_lines x.setup) (body_lines x.setup.version x.epochs) (whole_header x.setup is.setup)
     (whole-body x.setup x.epochs is.epochs)
 
 -- ---- equal lines
@@ -76,12 +71,6 @@ same-values version (v ∷ vs) (w ∷ ws) h k e =
 pub length-lines : (version : ℕ) (vs : List Value) → length (map (value_line version) vs) ≡ length vs
 length-lines version [] = refl
 length-lines version (v ∷ vs) = ap suc (length-lines version vs)
-
-pub first-is : (x y : List ℕ) (xs ys : List (List ℕ)) → x ∷ xs ≡ y ∷ ys → x ≡ y
-first-is x y xs ys e = cc
-
-pub rest-is : (x y : List ℕ) (xs ys : List (List ℕ)) → x ∷ xs ≡ y ∷ ys → xs ≡ ys
-rest-is x y xs ys e = cc
 
 pub head-is : (a b : ℕ) (ls ks : List ℕ) → a ∷ ls ≡ b ∷ ks → a ≡ b
 head-is a b ls ks e = cc
@@ -109,11 +98,6 @@ same-epochs s before (x ∷ xs) (y ∷ ys) h k e =
 
 -- ---- equal texts
 
-same-lines : (xs ys : List (List ℕ)) → Meets xs ys [] [] → xs ≡ ys
-same-lines xs ys (Same e f) = e
-same-lines xs ys (Left m ms e f) = absurd (nonempty m (ended ms ++ []) (sym (f ∙ append_assoc m (10 ∷ ended ms) [])))
-same-lines xs ys (Right m ms e f) = absurd (nonempty m (ended ms ++ []) (sym (f ∙ append_assoc m (10 ∷ ended ms) [])))
-
 text-lines : (bytes : List ℕ) (x : Export) → IsExport bytes x → bytes ≡ ended (export-lines x) ++ []
 unfolding export-lines
 text-lines bytes x is = is.text ∙ sym (ended-append (header_lines x.setup) (body_lines x.setup.version x.epochs)) ∙ sym (append-nil (ended (header_lines x.setup ++ body_lines x.setup.version x.epochs)))
@@ -121,7 +105,7 @@ text-lines bytes x is = is.text ∙ sym (ended-append (header_lines x.setup) (bo
 pub one-export : (bytes : List ℕ) (x y : Export) → IsExport bytes x → IsExport bytes y → x ≡ y
 unfolding export-lines
 one-export bytes x y h k =
-    let lines : export-lines x ≡ export-lines y = same-lines (export-lines x) (export-lines y) (meets (export-lines x) (export-lines y) [] [] (whole-export bytes x h) (whole-export bytes y k) (sym (text-lines bytes x h) ∙ text-lines bytes y k)) in
+    let lines : export-lines x ≡ export-lines y = same_lines (export-lines x) (export-lines y) (meets (export-lines x) (export-lines y) [] [] (whole-export bytes x h) (whole-export bytes y k) (sym (text-lines bytes x h) ∙ text-lines bytes y k)) in
     let header : header_lines x.setup ≡ header_lines y.setup = ap (λ (ls : List (List ℕ)). take 11 ls) lines in
     let body : body_lines x.setup.version x.epochs ≡ body_lines y.setup.version y.epochs = ap (λ (ls : List (List ℕ)). drop 11 ls) lines in
     let setup = same_setup x.setup y.setup h.setup k.setup header in

@@ -11,8 +11,11 @@ use Rattle.iss_schedule.specs.declared.errors.LineFault.{LineFault}
 use Rattle.iss_schedule.specs.declared.errors.ReadError.{ReadError}
 use Rattle.iss_schedule.specs.declared.errors.ReadError.TheVariants.{BadLine, NoMemory}
 use Rattle.iss_schedule.proofs.BadLines.PrefixesAreRead.{past}
-use Rattle.iss_audit.specs.Exports.{EachEpoch, IsCertOf, IsValue, IsWhole, body_lines, cert_line, epoch_lines, last_line, log_of, slots_of, value_line}
-use Rattle.iss_audit.specs.Refusals.{IsBadNext, IsBegun, IsBodyRefused, IsNextRefused, IsNoNext, MayFollow, begun_lines}
+use Rattle.iss_texts.specs.Bodies.{last_line}
+use Rattle.iss_texts.specs.Internal.Refusals.{IsNextRefused}
+use Rattle.iss_texts.proofs.BodyLemmas.{next-bad}
+use Rattle.iss_audit.specs.Exports.{EachEpoch, IsCertOf, IsValue, IsWhole, body_lines, cert_line, epoch_lines, log_of, slots_of, value_line}
+use Rattle.iss_audit.specs.Refusals.{IsBegun, IsBodyRefused, IsFault, begun_lines}
 use Rattle.iss_audit.specs.declared.exports.CertifiedEpoch.{CertifiedEpoch}
 use Rattle.iss_checkpoint.proofs.CertGrammar.{cert-related}
 use Rattle.iss_audit.proofs.EpochLemmas.{each-push, each-weaker}
@@ -26,11 +29,7 @@ pub record IsAt (s : Setup) (all : List ℕ) (before : List CertifiedEpoch) (val
 
 -- ---- lines
 
-pub no-length : {A : Type 0} (xs : List A) → length xs ≡ 0 → xs ≡ []
-no-length [] h = refl
-no-length (x ∷ xs) h = absurd (omega (arith, h))
-
-map-push : (version : ℕ) (vs : List Value) (v : Value) → map (value_line version) (vs ++ v ∷ []) ≡ map (value_line version) vs ++ value_line version v ∷ []
+pub map-push : (version : ℕ) (vs : List Value) (v : Value) → map (value_line version) (vs ++ v ∷ []) ≡ map (value_line version) vs ++ value_line version v ∷ []
 map-push version [] v = refl
 map-push version (u ∷ vs) v = ap (λ (ls : List (List ℕ)). value_line version u ∷ ls) (map-push version vs v)
 
@@ -39,7 +38,7 @@ value-lines version before vs v =
     ap (λ (ls : List (List ℕ)). epoch_lines version before ++ ls) (map-push version vs v)
     ∙ sym (append_assoc (epoch_lines version before) (map (value_line version) vs) (value_line version v ∷ []))
 
-epochs-push : (version : ℕ) (before : List CertifiedEpoch) (x : CertifiedEpoch) → epoch_lines version (before ++ x ∷ []) ≡ begun_lines version before x.values ++ cert_line x.cert ∷ []
+pub epochs-push : (version : ℕ) (before : List CertifiedEpoch) (x : CertifiedEpoch) → epoch_lines version (before ++ x ∷ []) ≡ begun_lines version before x.values ++ cert_line x.cert ∷ []
 epochs-push version [] x = refl
 epochs-push version (y ∷ before) x =
     ap (λ (ls : List (List ℕ)). map (value_line version) y.values ++ cert_line y.cert ∷ ls) (epochs-push version before x)
@@ -53,9 +52,9 @@ cert-lines version before x = append-nil (epoch_lines version (before ++ x ∷ [
 one-more : (lines : List (List ℕ)) (line : List ℕ) → length (lines ++ line ∷ []) ≡ length lines + 1
 one-more lines line = length-append lines (line ∷ [])
 
-valid-push : (version : ℕ) (vs : List Value) (v : Value) → AllByRecursion (IsValue version) vs → IsValue version v → AllByRecursion (IsValue version) (vs ++ v ∷ [])
-valid-push version [] v all is = (is, tt)
-valid-push version (u ∷ vs) v all is = (all.0, valid-push version vs v all.1 is)
+pub all-push : {A : Type 0} (P : A → Type 0) (xs : List A) (x : A) → AllByRecursion P xs → P x → AllByRecursion P (xs ++ x ∷ [])
+all-push P [] x all is = (is, tt)
+all-push P (y ∷ xs) x all is = (all.0, all-push P xs x all.1 is)
 
 length-one : (vs : List Value) (v : Value) → length (vs ++ v ∷ []) ≡ length vs + 1
 length-one vs v = length-append vs (v ∷ [])
@@ -71,7 +70,7 @@ at-value s all before values new v line old later at more room is valid goes rea
       text = past all (begun_lines s.version before values) line old.rest later.rest at.text goes.text ∙ ap (λ (ls : List (List ℕ)). ended ls ++ later.rest) (sym lines);
       begun = record {
         whole = at.begun.whole;
-        valid = subst (AllByRecursion (IsValue s.version)) (sym more) (valid-push s.version values v at.begun.valid valid);
+        valid = subst (AllByRecursion (IsValue s.version)) (sym more) (all-push (IsValue s.version) values v at.begun.valid valid);
         few = omega (arith, long, room);
       };
       read = omega (arith, count, read, at.read);
@@ -123,10 +122,6 @@ at-end s all before values line old later at empty is goes read few =
 
 -- ---- refusals
 
-next-bad : (count : ℕ) (May : List ℕ → Type 0) (rest : List ℕ) (why : LineFault) → IsNoNext count rest why → IsBadNext count May rest why
-next-bad count May rest why (inl h) = subst (IsBadNext count May rest) (sym h.0) (h.1, h.2)
-next-bad count May rest why (inr h) = subst (IsBadNext count May rest) (sym h.0) h.1
-
 pub no-next : (s : Setup) (all : List ℕ) (before : List CertifiedEpoch) (values : List Value) (place : Place) (e : ReadError) → IsAt s all before values place → IsNextRefused place e → IsBodyRefused s all e
 no-next s all before values place (BadLine line why) at h = inl (record {
   before = before;
@@ -135,7 +130,7 @@ no-next s all before values place (BadLine line why) at h = inl (record {
   text = at.text;
   begun = at.begun;
   number = omega (arith, h.0, at.read);
-  bad = next-bad (length (begun_lines s.version before values)) (MayFollow s before values) place.rest why (h.1 (length (begun_lines s.version before values)) at.read);
+  bad = next-bad (length (begun_lines s.version before values)) (IsFault s before values) place.rest why (h.1 (length (begun_lines s.version before values)) at.read);
 })
 no-next s all before values place NoMemory at h = tt
 

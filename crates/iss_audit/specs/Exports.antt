@@ -1,7 +1,7 @@
 -- The text of an exported log: the header, and for each epoch from 0 its values, one a line, and the certificate of the
 -- log at its end; then a last line. A log is certified if each certificate is a quorum's, and states the chain and the
 -- number of requests of all values so far.
-use Rattle.std.specs.Prelude.{◌≡◌, ℕ, ◌≤◌, true, List, [], ◌∷◌, ◌++◌, length, map, codes}
+use Rattle.std.specs.Prelude.{◌≡◌, ℕ, ◌≤◌, ◌<◌, ◌^◌, true, List, [], ◌∷◌, ◌++◌, length, map, codes}
 use Rattle.std.specs.List.{AllByRecursion}
 use Rattle.hex.specs.Hex.{IsBytes}
 use Rattle.iss_base.specs.Lists.{In}
@@ -19,6 +19,7 @@ use Rattle.iss_checkpoint.specs.Votes.{HaveSigned, Voters, is_cert, vote_stateme
 use Rattle.iss_checkpoint.specs.declared.votes.Cert.{Cert}
 use Rattle.iss_schedule.specs.Schedules.{IsKnown, header_lines, most_bytes, most_events}
 use Rattle.iss_schedule.specs.Words.{ended, word_of}
+pub use Rattle.iss_texts.specs.Bodies.{last_line}
 use Rattle.iss_audit.specs.declared.exports.CertifiedEpoch.{CertifiedEpoch}
 use Rattle.iss_audit.specs.declared.exports.Export.{Export}
 
@@ -53,9 +54,6 @@ value_line version v = hex_line (codes "value") (spell_value version v)
 abbrev pub cert_line : Cert → List ℕ
 cert_line c = hex_line (codes "cert") (spell_cert c)
 
-abbrev pub last_line : List ℕ
-last_line = codes "end"
-
 -- the value has an encoding in this version
 abbrev pub IsValue : ℕ → Value → Type 0
 IsValue version v = IsBytes (spell_value version v) × (parse_value version (spell_value version v) ≡ Good v [])
@@ -64,7 +62,11 @@ IsValue version v = IsBytes (spell_value version v) × (parse_value version (spe
 abbrev pub IsCertOf : ℕ → Cert → Type 0
 IsCertOf e c = IsBytes (spell_cert c) × (parse_cert e (spell_cert c) ≡ Good c [])
 
--- the lines of epochs: a value a line, and after the last value of an epoch its certificate
+-- the lines of an epoch: a value a line, and after the last value the certificate
+abbrev pub lines_of : ℕ → List Value → Cert → List (List ℕ)
+lines_of version values cert = map (value_line version) values ++ cert_line cert ∷ []
+
+-- the lines of epochs
 -- rule: Audit: An export is a header, each epoch's values and certificate, and a last line
 abbrev pub epoch_lines : ℕ → List CertifiedEpoch → List (List ℕ)
 epoch_lines version [] = []
@@ -76,6 +78,16 @@ body_lines version xs = epoch_lines version xs ++ last_line ∷ []
 
 abbrev pub text_of : Export → List ℕ
 text_of x = ended (header_lines x.setup) ++ ended (body_lines x.setup.version x.epochs)
+
+-- ---- ranges of what a program holds
+
+-- the values are written in bytes
+abbrev pub AreBytes : ℕ → List Value → Type 0
+AreBytes version = AllByRecursion (λ v. IsBytes (spell_value version v))
+
+-- the certificate is written in bytes, and its number of requests fits eight of them
+abbrev pub IsRangedCert : Cert → Type 0
+IsRangedCert c = IsBytes (spell_cert c) × (c.requests < 2 ^ 64)
 
 -- ---- well-formed exports
 

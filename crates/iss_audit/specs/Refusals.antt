@@ -7,15 +7,15 @@ use Rattle.iss_request.specs.declared.requests.Value.{Value}
 use Rattle.iss_request.specs.declared.setups.Setup.{Setup}
 use Rattle.iss_checkpoint.specs.Votes.{Voters, is_cert, voters_of}
 use Rattle.iss_checkpoint.specs.declared.votes.Cert.{Cert}
-use Rattle.iss_schedule.specs.BadLines.{IsBadLine, IsNext}
-use Rattle.iss_schedule.specs.Places.{Place}
+use Rattle.iss_schedule.specs.BadLines.{IsBadLine}
 use Rattle.iss_schedule.specs.Schedules.{IsKnown, header_lines, most_bytes, most_events}
-use Rattle.iss_schedule.specs.Words.{Lacks, ended}
+use Rattle.iss_schedule.specs.Words.{ended}
 use Rattle.iss_schedule.specs.declared.errors.LineFault.{LineFault}
-use Rattle.iss_schedule.specs.declared.errors.LineFault.TheVariants.{Cut, Form, Faulty, Injected, Range, Size}
+use Rattle.iss_schedule.specs.declared.errors.LineFault.TheVariants.{Form}
 use Rattle.iss_schedule.specs.declared.errors.ReadError.{ReadError}
 use Rattle.iss_schedule.specs.declared.errors.ReadError.TheVariants as read
-use Rattle.iss_audit.specs.Exports.{EachEpoch, IsCertOf, IsCertified, IsExport, IsValue, IsWhole, body_lines, cert_line, epoch_lines, keys_of, last_line, log_of, slots_of, stated_in, value_line}
+use Rattle.iss_texts.specs.Bodies.{IsBadBehind, IsBadNext, last_line}
+use Rattle.iss_audit.specs.Exports.{EachEpoch, IsCertOf, IsCertified, IsExport, IsValue, IsWhole, body_lines, cert_line, epoch_lines, keys_of, log_of, slots_of, stated_in, value_line}
 use Rattle.iss_audit.specs.declared.errors.AuditError.{AuditError}
 use Rattle.iss_audit.specs.declared.errors.AuditError.TheVariants.{BadLine, BadEpoch, NoMemory}
 use Rattle.iss_audit.specs.declared.errors.EpochFault.{EpochFault}
@@ -49,24 +49,9 @@ MayFollow s before values line =
     ⊎ ((length values ≡ slots_of s (length before) (log_of before))
     × ((c : Cert) × (IsCertOf (length before) c × (line ≡ cert_line c))))
 
--- What is wrong with the rest of a text after `count` good lines, of which none is the last one. A line too many comes
--- first, then a missing line feed or a missing last line, and then a line that may not stand there.
-abbrev pub IsBadNext : ℕ → (List ℕ → Type 0) → List ℕ → LineFault → Type 0
-IsBadNext count May rest Size = (count ≡ most_events) × (rest ≢ [])
-IsBadNext count May rest Cut = ((count < most_events) ⊎ (rest ≡ [])) × Lacks 10 rest
-IsBadNext count May rest Form = (count < most_events) × ((line : List ℕ) × (IsNext line rest × ¬ May line))
-IsBadNext count May rest Faulty = ⊥
-IsBadNext count May rest Injected = ⊥
-IsBadNext count May rest Range = ⊥
-
--- What is wrong with the rest after the last line: anything.
-abbrev pub IsBadBehind : List ℕ → LineFault → Type 0
-IsBadBehind rest Cut = (rest ≢ []) × Lacks 10 rest
-IsBadBehind rest Form = (line : List ℕ) × IsNext line rest
-IsBadBehind rest Size = ⊥
-IsBadBehind rest Faulty = ⊥
-IsBadBehind rest Injected = ⊥
-IsBadBehind rest Range = ⊥
+-- a line that may not stand after these has the wrong form, whatever it is
+abbrev pub IsFault : Setup → List CertifiedEpoch → List Value → List ℕ → LineFault → Type 0
+IsFault s before values line why = (why ≡ Form) × ¬ MayFollow s before values line
 
 -- the first bad line after a header, where no last line stands before it
 pub record IsBadInside (s : Setup) (body : List ℕ) (line : ℕ) (why : LineFault) : Type 0 where
@@ -76,7 +61,7 @@ pub record IsBadInside (s : Setup) (body : List ℕ) (line : ℕ) (why : LineFau
   pub text : body ≡ ended (begun_lines s.version before values) ++ rest
   pub begun : IsBegun s before values
   pub number : line ≡ 12 + length (begun_lines s.version before values)
-  pub bad : IsBadNext (length (begun_lines s.version before values)) (MayFollow s before values) rest why
+  pub bad : IsBadNext (length (begun_lines s.version before values)) (IsFault s before values) rest why
 
 -- the line after the last one
 pub record IsBadAfter (s : Setup) (body : List ℕ) (line : ℕ) (why : LineFault) : Type 0 where
@@ -144,16 +129,6 @@ abbrev pub IsBodyRefused : Setup → List ℕ → ReadError → Type 0
 IsBodyRefused s body (read.BadLine line why) = IsBadBody s body line why
 IsBodyRefused s body read.NoMemory = Unit {0}
 
--- there is no next line, or it is one too many; `count` lines after the header were read
-abbrev pub IsNoNext : ℕ → List ℕ → LineFault → Type 0
-IsNoNext count rest why = ((why ≡ Size) × (count ≡ most_events) × (rest ≢ []))
-    ⊎ ((why ≡ Cut) × (((count < most_events) ⊎ (rest ≡ [])) × Lacks 10 rest))
-
-abbrev pub IsNextRefused : Place → ReadError → Type 0
-IsNextRefused old (read.BadLine line why) = (line ≡ old.read + 1) × ((count : ℕ) → old.read ≡ 11 + count →
-    IsNoNext count old.rest why)
-IsNextRefused old read.NoMemory = ⊥
-
 -- checking the epoch after these refuses it
 abbrev pub IsEpochRefused : Setup → Voters → List CertifiedEpoch → CertifiedEpoch → AuditError → Type 0
 IsEpochRefused s w before x (BadLine line why) = ⊥
@@ -164,11 +139,6 @@ abbrev pub AreRefused : Setup → Voters → List CertifiedEpoch → AuditError 
 AreRefused s w epochs (BadLine line why) = ⊥
 AreRefused s w epochs (BadEpoch e why) = IsFirstUncertified s w epochs e.0 why
 AreRefused s w epochs NoMemory = Unit {0}
-
--- the line after the last one refuses the text
-abbrev pub IsBehindRefused : Place → ReadError → Type 0
-IsBehindRefused old (read.BadLine line why) = (line ≡ old.read + 1) × IsBadBehind old.rest why
-IsBehindRefused old read.NoMemory = Unit {0}
 
 -- reading the text refuses it
 abbrev pub IsReadRefused : List ℕ → ReadError → Type 0

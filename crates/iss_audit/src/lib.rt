@@ -10,9 +10,12 @@ pub mod exports;
 pub mod laws;
 mod lines;
 mod reading;
+pub mod writing;
 
 pub use auditing::check_text;
 pub use checking::check_epochs;
 pub use errors::{AuditError, EpochFault};
 pub use exports::{CertifiedEpoch, Export};
+pub use iss_texts::put_last;
 pub use laws::{quorums_signed_each_epoch, texts_and_exports};
+pub use writing::put_epoch;

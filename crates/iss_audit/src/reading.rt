@@ -1,16 +1,15 @@
 //! Reading the epochs of an export.
-ghost use Rattle.std.specs.Prelude.{◌≡◌, ◌≤◌, ◌<◌, ◌+◌, ◌-◌, ◌^◌, ◌++◌, [], ℕ, IfOk, IfErr, OnOk, length};
+ghost use Rattle.std.specs.Prelude.{◌≡◌, ◌≤◌, ◌+◌, ◌++◌, [], IfOk, IfErr, length};
 ghost use Rattle.iss_schedule.specs.Schedules.{IsKnown, most_bytes, most_events};
-ghost use Rattle.iss_schedule.specs.declared.errors.LineFault.TheVariants.{Form};
-ghost use Rattle.iss_schedule.specs.declared.errors.ReadError.TheVariants.{BadLine};
 ghost use Rattle.iss_schedule.specs.Words.{ended};
 ghost use Rattle.iss_audit.specs.Exports.{EachEpoch, IsExport, IsWhole, body_lines, log_of, slots_of};
-ghost use Rattle.iss_audit.specs.Refusals.{IsBehindRefused, IsBodyRefused, IsReadRefused};
+ghost use Rattle.iss_audit.specs.Refusals.{IsBodyRefused, IsReadRefused};
 
 use crate::exports::{CertifiedEpoch, Export};
-use crate::lines::{cert_in, is_last, next_line, value_in};
+use crate::lines::{cert_in, value_in};
 use iss_request::{Epoch, Seq, Setup};
 use iss_schedule::{LineFault, Lines, MOST_BYTES, ReadError, read_setup};
+use iss_texts::{bad_line, is_last, next_line, read_behind};
 use std::alloc::Global;
 use std::mem;
 
@@ -20,16 +19,6 @@ fn slots_after(setup: &Setup, _epochs: &[CertifiedEpoch]) -> u64
     ensures { result ≡ slots_of setup.now (length _epochs.now) (log_of _epochs.now) }
 {
     setup.epoch
-}
-
-// The line that was read last may not stand there.
-fn bad_form(lines: &Lines) -> ReadError
-    ensures { result ≡ BadLine lines.now.read Form }
-{
-    ReadError::BadLine {
-        line: lines.read(),
-        why: LineFault::Form,
-    }
 }
 
 // Reads the lines after the header up to the last line.
@@ -54,34 +43,16 @@ fn read_epochs(
         }
         if (values.len() as u64) < slots_after(setup, epochs.as_slice()) {
             let Some(value) = value_in(alloc, setup.version, line)? else {
-                return Err(bad_form(lines));
+                return Err(bad_line(lines, LineFault::Form));
             };
             values.push(value)?;
         } else {
             let Some(cert) = cert_in(alloc, Epoch(epochs.len() as u64), line)? else {
-                return Err(bad_form(lines));
+                return Err(bad_line(lines, LineFault::Form));
             };
             let values = mem::replace(&mut values, Seq::new(alloc));
             epochs.push(CertifiedEpoch { values, cert })?;
         }
-    }
-}
-
-// Nothing may stand after the last line.
-fn read_behind(lines: &mut Lines) -> Result<(), ReadError>
-    requires { lines.old.read < 2 ^ 32 - 1 }
-    ensures ok { OnOk result (lines.old.rest ≡ []) }
-    ensures bad { IfErr result (IsBehindRefused lines.old) }
-{
-    if lines.is_done() {
-        return Ok(());
-    }
-    match lines.next() {
-        Ok(_line) => Err(bad_form(lines)),
-        Err(why) => Err(ReadError::BadLine {
-            line: lines.read(),
-            why,
-        }),
     }
 }
 

@@ -12,7 +12,7 @@ use Rattle.iss_checkpoint.proofs.TallyLemmas.{below-same}
 use Rattle.iss_checkpoint.specs.Tallies.{IsCounted, TallyState, certificate, certificate_by, refusal, vote_at, with_vote}
 use Rattle.iss_checkpoint.specs.Votes.{Voters, is_signed, statement_of}
 use Rattle.iss_checkpoint.specs.declared.tallies.Refusal.{Refusal}
-use Rattle.iss_checkpoint.specs.declared.tallies.Refusal.TheVariants.{BadSignature as Unsigned, OtherEpoch, Twice}
+use Rattle.iss_checkpoint.specs.declared.tallies.Refusal.TheVariants.{BadSignature as Refusal_bad_signature, OtherEpoch, Twice}
 use Rattle.iss_checkpoint.specs.declared.votes.Cert.{Cert}
 use Rattle.iss_sb.specs.declared.signers.Signed.{Signed}
 use Rattle.iss_checkpoint.specs.declared.votes.Vote.{Vote}
@@ -110,7 +110,7 @@ record IsFree (t : TallyState) (v : Vote) : Type 0 where
   free : is_some (vote_at t.votes v.by.0) ≡ false
 
 abbrev by-tests : (e s k : Bool) → Option Refusal
-by-tests e s k = cond (not e) (Some OtherEpoch) (cond (not s) (Some Unsigned) (cond k (Some Twice) None))
+by-tests e s k = cond (not e) (Some OtherEpoch) (cond (not s) (Some Refusal_bad_signature) (cond k (Some Twice) None))
 
 free-of : (t : TallyState) (v : Vote) → refusal t v ≡ None → IsFree t v
 free-of t v h = go (v.epoch.0 == t.epoch) (is_signed t.voters (statement_of t.voters v) v.by.0 v.sig) refl (is_some (vote_at t.votes v.by.0)) refl h
@@ -118,7 +118,7 @@ free-of t v h = go (v.epoch.0 == t.epoch) (is_signed t.voters (statement_of t.vo
     go : (e s : Bool) → is_signed t.voters (statement_of t.voters v) v.by.0 v.sig ≡ s → (k : Bool) → is_some (vote_at t.votes v.by.0) ≡ k → by-tests e s k ≡ None → IsFree t v
     go true true qs false qk r = record { signed = qs; free = qk }
     go true true qs true qk r = absurd (none-some Twice (sym r))
-    go true false qs k qk r = absurd (none-some Unsigned (sym r))
+    go true false qs k qk r = absurd (none-some Refusal_bad_signature (sym r))
     go false s qs k qk r = absurd (none-some OtherEpoch (sym r))
 
 record IsTwice (t : TallyState) (v : Vote) : Type 0 where
@@ -134,29 +134,29 @@ twice-of t v h = go (v.epoch.0 == t.epoch) (is_signed t.voters (statement_of t.v
     apart : OtherEpoch ≡ Twice → ⊥
     apart q = absurd (cc)
 
-    unlike : Unsigned ≡ Twice → ⊥
+    unlike : Refusal_bad_signature ≡ Twice → ⊥
     unlike q = absurd (cc)
 
     go : (e s : Bool) → is_signed t.voters (statement_of t.voters v) v.by.0 v.sig ≡ s → (k : Bool) → is_some (vote_at t.votes v.by.0) ≡ k → by-tests e s k ≡ Some Twice → IsTwice t v
     go true true qs true qk r = record { signed = qs; there = qk }
     go true true qs false qk r = absurd (none-some Twice r)
-    go true false qs k qk r = absurd (unlike (clash Unsigned Twice r))
+    go true false qs k qk r = absurd (unlike (clash Refusal_bad_signature Twice r))
     go false s qs k qk r = absurd (apart (clash OtherEpoch Twice r))
 
 -- A vote on the tally's epoch that is refused for its signature is not signed.
-unsigned-of : (t : TallyState) (v : Vote) → v.epoch.0 ≡ t.epoch → (refusal t v ≡ Some Unsigned) ⊎ (refusal t v ≡ Some OtherEpoch) → is_signed t.voters (statement_of t.voters v) v.by.0 v.sig ≡ false
+unsigned-of : (t : TallyState) (v : Vote) → v.epoch.0 ≡ t.epoch → (refusal t v ≡ Some Refusal_bad_signature) ⊎ (refusal t v ≡ Some OtherEpoch) → is_signed t.voters (statement_of t.voters v) v.by.0 v.sig ≡ false
 unsigned-of t v same h = go (v.epoch.0 == t.epoch) own (is_signed t.voters (statement_of t.voters v) v.by.0 v.sig) refl (is_some (vote_at t.votes v.by.0)) h
   where
     own : (v.epoch.0 == t.epoch) ≡ true
     own = ap (λ (k : ℕ). v.epoch.0 == k) (sym same) ∙ eqb-same v.epoch.0
 
-    go : (e : Bool) → e ≡ true → (s : Bool) → is_signed t.voters (statement_of t.voters v) v.by.0 v.sig ≡ s → (k : Bool) → (by-tests e s k ≡ Some Unsigned) ⊎ (by-tests e s k ≡ Some OtherEpoch) →
+    go : (e : Bool) → e ≡ true → (s : Bool) → is_signed t.voters (statement_of t.voters v) v.by.0 v.sig ≡ s → (k : Bool) → (by-tests e s k ≡ Some Refusal_bad_signature) ⊎ (by-tests e s k ≡ Some OtherEpoch) →
         is_signed t.voters (statement_of t.voters v) v.by.0 v.sig ≡ false
     go false qe s qs k r = absurd (true≢false (sym qe))
     go true qe false qs k r = qs
-    go true qe true qs false (inl r) = absurd (none-some Unsigned r)
+    go true qe true qs false (inl r) = absurd (none-some Refusal_bad_signature r)
     go true qe true qs false (inr r) = absurd (none-some OtherEpoch r)
-    go true qe true qs true (inl r) = let q = some-injective Twice Unsigned r in absurd (cc)
+    go true qe true qs true (inl r) = let q = some-injective Twice Refusal_bad_signature r in absurd (cc)
     go true qe true qs true (inr r) = let q = some-injective Twice OtherEpoch r in absurd (cc)
 
 -- ---- the results of a count
@@ -229,7 +229,7 @@ module _ (b : BallotsState) (v : Vote) (votes : List Vote) (certs : List Cert) (
     by-voters : (s : Bool) → is_signed t.voters (statement_of t.voters v) v.by.0 v.sig ≡ s → is_true b.voters v ≡ s
     by-voters s h = ap (λ (w : Voters). is_true w v) (sym tally.0) ∙ h
 
-    pub tallied-unsigned : (refusal t v ≡ Some Unsigned) ⊎ (refusal t v ≡ Some OtherEpoch) → IsTaken votes certs v (set-at (Open t)) BadSignature
+    pub tallied-unsigned : (refusal t v ≡ Some Refusal_bad_signature) ⊎ (refusal t v ≡ Some OtherEpoch) → IsTaken votes certs v (set-at (Open t)) BadSignature
     tallied-unsigned h = (by-voters false (unsigned-of t v (sym tally.1) h), same-kept (Open t) at)
 
     held-is : (s : Bool) → is_some (vote_at t.votes v.by.0) ≡ s → is_held votes certs v ≡ s

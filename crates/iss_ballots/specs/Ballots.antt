@@ -8,7 +8,7 @@ use Rattle.iss_ballots.specs.declared.ballots.Taking.{Taking}
 use Rattle.iss_ballots.specs.declared.ballots.Taking.TheVariants.{BadSignature, Counted, Known}
 use Rattle.iss_checkpoint.specs.Tallies.{IsCounted, TallyState, certificate, certificate_by, refusal, vote_at}
 use Rattle.iss_checkpoint.specs.Votes.{Voters, is_signed, statement_of}
-use Rattle.iss_checkpoint.specs.declared.tallies.Refusal.TheVariants.{BadSignature as Unsigned, OtherEpoch, Twice}
+use Rattle.iss_checkpoint.specs.declared.tallies.Refusal.TheVariants.{BadSignature as Refusal_bad_signature, OtherEpoch, Twice}
 use Rattle.iss_checkpoint.specs.declared.votes.Cert.{Cert}
 use Rattle.iss_checkpoint.specs.declared.votes.Vote.{Vote}
 use Rattle.iss_rules.specs.Votes.{cert_on, vote_by}
@@ -82,7 +82,7 @@ abbrev pub IsTakenAt : Ballot → Vote → Ballot → Taking → Type 0
 IsTakenAt (Stable cert) v new Known = new ≡ Stable cert
 IsTakenAt (Stable cert) v new Counted = ⊥
 IsTakenAt (Stable cert) v new BadSignature = ⊥
-IsTakenAt (Open t) v new BadSignature = ((refusal t v ≡ Some Unsigned) ⊎ (refusal t v ≡ Some OtherEpoch))
+IsTakenAt (Open t) v new BadSignature = ((refusal t v ≡ Some Refusal_bad_signature) ⊎ (refusal t v ≡ Some OtherEpoch))
     × (new ≡ Open t)
 IsTakenAt (Open t) v new Known = (refusal t v ≡ Some Twice) × (new ≡ Open t)
 IsTakenAt (Open t) v new Counted = IsCountedAt t v new

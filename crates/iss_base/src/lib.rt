@@ -1,3 +1,4 @@
-//! Definitions and facts about lists that several crates share: lists kept newest first, membership, and the
-//! intersection of quorums.
+//! What several crates share: lists kept newest first, membership, the intersection of quorums, and heights of keys.
 #![tactic(auto)]
+
+pub mod heights;

@@ -9,7 +9,7 @@ use Rattle.iss_request.specs.Log.{same_id, ids}
 use Rattle.iss_request.specs.declared.ids.ReqId.{ReqId}
 use Rattle.iss_request.specs.declared.requests.Request.{Request}
 use Rattle.iss_request.proofs.Identities.{same_id-flip, same_id-self, same_id-tells}
-use Rattle.iss_buckets.specs.Filed.{AreFiled, kept_at, number_of}
+use Rattle.iss_buckets.specs.Internal.Filed.{AreFiled, kept_at, number_of}
 use Rattle.iss_buckets.specs.Waiting.{waits, absent}
 
 abbrev Entries : Type 0

@@ -11,7 +11,7 @@ use Rattle.iss_request.specs.declared.ids.NodeId.{NodeId}
 use Rattle.iss_request.specs.declared.ids.ReqId.{ReqId}
 use Rattle.iss_request.specs.declared.requests.Request.{Request}
 use Rattle.iss_layout.specs.Layout.{Plan, bucket_of, bucket_owner, is_node}
-use Rattle.iss_buckets.specs.Filed.{AreFiled, FailFrom, IsNext, PassesFirst, is_unmarked_in, kept_at, least_of}
+use Rattle.iss_buckets.specs.Internal.Filed.{AreFiled, FailFrom, IsNext, PassesFirst, is_unmarked_in, kept_at, least_of}
 use Rattle.iss_buckets.specs.Waiting.{may_cast, cut, uncut}
 use Rattle.iss_buckets.proofs.CutLemmas.{cut-hit, cut-zero, uncut-hit, uncut-zero}
 use Rattle.iss_buckets.proofs.FiledLemmas.{kept_tail, kept_from, kept_later, kept_less, without, without_here, without_later}

@@ -8,7 +8,7 @@ use Rattle.iss_base.proofs.Lists.{eqb-other, eqb-same, is-eq, same_number, some-
 use Rattle.iss_request.specs.Log.{has_id}
 use Rattle.iss_request.specs.declared.ids.ReqId.{ReqId}
 use Rattle.iss_request.specs.declared.requests.Request.{Request}
-use Rattle.iss_buckets.specs.Filed.{AreFiled, AreQueued, FailBetween, IsNext, IsSetAt, bucket_of_id, has_number, is_in_bucket, is_unmarked_in, kept_at}
+use Rattle.iss_buckets.specs.Internal.Filed.{AreFiled, AreQueued, FailBetween, IsNext, IsSetAt, bucket_of_id, has_number, is_in_bucket, is_unmarked_in, kept_at}
 use Rattle.iss_buckets.proofs.FiledLemmas.{kept_less, kept_more, same_or, without}
 
 pub queued_none : (es : List (ℕ × Request)) → AreQueued es []

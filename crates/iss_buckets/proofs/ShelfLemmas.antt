@@ -7,8 +7,8 @@ use Rattle.std.specs.Ordering.{nat_cmp}
 use Rattle.iss_request.specs.Log.{ids, same_id}
 use Rattle.iss_request.specs.declared.ids.ReqId.{ReqId}
 use Rattle.iss_request.specs.declared.requests.Request.{Request}
-use Rattle.iss_buckets.specs.Filed.{AreFiled, AreQueued, IsSetAt, bucket_of_id, has_number, kept_at, number_of}
-use Rattle.iss_buckets.specs.Shelves.{IsShelf}
+use Rattle.iss_buckets.specs.Internal.Filed.{AreFiled, AreQueued, IsSetAt, bucket_of_id, has_number, kept_at, number_of}
+use Rattle.iss_buckets.specs.Internal.Shelves.{IsShelf}
 use Rattle.iss_buckets.proofs.FiledLemmas.{below_less, below_more, filed_less, filed_more, insert_last, kept_later, known_less, known_more, without}
 use Rattle.iss_buckets.proofs.QueueLemmas.{queued_more}
 

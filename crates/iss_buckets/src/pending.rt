@@ -5,7 +5,7 @@ ghost use Rattle.std.specs.Ordering.{is_eq, nat_cmp};
 ghost use Rattle.iss_base.specs.Lists.{Different};
 ghost use Rattle.iss_request.specs.Log.{has_id, ids};
 ghost use Rattle.iss_request.specs.declared.ids.ReqId.{ReqId};
-ghost use Rattle.iss_buckets.specs.Filed.{AreFiled, AreQueued, IsNext, IsSetAt, bucket_of_id, is_unmarked_in, kept_at, least_of, number_of};
+ghost use Rattle.iss_buckets.specs.Internal.Filed.{AreFiled, AreQueued, IsNext, IsSetAt, bucket_of_id, is_unmarked_in, kept_at, least_of, number_of};
 ghost use Rattle.iss_buckets.specs.Waiting.{waits, may_cast, cut, uncut, absent, AreNew};
 
 use crate::queues::{Queues, bucket_of};
@@ -35,7 +35,7 @@ impl Model for Pending {
     ghost use Rattle.std.specs.Prelude.{List};
     ghost use Rattle.std.specs.Map.{values_of};
     ghost use Rattle.iss_request.specs.declared.requests.Request.{Request};
-    ghost use Rattle.iss_buckets.specs.Filed.{AreFiled, AreQueued};
+    ghost use Rattle.iss_buckets.specs.Internal.Filed.{AreFiled, AreQueued};
 
     ghost Value = { List Request };
 

@@ -2,7 +2,7 @@
 ghost use Rattle.std.specs.Prelude.{◌≡◌, ◌<◌, ◌≤◌, [], length, replicate, true, false, ℕ, None, IfOk, IfSome, IfNone, OnOk, OnErr};
 ghost use Rattle.std.specs.BTreeSet.{contains};
 ghost use Rattle.std.specs.Ordering.{nat_cmp};
-ghost use Rattle.iss_buckets.specs.Filed.{IsSetAt, bucket_of_id, has_number};
+ghost use Rattle.iss_buckets.specs.Internal.Filed.{IsSetAt, bucket_of_id, has_number};
 
 use iss_request::{NoMemory, ReqId};
 use std::alloc::Global;

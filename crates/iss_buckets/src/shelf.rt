@@ -4,7 +4,7 @@ ghost use Rattle.std.specs.Map.{remove_entry, values_of};
 ghost use Rattle.std.specs.Option.{option_copied};
 ghost use Rattle.std.specs.Ordering.{is_eq, nat_cmp};
 ghost use Rattle.iss_request.specs.Log.{ids};
-ghost use Rattle.iss_buckets.specs.Filed.{AreFiled, AreQueued, kept_at, number_of};
+ghost use Rattle.iss_buckets.specs.Internal.Filed.{AreFiled, AreQueued, kept_at, number_of};
 ghost use Rattle.iss_buckets.specs.Waiting.{waits};
 
 use crate::queues::{Queues, bucket_of};
@@ -25,7 +25,7 @@ pub(crate) struct Shelf {
 impl Model for Shelf {
     ghost use Rattle.std.specs.Prelude.{List, ℕ};
     ghost use Rattle.iss_request.specs.declared.requests.Request.{Request};
-    ghost use Rattle.iss_buckets.specs.Shelves.{IsShelf};
+    ghost use Rattle.iss_buckets.specs.Internal.Shelves.{IsShelf};
 
     ghost Value = { List (ℕ × Request) };
 

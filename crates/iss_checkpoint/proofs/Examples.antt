@@ -4,7 +4,7 @@ use Rattle.iss_keys.specs.VerifiedBy.{is_true_under, is_verified_by}
 use Rattle.iss_sb.specs.Statements.{wide_bytes}
 use Rattle.iss_sb.specs.declared.signers.Signed.{Signed}
 use Rattle.iss_checkpoint.specs.declared.votes.Vote.{Vote}
-use Rattle.iss_checkpoint.specs.declared.tallies.Refusal.TheVariants.{OtherEpoch, BadSignature}
+use Rattle.iss_checkpoint.specs.declared.tallies.Refusal.TheVariants.{OtherEpoch, BadSignature as Refusal_bad_signature}
 use Rattle.iss_checkpoint.specs.Tallies.{TallyState, certificate, refusal, signed_below, vote_at, with_vote}
 use Rattle.iss_checkpoint.specs.Votes.{vote_statement}
 
@@ -35,7 +35,7 @@ other_epoch : refusal (record tally { epoch = 4 }) (vote 3 9) ≡ Some OtherEpoc
 other_epoch = refl
 
 -- a directory without keys
-no_key : refusal tally (vote 3 9) ≡ Some BadSignature
+no_key : refusal tally (vote 3 9) ≡ Some Refusal_bad_signature
 unfolding is_verified_by is_true_under
 no_key = refl
 

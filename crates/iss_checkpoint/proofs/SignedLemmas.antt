@@ -1,5 +1,5 @@
 -- Signatures that are checked one after another, and what follows for a certificate.
-use Rattle.std.proofs.Common.{◌≡◌, ◌↔◌, inl, inr, ℕ, suc, ◌<◌, ◌≤◌, ◌^◌, Bool, true, false, IsTrue, ◌&&◌, ◌||◌, ◌==◌, not, eqb, List, [], ◌∷◌, ◌++◌, length, take, drop, zero, refl, sym, ap, ◌∙◌, arith, append_assoc, true≢false}
+use Rattle.std.proofs.Common.{◌≡◌, ◌↔◌, inl, inr, ℕ, suc, ◌+◌, ◌<◌, ◌≤◌, ◌^◌, Bool, true, false, IsTrue, ◌&&◌, ◌||◌, ◌==◌, not, eqb, List, [], ◌∷◌, ◌++◌, length, take, drop, zero, refl, sym, ap, ◌∙◌, arith, append_assoc, true≢false}
 use Rattle.std.specs.Prelude.{nat_le, nat_lt}
 use Rattle.std.specs.Int.{to_be_bytes, w64}
 use Rattle.std.proofs.lemmas.Bool.{le-leb, leb-true, lt-leb, lt-ltb, ltb-true}
@@ -9,7 +9,7 @@ use borrow.Rule.Slice.PartMut.{put_mid}
 use Rattle.iss_base.specs.Lists.{In}
 use Rattle.iss_base.specs.Quorum.{all_below, distinct, mem}
 use Rattle.iss_base.proofs.Lists.{and-true, both, is-eq, not-true, same-test}
-use Rattle.iss_base.proofs.Quorum.{count-distinct, count-length, count-less, count-some}
+use Rattle.iss_base.proofs.Quorum.{count-both, count-distinct, count-length, count-less, count-some}
 use Rattle.iss_keys.specs.Directories.{DirectoryView, VerifiesBy}
 use Rattle.iss_keys.specs.KeyStates.{PublicKeyView}
 use Rattle.iss_keys.specs.VerifiedBy.{is_verified_by}
@@ -165,7 +165,7 @@ different w st from (x ∷ xs) h =
     both (not (mem x.by.0 (numbers xs))) (distinct (numbers xs)) (ap not none) (different w st (suc x.by.0) xs h.2)
 
 -- the signer of a number among them
-record Signs (w : Voters) (st : List ℕ) (k : ℕ) (xs : List Signed) : Type 0 where
+pub record Signs (w : Voters) (st : List ℕ) (k : ℕ) (xs : List Signed) : Type 0 where
   pub signer : Signed
   pub among : In signer xs
   pub is : signer.by.0 ≡ k
@@ -233,3 +233,19 @@ correct-signer s d c good h =
     let not_bad : has_node r.0 s.faulty ≡ false = has-mem r.0 s.faulty ∙ not-true (mem r.0 bad) t.1 in
     let correct : is_correct s r.0 ≡ true = both (nat_lt r.0 s.n) (not (has_node r.0 s.faulty)) low (rw not_bad refl) in
     record { signer = one.signer; among = one.among; correct = rw one.is correct; signed = one.signed.1 }
+
+-- ---- any nodes that are more than those outside a quorum
+
+pub signer-among : (s : Setup) (d : DirectoryView) (c : Cert) (ts : List ℕ) → is_cert (voters_of s d) c ≡ true → all_below s.n ts ≡ true → distinct ts ≡ true → s.n < s.quorum + length ts →
+    (k : ℕ) × (mem k ts ≡ true) × Signs (voters_of s d) (cert_statement (voters_of s d) c) k c.signers
+signer-among s d c ts h below apart many =
+    let w = voters_of s d in
+    let st = cert_statement w c in
+    let is = (cert-means w c).0 h in
+    let ks = numbers c.signers in
+    let signed = count-distinct s.n ks (below-all w st 0 c.signers is.signed) (different w st 0 c.signers is.signed) in
+    let trusted = count-distinct s.n ts below apart in
+    let shared = count-both (λ k. mem k ks) (λ k. mem k ts) s.n in
+    let r = count-some (λ k. mem k ks && mem k ts) s.n (omega (arith, is.quorum, numbers-length c.signers, signed, trusted, shared, many)) in
+    let t = and-true (mem r.0 ks) (mem r.0 ts) r.2 in
+    (r.0, t.1, signer-of w st 0 r.0 c.signers is.signed t.0)

@@ -6,7 +6,8 @@ use Rattle.std.proofs.lemmas.Bool.{lt-ltb, ltb-true}
 use Rattle.std.proofs.lemmas.Bool.Decides.{Decides-eqb}
 use Rattle.iss_base.proofs.Lists.{and-true, both}
 use Rattle.iss_request.specs.Fields.{Good, IsBad, IsReadAgain}
-use Rattle.iss_request.specs.Formats.{is_height, is_signature, parse_signature}
+use Rattle.iss_base.specs.Heights.{is_height}
+use Rattle.iss_request.specs.Formats.{is_signature, parse_signature}
 use Rattle.iss_request.specs.Parsing.{Parser, ◌>>=◌, block, byte, done, number, such_that}
 use Rattle.iss_request.proofs.OneSpelling.{done_good, signature_again, signature_parts}
 use Rattle.iss_request.proofs.ParserLemmas.{block_again, block_parts, byte_again, done_parts, first_bad, number_again, number_parts, test_failed, then_bad, then_good, then_parts, wide64}

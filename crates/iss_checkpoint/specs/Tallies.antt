@@ -9,7 +9,7 @@ use Rattle.iss_request.specs.declared.errors.NoMemory.{NoMemory}
 use Rattle.iss_checkpoint.specs.declared.tallies.Added.{Added}
 use Rattle.iss_checkpoint.specs.declared.tallies.Added.TheVariants.{Counted, Stable, Refused}
 use Rattle.iss_checkpoint.specs.declared.tallies.Refusal.{Refusal}
-use Rattle.iss_checkpoint.specs.declared.tallies.Refusal.TheVariants.{OtherEpoch, BadSignature, Twice}
+use Rattle.iss_checkpoint.specs.declared.tallies.Refusal.TheVariants.{OtherEpoch, BadSignature as Refusal_bad_signature, Twice}
 use Rattle.iss_checkpoint.specs.declared.votes.Cert.{Cert}
 use Rattle.iss_sb.specs.declared.signers.Signed.{Signed}
 use Rattle.iss_checkpoint.specs.declared.votes.Vote.{Vote}
@@ -36,7 +36,7 @@ with_vote votes v k = if v.by.0 == k then Some v else vote_at votes k
 abbrev pub refusal : TallyState → Vote → Option Refusal
 refusal t v =
     if not (v.epoch.0 == t.epoch) then Some OtherEpoch
-    else if not (is_signed t.voters (statement_of t.voters v) v.by.0 v.sig) then Some BadSignature
+    else if not (is_signed t.voters (statement_of t.voters v) v.by.0 v.sig) then Some Refusal_bad_signature
     else if is_some (vote_at t.votes v.by.0) then Some Twice
     else None
 

@@ -1,8 +1,8 @@
 -- Bytes that are read and written piece by piece.
-use Rattle.std.proofs.Common.{◌∙◌, ◌≡◌, inl, inr, ℕ, ◌+◌, ◌<◌, ◌≤◌, Option, None, Some, Ok, IsErrOf, List, [], ◌++◌, length, take, drop, refl, sym, ap, subst, arith, append_assoc, length-append, length-drop}
+use Rattle.std.proofs.Common.{◌∙◌, ◌≡◌, inl, inr, ℕ, zero, suc, ◌+◌, ◌<◌, ◌≤◌, Option, None, Some, Ok, IsErrOf, List, [], ◌++◌, length, take, drop, refl, sym, ap, subst, arith, append_assoc, length-append, length-drop}
 use Rattle.std.proofs.Math.Seq.{take-add}
 use Rattle.std.proofs.lemmas.List.{append-nil, drop-drop, take_at, take_all, length-take, length-take-le}
-use Rattle.iss_cli.specs.Ends.{IfTold, Taken, Takes, Drains, and_more}
+use Rattle.iss_cli.specs.Ends.{IfTold, Taken, Takes, Drains, and_more, empties_after}
 
 pub and_more_nil : (h : Option (List ℕ)) → and_more h [] ≡ h
 and_more_nil None = refl
@@ -63,12 +63,12 @@ pub read_end :
     (most : ℕ) (left now next : Option (List ℕ)) (bytes bytes_now slice slice_now : List ℕ) (n : ℕ)
     → IsRead left now bytes → length bytes ≤ most → n ≡ 0 → 0 < length slice → Takes n now next slice slice_now → bytes_now ≡ bytes ++ take n slice_now
     → IfTold left (λ all. bytes_now ≡ take most all)
-read_end most None now next bytes bytes_now slice slice_now n h small zero room t is = tt
-read_end most (Some all) now next bytes bytes_now slice slice_now n h small zero room t is =
+read_end most None now next bytes bytes_now slice slice_now n h small nothing room t is = tt
+read_end most (Some all) now next bytes bytes_now slice slice_now n h small nothing room t is =
     let P : Option (List ℕ) → Type 0 = λ o. Takes n o next slice slice_now in
     let taken : Taken n (drop (length bytes) all) next slice slice_now = subst P h.1 t in
-    let same : bytes_now ≡ bytes = is ∙ ap (λ k. bytes ++ take k slice_now) zero ∙ append-nil bytes in
-    elim (taken.end zero) [
+    let same : bytes_now ≡ bytes = is ∙ ap (λ k. bytes ++ take k slice_now) nothing ∙ append-nil bytes in
+    elim (taken.end nothing) [
       | inl none ↦ (
           let short : length all ≤ length bytes = omega (arith, length-drop (length bytes) all, ap length none) in
           same ∙ h.0 ∙ take_all (length bytes) all short ∙ sym (take_all most all (omega arith)))
@@ -98,3 +98,13 @@ taken_drains n room (Some left) next slice slice_now t l = (n, l, t.rest)
 pub none_drains : (room : ℕ) (now next : Option (List ℕ)) → next ≡ now → Drains room now next
 none_drains room None next e = e
 none_drains room (Some left) next e = (0, omega arith, e)
+
+-- ---- reads that gave nothing
+
+pub gave_some : (n k : ℕ) → (n ≡ 0 → ⊥) → empties_after n k ≡ k
+gave_some zero k some = absurd (some refl)
+gave_some (suc n) k some = refl
+
+pub one_at_most : (n k now : ℕ) → now ≡ empties_after n k → now ≤ k + 1
+one_at_most zero k now is = omega (arith, is)
+one_at_most (suc n) k now is = omega (arith, is)

@@ -1,3 +1,4 @@
+pub mod BelievingLemmas
 pub mod EndLemmas
-pub mod ReportLemmas
 pub mod TopLemmas
+pub mod ViewLemmas

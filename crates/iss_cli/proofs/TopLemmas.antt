@@ -1,20 +1,49 @@
--- The answer to words, and to an input that was read up to a bound.
-use Rattle.std.proofs.Common.{◌∙◌, ◌≡◌, ◌⊎◌, inl, inr, ℕ, ◌<◌, ◌≤◌, Bool, true, false, ◌↔◌, Option, None, Some, List, [], ◌∷◌, length, take, map, codes, refl, sym, ap, subst, arith, string_bytes, get_or}
+-- The answer to an order and its input, of which a bounded front was read.
+use Rattle.std.proofs.Common.{◌≡◌, ◌∙◌, ◌⊎◌, inl, inr, ℕ, ◌<◌, ◌≤◌, Bool, true, false, Option, None, Some, Result, Ok, Err, List, [], length, take, refl, sym, ap, subst, arith}
 use Rattle.std.specs.Bool.{IsTrue}
-use Rattle.std.specs.declared.string.String.{String}
 use Rattle.std.proofs.lemmas.Bool.Decides.{leb_tells}
 use Rattle.std.proofs.lemmas.List.{take_all, length-take}
 use Rattle.iss_schedule.specs.Schedules.{most_bytes}
+use Rattle.iss_schedule.specs.declared.schedules.Schedule.{Schedule}
+use Rattle.iss_words.specs.Commands.{Asks}
+use Rattle.iss_words.specs.declared.orders.Order.{Order}
+use Rattle.iss_words.specs.declared.orders.Order.TheVariants.{Replay, Lab, Replies, Answers}
 use Rattle.iss_cli.specs.declared.answers.Answer.{Answer}
-use Rattle.iss_cli.specs.Answers.{AskReplay, IsAnswer, IsAnswered, refused_words}
-use Rattle.iss_cli.specs.Ends.{IfTold}
+use Rattle.iss_schedule.specs.BadLines.{IsBadLine}
+use Rattle.iss_schedule.specs.declared.errors.LineFault.{LineFault}
+use Rattle.iss_cli.specs.Answers.{IsAnswer, IsOfReplies, IsOfSchedule, Reads, refused_words}
+use Rattle.iss_cli.specs.Calls.{Ends, IsAnswerTo, IsAnswered, Prints}
+use Rattle.iss_cli.specs.Ends.{IfTold, IsDrained}
+use Rattle.iss_cli.specs.Views.{IsShown}
+use Rattle.iss_cli.specs.declared.status.Status.{Status}
+use Rattle.iss_cli.specs.declared.status.Status.TheVariants.{Answered, NoMemory, SourceFailed, SinkFailed}
+use Rattle.iss_cli.specs.declared.views.View.TheVariants.{Full}
+use Rattle.iss_words.specs.declared.orders.WordsError.{WordsError}
+use Rattle.iss_words.specs.declared.orders.WordsError.TheVariants.{Refused}
+
+-- ---- an order that reads nothing
 
 some_input : (left : Option (List ℕ)) → (input : List ℕ) × IfTold left (λ bytes. input ≡ bytes)
 some_input None = ([], tt)
 some_input (Some bytes) = (bytes, refl)
 
-pub answered_words : (words : List (List ℕ)) (left : Option (List ℕ)) (a : Answer) → (AskReplay words → ⊥) → a ≡ refused_words → IsAnswered words left a
-answered_words words left a others e = let i = some_input left in record { input = i.0; whole = i.1; right = inr (others, e) }
+same_answer : (order : Order) (input other : List ℕ) (a : Answer) → (Reads order → ⊥) → IsAnswer order input a → IsAnswer order other a
+same_answer Replay input other a unread is = absurd (unread tt)
+same_answer (Lab number events) input other a unread is = is
+same_answer Replies input other a unread is = absurd (unread tt)
+same_answer Answers input other a unread is = absurd (unread tt)
+
+pub answer_unread : (order : Order) (left : Option (List ℕ)) (input : List ℕ) (a : Answer) → (Reads order → ⊥) → IsAnswer order input a → IsAnswerTo order left left a
+answer_unread order left input a unread is =
+    let any = some_input left in
+    record {
+      input = any.0;
+      whole = any.1;
+      right = same_answer order input any.0 a unread is;
+      drained = λ reads. absurd (unread reads);
+    }
+
+-- ---- an order that reads the input
 
 at_most_or_more : (a b : ℕ) → (a ≤ b) ⊎ (b < a)
 at_most_or_more a b = elim (leb_tells a b) [ inl h ↦ inl h.1 | inr h ↦ inr h.1 ]
@@ -23,30 +52,65 @@ long_front : (limit most : ℕ) (all : List ℕ) → limit < most → limit < le
 long_front limit most all h l = omega (arith, length-take most all)
 
 -- An input that is too long is refused for its size, and so is its prefix that was read.
-answer_of_front : (most : ℕ) (all : List ℕ) (a : Answer) → most_bytes < most → IsAnswer (take most all) a → IsAnswer all a
-answer_of_front most all a h answer = go (at_most_or_more (length all) most_bytes) answer
+schedule_of_front : (P : Schedule → Answer → Type 0) (most : ℕ) (all : List ℕ) (a : Answer) → most_bytes < most →
+    IsOfSchedule P (take most all) a → IsOfSchedule P all a
+schedule_of_front P most all a h answer = go (at_most_or_more (length all) most_bytes) answer
   where
-    go : (length all ≤ most_bytes) ⊎ (most_bytes < length all) → IsAnswer (take most all) a → IsAnswer all a
+    go : (length all ≤ most_bytes) ⊎ (most_bytes < length all) → IsOfSchedule P (take most all) a → IsOfSchedule P all a
     go (inl short) answer =
         let whole : take most all ≡ all = take_all most all (omega (arith, short, h)) in
-        let P : List ℕ → Type 0 = λ bytes. IsAnswer bytes a in
-        subst P whole answer
+        let Q : List ℕ → Type 0 = λ bytes. IsOfSchedule P bytes a in
+        subst Q whole answer
     go (inr long) (inl (s, is)) = absurd (omega (arith, is.0.short, long_front most_bytes most all h long))
     go (inr long) (inr (line, (why, (inl bad, e)))) = inr (line, (why, (inl (long, bad.1, bad.2), e)))
     go (inr long) (inr (line, (why, (inr bad, e)))) = absurd (omega (arith, bad.0, long_front most_bytes most all h long))
 
-pub answered_input : (most : ℕ) (words : List (List ℕ)) (left : Option (List ℕ)) (bytes : List ℕ) (a : Answer) → most_bytes < most → AskReplay words → IfTold left (λ all. bytes ≡ take most all) → IsAnswer bytes a → IsAnswered words left a
-answered_input most words None bytes a h ask is answer = record { input = bytes; whole = tt; right = inl (ask, answer) }
-answered_input most words (Some all) bytes a h ask is answer =
-    let P : List ℕ → Type 0 = λ b. IsAnswer b a in
-    record { input = all; whole = refl; right = inl (ask, answer_of_front most all a h (subst P is answer)) }
+-- So is a text of replies.
+replies_of_front : (most : ℕ) (all : List ℕ) (a : Answer) → most_bytes < most → IsOfReplies (take most all) a →
+    IsOfReplies all a
+replies_of_front most all a h answer = go (at_most_or_more (length all) most_bytes) answer
+  where
+    header_of_front : (line : ℕ) (why : LineFault) → most_bytes < length all → (line ≤ 11) × IsBadLine (take most all) line why →
+        (line ≤ 11) × IsBadLine all line why
+    header_of_front line why long (low, inl bad) = (low, inl (long, bad.1, bad.2))
+    header_of_front line why long (low, inr bad) = absurd (omega (arith, bad.0, long_front most_bytes most all h long))
+
+    go : (length all ≤ most_bytes) ⊎ (most_bytes < length all) → IsOfReplies (take most all) a → IsOfReplies all a
+    go (inl short) answer =
+        let whole : take most all ≡ all = take_all most all (omega (arith, short, h)) in
+        subst (λ (bytes : List ℕ). IsOfReplies bytes a) whole answer
+    go (inr long) (inl (t, is)) = absurd (omega (arith, is.0.short, long_front most_bytes most all h long))
+    go (inr long) (inr (line, (why, (inl bad, e)))) = inr (line, (why, (inl (header_of_front line why long bad), e)))
+    go (inr long) (inr (line, (why, (inr bad, e)))) = absurd (omega (arith, bad.short, long_front most_bytes most all h long))
+
+-- The answer to the bytes that are read is that to all bytes.
+answer_of_front : (order : Order) (most : ℕ) (all : List ℕ) (a : Answer) → most_bytes < most → IsAnswer order (take most all) a → IsAnswer order all a
+answer_of_front Replay most all a h is = schedule_of_front (IsShown Full) most all a h is
+answer_of_front (Lab number events) most all a h is = is
+answer_of_front Replies most all a h is = schedule_of_front _ most all a h is
+answer_of_front Answers most all a h is = replies_of_front most all a h is
+
+pub answer_read : (order : Order) (left left_now : Option (List ℕ)) (bytes : List ℕ) (a : Answer) → IfTold left (λ all. bytes ≡ take 16777217 all) →
+    IsDrained 16777217 left left_now → IsAnswer order bytes a → IsAnswerTo order left left_now a
+answer_read order None left_now bytes a is drained answer = record { input = bytes; whole = tt; right = answer; drained = λ reads. drained }
+answer_read order (Some all) left_now bytes a is drained answer =
+    let P : List ℕ → Type 0 = λ b. IsAnswer order b a in
+    record { input = all; whole = refl; right = answer_of_front order 16777217 all a (omega arith) (subst P is answer); drained = λ reads. drained }
+
+-- ---- words
 
 pub not_true : (b : Bool) → b ≡ false → IsTrue b → ⊥
 not_true b e t = let wrong : false ≡ true = sym e ∙ t in absurd (cc)
 
--- Of two words the second one counts.
-pub two_words : {Z : Type 0} (words : List (String Z)) (word : String Z) → 2 ≤ length words → length words < 3 → word ≡ get_or words 1 word → AskReplay (map string_bytes words) ↔ (string_bytes word ≡ codes "replay")
-two_words [] word low high is = absurd (omega arith)
-two_words (x ∷ []) word low high is = absurd (omega arith)
-two_words (x ∷ y ∷ []) word low high is = (λ h. ap string_bytes is ∙ h, λ h. sym (ap string_bytes is) ∙ h)
-two_words (x ∷ y ∷ z ∷ zs) word low high is = absurd (omega arith)
+pub answer_refused : (words : List (List ℕ)) (left left_now : Option (List ℕ)) (a : Answer) (r : Result Order WordsError) (e : WordsError) → r ≡ Err e → e ≡ Refused →
+    (r ≡ Err Refused → (order : Order) → Asks words order → ⊥) → a ≡ refused_words → IsAnswered words left left_now a
+answer_refused words left left_now a r e is refused none same = inr (none (is ∙ ap (λ (x : WordsError). Err x) refused), same)
+
+-- ---- the end of a call
+
+pub ends : (words : List (List ℕ)) (left left_now held held_now : Option (List ℕ)) (a : Answer) (status : Status) → IsAnswered words left left_now a →
+    Prints a held held_now status → Ends words left left_now held held_now status
+ends words left left_now held held_now a (Answered outcome) is prints = (a, (is, prints))
+ends words left left_now held held_now a SinkFailed is prints = (a, (is, prints))
+ends words left left_now held held_now a NoMemory is prints = inr (a, (is, prints))
+ends words left left_now held held_now a SourceFailed is prints = absurd prints

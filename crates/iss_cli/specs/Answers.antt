@@ -1,27 +1,26 @@
--- What the program answers to its words and its input. For the text of a schedule it is the report of the run, and
--- else the number of the first bad line and the reason. The whole answer is printed, or a prefix of it where the sink
--- failed or memory ran out. Each exit status says which of these happened, so a failed sink is never passed over.
-use Rattle.std.specs.Prelude.{◌≡◌, ◌⊎◌, ℕ, Option, List, [], ◌∷◌, ◌++◌, take, codes, decimal}
+-- What the program answers to an order and its input. There is one line for each order.
+use Rattle.std.specs.Prelude.{◌≡◌, ◌⊎◌, ℕ, List, [], ◌∷◌, ◌++◌, codes, decimal}
+use Rattle.iss_lab.specs.Generated.{generated}
+use Rattle.iss_schedule.specs.BadLines.{IsBadLine}
+use Rattle.iss_schedule.specs.Schedules.{IsSchedule}
 use Rattle.iss_schedule.specs.declared.errors.LineFault.{LineFault}
 use Rattle.iss_schedule.specs.declared.errors.LineFault.TheVariants.{Cut, Form, Faulty, Injected, Range, Size}
 use Rattle.iss_schedule.specs.declared.schedules.Schedule.{Schedule}
-use Rattle.iss_schedule.specs.BadLines.{IsBadLine}
-use Rattle.iss_schedule.specs.Schedules.{IsSchedule}
+use Rattle.iss_words.specs.declared.orders.Order.{Order}
+use Rattle.iss_words.specs.declared.orders.Order.TheVariants.{Replay, Lab, Replies, Answers}
+use Rattle.iss_answers.specs.Refusals.{IsBadText}
+use Rattle.iss_answers.specs.Texts.{IsTold}
+use Rattle.iss_answers.specs.declared.told.Told.{Told}
+use Rattle.iss_cli.specs.Believing.{AreReplied, IsBelieved}
+use Rattle.iss_cli.specs.Views.{IsShown}
 use Rattle.iss_cli.specs.declared.answers.Answer.{Answer}
-use Rattle.iss_cli.specs.declared.status.Status.{Status}
-use Rattle.iss_cli.specs.declared.status.Status.TheVariants.{Done, NoMemory, RefusedWords, RefusedSchedule, SourceFailed, SinkFailed, Forged, Collision}
-use Rattle.iss_cli.specs.Ends.{IfTold, and_more}
-use Rattle.iss_cli.specs.Reports.{IsReported}
+use Rattle.iss_cli.specs.declared.status.Outcome.TheVariants.{RefusedWords, RefusedInput}
+use Rattle.iss_cli.specs.declared.views.View.TheVariants.{Full, Replied, Summary}
 
--- There are two words: the program's name and `replay`.
-abbrev pub AskReplay : List (List ℕ) → Type 0
-AskReplay [] = ⊥
-AskReplay (program ∷ []) = ⊥
-AskReplay (program ∷ command ∷ []) = command ≡ codes "replay"
-AskReplay (program ∷ command ∷ word ∷ words) = ⊥
+-- ---- refusals
 
 abbrev pub refused_words : Answer
-refused_words = record { printed = codes "refused words" ++ 10 ∷ []; status = RefusedWords }
+refused_words = record { printed = codes "refused words" ++ 10 ∷ []; outcome = RefusedWords }
 
 abbrev pub why_word : LineFault → List ℕ
 why_word Cut = codes "Cut"
@@ -34,81 +33,34 @@ why_word Size = codes "Size"
 abbrev pub refused_line : ℕ → LineFault → Answer
 refused_line line why = record {
   printed = codes "refused line " ++ decimal line ++ codes " " ++ why_word why ++ 10 ∷ [];
-  status = RefusedSchedule;
+  outcome = RefusedInput;
 }
 
--- The answer to an input: the report of the run if the bytes are a schedule, otherwise the first bad line.
-abbrev pub IsAnswer : List ℕ → Answer → Type 0
-IsAnswer bytes a =
-    ((s : Schedule) × (IsSchedule bytes s × IsReported s a))
-    ⊎ ((line : ℕ) × ((why : LineFault) × (IsBadLine bytes line why × (a ≡ refused_line line why))))
+-- The answer to an input that must be a schedule: what P says of it, or the first bad line.
+abbrev pub IsOfSchedule : (Schedule → Answer → Type 0) → List ℕ → Answer → Type 0
+IsOfSchedule P input a =
+    ((s : Schedule) × (IsSchedule input s × P s a))
+    ⊎ ((line : ℕ) × ((why : LineFault) × (IsBadLine input line why × (a ≡ refused_line line why))))
 
--- The answer to words and an input.
-abbrev pub Answers : List (List ℕ) → List ℕ → Answer → Type 0
-Answers words input a = (AskReplay words × IsAnswer input a) ⊎ ((¬ AskReplay words) × (a ≡ refused_words))
+-- The answer to an input that must be a text of replies: what a client makes of them, or the first bad line.
+abbrev pub IsOfReplies : List ℕ → Answer → Type 0
+IsOfReplies input a =
+    ((t : Told) × (IsTold input t × IsBelieved t a))
+    ⊎ ((line : ℕ) × ((why : LineFault) × (IsBadText input line why × (a ≡ refused_line line why))))
 
--- The answer to words and all that the source had left.
-pub record IsAnswered (words : List (List ℕ)) (left : Option (List ℕ)) (answer : Answer) : Type 0 where
-  pub input : List ℕ
-  pub whole : IfTold left (λ bytes. input ≡ bytes)
-  pub right : Answers words input answer
+-- ---- orders
 
--- The whole answer was printed, and the call ends with the answer's status.
-abbrev pub Printed : Answer → Option (List ℕ) → Option (List ℕ) → Status → Type 0
-Printed answer held held_now status = (status ≡ answer.status) × (held_now ≡ and_more held answer.printed)
-
-abbrev pub PrintedPart : Answer → Option (List ℕ) → Option (List ℕ) → Type 0
-PrintedPart answer held held_now = (n : ℕ) × (held_now ≡ and_more held (take n answer.printed))
-
--- How a call ends that had to print this answer. After a failure a prefix was printed.
-abbrev pub Prints : Answer → Option (List ℕ) → Option (List ℕ) → Status → Type 0
-Prints answer held held_now SinkFailed = PrintedPart answer held held_now
-Prints answer held held_now NoMemory = PrintedPart answer held held_now
-Prints answer held held_now SourceFailed = ⊥
-Prints answer held held_now Done = Printed answer held held_now Done
-Prints answer held held_now RefusedWords = Printed answer held held_now RefusedWords
-Prints answer held held_now RefusedSchedule = Printed answer held held_now RefusedSchedule
-Prints answer held held_now Forged = Printed answer held held_now Forged
-Prints answer held held_now Collision = Printed answer held held_now Collision
-
--- The whole effect of a call. If the source fails, nothing is printed. If memory runs out, nothing or a prefix of the
--- answer is printed. Otherwise the answer is printed, or a prefix of it if the sink fails.
-abbrev pub Ends : List (List ℕ) → Option (List ℕ) → Option (List ℕ) → Option (List ℕ) → Status → Type 0
-Ends words left held held_now SourceFailed = AskReplay words × (held_now ≡ held)
-Ends words left held held_now NoMemory = (held_now ≡ held)
-    ⊎ ((answer : Answer) × (IsAnswered words left answer × Prints answer held held_now NoMemory))
-Ends words left held held_now SinkFailed = (answer : Answer)
-    × (IsAnswered words left answer × Prints answer held held_now SinkFailed)
-Ends words left held held_now Done = (answer : Answer)
-    × (IsAnswered words left answer × Prints answer held held_now Done)
-Ends words left held held_now RefusedWords = (answer : Answer)
-    × (IsAnswered words left answer × Prints answer held held_now RefusedWords)
-Ends words left held held_now RefusedSchedule = (answer : Answer)
-    × (IsAnswered words left answer × Prints answer held held_now RefusedSchedule)
-Ends words left held held_now Forged = (answer : Answer)
-    × (IsAnswered words left answer × Prints answer held held_now Forged)
-Ends words left held held_now Collision = (answer : Answer)
-    × (IsAnswered words left answer × Prints answer held held_now Collision)
-
--- The statuses of an answer that is printed whole.
+-- The answer to an order and its input.
 -- rule: Program: Each exit status comes exactly where its cause does
-abbrev pub IsAnswerStatus : Status → Type 0
-IsAnswerStatus Done = Unit {0}
-IsAnswerStatus RefusedWords = Unit {0}
-IsAnswerStatus RefusedSchedule = Unit {0}
-IsAnswerStatus Forged = Unit {0}
-IsAnswerStatus Collision = Unit {0}
-IsAnswerStatus NoMemory = ⊥
-IsAnswerStatus SourceFailed = ⊥
-IsAnswerStatus SinkFailed = ⊥
+abbrev pub IsAnswer : Order → List ℕ → Answer → Type 0
+IsAnswer Replay input a = IsOfSchedule (IsShown Full) input a
+IsAnswer (Lab number events) input a = IsShown Summary (generated number events) a
+IsAnswer Replies input a = IsOfSchedule (λ s answer. IsShown Replied s answer × AreReplied s) input a
+IsAnswer Answers input a = IsOfReplies input a
 
--- The answer is that to an input, whether or not it was printed whole.
-abbrev pub RestsOnInput : List (List ℕ) → Status → Type 0
-RestsOnInput words Done = AskReplay words
-RestsOnInput words RefusedSchedule = AskReplay words
-RestsOnInput words Forged = AskReplay words
-RestsOnInput words Collision = AskReplay words
-RestsOnInput words SinkFailed = AskReplay words
-RestsOnInput words NoMemory = ⊥
-RestsOnInput words RefusedWords = ⊥
-RestsOnInput words SourceFailed = ⊥
+-- the order reads the input
+abbrev pub Reads : Order → Type 0
+Reads Replay = Unit {0}
+Reads (Lab number events) = ⊥
+Reads Replies = Unit {0}
+Reads Answers = Unit {0}

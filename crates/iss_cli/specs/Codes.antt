@@ -1,14 +1,20 @@
 -- The exit status of the program: one number for each way in which a call ends.
 use Rattle.std.specs.Prelude.{ℕ}
+use Rattle.iss_cli.specs.declared.status.Outcome.{Outcome}
+use Rattle.iss_cli.specs.declared.status.Outcome.TheVariants.{Done, RefusedWords, RefusedInput, Forged as Outcome_forged, Collision as Outcome_collision, Unconfirmed}
 use Rattle.iss_cli.specs.declared.status.Status.{Status}
-use Rattle.iss_cli.specs.declared.status.Status.TheVariants.{Done, NoMemory, RefusedWords, RefusedSchedule, SourceFailed, SinkFailed, Forged, Collision}
+use Rattle.iss_cli.specs.declared.status.Status.TheVariants.{Answered, NoMemory, SourceFailed, SinkFailed}
+
+abbrev pub outcome_code : Outcome → ℕ
+outcome_code Done = 0
+outcome_code RefusedWords = 2
+outcome_code RefusedInput = 3
+outcome_code Outcome_forged = 6
+outcome_code Outcome_collision = 7
+outcome_code Unconfirmed = 12
 
 abbrev pub code_of : Status → ℕ
-code_of Done = 0
+code_of (Answered outcome) = outcome_code outcome
 code_of NoMemory = 1
-code_of RefusedWords = 2
-code_of RefusedSchedule = 3
 code_of SourceFailed = 4
 code_of SinkFailed = 5
-code_of Forged = 6
-code_of Collision = 7

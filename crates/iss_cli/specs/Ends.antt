@@ -1,7 +1,8 @@
 -- What sources and sinks of bytes do. A source gives the next bytes of its input, and none only at its end; a sink
--- keeps what it was given. Each counts its failed calls, and the count never falls. A source or sink that tells
--- nothing about its bytes, as real files and pipes do, promises nothing about them.
-use Rattle.std.specs.Prelude.{◌≡◌, ◌⊎◌, ℕ, ◌≤◌, Option, None, Some, List, [], ◌++◌, length, take, drop}
+-- keeps what it was given. Each counts its failed calls, and the count never falls; a source counts the calls that gave
+-- nothing. A source or sink that tells nothing about its bytes, as real files and pipes do, promises nothing about
+-- them.
+use Rattle.std.specs.Prelude.{◌≡◌, ◌⊎◌, ℕ, zero, suc, ◌-◌, ◌^◌, ◌≤◌, min, Option, None, Some, List, [], ◌++◌, length, take, drop}
 pub use Rattle.iss_base.specs.Counts.{Rose}
 
 -- A failure was counted. The count never falls, and it changes only if something failed.
@@ -26,6 +27,12 @@ pub record Taken (n : ℕ) (left : List ℕ) (left_now : Option (List ℕ)) (sli
 abbrev pub Takes : ℕ → Option (List ℕ) → Option (List ℕ) → List ℕ → List ℕ → Type 0
 Takes n None left_now slice slice_now = left_now ≡ None
 Takes n (Some left) left_now slice slice_now = Taken n left left_now slice slice_now
+
+-- How often a source gave nothing, after a call that gave n bytes. The count stops at 2^64 - 1.
+-- rule: Program: Each read but the last gives at least one byte
+abbrev pub empties_after : ℕ → ℕ → ℕ
+empties_after zero count = min (suc count) (2 ^ 64 - 1)
+empties_after (suc n) count = count
 
 -- At most `most` of the remaining bytes were read.
 -- rule: Program: The input is read to its end, at most one byte past the limit

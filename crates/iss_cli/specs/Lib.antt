@@ -1,4 +1,6 @@
 pub mod Answers
+pub mod Believing
+pub mod Calls
 pub mod Codes
 pub mod Ends
-pub mod Reports
+pub mod Views

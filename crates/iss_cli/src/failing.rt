@@ -5,7 +5,7 @@ ghost use Rattle.iss_cli.specs.Ends.{HasCause};
 
 use crate::ends::{Sink, Source};
 use crate::errors::{EndError, Failed};
-use crate::memory::give;
+use crate::memory::{count_empty, give};
 use std::alloc::Global;
 
 /// The calls that fail, by their numbers from 0, and how many have failed.
@@ -52,6 +52,7 @@ pub struct FailingSource {
     at: usize,
     most: usize,
     script: Script,
+    empties: u64,
     ghost within: { at ≤ vec_len bytes },
     ghost some: { 0 < most },
 }
@@ -63,12 +64,14 @@ impl FailingSource {
         ensures at { result.at ≡ 0 }
         ensures most { result.most ≡ max most 1 }
         ensures script { result.script ≡ script }
+        ensures empties { result.empties ≡ 0 }
     {
         FailingSource {
             bytes,
             at: 0,
             most: most.max(1),
             script,
+            empties: 0,
         }
     }
 }
@@ -80,10 +83,13 @@ impl Source for FailingSource {
 
     ghost faults = { λ s. s.script.faults };
 
+    ghost empties = { λ s. s.empties };
+
     fn take(&mut self, into: &mut [u8]) -> Result<usize, Failed> {
         self.script.call()?;
         let taken = give(self.bytes.as_slice(), self.at, into, self.most);
         self.at += taken;
+        self.empties = count_empty(taken, self.empties);
         Ok(taken)
     }
 }

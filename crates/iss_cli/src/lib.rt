@@ -2,6 +2,7 @@
 #![tactic(auto)]
 
 pub mod answers;
+pub mod believing;
 pub mod ends;
 pub mod errors;
 pub mod failing;
@@ -11,12 +12,14 @@ pub mod output;
 pub mod status;
 pub mod streams;
 pub mod top;
+pub mod views;
 
 pub use answers::Answer;
 pub use ends::{Sink, Source};
 pub use errors::{EndError, Failed};
 pub use failing::{FailingSink, FailingSource, Script};
 pub use memory::{MemorySink, MemorySource};
-pub use status::Status;
+pub use status::{Outcome, Status};
 pub use streams::{ReadSource, WriteSink};
 pub use top::{MOST_TAKEN, run};
+pub use views::View;

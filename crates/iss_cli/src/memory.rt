@@ -1,5 +1,6 @@
 //! Sources and sinks in memory that never fail.
-ghost use Rattle.std.specs.Prelude.{◌≡◌, ◌≤◌, ◌-◌, ◌++◌, [], length, take, drop, min};
+ghost use Rattle.std.specs.Prelude.{◌≡◌, ◌≤◌, ◌-◌, ◌++◌, [], length, take, drop, min, vec_len};
+ghost use Rattle.iss_cli.specs.Ends.{empties_after};
 
 use crate::ends::{Sink, Source};
 use crate::errors::{EndError, Failed};
@@ -11,39 +12,51 @@ use std::marker::Model;
 pub struct MemorySource {
     bytes: Vec<u8>,
     at: usize,
-}
-
-impl Model for MemorySource {
-    ghost use Rattle.std.specs.Prelude.{ℕ, List, ◌≤◌, drop, vec_len};
-
-    ghost Value = { List ℕ };
-
-    ghost view = { λ s. drop s.at s.bytes.items };
-
-    ghost invariant = { λ s. s.at ≤ vec_len s.bytes };
+    empties: u64,
+    ghost within: { at ≤ vec_len bytes },
 }
 
 impl MemorySource {
     /// All these bytes are left.
     pub fn new(bytes: Vec<u8>) -> MemorySource
-        ensures { result ≡ bytes.items }
+        ensures bytes { result.bytes ≡ bytes }
+        ensures at { result.at ≡ 0 }
+        ensures empties { result.empties ≡ 0 }
     {
-        MemorySource { bytes, at: 0 }
+        MemorySource {
+            bytes,
+            at: 0,
+            empties: 0,
+        }
     }
 }
 
 impl Source for MemorySource {
-    ghost use Rattle.std.specs.Prelude.{Some};
+    ghost use Rattle.std.specs.Prelude.{Some, drop};
 
-    ghost left = { λ s. Some s };
+    ghost left = { λ s. Some (drop s.at s.bytes.items) };
 
     ghost faults = { λ s. 0 };
+
+    ghost empties = { λ s. s.empties };
 
     fn take(&mut self, into: &mut [u8]) -> Result<usize, Failed> {
         let most = into.len();
         let taken = give(self.bytes.as_slice(), self.at, into, most);
         self.at += taken;
+        self.empties = count_empty(taken, self.empties);
         Ok(taken)
+    }
+}
+
+/// How often a source gave nothing, after a call that gave this many bytes.
+pub fn count_empty(taken: usize, empties: u64) -> u64
+    ensures { result ≡ empties_after taken empties }
+{
+    if taken == 0 {
+        empties.saturating_add(1)
+    } else {
+        empties
     }
 }
 

@@ -1,26 +1,51 @@
 //! How a call ends.
 ghost use Rattle.std.specs.Prelude.{◌≡◌};
-ghost use Rattle.iss_cli.specs.Codes.{code_of};
+ghost use Rattle.iss_cli.specs.Codes.{code_of, outcome_code};
+
+/// What an answer says, once all of it is printed.
+#[derive(Clone, Copy, Debug, PartialEq, Eq)]
+pub enum Outcome {
+    /// Success.
+    Done,
+    /// The words are not a call.
+    RefusedWords,
+    /// The input is not of the form that the command reads.
+    RefusedInput,
+    /// The run stopped: a correct node's signature was forged. What was printed ends with the evidence.
+    Forged,
+    /// The run stopped: two strings have one digest. What was printed ends with the evidence.
+    Collision,
+    /// A client counted a reply to a request, and accepted no answer.
+    Unconfirmed,
+}
 
 /// How the top call ends.
 #[derive(Clone, Copy, Debug, PartialEq, Eq)]
 pub enum Status {
-    /// Success.
-    Done,
-    /// Out of memory. A prefix of the output may have been printed.
+    /// The whole answer was printed.
+    Answered(Outcome),
+    /// Out of memory. A prefix of the answer may have been printed.
     NoMemory,
-    /// The words are not a call.
-    RefusedWords,
-    /// The input is not a schedule.
-    RefusedSchedule,
     /// The source failed. Nothing was printed.
     SourceFailed,
-    /// The sink failed. A prefix of the output may have been printed.
+    /// The sink failed. A prefix of the answer may have been printed.
     SinkFailed,
-    /// The run stopped: a correct node's signature was forged. The report was printed, with the evidence.
-    Forged,
-    /// The run stopped: two strings have one digest. The report was printed, with the evidence.
-    Collision,
+}
+
+impl Outcome {
+    // The exit status of a call whose answer has this outcome.
+    fn code(self) -> u8
+        ensures { result ≡ outcome_code self }
+    {
+        match self {
+            Outcome::Done => 0,
+            Outcome::RefusedWords => 2,
+            Outcome::RefusedInput => 3,
+            Outcome::Forged => 6,
+            Outcome::Collision => 7,
+            Outcome::Unconfirmed => 12,
+        }
+    }
 }
 
 impl Status {
@@ -29,14 +54,10 @@ impl Status {
         ensures { result ≡ code_of self }
     {
         match self {
-            Status::Done => 0,
+            Status::Answered(outcome) => outcome.code(),
             Status::NoMemory => 1,
-            Status::RefusedWords => 2,
-            Status::RefusedSchedule => 3,
             Status::SourceFailed => 4,
             Status::SinkFailed => 5,
-            Status::Forged => 6,
-            Status::Collision => 7,
         }
     }
 }

@@ -3,6 +3,7 @@ ghost use Rattle.std.specs.Prelude.{◌≡◌};
 
 use crate::ends::{Sink, Source};
 use crate::errors::{EndError, Failed};
+use crate::memory::count_empty;
 use std::io::{Read, Write};
 
 /// A reader, such as standard input. Each call that the system fails is a fault.
@@ -10,14 +11,20 @@ use std::io::{Read, Write};
 pub struct ReadSource<R: Read> {
     reader: R,
     faults: u64,
+    empties: u64,
 }
 
 impl<R: Read> ReadSource<R> {
     /// A source that reads from `reader`.
     pub fn new(reader: R) -> ReadSource<R>
-        ensures { result.faults ≡ 0 }
+        ensures faults { result.faults ≡ 0 }
+        ensures empties { result.empties ≡ 0 }
     {
-        ReadSource { reader, faults: 0 }
+        ReadSource {
+            reader,
+            faults: 0,
+            empties: 0,
+        }
     }
 }
 
@@ -28,9 +35,14 @@ impl<R: Read> Source for ReadSource<R> {
 
     ghost faults = { λ s. s.faults };
 
+    ghost empties = { λ s. s.empties };
+
     fn take(&mut self, into: &mut [u8]) -> Result<usize, Failed> {
         match self.reader.read(into) {
-            Ok(taken) => Ok(taken),
+            Ok(taken) => {
+                self.empties = count_empty(taken, self.empties);
+                Ok(taken)
+            }
             Err(_) => {
                 self.faults = self.faults.saturating_add(1);
                 Err(Failed)

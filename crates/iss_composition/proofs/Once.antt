@@ -8,7 +8,7 @@ use Rattle.iss_request.specs.declared.ids.ReqId.{ReqId}
 use Rattle.iss_request.specs.declared.ids.Slot.{Slot}
 use Rattle.iss_request.specs.declared.requests.Batch.{Batch}
 use Rattle.iss_request.specs.declared.requests.Value.{Value}
-use Rattle.iss_request.specs.declared.requests.Value.TheVariants.{Nil, Batch as Value_batch}
+use Rattle.iss_request.specs.declared.requests.Value.TheVariants.{Nil as Value_nil, Batch as Value_batch}
 use Rattle.iss_request.specs.declared.setups.Setup.{Setup}
 use Rattle.iss_sb.specs.Evidence.{Module, Separate, accepts, delivered, is_correct}
 use Rattle.iss_sb.specs.Laws.{IsSafe, SharedAcceptor}
@@ -114,9 +114,9 @@ module _ {Msg : Type 0} (s : Setup) (S : Scheme) (R : Rules) (M : Module Msg) (s
 
   pub find : (z : ReqId) (log : List Value) → IsTrueLog s R M w.pasts log → In z (log_ids log) → Found z log
   find z [] h k = absurd k
-  find z (Nil ∷ older) h k =
+  find z (Value_nil ∷ older) h k =
       let f : Found z older = find z older h.0 k in
-      record { older = f.older; batch = f.batch; stands = f.stands; within = f.within; part = extends-cons _ _ Nil f.part }
+      record { older = f.older; batch = f.batch; stands = f.stands; within = f.within; part = extends-cons _ _ Value_nil f.part }
   find z (Value_batch b ∷ older) h k = elim (in_append z (ids b) (log_ids older) k) [
     | inl a ↦ record { older = older; batch = b; stands = record { log = h.0; is = h.1 }; within = a; part = extends-refl _ }
     | inr a ↦
@@ -166,7 +166,7 @@ module _ {Msg : Type 0} (s : Setup) (S : Scheme) (R : Rules) (M : Module Msg) (s
 
   pub once : (log : List Value) → IsTrueLog s R M w.pasts log → Once log
   once [] h = tt
-  once (Nil ∷ older) h = once older h.0
+  once (Value_nil ∷ older) h = once older h.0
   once (Value_batch b ∷ older) h =
       let st : Stands older (Value_batch b) = record { log = h.0; is = h.1 } in
       different-append (ids b) (log_ids older) (valid older b st).is.different (once older h.0) (apart older b st)

@@ -1,20 +1,21 @@
 -- The composition theorem over every run of a cluster.
-use Rattle.std.proofs.Common.{inl, inr, ℕ, ◌≤◌, ◌∷◌, ◌++◌, length, ap, ◌∙◌, arith}
+use Rattle.std.proofs.Common.{inl, inr, ◌∷◌, ◌++◌, length, arith}
 use Rattle.std.proofs.lemmas.Bool.Decides.{leb_tells}
 use Rattle.iss_base.specs.Lists.{Chain, In}
 use Rattle.iss_base.proofs.Lists.{chain-part}
 use Rattle.iss_request.specs.declared.requests.Value.TheVariants.{Batch as Value_batch}
 use Rattle.iss_request.specs.declared.setups.Setup.{Setup}
-use Rattle.iss_sb.specs.Evidence.{Module, Separate}
+use Rattle.iss_sb.specs.Evidence.{IsString, Module, Separate}
 use Rattle.iss_sb.specs.Laws.{IsLawful, IsSafe}
 use Rattle.iss_rules.specs.Books.{Signed}
-use Rattle.iss_composition.specs.Cluster.{Backed, Cluster, IsTrueLog, Reach, Scheme, adopt, begin, ends, move, rest}
+use Rattle.iss_composition.specs.Cluster.{Backed, Cluster, IsTrueLog, Reach, Scheme, adopt, begin, ends, move, rest, world_of}
 use Rattle.iss_rules.specs.SoundRules.{IsSoundRules}
 use Rattle.iss_composition.specs.Ordered.{Among, IsExact, Ordered}
-use Rattle.iss_rules.specs.Past.{before, log_of}
+use Rattle.iss_rules.specs.Past.{before, before_at, epoch_at, leader_at, log_of}
 use Rattle.iss_rules.specs.Rules.{Rules}
+use Rattle.iss_rules.proofs.Judged.{valid-of}
 use Rattle.iss_composition.proofs.Adopts.{good-adopted}
-use Rattle.iss_composition.proofs.Agree.{befores-agree, own-true, separate-part, true-meet}
+use Rattle.iss_composition.proofs.Agree.{befores-agree, own-true, separate-part, strings-are, true-meet}
 use Rattle.iss_composition.proofs.Ends.{good-begun, good-ended, good-rested}
 use Rattle.iss_composition.proofs.Good.{Good}
 use Rattle.iss_composition.proofs.Moves.{good-moved}
@@ -59,12 +60,24 @@ module _ {Msg : Type 0} (s : Setup) (S : Scheme) (R : Rules) (M : Module Msg) (s
         let h : Chain (Backed s R M w.pasts) (x.0 ++ (Value_batch b ∷ older)) = rw x.1 at (own-true s S R M safe sound w sep g i ok) in
         let k = chain-part (Backed s R M w.pasts) x.0 (Value_batch b) older h in
         let y = valid s S R M safe sound w sep g older b (record { log = k.0; is = k.1 }) in
-        record { node = y.node; correct = y.correct; newer = y.newer; earlier = y.earlier; held = y.held; start = y.start; judged = y.judged };
+        record {
+          node = y.node;
+          correct = y.correct;
+          newer = y.newer;
+          earlier = y.earlier;
+          held = y.held;
+          start = y.start;
+          judged = y.judged;
+          valid = valid-of R (before_at R older) (epoch_at R older) (leader_at R older) _ b y.is;
+        };
     instances = g.inv;
+    broadcasts = λ i e l ok begun leads.
+        let log = before R M i (w.pasts i) e in
+        let apart : Separate (IsString (world_of s w.pasts e l)) =
+        separate-part (Among w.strings) (IsString (world_of s w.pasts e l)) (strings-are s S R M w g e l) sep in
+        safe (R.params log e l) (world_of s w.pasts e l) (sound.good log e l leads) (g.inv i e l ok begun leads) apart;
     backed = own-true s S R M safe sound w sep g;
-    epochs = λ i j oki okj q.
-        let le : (w.pasts i).epoch ≤ (w.pasts j).epoch = omega (arith, q) in
-        befores-agree s S R M safe sound w sep g i j oki okj (w.pasts i).epoch (omega arith) le ∙ ap (λ (n : ℕ). before R M j (w.pasts j) n) q;
+    epochs = λ i j e oki okj lei lej. befores-agree s S R M safe sound w sep g i j oki okj e lei lej;
   }
 
   pub composition : (w : Cluster Msg) → IsExact s S w → Separate (Among w.strings) → Reach s S R M w → Ordered s R M w.pasts

@@ -2,6 +2,7 @@
 -- in the book. Every premise of the composition theorem holds, so applying it gives what it states of this cluster.
 use Rattle.std.proofs.Common.{◌≡◌, ◌≢◌, inl, inr, ℕ, suc, ◌==◌, ◌&&◌, ◌+◌, ◌*◌, ◌≤◌, ◌<◌, Bool, true, false, cond, eqb, List, [], ◌∷◌, ◌++◌, Option, Some, None, refl, sym, ap, ap₂, ◌∙◌, subst, arith, true≢false, replicate}
 use Rattle.sha2.specs.Sha256.{compress, digest_bytes, first_words, hash_after, rounds, schedule, sha256}
+use Rattle.iss_base.specs.Heights.{digests_of_height}
 use Rattle.iss_base.specs.Lists.{In, set_at}
 use Rattle.iss_base.proofs.Lists.{and-true, first-cases, in_left, in_right, is-eq, set_at-other, some-injective}
 use Rattle.iss_request.specs.Digest.{digest}
@@ -13,7 +14,7 @@ use Rattle.iss_request.specs.declared.ids.NodeId.{NodeId}
 use Rattle.iss_request.specs.declared.ids.Slot.{Slot}
 use Rattle.iss_request.specs.declared.requests.Batch.{Batch}
 use Rattle.iss_request.specs.declared.requests.Value.{Value}
-use Rattle.iss_request.specs.declared.requests.Value.TheVariants.{Nil, Batch as Value_batch}
+use Rattle.iss_request.specs.declared.requests.Value.TheVariants.{Nil as Value_nil, Batch as Value_batch}
 use Rattle.iss_request.specs.declared.setups.Kind.TheVariants.{Byzantine}
 use Rattle.iss_request.specs.declared.setups.Policy.TheVariants.{Simple}
 use Rattle.iss_request.specs.declared.setups.Setup.{Setup}
@@ -75,7 +76,7 @@ found s (x ∷ xs) = cond (x.0.0 == s) (Some (Value_batch x.1)) (found s xs)
 
 -- a message's encoding: the slot's number, and the value that holds the batch
 abbrev pub word_in : ℕ → Parsed Value → Parsed Word
-word_in n (Good Nil rest) = Bad 1
+word_in n (Good Value_nil rest) = Bad 1
 word_in n (Good (Value_batch batch) rest) = Good (record { 0 = n }, batch) rest
 word_in n (Bad at) = Bad (suc at)
 
@@ -255,7 +256,7 @@ pub setup-good : IsGoodSetup alone
 setup-good = good-by alone refl
 
 setup-of : IsSetupOf signing alone
-setup-of = record { good = setup-good; tag = refl; kind = refl; nodes = refl; majority = refl }
+setup-of = record { good = setup-good; kind = refl; nodes = refl; majority = refl }
 
 -- every request counts as signed, since nothing computes with keys
 abbrev R : Rules
@@ -309,10 +310,11 @@ begun = begin (record { pasts = λ j ok. refl; messages = λ k h. h; book = λ x
 
 cast-spelled : S.spells (Value_batch batch) ≡ true
 unfolding parse_value parse_rest parse_batch parse_count count_field spell_count parse_request parse_payload parse_signature spell_value spell_batch
-    spell_request ◌>>=◌ such_that byte number block digests times done
+    spell_request ◌>>=◌ such_that byte number block digests times done digests_of_height
 cast-spelled = refl
 
 the-cast : Moved alone S R signing first_net second_net 0 0 casts 0
+unfolding digests_of_height
 the-cast = record {
   correct = refl;
   leads = refl;
@@ -369,11 +371,11 @@ first [] = 0
 first (b ∷ bs) = b
 
 value-first : first (digest value_string) ≡ 111
-unfolding spell_value spell_batch spell_count spell_request sha256 digest_bytes hash_after compress rounds schedule first_words
+unfolding spell_value spell_batch spell_count spell_request sha256 digest_bytes hash_after compress rounds schedule first_words digests_of_height
 value-first = refl
 
 link-first : first (digest link_string) ≡ 164
-unfolding spell_value spell_batch spell_count spell_request sha256 digest_bytes hash_after compress rounds schedule first_words
+unfolding spell_value spell_batch spell_count spell_request sha256 digest_bytes hash_after compress rounds schedule first_words digests_of_height
 link-first = refl
 
 root-first : first (digest []) ≡ 0

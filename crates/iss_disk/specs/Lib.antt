@@ -1,5 +1,6 @@
 pub mod Calls
 pub mod File
+pub mod Internal
 pub mod States
 pub mod Notes
 pub mod NoteViews
@@ -9,4 +10,3 @@ pub mod ReadsAreImages
 pub mod Fates
 pub mod MemoryViews
 pub mod MemoryLaws
-pub mod Untold

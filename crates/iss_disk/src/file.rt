@@ -90,7 +90,7 @@ fn read(file: &Option<File>, at: u64, into: &mut [u8]) -> io::Result<usize>
 impl<R: Files<File = File>> Disk for FileDisk<R> {
     ghost use Rattle.std.specs.Prelude.{[], ◌^◌, refl};
     ghost use Rattle.iss_disk.specs.Calls.{untold};
-    ghost use Rattle.iss_disk.specs.Untold.{nothing_told};
+    ghost use Rattle.iss_disk.specs.Internal.Untold.{nothing_told};
 
     ghost history = { λ disk. [] };
 

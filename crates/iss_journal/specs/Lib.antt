@@ -1,6 +1,6 @@
 pub mod Frames
+pub mod Internal
 pub mod Views
 pub mod EntryViews
-pub mod Scans
 pub mod Promises
 pub mod Sound

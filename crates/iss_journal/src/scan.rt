@@ -2,7 +2,7 @@
 ghost use Rattle.std.specs.Prelude.{◌≡◌, ◌+◌, ◌<◌, ◌≤◌, length, take, drop, vec_len, IfOk, IfSome, IfNone};
 ghost use Rattle.std.specs.Int.{w32, to_be_bytes, from_be_bytes};
 ghost use Rattle.iss_journal.specs.Frames.{IsWhole};
-ghost use Rattle.iss_journal.specs.Scans.{Finds};
+ghost use Rattle.iss_journal.specs.Internal.Scans.{Finds};
 
 use crate::entries::{Entries, MAX_ENTRY, OPEN, mark};
 use std::alloc::{AllocError, Global};

@@ -25,7 +25,7 @@ use Rattle.iss_keep.specs.Cores.{StopsAt, core_of}
 use Rattle.iss_keep.specs.State.{IsKept, state_over}
 use Rattle.iss_keep.specs.Steps.{IsAttached, IsDamaged, IsWritten, LosesNone, Sight}
 use Rattle.iss_keep.specs.declared.answers.Answer.{Answer}
-use Rattle.iss_keep.specs.declared.answers.Answer.TheVariants.{Dropped, Failed, NoMemory, Stale, Taken}
+use Rattle.iss_keep.specs.declared.answers.Answer.TheVariants.{Dropped as Kept_dropped, Failed, NoMemory, Stale, Taken as Kept_taken}
 
 -- ---- a file has one reading: `one` is the law `a_file_has_one_reading` of iss_journal
 
@@ -114,9 +114,9 @@ module _ (entries : List (List ℕ)) where
   pub written-synced : (entry : List ℕ) (before now : Sight) (later : List (List ℕ)) (answer : Answer) → IsWritten entries entry before now later answer →
       IfTold now.history (λ file. Image file file.kept) → IfTold before.history (λ file. Reads file.kept (holds entries)) →
       IfTold now.history (λ file. Reads file.kept (holds later))
-  written-synced entry before now later (Taken outcome) w image h =
+  written-synced entry before now later (Kept_taken outcome) w image h =
       subst (λ (es : List (List ℕ)). AreSynced now.history es) (sym w.added) (leaves-synced (entries ++ entry ∷ []) now.history image w.file.1)
-  written-synced entry before now later (Dropped why) w image h = alike before.history now.history later w.file w.added h
+  written-synced entry before now later (Kept_dropped why) w image h = alike before.history now.history later w.file w.added h
   written-synced entry before now later Failed w image h = subst (λ (es : List (List ℕ)). AreSynced now.history es) (sym w.added) w.file.1
   written-synced entry before now later Stale w image h = alike before.history now.history later w.file w.added h
   written-synced entry before now later NoMemory w image h = alike before.history now.history later w.file w.added h

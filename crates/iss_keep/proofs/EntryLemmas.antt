@@ -3,7 +3,7 @@ use Rattle.std.proofs.Common.{◌≡◌, ℕ, Bool, true, false, cond, eqb, leb,
 use Rattle.std.proofs.lemmas.Bool.{le-leb, leb-true}
 use Rattle.iss_base.proofs.Lists.{is-eq}
 use Rattle.iss_rules.specs.declared.events.NodeEvent.{NodeEvent}
-use Rattle.iss_rules.specs.declared.events.NodeEvent.TheVariants.{AskFrom, Packet, Propose, Timeout}
+use Rattle.iss_rules.specs.declared.events.NodeEvent.TheVariants.{AskFrom as On_ask, Packet as On_packet, Propose as On_propose, Timeout as On_timeout}
 use Rattle.iss_request.specs.declared.ids.NodeId.{NodeId}
 use Rattle.iss_keep.specs.Entries.{IsEntryOf, NamesNode, ask_in, event_in, node_in, propose_in, spell_event, timeout_in}
 
@@ -11,10 +11,10 @@ node-read : (n : ℕ) (i : NodeId) → i.0 < n → node_in n (i.0 ∷ []) ≡ So
 node-read n i h = ap (λ (b : Bool). cond b (Some i) None) (le-leb (suc i.0) n h)
 
 pub spelled-read : (n : ℕ) (event : NodeEvent) → NamesNode n event → event_in n (spell_event event) ≡ Some event
-spelled-read n (Packet bytes) h = refl
-spelled-read n Propose h = refl
-spelled-read n (Timeout leader) h = ap timeout_in (node-read n leader h)
-spelled-read n (AskFrom peer) h = ap ask_in (node-read n peer h)
+spelled-read n (On_packet bytes) h = refl
+spelled-read n On_propose h = refl
+spelled-read n (On_timeout leader) h = ap timeout_in (node-read n leader h)
+spelled-read n (On_ask peer) h = ap ask_in (node-read n peer h)
 
 from-none : (event : NodeEvent) (P : Type 0) → None ≡ Some event → P
 from-none event P h = absurd (cc)
@@ -23,7 +23,7 @@ same-some : (a b : NodeEvent) → Some a ≡ Some b → b ≡ a
 same-some a b h = cc
 
 read-propose : (n : ℕ) (rest : List ℕ) (event : NodeEvent) → propose_in rest ≡ Some event → IsEntryOf n (2 ∷ rest) event
-read-propose n [] event h = rw (same-some Propose event h) (refl, tt)
+read-propose n [] event h = rw (same-some On_propose event h) (refl, tt)
 read-propose n (b ∷ rest) event h = from-none event _ h
 
 -- A decoded identity is unique.
@@ -46,12 +46,12 @@ module _ (n : ℕ) (rest : List ℕ) (event : NodeEvent) where
   read-timeout : (o : Option NodeId) → node_in n rest ≡ o → timeout_in o ≡ Some event → IsEntryOf n (3 ∷ rest) event
   read-timeout None q h = from-none event _ h
   read-timeout (Some leader) q h =
-      let r = read-node n rest leader q in rw (same-some (Timeout leader) event h) (ap (λ (bytes : List ℕ). 3 ∷ bytes) r.0, r.1)
+      let r = read-node n rest leader q in rw (same-some (On_timeout leader) event h) (ap (λ (bytes : List ℕ). 3 ∷ bytes) r.0, r.1)
 
   read-ask : (o : Option NodeId) → node_in n rest ≡ o → ask_in o ≡ Some event → IsEntryOf n (4 ∷ rest) event
   read-ask None q h = from-none event _ h
   read-ask (Some peer) q h =
-      let r = read-node n rest peer q in rw (same-some (AskFrom peer) event h) (ap (λ (bytes : List ℕ). 4 ∷ bytes) r.0, r.1)
+      let r = read-node n rest peer q in rw (same-some (On_ask peer) event h) (ap (λ (bytes : List ℕ). 4 ∷ bytes) r.0, r.1)
 
 module _ (n kind : ℕ) (rest : List ℕ) (event : NodeEvent) where
   as_kind : (k : ℕ) → eqb kind k ≡ true → IsEntryOf n (k ∷ rest) event → IsEntryOf n (kind ∷ rest) event
@@ -78,8 +78,8 @@ module _ (n kind : ℕ) (rest : List ℕ) (event : NodeEvent) where
   second true q h = as_kind 2 q (read-propose n rest event h)
   second false q h = third (eqb kind 3) refl h
 
-  first : (b : Bool) → eqb kind 1 ≡ b → cond b (Some (Packet rest)) behind_packet ≡ Some event → IsEntryOf n (kind ∷ rest) event
-  first true q h = as_kind 1 q (rw (same-some (Packet rest) event h) (refl, tt))
+  first : (b : Bool) → eqb kind 1 ≡ b → cond b (Some (On_packet rest)) behind_packet ≡ Some event → IsEntryOf n (kind ∷ rest) event
+  first true q h = as_kind 1 q (rw (same-some (On_packet rest) event h) (refl, tt))
   first false q h = second (eqb kind 2) refl h
 
 pub read-spelled : (n : ℕ) (entry : List ℕ) (event : NodeEvent) → event_in n entry ≡ Some event → IsEntryOf n entry event

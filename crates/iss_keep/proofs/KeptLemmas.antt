@@ -14,7 +14,7 @@ use Rattle.iss_rules.specs.Formats.{formats_of}
 use Rattle.iss_model.specs.Node.{Core, Stepped, Taken as Step_taken, Turn, step}
 use Rattle.iss_rules.specs.Setups.{IsSetupOf}
 use Rattle.iss_rules.specs.declared.events.NodeEvent.{NodeEvent}
-use Rattle.iss_rules.specs.declared.events.NodeEvent.TheVariants.{AskFrom, Packet, Propose, Timeout}
+use Rattle.iss_rules.specs.declared.events.NodeEvent.TheVariants.{AskFrom as On_ask, Packet as On_packet, Propose as On_propose, Timeout as On_timeout}
 use Rattle.iss_rules.specs.declared.events.Why.{Why}
 use Rattle.iss_node.specs.State.{NodeView, RefinesCore}
 use Rattle.iss_node.specs.Steps.{IsAnswer as Node_answers, IsOfNodes}
@@ -27,11 +27,11 @@ use Rattle.iss_sb.specs.Calls.{AreToNodes, Relation}
 use Rattle.iss_keep.specs.Cores.{core_after, core_of, core_with, step_of}
 use Rattle.iss_keep.specs.Entries.{event_in, spell_event}
 use Rattle.iss_keep.specs.State.{AsksNobody, IsKept, KeptRefinesCore, KeptState, LeadsTo, state_over}
-use Rattle.iss_keep.specs.Keeping.{HasStepped}
-use Rattle.iss_keep.specs.Replays.{IsOf, IsReplayed}
+use Rattle.iss_keep.specs.Internal.Keeping.{HasStepped}
+use Rattle.iss_keep.specs.Internal.Replays.{IsOf, IsReplayed}
 use Rattle.iss_keep.specs.Steps.{IsAnswer, IsDrop, IsTurn, ShowsAsBefore, Writes, entries_after, makes_stale}
 use Rattle.iss_keep.specs.declared.answers.Answer.{Answer}
-use Rattle.iss_keep.specs.declared.answers.Answer.TheVariants.{Dropped, Failed, NoMemory, Stale, Taken}
+use Rattle.iss_keep.specs.declared.answers.Answer.TheVariants.{Dropped as Kept_dropped, Failed, NoMemory, Stale, Taken as Kept_taken}
 use Rattle.iss_keep.proofs.CoreLemmas.{one-more}
 use Rattle.iss_keep.proofs.EntryLemmas.{spelled-read}
 use Rattle.iss_keep.proofs.TakenLemmas.{taken-named}
@@ -52,17 +52,17 @@ own-keys s i d k is made =
 order : (a b : ℕ) → (a < b) ⊎ (b ≤ a)
 order a b = grind arith
 
-asked : (n : ℕ) (peer : NodeId) → (peer.0 < n) ⊎ (n ≤ peer.0) → IsOfNodes n (AskFrom peer) ⊎ ((p : NodeId) × (AskFrom peer ≡ AskFrom p) × (n ≤ p.0))
+asked : (n : ℕ) (peer : NodeId) → (peer.0 < n) ⊎ (n ≤ peer.0) → IsOfNodes n (On_ask peer) ⊎ ((p : NodeId) × (On_ask peer ≡ On_ask p) × (n ≤ p.0))
 asked n peer (inl lt) = inl lt
 asked n peer (inr ge) = inr (peer, refl, ge)
 
-of-nodes : (n : ℕ) (event : NodeEvent) → IsOfNodes n event ⊎ ((p : NodeId) × (event ≡ AskFrom p) × (n ≤ p.0))
-of-nodes n (Packet bytes) = inl tt
-of-nodes n Propose = inl tt
-of-nodes n (Timeout leader) = inl tt
-of-nodes n (AskFrom peer) = asked n peer (order peer.0 n)
+of-nodes : (n : ℕ) (event : NodeEvent) → IsOfNodes n event ⊎ ((p : NodeId) × (event ≡ On_ask p) × (n ≤ p.0))
+of-nodes n (On_packet bytes) = inl tt
+of-nodes n On_propose = inl tt
+of-nodes n (On_timeout leader) = inl tt
+of-nodes n (On_ask peer) = asked n peer (order peer.0 n)
 
-nobody-asked : (n : ℕ) (entries : List (List ℕ)) (event : NodeEvent) (peer : NodeId) → event ≡ AskFrom peer → n ≤ peer.0 →
+nobody-asked : (n : ℕ) (entries : List (List ℕ)) (event : NodeEvent) (peer : NodeId) → event ≡ On_ask peer → n ≤ peer.0 →
     AsksNobody n (entries ++ spell_event event ∷ [])
 nobody-asked n entries event peer is none = record {
   front = entries;
@@ -77,13 +77,13 @@ still-nobody n entries entry h = record {
   front = h.front;
   peer = h.peer;
   behind = h.behind ++ entry ∷ [];
-  is = ap (λ (es : List (List ℕ)). es ++ entry ∷ []) h.is ∙ append_assoc h.front (spell_event (AskFrom h.peer) ∷ h.behind) (entry ∷ []);
+  is = ap (λ (es : List (List ℕ)). es ++ entry ∷ []) h.is ∙ append_assoc h.front (spell_event (On_ask h.peer) ∷ h.behind) (entry ∷ []);
   none = h.none;
 }
 
 -- What the entries lead to after one more event.
 leads-on : (n : ℕ) (entries : List (List ℕ)) (event : NodeEvent) (before after : Type 0) → before ⊎ AsksNobody n entries → (IsOfNodes n event → before → after) →
-    IsOfNodes n event ⊎ ((p : NodeId) × (event ≡ AskFrom p) × (n ≤ p.0)) → after ⊎ AsksNobody n (entries ++ spell_event event ∷ [])
+    IsOfNodes n event ⊎ ((p : NodeId) × (event ≡ On_ask p) × (n ≤ p.0)) → after ⊎ AsksNobody n (entries ++ spell_event event ∷ [])
 leads-on n entries event before after (inr nobody) more who = inr (still-nobody n entries (spell_event event) nobody)
 leads-on n entries event before after (inl h) more (inl of) = inl (more of h)
 leads-on n entries event before after (inl h) more (inr who) = inr (nobody-asked n entries event who.0 who.1 who.2)
@@ -214,8 +214,8 @@ module _ {M Msg D : Type 0} (m : Module Msg) (refines : Relation M Msg) (history
       pub answers : (answer : Answer) → HasStepped m refines event old.node node answer → entries_of journal ≡ entries_after old.entries (spell_event event) answer →
           (c : Core Msg) → KeptRefinesCore m refines old c →
           IsAnswer m refines (IsOfNodes old.setup.n event) old c (step_of old.setup m old.me.0 c event) (left answer) answer
-      answers (Taken outcome) stepped added c at = took-turn outcome stepped journal added c at
-      answers (Dropped why) stepped added c at = dropped-turn why stepped journal added c at
+      answers (Kept_taken outcome) stepped added c at = took-turn outcome stepped journal added c at
+      answers (Kept_dropped why) stepped added c at = dropped-turn why stepped journal added c at
       answers Failed stepped added c at = let t = stepped.1 c at.node in (t.0, sym (same-step c) ∙ t.1)
       answers Stale stepped added c at = stepped
       answers NoMemory stepped added c at = tt
@@ -238,12 +238,12 @@ module _ {M Msg D : Type 0} (m : Module Msg) (refines : Relation M Msg) (history
       pub kept-after : (answer : Answer) → HasStepped m refines event old.node node answer → entries_of journal ≡ entries_after old.entries (spell_event event) answer →
           Writes old.entries (spell_event event) (history old.disk) (history (disk_of journal)) answer → IsSound history room journal →
           (makes_stale answer ≡ false → is_attached journal ≡ true) → IsKept m refines history room directory journal (left answer)
-      kept-after (Taken outcome) stepped added wrote sound attached =
+      kept-after (Kept_taken outcome) stepped added wrote sound attached =
           let h = its-core before old kept fresh in
           let t = took-turn outcome stepped journal added h.0 h.1 in
           fresh-after t.turn.core sound (attached refl) (durable-with (old.entries ++ spell_event event ∷ []) added wrote.1) t.at
           (took-leads outcome stepped journal added h.0 t.turn t.step_is h.2)
-      kept-after (Dropped why) stepped added wrote sound attached =
+      kept-after (Kept_dropped why) stepped added wrote sound attached =
           let h = its-core before old kept fresh in
           let told : IfTold (history (disk_of journal)) (OnlyLeaves (λ bytes. Reads bytes (holds old.entries))) =
           subst (λ (f : List File). IfTold f (OnlyLeaves (λ bytes. Reads bytes (holds old.entries)))) (sym wrote) (kept.durable fresh) in
@@ -255,8 +255,8 @@ module _ {M Msg D : Type 0} (m : Module Msg) (refines : Relation M Msg) (history
 
       shows-after : (answer : Answer) → HasStepped m refines event old.node node answer → makes_stale answer ≡ true → (later : Bool) →
           ShowsAsBefore old (state_over old.setup old.me node journal later)
-      shows-after (Taken outcome) stepped stale later = absurd (true≢false (sym stale))
-      shows-after (Dropped why) stepped stale later = absurd (true≢false (sym stale))
+      shows-after (Kept_taken outcome) stepped stale later = absurd (true≢false (sym stale))
+      shows-after (Kept_dropped why) stepped stale later = absurd (true≢false (sym stale))
       shows-after Failed stepped stale later = record { log = stepped.0.log; epoch = stepped.0.epoch }
       shows-after Stale stepped stale later = absurd stepped
       shows-after NoMemory stepped stale later = record { log = stepped.log; epoch = stepped.epoch }

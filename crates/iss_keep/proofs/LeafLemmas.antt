@@ -14,7 +14,7 @@ use Rattle.iss_request.specs.declared.setups.Setup.{Setup}
 use Rattle.iss_sb.specs.Evidence.{Module}
 use Rattle.iss_keep.specs.Cores.{core_after, core_from, core_of, core_with, from_core, step_of}
 use Rattle.iss_keep.specs.Entries.{event_in}
-use Rattle.iss_keep.specs.Makings.{AreApart, Making, made_on, makings_from, makings_of, turn_in, turn_with}
+use Rattle.iss_keep.specs.Internal.Makings.{AreApart, Making, made_on, makings_from, makings_of, turn_in, turn_with}
 use Rattle.iss_keep.proofs.CoreLemmas.{one-more}
 use Rattle.iss_keep.proofs.DiskLemmas.{same-held}
 

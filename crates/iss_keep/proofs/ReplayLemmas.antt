@@ -21,7 +21,7 @@ use Rattle.iss_sb.specs.Evidence.{Module}
 use Rattle.iss_keep.proofs.CoreLemmas.{one-more}
 use Rattle.iss_keep.specs.Cores.{StopsAt, core_after, core_of, core_with, step_of}
 use Rattle.iss_keep.specs.Entries.{event_in}
-use Rattle.iss_keep.specs.Replays.{GoesTo, IsOf, IsReplayed}
+use Rattle.iss_keep.specs.Internal.Replays.{GoesTo, IsOf, IsReplayed}
 
 module _ {M Msg : Type 0} (s : Setup) (m : Module Msg) (refines : Relation M Msg) (me : ℕ) where
   -- ---- one entry

@@ -12,9 +12,9 @@ use Rattle.iss_node.specs.declared.answers.Outcome.{Outcome}
 use Rattle.iss_sb.specs.Calls.{Relation}
 use Rattle.iss_sb.specs.Evidence.{Module}
 use Rattle.iss_keep.specs.Entries.{spell_event}
-use Rattle.iss_keep.specs.Keeping.{Answers, HasEnded, HasStepped, ShowsSame, Takes}
+use Rattle.iss_keep.specs.Internal.Keeping.{Answers, HasEnded, HasStepped, ShowsSame, Takes}
 use Rattle.iss_keep.specs.declared.answers.Answer.{Answer}
-use Rattle.iss_keep.specs.declared.answers.Answer.TheVariants.{Dropped, Failed, NoMemory, Stale, Taken}
+use Rattle.iss_keep.specs.declared.answers.Answer.TheVariants.{Dropped as Kept_dropped, Failed, NoMemory, Stale, Taken as Kept_taken}
 use Rattle.iss_keep.proofs.TakenLemmas.{log-cut, log-long, taken-goes-on, taken-later, taken-short}
 
 -- ---- the event was not accepted
@@ -66,16 +66,16 @@ module _ {M Msg : Type 0} (m : Module Msg) (refines : Relation M Msg) (event : N
     taken-then c st = let a = answer c st in (a.turn, a.step_is)
 
     pub stepped : (a : Answer) → HasEnded outcome slots epoch taken new a → HasStepped m refines event old new a
-    stepped (Taken given) h =
+    stepped (Kept_taken given) h =
         subst (λ (o : Outcome). Answers m refines event old new (Node_taken o)) (sym h.0) (subst (λ (v : NodeView M Msg). Answers m refines event old v (Node_taken outcome)) (sym h.1) answer)
-    stepped (Dropped why) h = absurd h
+    stepped (Kept_dropped why) h = absurd h
     stepped Failed h = (gone-back h, taken-then)
     stepped Stale h = h
     stepped NoMemory h = gone-back h
 
     pub same-node : (a : Answer) → HasEnded outcome slots epoch taken new a → (new.state.setup ≡ old.state.setup) × (new.state.me ≡ old.state.me)
-    same-node (Taken given) h = (ap (λ (v : NodeView M Msg). v.state.setup) h.1 ∙ setup, ap (λ (v : NodeView M Msg). v.state.me) h.1 ∙ me)
-    same-node (Dropped why) h = absurd h
+    same-node (Kept_taken given) h = (ap (λ (v : NodeView M Msg). v.state.setup) h.1 ∙ setup, ap (λ (v : NodeView M Msg). v.state.me) h.1 ∙ me)
+    same-node (Kept_dropped why) h = absurd h
     same-node Failed h = (h.setup ∙ setup, h.me ∙ me)
     same-node Stale h = absurd h
     same-node NoMemory h = (h.setup ∙ setup, h.me ∙ me)

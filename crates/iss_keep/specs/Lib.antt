@@ -1,8 +1,6 @@
 pub mod Cores
 pub mod Deeds
 pub mod Entries
-pub mod Keeping
-pub mod Makings
-pub mod Replays
+pub mod Internal
 pub mod State
 pub mod Steps

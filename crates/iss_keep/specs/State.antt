@@ -13,7 +13,7 @@ use Rattle.iss_keys.specs.Directories.{DirectoryView}
 use Rattle.iss_rules.specs.Concrete.{keys_of}
 use Rattle.iss_model.specs.Node.{Core}
 use Rattle.iss_rules.specs.Setups.{IsSetupOf}
-use Rattle.iss_rules.specs.declared.events.NodeEvent.TheVariants.{AskFrom}
+use Rattle.iss_rules.specs.declared.events.NodeEvent.TheVariants.{AskFrom as On_ask}
 use Rattle.iss_node.specs.State.{NodeView, RefinesCore}
 use Rattle.iss_request.specs.declared.ids.NodeId.{NodeId}
 use Rattle.iss_request.specs.declared.setups.Setup.{Setup}
@@ -58,7 +58,7 @@ pub record AsksNobody (n : ℕ) (entries : List (List ℕ)) : Type 0 where
   pub front : List (List ℕ)
   pub peer : NodeId
   pub behind : List (List ℕ)
-  pub is : entries ≡ front ++ spell_event (AskFrom peer) ∷ behind
+  pub is : entries ≡ front ++ spell_event (On_ask peer) ∷ behind
   pub none : n ≤ peer.0
 
 -- The entries lead to this core, unless one of them asks a peer that does not exist.

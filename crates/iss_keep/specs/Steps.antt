@@ -17,7 +17,7 @@ use Rattle.iss_sb.specs.Evidence.{Module}
 use Rattle.iss_keep.specs.Cores.{StopsAt}
 use Rattle.iss_keep.specs.State.{KeptRefinesCore, KeptState, RefinesEntries}
 use Rattle.iss_keep.specs.declared.answers.Answer.{Answer}
-use Rattle.iss_keep.specs.declared.answers.Answer.TheVariants.{Dropped, Failed, NoMemory, Stale, Taken}
+use Rattle.iss_keep.specs.declared.answers.Answer.TheVariants.{Dropped as Kept_dropped, Failed, NoMemory, Stale, Taken as Kept_taken}
 
 -- The event was accepted. The node refines the core after the step and releases what the step made. If the event asks
 -- only existing peers, every send goes to an existing node. In that case entries that led to the core before the step
@@ -47,16 +47,16 @@ IsTaken {Msg = Msg} stepped = (turn : Turn Msg) × (stepped ≡ Step_taken turn)
 -- The answer to the step of a core that the node refines. `asked` says that the event asks only existing peers.
 abbrev pub IsAnswer : {M Msg D : Type 0} → Module Msg → Relation M Msg → Type 0 → KeptState M Msg D → Core Msg →
     Stepped Msg → KeptState M Msg D → Answer → Type 0
-IsAnswer m refines asked old c stepped new (Taken outcome) = IsTurn m refines asked old c stepped new outcome
-IsAnswer m refines asked old c stepped new (Dropped why) = IsDrop m refines old c stepped new why
+IsAnswer m refines asked old c stepped new (Kept_taken outcome) = IsTurn m refines asked old c stepped new outcome
+IsAnswer m refines asked old c stepped new (Kept_dropped why) = IsDrop m refines old c stepped new why
 IsAnswer m refines asked old c stepped new Failed = IsTaken stepped
 IsAnswer m refines asked old c stepped new Stale = ⊥
 IsAnswer m refines asked old c stepped new NoMemory = Unit {0}
 
 -- Whether the node has to be reopened after this answer.
 abbrev pub makes_stale : Answer → Bool
-makes_stale (Taken outcome) = false
-makes_stale (Dropped why) = false
+makes_stale (Kept_taken outcome) = false
+makes_stale (Kept_dropped why) = false
 makes_stale Failed = true
 makes_stale Stale = true
 makes_stale NoMemory = true
@@ -86,8 +86,8 @@ sight history passes faults current files disk =
 -- The journal's entries after this answer to an event with this entry.
 -- rule: Persistence: A dropped event changes nothing and is not kept
 abbrev pub entries_after : List (List ℕ) → List ℕ → Answer → List (List ℕ)
-entries_after entries entry (Taken outcome) = entries ++ entry ∷ []
-entries_after entries entry (Dropped why) = entries
+entries_after entries entry (Kept_taken outcome) = entries ++ entry ∷ []
+entries_after entries entry (Kept_dropped why) = entries
 entries_after entries entry Failed = entries
 entries_after entries entry Stale = entries
 entries_after entries entry NoMemory = entries
@@ -97,19 +97,19 @@ entries_after entries entry NoMemory = entries
 -- to the file.
 -- rule: Persistence: An event is kept before its outcome is handed out
 abbrev pub Writes : List (List ℕ) → List ℕ → List File → List File → Answer → Type 0
-Writes entries entry before now (Taken outcome) =
+Writes entries entry before now (Kept_taken outcome) =
     LeavesOnly (HoldsWithOrWithout entries entry) before now
     × IfTold now (OnlyLeaves (λ bytes. Reads bytes (holds (entries ++ entry ∷ []))))
 Writes entries entry before now Failed =
     LeavesOnly (HoldsWithOrWithout entries entry) before now × IfTold now (λ file. Reads file.kept (holds entries))
-Writes entries entry before now (Dropped why) = now ≡ before
+Writes entries entry before now (Kept_dropped why) = now ≡ before
 Writes entries entry before now Stale = now ≡ before
 Writes entries entry before now NoMemory = now ≡ before
 
 -- An accepted event takes four calls of the device. If one of them fails, no further call is made.
 abbrev pub Calls : Passes → Passes → Answer → Type 0
-Calls before now (Taken outcome) = Runs 4 before now true
-Calls before now (Dropped why) = now ≡ before
+Calls before now (Kept_taken outcome) = Runs 4 before now true
+Calls before now (Kept_dropped why) = now ≡ before
 Calls before now Failed = Runs 4 before now false
 Calls before now Stale = now ≡ before
 Calls before now NoMemory = now ≡ before

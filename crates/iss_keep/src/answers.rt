@@ -1,6 +1,6 @@
 // The answers of a kept node.
 ghost use Rattle.std.specs.Prelude.{◌≡◌};
-ghost use Rattle.iss_keep.specs.Keeping.{released};
+ghost use Rattle.iss_keep.specs.Internal.Keeping.{released};
 ghost use Rattle.iss_keep.specs.Steps.{makes_stale};
 
 use iss_disk::EndError;

@@ -5,7 +5,7 @@ ghost use Rattle.iss_journal.specs.Frames.{Reads, holds, max_entry};
 ghost use Rattle.iss_journal.specs.Promises.{HoldsWithOrWithout, LeavesOnly, OnlyLeaves};
 ghost use Rattle.iss_journal.specs.Sound.{IsSound, NothingChanged, disk_of, entries_of, is_attached};
 ghost use Rattle.iss_keep.specs.Entries.{spell_event};
-ghost use Rattle.iss_keep.specs.Keeping.{HasEnded, HasStepped, released};
+ghost use Rattle.iss_keep.specs.Internal.Keeping.{HasEnded, HasStepped, released};
 ghost use Rattle.iss_keep.specs.Steps.{IsWritten, makes_stale, sight};
 ghost use Rattle.iss_model.specs.Node.{Core};
 ghost use Rattle.iss_rules.specs.Setups.{IsSetupOf};

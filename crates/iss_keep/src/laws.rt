@@ -7,7 +7,7 @@ ghost use Rattle.iss_journal.specs.Promises.{HoldsWithOrWithout};
 ghost use Rattle.iss_keep.specs.Cores.{core_of, step_of};
 ghost use Rattle.iss_keep.specs.Deeds.{deeds_of};
 ghost use Rattle.iss_keep.specs.Entries.{event_in};
-ghost use Rattle.iss_keep.specs.Makings.{AreApart, makings_from, makings_of};
+ghost use Rattle.iss_keep.specs.Internal.Makings.{AreApart, makings_from, makings_of};
 ghost use Rattle.iss_model.specs.Frames.{frame_of};
 ghost use Rattle.iss_model.specs.Node.{Core, Taken, Turn};
 ghost use Rattle.iss_rules.specs.Setups.{IsSetupOf};

@@ -1,15 +1,17 @@
 //! What a kept node reports of its core while it is not stale. Log and epoch are always available.
-ghost use Rattle.std.specs.Prelude.{◌≡◌, ℕ, IfOk, map, reverse};
+ghost use Rattle.std.specs.Prelude.{◌≡◌, ℕ, IfOk, None, map, option_map, reverse, true};
 ghost use Rattle.iss_keep.specs.State.{KeptRefinesCore};
 ghost use Rattle.iss_rules.specs.Concrete.{rules_of};
 ghost use Rattle.iss_rules.specs.Formats.{formats_of};
 ghost use Rattle.iss_model.specs.Node.{Core};
 ghost use Rattle.iss_rules.specs.Past.{log_of};
+ghost use Rattle.iss_rules.specs.Votes.{cert_on};
 ghost use Rattle.iss_model.specs.Views.{accepted_by, claims_of_bytes, is_castable_now, unfilled};
 ghost use Rattle.iss_node.specs.State.{accepted_of};
 ghost use Rattle.iss_request.specs.Log.{ids};
 
 use crate::kept::Kept;
+use iss_checkpoint::Cert;
 use iss_disk::Disk;
 use iss_log::Log;
 use iss_node::Accepted;
@@ -33,6 +35,18 @@ impl<M: Sequenced, D: Disk> Kept<M, D> {
         ensures is { (c : Core M.Msg) → KeptRefinesCore M.spec M.refines self.now c → result.0 ≡ c.past.epoch }
     {
         self.node.epoch()
+    }
+
+    /// The certificate of an epoch. None if the node keeps none, and while it is stale.
+    pub fn cert_at(&self, epoch: Epoch) -> Option<&Cert>
+        ensures is { (c : Core M.Msg) → KeptRefinesCore M.spec M.refines self.now c →
+            option_map (λ c. c.now) result ≡ cert_on c.certs epoch.0 }
+        ensures stale { self.now.stale ≡ true → result ≡ None }
+    {
+        if self.stale {
+            return None;
+        }
+        self.node.cert_at(epoch)
     }
 
     /// The signatures that a packet claims, if it is a message of the node's current epoch for a leader of that epoch.

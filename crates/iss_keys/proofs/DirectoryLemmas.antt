@@ -6,14 +6,14 @@ use Rattle.std.proofs.lemmas.Bool.{cases_lt}
 use Rattle.std.proofs.lemmas.Bool.Decides.{Decides-and, Decides-eqb, Decides-ltb}
 use Rattle.std.proofs.lemmas.Slice.Eq.{bytes_eq-Decides}
 use Rattle.std.proofs.lemmas.Option.{slice_get_past}
-use Rattle.iss_keys.specs.Trees.{root_of}
+use Rattle.iss_base.specs.Heights.{IsHeight, signature_length}
+use Rattle.iss_keys.specs.Levels.{root_of}
 use Rattle.iss_keys.specs.Signatures.{leaf_number, root_from, signature_of, Verifies}
-use Rattle.iss_keys.specs.Chains.{statement_digest}
 use Rattle.iss_keys.specs.KeyStates.{PublicKeyView, public_key}
 use Rattle.iss_keys.specs.Directories.{VerifiesBy, directory_of, node_secret, client_secret, public_keys_of}
 use Rattle.iss_keys.specs.VerifiedBy.{is_true_under, is_verified_by}
 use Rattle.iss_keys.proofs.ListedLemmas.{length-listed, slice_get-listed}
-use Rattle.iss_keys.proofs.VerifyLemmas.{length-part_of, signature_verifies}
+use Rattle.iss_keys.proofs.VerifyLemmas.{signature_verifies}
 
 -- ---- the test
 
@@ -22,7 +22,7 @@ tested : (key : Option PublicKeyView) (s sig : List ℕ) →
 unfolding is_true_under
 tested None s sig = (λ e. absurd (true≢false (sym e)), λ v. absurd v)
 tested (Some k) s sig =
-    let exact = Decides-eqb (length sig) (2149 + 32 * k.height) in
+    let exact = Decides-eqb (length sig) (signature_length k.height) in
     let height = Decides-eqb (slice_index sig 0) k.height in
     let leaf = Decides-ltb (leaf_number sig) (2 ^ k.height) in
     let root = bytes_eq-Decides (root_from s sig k.height) k.root in
@@ -40,7 +40,7 @@ verified-by keys i s sig = tested (slice_get keys i) s sig
 
 -- ---- what the keys of a directory sign
 
-own_verifies : (secret_of : ℕ → List ℕ) (n h i q : ℕ) (s : List ℕ) → h ≤ 12 → q < 2 ^ h → i < n
+own_verifies : (secret_of : ℕ → List ℕ) (n h i q : ℕ) (s : List ℕ) → IsHeight h → q < 2 ^ h → i < n
     → VerifiesBy (public_keys_of secret_of h n) i s (signature_of (secret_of i) h q s)
 own_verifies secret_of n h i q s high leaf number =
     subst (λ (k : Option PublicKeyView). IsSomeAnd k
@@ -66,12 +66,12 @@ own_is secret_of n h i s sig v =
     (slice_get-listed (λ j. public_key (secret_of j) h) n i (own_below secret_of n h i s sig v)) v
 
 -- what node i signs with a leaf of its key verifies by the directory
-pub node-verifies : (n c h i q : ℕ) (s : List ℕ) → h ≤ 12 → q < 2 ^ h → i < n
+pub node-verifies : (n c h i q : ℕ) (s : List ℕ) → IsHeight h → q < 2 ^ h → i < n
     → VerifiesBy (directory_of n c h).nodes i s (signature_of (node_secret i) h q s)
 node-verifies n c h i q s = own_verifies node_secret n h i q s
 
 -- what client i signs with a leaf of its key verifies by the directory
-pub client-verifies : (n c h i q : ℕ) (s : List ℕ) → h ≤ 12 → q < 2 ^ h → i < c
+pub client-verifies : (n c h i q : ℕ) (s : List ℕ) → IsHeight h → q < 2 ^ h → i < c
     → VerifiesBy (directory_of n c h).clients i s (signature_of (client_secret i) h q s)
 client-verifies n c h i q s = own_verifies client_secret c h i q s
 
@@ -93,9 +93,6 @@ pub client-root : (n c h i : ℕ) (s sig : List ℕ) → VerifiesBy (directory_o
 client-root n c h i s sig = own_is client_secret c h i s sig
 
 -- ---- the shape of a signature
-
-pub length-signature_of : (secret : List ℕ) (h q : ℕ) (s : List ℕ) → length (signature_of secret h q s) ≡ 2149 + 32 * h
-length-signature_of secret h q s = let size = length-part_of secret (statement_digest s) h q in omega arith
 
 -- the first byte of a signature is the height
 pub first-signature_of : (secret : List ℕ) (h q : ℕ) (s : List ℕ) → slice_index (signature_of secret h q s) 0 ≡ h

@@ -4,8 +4,8 @@ use Rattle.std.proofs.Common.{refl}
 use Rattle.sha2.specs.Sha256.{sha256, digest_bytes, hash_after, compress, rounds, schedule, first_words}
 use Rattle.iss_keys.specs.Pieces.{sum_below, listed}
 use Rattle.iss_keys.specs.Chains.{chain_start, chain_end, steps, digit, statement_digest, leaf_value}
-use Rattle.iss_keys.specs.Trees.{inner, node, root_of, path_node}
-use Rattle.iss_keys.specs.Signatures.{signature_of, part_of}
+use Rattle.iss_keys.specs.Trees.{inner, node, tree_root, path_node}
+use Rattle.iss_keys.specs.Signatures.{signature_of, parts_of}
 
 -- the start of the first chain of the first leaf
 first_start : chain_start (replicate 32 0) 0 0
@@ -31,7 +31,7 @@ digits = refl
 
 -- a tree of height 2 has four leaves
 tree_of_four : (secret : List ℕ)
-    → root_of secret 2 ≡ inner (inner (leaf_value secret 0) (leaf_value secret 1))
+    → tree_root secret 2 ≡ inner (inner (leaf_value secret 0) (leaf_value secret 1))
     (inner (leaf_value secret 2) (leaf_value secret 3))
 unfolding node
 tree_of_four secret = refl
@@ -44,6 +44,5 @@ unfolding node
 way_up secret = refl
 
 -- the head of the signature of s with leaf 258
-head : (secret s : List ℕ) →
-    signature_of secret 12 258 s ≡ 12 ∷ 0 ∷ 0 ∷ 1 ∷ 2 ∷ part_of secret 12 258 (statement_digest s)
+head : (secret s : List ℕ) → signature_of secret 12 258 s ≡ 12 ∷ 0 ∷ 0 ∷ 1 ∷ 2 ∷ parts_of secret 12 258 s
 head secret s = refl

@@ -1,6 +1,8 @@
 pub mod ChainLemmas
 pub mod TreeLemmas
 pub mod VerifyLemmas
+pub mod LevelLemmas
+pub mod WriteLemmas
 pub mod ListedLemmas
 pub mod RingLemmas
 pub mod DirectoryLemmas

@@ -3,38 +3,38 @@ use Rattle.std.proofs.Common.{◌≡◌, ℕ, ◌+◌, ◌<◌, ◌≤◌, List,
 use Rattle.std.proofs.lemmas.List.{length-map, get_or-map}
 use Rattle.std.specs.Prelude.{Option, IfSome, slice_get}
 use Rattle.iss_keys.specs.Pieces.{listed}
-use Rattle.iss_keys.specs.Trees.{KeyTree}
+use Rattle.iss_base.specs.Heights.{IsHeight}
+use Rattle.iss_keys.specs.Levels.{KeySeed}
 use Rattle.iss_keys.specs.KeyStates.{KeyState, PublicKeyView, public_key}
 use Rattle.iss_keys.specs.Directories.{public_keys_of}
-use Rattle.iss_keys.specs.Rings.{IsRing, ring_tree}
+use Rattle.iss_keys.specs.Internal.Rings.{IsRing, ring_seed}
 use Rattle.iss_keys.proofs.ListedLemmas.{listed_none, listed_more, length-listed, get_or-listed, slice_get-listed}
 
-pub ring_none : (kind h : ℕ) → 2 ≤ h → h ≤ 12 → IsRing kind h []
-ring_none kind h low high = record { low = low; high = high; trees_are = listed_none (ring_tree kind h) }
+pub ring_none : (kind h : ℕ) → IsHeight h → IsRing kind h []
+ring_none kind h high = record { high = high; trees_are = listed_none (ring_seed kind h) }
 
-pub ring_more : (kind h n : ℕ) (trees : List KeyTree) (t : KeyTree) → length trees ≡ n → t ≡ ring_tree kind h n →
+pub ring_more : (kind h n : ℕ) (trees : List KeySeed) (t : KeySeed) → length trees ≡ n → t ≡ ring_seed kind h n →
     IsRing kind h trees
     → IsRing kind h (trees ++ t ∷ [])
 ring_more kind h n trees t size is ring =
     let one : length (trees ++ t ∷ []) ≡ length trees + 1 = length-append trees (t ∷ []) in
     record {
-      low = ring.low;
       high = ring.high;
-      trees_are = listed_more trees t (ring_tree kind h) (length trees) ring.trees_are (is
-          ∙ ap (ring_tree kind h) (sym size))
-          ∙ ap (listed (ring_tree kind h)) (sym one);
+      trees_are = listed_more trees t (ring_seed kind h) (length trees) ring.trees_are (is
+          ∙ ap (ring_seed kind h) (sym size))
+          ∙ ap (listed (ring_seed kind h)) (sym one);
     }
 
 -- place i has the tree of number i
-pub ring_at : {X : Type 0} (f : X → KeyTree) (kind h i : ℕ) (xs : List X) (x : X) → IsRing kind h (map f xs) →
+pub ring_at : {X : Type 0} (f : X → KeySeed) (kind h i : ℕ) (xs : List X) (x : X) → IsRing kind h (map f xs) →
     i < length xs → x ≡ get_or xs i x
-    → f x ≡ ring_tree kind h i
+    → f x ≡ ring_seed kind h i
 ring_at f kind h i xs x ring lt at =
     let size : length (map f xs) ≡ length xs = length-map xs f in
     let within : i < length (map f xs) = rw size lt in
     ap f at ∙ sym (get_or-map f xs i x (f x) lt)
-    ∙ ap (λ (ts : List KeyTree). get_or ts i (f x)) ring.trees_are
-    ∙ get_or-listed (ring_tree kind h) (length (map f xs)) i (f x) within
+    ∙ ap (λ (ts : List KeySeed). get_or ts i (f x)) ring.trees_are
+    ∙ get_or-listed (ring_seed kind h) (length (map f xs)) i (f x) within
 
 -- if each key has its number's secret and all have one height, these are the public keys of the numbers
 pub keys_listed : (secret_of : ℕ → List ℕ) (h n i : ℕ) (secret : List ℕ) (k : KeyState) →

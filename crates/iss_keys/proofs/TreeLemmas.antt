@@ -6,7 +6,7 @@ use Rattle.std.proofs.Math.Pow.{pow_mono}
 use Rattle.std.proofs.lemmas.Nat.{pow_pos}
 use Rattle.std.proofs.lemmas.Bool.{cases_eq}
 use Rattle.iss_keys.specs.Chains.{leaf_value}
-use Rattle.iss_keys.specs.Trees.{inner, node, beside, path_node, root_of, HasNodesFrom}
+use Rattle.iss_keys.specs.Trees.{inner, node, beside, path_node, tree_root, HasNodesFrom}
 
 -- a level has twice as many nodes as the one above
 pow_down : (h k : ℕ) → suc k ≤ h → 2 ^ (h - k) ≡ 2 * 2 ^ (h - suc k)
@@ -115,7 +115,7 @@ path_is secret h nodes q k place b tree lt leaf e is =
     rw (is, at.0) (tree k (beside (q / 2 ^ k)) below at.1 (omega arith))
 
 pub has_root : (secret : List ℕ) (h : ℕ) (nodes : List (List ℕ)) → HasNodesFrom secret h 1 nodes →
-    get_or nodes 1 [] ≡ root_of secret h
+    get_or nodes 1 [] ≡ tree_root secret h
 has_root secret h nodes tree =
     let none : h - h ≡ 0 = omega arith in
     let top : h ≤ h = omega arith in

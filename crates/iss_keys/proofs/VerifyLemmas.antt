@@ -1,20 +1,23 @@
 -- A signature made as defined verifies.
-use Rattle.std.proofs.Common.{subst, ◌≡◌, ℕ, zero, suc, ◌+◌, ◌-◌, ◌*◌, ◌/◌, ◌%◌, ◌^◌, ◌<◌, ◌≤◌, ◌==◌, true, false, List, [], ◌∷◌, ◌++◌, length, take, drop, get_or, refl, sym, ap, ap₂, ◌∙◌, arith, ◌⊎◌, inl, inr, length-append, append_assoc, length-drop}
+use Rattle.std.proofs.Common.{subst, pow-add, ◌≡◌, ℕ, zero, suc, ◌+◌, ◌-◌, ◌*◌, ◌/◌, ◌%◌, ◌^◌, ◌<◌, ◌≤◌, ◌==◌, true, false, List, [], ◌∷◌, ◌++◌, length, take, drop, get_or, refl, sym, ap, ap₂, ◌∙◌, arith, ◌⊎◌, inl, inr, length-append, append_assoc, length-drop}
 use Rattle.std.specs.Prelude.{if◌then◌else◌, nat_lt}
 use Rattle.std.specs.Int.{w32, to_be_bytes}
 use Rattle.std.proofs.Math.Seq.{drop-append_seam, drop-append-add}
 use Rattle.std.proofs.lemmas.List.{take-append-le, drop-append-le, take_all, append-nil}
-use Rattle.std.proofs.lemmas.Bool.{cases_eq, cases_lt}
-use Rattle.std.proofs.Math.Nat.{pow-suc, div-div-eq-div-mul, div-eq_of_lt}
+use Rattle.std.proofs.lemmas.Bool.{cases_eq, cases_lt, le-ltb, lt-ltb}
+use Rattle.std.proofs.Math.Nat.{pow-suc, div-div-eq-div-mul, div-eq_of_lt, div-lt_iff_lt-mul}
 use Rattle.std.proofs.Math.Pow.{pow_mono}
 use Rattle.iss_keys.proofs.ChainLemmas.{sum_below-bound}
 use Rattle.std.proofs.lemmas.Nat.{from_be_bytes-to_be_bytes_4}
 use Rattle.sha2.specs.Sha256.{sha256, digest_bytes}
 use Rattle.sha2.proofs.Facts256.{length-sha256}
+use Rattle.iss_base.specs.Heights.{IsHeight, digests_of_height, signature_length}
+use Rattle.iss_base.proofs.HeightLemmas.{digests_of_one_tree, digests_of_two_levels}
 use Rattle.iss_keys.specs.Pieces.{join_below}
 use Rattle.iss_keys.specs.Chains.{chain_start, chain_step, steps, chain_end, leaf_value, nibble, checksum, digit, statement_digest}
-use Rattle.iss_keys.specs.Trees.{node, root_of, parent_of, beside, path_node}
-use Rattle.iss_keys.specs.Signatures.{leaf_number, value_at, sibling_at, end_from, climb, part_root, part_of, Verifies, signed_value, signature_of}
+use Rattle.iss_keys.specs.Trees.{KeyTree, node, tree_root, parent_of, beside, path_node}
+use Rattle.iss_keys.specs.Levels.{bottom_secret, bottom_tree, by_top, root_in, root_of, root_statement, signings, top_secret, top_tree}
+use Rattle.iss_keys.specs.Signatures.{leaf_number, value_at, sibling_at, end_from, climb, part_root, bottom_root, top_root, root_of_parts, part_by, part_of, parts_of, Verifies, signed_value, signature_of}
 
 -- ---- lengths
 
@@ -196,7 +199,7 @@ ends_agree secret part m q bytes values i lt =
 
 -- a part made as defined gives the root, whatever follows it
 pub part_gives_root : (secret m rest : List ℕ) (h q : ℕ) → AreBytes m → q < 2 ^ h →
-    part_root q m (part_of secret h q m ++ rest) h ≡ root_of secret h
+    part_root q m (part_of secret h q m ++ rest) h ≡ tree_root secret h
 part_gives_root secret m rest h q bytes lt =
     let front = join_below (signed_value secret q m) 67 in
     let part = part_of secret h q m ++ rest in
@@ -222,12 +225,83 @@ length-part_of secret m h q =
     let back = length-join_below (path_node secret q) h (λ k. length-node secret k _) in
     simp length-append (omega arith)
 
+-- ---- the parts of a signature
+
+pub top_of_one : (secret : List ℕ) (h : ℕ) → h ≤ 12 → top_tree secret h ≡ record { secret = secret; height = h }
+unfolding top_tree
+top_of_one secret h one = rw (le-ltb 12 h one) refl
+
+pub top_height : (secret : List ℕ) (h : ℕ) → 12 < h → (top_tree secret h).height ≡ h - 10
+unfolding top_tree
+top_height secret h two = rw (lt-ltb 12 h two) refl
+
+-- the part by the bottom tree of leaf q, and that by leaf b of the top tree
+abbrev pub bottom_part : List ℕ → ℕ → List ℕ → List ℕ
+bottom_part secret q s = part_of (bottom_secret secret (q / 1024)) 10 (q % 1024) (statement_digest s)
+
+abbrev pub top_part : List ℕ → ℕ → ℕ → List ℕ
+top_part secret h b = part_by secret h (by_top secret b)
+
+one_part : (secret s : List ℕ) (h q : ℕ) → h ≤ 12 →
+    parts_of secret h q s
+    ≡ part_of (top_tree secret h).secret (top_tree secret h).height q (statement_digest s)
+unfolding parts_of signings
+one_part secret s h q one =
+    rw (le-ltb 12 h one)
+    (append-nil (part_of (top_tree secret h).secret (top_tree secret h).height q (statement_digest s)))
+
+pub parts_of_one_tree : (secret s : List ℕ) (h q : ℕ) → h ≤ 12 →
+    parts_of secret h q s ≡ part_of secret h q (statement_digest s)
+parts_of_one_tree secret s h q one =
+    one_part secret s h q one
+    ∙ ap (λ (t : KeyTree). part_of t.secret t.height q (statement_digest s)) (top_of_one secret h one)
+
+pub parts_of_two_levels : (secret s : List ℕ) (h q : ℕ) → 12 < h →
+    parts_of secret h q s ≡ bottom_part secret q s ++ top_part secret h (q / 1024)
+unfolding parts_of signings
+parts_of_two_levels secret s h q two =
+    rw (lt-ltb 12 h two) (ap (λ (x : List ℕ). bottom_part secret q s ++ x) (append-nil (top_part secret h (q / 1024))))
+
+-- the same parts, appended one after the other
+pub parts_appended : (secret s front : List ℕ) (h q : ℕ) → 12 < h →
+    front ++ bottom_part secret q s ++ top_part secret h (q / 1024) ≡ front ++ parts_of secret h q s
+parts_appended secret s front h q two =
+    append_assoc front (bottom_part secret q s) (top_part secret h (q / 1024))
+    ∙ ap (λ (x : List ℕ). front ++ x) (sym (parts_of_two_levels secret s h q two))
+
+pub one_appended : (secret s front : List ℕ) (h q : ℕ) → h ≤ 12 →
+    front ++ part_of (top_tree secret h).secret (top_tree secret h).height q (statement_digest s)
+    ≡ front ++ parts_of secret h q s
+one_appended secret s front h q one = ap (λ (x : List ℕ). front ++ x) (sym (one_part secret s h q one))
+
+length-parts_of : (secret s : List ℕ) (h q : ℕ) → length (parts_of secret h q s) ≡ 32 * digests_of_height h
+length-parts_of secret s h q = elim (cases_lt 12 h) [
+  | inl two ↦
+      let bottom = length-part_of (bottom_secret secret (q / 1024)) (statement_digest s) 10 (q % 1024) in
+      let top : length (top_part secret h (q / 1024)) ≡ 2144 + 32 * (top_tree secret h).height =
+      length-part_of (top_tree secret h).secret
+      (statement_digest (by_top secret (q / 1024)).statement) (top_tree secret h).height (q / 1024) in
+      let size : length (parts_of secret h q s) ≡ length (bottom_part secret q s) + length (top_part secret h (q / 1024)) =
+      ap (λ (x : List ℕ). length x) (parts_of_two_levels secret s h q two)
+      ∙ length-append (bottom_part secret q s) (top_part secret h (q / 1024)) in
+      rw (digests_of_two_levels h two) (omega (arith, size, bottom, top, top_height secret h two))
+  | inr one ↦
+      let size = length-part_of secret (statement_digest s) h q in
+      rw (parts_of_one_tree secret s h q one, digests_of_one_tree h one) (omega (arith, size))
+]
+
+pub length-signature_of : (secret : List ℕ) (h q : ℕ) (s : List ℕ) →
+    length (signature_of secret h q s) ≡ signature_length h
+length-signature_of secret h q s = let size = length-parts_of secret s h q in omega (arith, size)
+
+-- the last leaf's number fits into four bytes
+leaf_fits : (h q : ℕ) → IsHeight h → q < 2 ^ h → q < 2 ^ 32
+leaf_fits h q high lt = let most : 2 ^ h ≤ 2 ^ 20 = pow_mono high.1 in omega arith
+
 -- a signature has the number of its leaf
-pub leaf_of_signature : (secret s : List ℕ) (h q : ℕ) → h ≤ 12 → q < 2 ^ h → leaf_number (signature_of secret h q s) ≡ q
-leaf_of_signature secret s h q high lt =
-    let most : 2 ^ h ≤ 2 ^ 12 = pow_mono high in
-    let fits : q < 2 ^ 32 = omega arith in
-    from_be_bytes-to_be_bytes_4 q fits
+pub leaf_of_signature : (secret s : List ℕ) (h q : ℕ) → IsHeight h → q < 2 ^ h →
+    leaf_number (signature_of secret h q s) ≡ q
+leaf_of_signature secret s h q high lt = from_be_bytes-to_be_bytes_4 q (leaf_fits h q high lt)
 
 -- a signature is a list of bytes
 steps_bytes : (q i j n : ℕ) (x : List ℕ) → AreBytes x → AreBytes (steps q i j n x)
@@ -245,36 +319,100 @@ unfolding join_below
 join_bytes f zero h = λ i. omega arith
 join_bytes f (suc n) h = bytes-append (join_below f n) (f n) (join_bytes f n h) (h n)
 
-head_bytes : (h q : ℕ) → h ≤ 12 → AreBytes (h ∷ to_be_bytes w32 q)
-head_bytes h q high zero = omega arith
-head_bytes h q high (suc i) = word_bytes q i
-
-pub bytes_of_signature : (secret s : List ℕ) (h q : ℕ) → h ≤ 12 → AreBytes (signature_of secret h q s)
-bytes_of_signature secret s h q high =
-    let m = statement_digest s in
+part_bytes : (secret m : List ℕ) (h q : ℕ) → AreBytes (part_of secret h q m)
+part_bytes secret m h q =
     let values = join_bytes (signed_value secret q m) 67
     (λ i. steps_bytes q i 0 (digit m i) (chain_start secret q i) (sha256-bytes _)) in
     let siblings = join_bytes (path_node secret q) h (λ k. node_bytes secret k _) in
-    bytes-append (h ∷ to_be_bytes w32 q) (part_of secret h q m) (head_bytes h q high) (bytes-append _ _ values siblings)
+    bytes-append _ _ values siblings
 
--- a signature made as defined verifies
-pub signature_verifies : (secret s : List ℕ) (h q : ℕ) → h ≤ 12 → q < 2 ^ h →
+parts_bytes : (secret s : List ℕ) (h q : ℕ) → AreBytes (parts_of secret h q s)
+parts_bytes secret s h q = elim (cases_lt 12 h) [
+  | inl two ↦
+      rw (parts_of_two_levels secret s h q two)
+      (bytes-append (bottom_part secret q s) (top_part secret h (q / 1024))
+      (part_bytes (bottom_secret secret (q / 1024)) (statement_digest s) 10 (q % 1024))
+      (part_bytes (top_tree secret h).secret _ (top_tree secret h).height (q / 1024)))
+  | inr one ↦ rw (parts_of_one_tree secret s h q one) (part_bytes secret (statement_digest s) h q)
+]
+
+head_bytes : (h q : ℕ) → IsHeight h → AreBytes (h ∷ to_be_bytes w32 q)
+head_bytes h q high zero = omega (arith, high.1)
+head_bytes h q high (suc i) = word_bytes q i
+
+pub bytes_of_signature : (secret s : List ℕ) (h q : ℕ) → IsHeight h → AreBytes (signature_of secret h q s)
+bytes_of_signature secret s h q high =
+    bytes-append (h ∷ to_be_bytes w32 q) (parts_of secret h q s) (head_bytes h q high) (parts_bytes secret s h q)
+
+-- ---- a signature made as defined verifies
+
+-- the leaf's bottom tree and the leaf of the top tree
+top_leaf : (h q : ℕ) → 12 < h → q < 2 ^ h → q / 1024 < 2 ^ (h - 10)
+top_leaf h q two lt =
+    let whole : 2 ^ (h - 10) * 1024 ≡ 2 ^ h = sym (pow-add 2 (h - 10) 10) ∙ ap (λ n. 2 ^ n) (omega (arith, two)) in
+    let some : 0 < 1024 = omega arith in
+    (div-lt_iff_lt-mul some).1 (rw whole lt)
+
+root_of_one_tree : (secret s : List ℕ) (h q : ℕ) → h ≤ 12 → q < 2 ^ h →
+    root_of_parts q s (parts_of secret h q s) h ≡ root_of secret h
+unfolding root_of_parts
+root_of_one_tree secret s h q one lt =
+    let m = statement_digest s in
+    rw (le-ltb 12 h one) (ap (λ (x : List ℕ). part_root q m x h)
+    (parts_of_one_tree secret s h q one ∙ sym (append-nil (part_of secret h q m)))
+    ∙ part_gives_root secret m [] h q (sha256-bytes _) lt
+    ∙ sym (ap root_in (top_of_one secret h one)))
+
+-- what follows the bottom part is the top part
+behind_bottom : (secret s : List ℕ) (h q : ℕ) →
+    drop 2464 (bottom_part secret q s ++ top_part secret h (q / 1024)) ≡ top_part secret h (q / 1024)
+behind_bottom secret s h q =
+    let size = length-part_of (bottom_secret secret (q / 1024)) (statement_digest s) 10 (q % 1024) in
+    rw (← size) (drop-append_seam (bottom_part secret q s) (top_part secret h (q / 1024)))
+
+root_of_two_trees : (secret s : List ℕ) (h q : ℕ) → 12 < h → q < 2 ^ h →
+    top_root (q / 1024) (bottom_root q s (bottom_part secret q s ++ top_part secret h (q / 1024)))
+    (bottom_part secret q s ++ top_part secret h (q / 1024)) (h - 10) ≡ root_of secret h
+root_of_two_trees secret s h q two lt =
+    let b = q / 1024 in
+    let t = top_tree secret h in
+    let m = statement_digest (root_statement b (root_in (bottom_tree secret b))) in
+    let parts = bottom_part secret q s ++ top_part secret h b in
+    let inside : q % 1024 < 2 ^ 10 = omega arith in
+    let within : b < 2 ^ t.height = rw (top_height secret h two) (top_leaf h q two lt) in
+    let below : bottom_root q s parts ≡ root_in (bottom_tree secret b) =
+    part_gives_root (bottom_secret secret b) (statement_digest s) (top_part secret h b) 10 (q % 1024) (sha256-bytes _)
+    inside in
+    ap (λ (r : List ℕ). top_root b r parts (h - 10)) below
+    ∙ ap (λ (x : List ℕ). part_root b m x (h - 10))
+    (behind_bottom secret s h q ∙ sym (append-nil (top_part secret h b)))
+    ∙ ap (λ n. part_root b m (top_part secret h b ++ []) n) (sym (top_height secret h two))
+    ∙ part_gives_root t.secret m [] t.height b (sha256-bytes _) within
+
+root_of_two_levels : (secret s : List ℕ) (h q : ℕ) → 12 < h → q < 2 ^ h →
+    root_of_parts q s (parts_of secret h q s) h ≡ root_of secret h
+unfolding root_of_parts
+root_of_two_levels secret s h q two lt =
+    rw (lt-ltb 12 h two, parts_of_two_levels secret s h q two) (root_of_two_trees secret s h q two lt)
+
+root_of_made : (secret s : List ℕ) (h q : ℕ) → q < 2 ^ h → root_of_parts q s (parts_of secret h q s) h ≡ root_of secret h
+root_of_made secret s h q lt = elim (cases_lt 12 h) [
+  | inl two ↦ root_of_two_levels secret s h q two lt
+  | inr one ↦ root_of_one_tree secret s h q one lt
+]
+
+pub signature_verifies : (secret s : List ℕ) (h q : ℕ) → IsHeight h → q < 2 ^ h →
     Verifies (root_of secret h) h s (signature_of secret h q s)
 signature_verifies secret s h q high lt =
-    let m = statement_digest s in
-    let sig = signature_of secret h q s in
-    let leaf : leaf_number sig ≡ q = leaf_of_signature secret s h q high lt in
-    let size = length-part_of secret m h q in
+    let leaf : leaf_number (signature_of secret h q s) ≡ q = leaf_of_signature secret s h q high lt in
     record {
-      exact = omega arith;
+      exact = length-signature_of secret h q s;
       height = refl;
       leaf = rw leaf lt;
-      root_is = ap (λ n. part_root n m (drop 5 sig) h) leaf
-          ∙ ap (λ (x : List ℕ). part_root q m x h) (sym (append-nil (part_of secret h q m)))
-          ∙ part_gives_root secret m [] h q (sha256-bytes _) lt;
+      root_is = ap (λ n. root_of_parts n s (parts_of secret h q s) h) leaf ∙ root_of_made secret s h q lt;
     }
 
-pub made_verifies : (secret s sig : List ℕ) (h q : ℕ) → h ≤ 12 → q < 2 ^ h → sig ≡ signature_of secret h q s →
+pub made_verifies : (secret s sig : List ℕ) (h q : ℕ) → IsHeight h → q < 2 ^ h → sig ≡ signature_of secret h q s →
     Verifies (root_of secret h) h s sig
 made_verifies secret s sig h q high lt e =
     subst (λ (x : List ℕ). Verifies (root_of secret h) h s x) (sym e) (signature_verifies secret s h q high lt)

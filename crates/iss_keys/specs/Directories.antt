@@ -23,8 +23,8 @@ pub record DirectoryView : Type 0 where
 abbrev pub public_keys_of : (ℕ → List ℕ) → ℕ → ℕ → List PublicKeyView
 public_keys_of secret_of h n = listed (λ i. public_key (secret_of i) h) n
 
--- the directory of `nodes` nodes and `clients` clients, all with trees of height h
--- rule: Signatures: All keys are a function of the numbers of nodes and clients and the trees' height
+-- the directory of `n` nodes and `clients` clients, all with keys of height h
+-- rule: Signatures: All keys are a function of the numbers of nodes and clients and the keys' height
 abbrev pub directory_of : ℕ → ℕ → ℕ → DirectoryView
 directory_of n clients h = record {
   nodes = public_keys_of node_secret h n;
@@ -35,12 +35,12 @@ directory_of n clients h = record {
 abbrev pub VerifiesBy : List PublicKeyView → ℕ → List ℕ → List ℕ → Type 0
 VerifiesBy keys i s sig = IsSomeAnd (slice_get keys i) (λ key. Verifies key.root key.height s sig)
 
--- key i of the list has the secret of number i and a tree of height h
+-- key i of the list has the secret of number i and height h
 abbrev pub HasKeys : (ℕ → List ℕ) → ℕ → List KeyState → Type 0
 HasKeys secret_of h keys = (i : ℕ) (key : KeyState) → slice_get keys i ≡ Some key → (key.secret ≡ secret_of i)
     × (key.height ≡ h)
 
--- the key of node me, with a tree of this height
+-- the key of node me, of this height
 pub record AreKeysOf (me height : ℕ) (k : KeyState) : Type 0 where
   pub own : k.secret ≡ node_secret me
   pub tall : k.height ≡ height

@@ -1,9 +1,10 @@
 -- What contracts see of a key: its secret, its height, and how many leaves are used, which are those below that
 -- number. Of a public key they see root and height.
 use Rattle.std.specs.Prelude.{ℕ, ◌-◌, ◌^◌, ◌≤◌, List}
-use Rattle.iss_keys.specs.Trees.{root_of}
+use Rattle.iss_base.specs.Heights.{IsHeight}
+use Rattle.iss_keys.specs.Levels.{root_of}
 
--- a secret, the height of the tree over its leaves, and how many leaves are used: those below `used`
+-- a secret, a height, and how many of the 2 ^ height leaves are used: those below `used`
 pub record KeyState : Type 0 where
   pub secret : List ℕ
   pub height : ℕ
@@ -16,11 +17,10 @@ left_of k = 2 ^ k.height - k.used
 
 -- the ranges of the height and of the count of used leaves
 pub record IsKey (h used : ℕ) : Type 0 where
-  pub low : 2 ≤ h
-  pub high : h ≤ 12
+  pub height : IsHeight h
   pub within : used ≤ 2 ^ h
 
--- the public key: the root of the tree, and its height
+-- the public key: the root of the only or the top tree, and the key's height
 pub record PublicKeyView : Type 0 where
   pub root : List ℕ
   pub height : ℕ

@@ -1,12 +1,9 @@
+pub mod Internal
 pub mod Pieces
 pub mod Chains
 pub mod Trees
+pub mod Levels
 pub mod Signatures
 pub mod KeyStates
 pub mod Directories
-pub mod Rings
-pub mod Sources
-pub mod Questions
 pub mod VerifiedBy
-pub mod Homes
-pub mod Held

@@ -15,8 +15,8 @@ node secret zero p = leaf_value secret p
 node secret (suc k) p = inner (node secret k (2 * p)) (node secret k (2 * p + 1))
 
 -- the root of the tree of height h
-abbrev pub root_of : List ℕ → ℕ → List ℕ
-root_of secret h = node secret h 0
+abbrev pub tree_root : List ℕ → ℕ → List ℕ
+tree_root secret h = node secret h 0
 
 -- the position of the sibling of p
 abbrev pub beside : ℕ → ℕ
@@ -36,8 +36,9 @@ abbrev pub HasNodesFrom : List ℕ → ℕ → ℕ → List (List ℕ) → Type 
 HasNodesFrom secret h i nodes = (k p : ℕ) → k ≤ h → p < 2 ^ (h - k) → i ≤ 2 ^ (h - k) + p
     → slice_index_or nodes (2 ^ (h - k) + p) [] ≡ node secret k p
 
--- these are all its nodes
+-- these are all its nodes; no tree is higher than 12
 pub record AreNodesOf (secret : List ℕ) (h : ℕ) (nodes : List (List ℕ)) : Type 0 where
+  pub small : h ≤ 12
   pub size : length nodes ≡ 2 ^ (h + 1)
   pub tree : HasNodesFrom secret h 1 nodes
 

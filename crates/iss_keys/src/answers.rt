@@ -3,11 +3,12 @@
 
 ghost use Rattle.std.specs.Prelude.{◌≡◌, ◌↔◌, ℕ, ◌*◌, ◌<◌, ◌≤◌, slice_get, IfOk, IfSome, IsSome, IsTrue};
 ghost use Rattle.iss_keys.specs.Signatures.{Verifies};
-ghost use Rattle.iss_keys.specs.Questions.{Question};
+ghost use Rattle.iss_keys.specs.Internal.Questions.{Question};
 
 use crate::comparing::same_bytes;
 use crate::places::{SET, fill_places, hash_on, put_first, word_at};
 use crate::verification::{PublicKey, verify};
+use iss_base::heights::digests_of_height;
 use std::alloc::{AllocError, Global};
 use std::cell::RefCell;
 use std::marker::Model;
@@ -184,7 +185,7 @@ impl Answers {
     {
         // A signature of the wrong length is refused at once.
         if statement.len() > LONGEST_STATEMENT
-            || signature.len() != 2149 + 32 * key.height() as usize
+            || signature.len() != 5 + 32 * digests_of_height(key.height())
         {
             return verify(key, statement, signature);
         }

@@ -3,8 +3,9 @@
 ghost use Rattle.std.specs.Prelude.{◌≡◌, ◌<◌, ◌≤◌};
 ghost use Rattle.iss_keys.specs.Pieces.{sum_below};
 ghost use Rattle.iss_keys.specs.Chains.{statement_digest, nibble, checksum, digit};
+ghost use Rattle.iss_keys.specs.Levels.{root_statement};
 
-use crate::marks::STATEMENT;
+use crate::marks::{BOTTOM_ROOT, STATEMENT};
 use sha2::{Digest, Sha256};
 
 /// The digest of a statement, which is what a leaf signs.
@@ -14,6 +15,17 @@ pub fn digest_of_statement(statement: &[u8]) -> [u8; 32]
     let mut hasher = Sha256::new();
     hasher.update([STATEMENT]);
     hasher.update(statement);
+    hasher.finalize()
+}
+
+/// The digest of the statement that leaf `bottom` of a top tree signs: the root of this bottom tree.
+pub fn digest_of_root(bottom: u32, root: &[u8; 32]) -> [u8; 32]
+    ensures { result ≡ statement_digest (root_statement bottom root.now) }
+{
+    let mut hasher = Sha256::new();
+    hasher.update([STATEMENT, BOTTOM_ROOT]);
+    hasher.update(bottom.to_be_bytes());
+    hasher.update(root);
     hasher.finalize()
 }
 

@@ -2,6 +2,7 @@
 
 ghost use Rattle.std.specs.Prelude.{◌≡◌, ◌↔◌, ℕ, List, ◌<◌, ◌≤◌, length, map, slice_get, IfOk, IfSome, IsTrue};
 ghost use Rattle.sha2.specs.Sha256.{sha256};
+ghost use Rattle.iss_base.specs.Heights.{IsHeight};
 ghost use Rattle.iss_keys.specs.KeyStates.{public_of};
 ghost use Rattle.iss_keys.specs.Directories.{DirectoryView, directory_of, VerifiesBy, HasKeys, node_secret, client_secret};
 
@@ -47,14 +48,13 @@ fn verify_by(
 }
 
 impl Directory {
-    /// The directory of nodes and clients whose trees all have height `height`. Each public key is computed when it is
-    /// first needed, by 1,072 small hashes a leaf.
-    // rule: Signatures: All keys are a function of the numbers of nodes and clients and the trees' height
+    /// The directory of nodes and clients whose keys all have height `height`. Each public key is computed when it is
+    /// first needed, by 1,072 small hashes a leaf of its only or its top tree.
+    // rule: Signatures: All keys are a function of the numbers of nodes and clients and the keys' height
     pub fn make(alloc: Global, n: u32, clients: u32, height: u8) -> Result<Directory, NoMemory>
         requires n { n ≤ 256 }
         requires clients { clients ≤ 256 }
-        requires low { 2 ≤ height }
-        requires high { height ≤ 12 }
+        requires height { IsHeight height }
         ensures { IfOk result (λ d. d ≡ directory_of n clients height) }
     {
         let nodes = Keyring::own(alloc, NODE_SECRET, n, height)?;
@@ -69,8 +69,7 @@ impl Directory {
 
     /// The same directory without memory: it computes keys again each time.
     pub(crate) fn alone(alloc: Global, n: u32, clients: u32, height: u8) -> Directory
-        requires low { 2 ≤ height }
-        requires high { height ≤ 12 }
+        requires height { IsHeight height }
         ensures { result ≡ directory_of n clients height }
     {
         Directory {
@@ -114,7 +113,7 @@ impl Directory {
         self.clients.key(client)
     }
 
-    /// The keys of a node, with no leaf used. They share their tree with this directory, so that it is computed once.
+    /// The keys of a node, with no leaf used. They share their trees with this directory, so that each is computed once.
     pub fn keys_of_node(&self, alloc: Global, node: u8) -> Keys
         requires { node < length self.now.nodes }
         ensures own { IfSome (slice_get self.now.nodes node)
@@ -125,7 +124,7 @@ impl Directory {
         self.nodes.keys(alloc, NODE_SECRET, node)
     }
 
-    /// The keys of a client, with no leaf used. They share their tree with this directory too.
+    /// The keys of a client, with no leaf used. They share their trees with this directory too.
     pub fn keys_of_client(&self, alloc: Global, client: u8) -> Keys
         requires { client < length self.now.clients }
         ensures own { IfSome (slice_get self.now.clients client)

@@ -3,14 +3,15 @@
 
 ghost use Rattle.std.specs.Prelude.{◌≡◌, ℕ, List, [], ◌∷◌, ◌<◌, ◌≤◌, length, map, slice_get, IfOk, IfSome};
 ghost use Rattle.sha2.specs.Sha256.{sha256};
-ghost use Rattle.iss_keys.specs.Trees.{root_of};
+ghost use Rattle.iss_base.specs.Heights.{IsHeight};
+ghost use Rattle.iss_keys.specs.Levels.{root_of};
 ghost use Rattle.iss_keys.specs.KeyStates.{PublicKeyView, public_of};
 ghost use Rattle.iss_keys.specs.Directories.{public_keys_of};
-ghost use Rattle.iss_keys.specs.Rings.{keys_of_ring, ring_tree};
+ghost use Rattle.iss_keys.specs.Internal.Rings.{keys_of_ring, ring_seed};
 
-use crate::late::{LateTree, Tree};
+use crate::held::HeldTrees;
+use crate::levels::{KeyTrees, root_of_key};
 use crate::signing::{Keys, NoMemory};
-use crate::tree::root_of_secret;
 use crate::verification::PublicKey;
 use sha2::{Digest, Sha256};
 use std::alloc::Global;
@@ -24,34 +25,33 @@ fn secret_of(kind: u8, number: u8) -> [u8; 32]
     Sha256::digest([kind, number])
 }
 
-// The keys with the secrets of the numbers below `count`, with trees of one height. There may be fewer places for trees
-// than numbers. A tree without a place is computed each time.
+// The keys with the secrets of the numbers below `count`, all of one height. There may be fewer places for trees than
+// numbers. A tree without a place is computed each time.
 #[derive(Drop)]
 struct OwnKeys {
     kind: u8,
     count: u32,
     height: u8,
-    trees: Vec<Rc<LateTree>>,
+    trees: Vec<Rc<KeyTrees>>,
 }
 
 impl Model for OwnKeys {
     ghost use Rattle.std.specs.Prelude.{◌≡◌, length, map};
-    ghost use Rattle.iss_keys.specs.Rings.{OwnRing};
+    ghost use Rattle.iss_keys.specs.Internal.Rings.{OwnRing};
 
     ghost Value = { OwnRing };
 
-    ghost use Rattle.iss_keys.specs.Rings.{IsRing};
+    ghost use Rattle.iss_keys.specs.Internal.Rings.{IsRing};
 
     ghost view = { λ k. record { kind = k.kind; count = k.count; height = k.height } };
 
-    ghost invariant = { λ k. IsRing k.kind k.height (map (λ tree. tree.value) k.trees.items) };
+    ghost invariant = { λ k. IsRing k.kind k.height (map (λ trees. trees.value) k.trees.items) };
 }
 
 impl OwnKeys {
     // With no places.
     fn alone(alloc: Global, kind: u8, count: u32, height: u8) -> OwnKeys
-        requires low { 2 ≤ height }
-        requires high { height ≤ 12 }
+        requires height { IsHeight height }
         ensures { result ≡ record { kind = kind; count = count; height = height } }
     {
         OwnKeys {
@@ -64,15 +64,14 @@ impl OwnKeys {
 
     fn new(alloc: Global, kind: u8, count: u32, height: u8) -> Result<OwnKeys, NoMemory>
         requires count { count ≤ 256 }
-        requires low { 2 ≤ height }
-        requires high { height ≤ 12 }
+        requires height { IsHeight height }
         ensures { IfOk result (λ keys. keys ≡ record { kind = kind; count = count; height = height }) }
     {
         let mut trees = Vec::with_capacity(alloc, count as usize)?;
         'numbers: for number in 0..count {
             let secret = secret_of(kind, number as u8);
-            let tree = Rc::new(alloc, LateTree::new(alloc, secret, height))?;
-            trees.push(tree)?;
+            let key = Rc::new(alloc, KeyTrees::new(alloc, secret, height))?;
+            trees.push(key)?;
         }
         Ok(OwnKeys {
             kind,
@@ -82,23 +81,23 @@ impl OwnKeys {
         })
     }
 
-    // The place for a number's tree, if there is one.
-    fn place(&self, number: u8) -> Option<&Rc<LateTree>>
-        ensures { IfSome result (λ tree. tree.now.value ≡ ring_tree self.now.kind self.now.height number) }
+    // The place for a number's trees, if there is one.
+    fn place(&self, number: u8) -> Option<&Rc<KeyTrees>>
+        ensures { IfSome result (λ trees. trees.now.value ≡ ring_seed self.now.kind self.now.height number) }
     {
         match self.trees.get(number as usize) {
-            Some(tree) => Some(tree),
+            Some(trees) => Some(trees),
             None => None,
         }
     }
 
-    // The root of a number's tree.
+    // The public root of a number.
     fn root(&self, number: u8) -> [u8; 32]
         ensures { result ≡ root_of (sha256 (self.now.kind ∷ number ∷ [])) self.now.height }
     {
         match self.place(number) {
-            Some(tree) => tree.root(),
-            None => root_of_secret(&secret_of(self.kind, number), self.height),
+            Some(trees) => trees.root(),
+            None => root_of_key(&secret_of(self.kind, number), self.height),
         }
     }
 
@@ -112,27 +111,27 @@ impl OwnKeys {
         Some(PublicKey::from_parts(self.root(number), self.height))
     }
 
-    // A number's tree: the shared one if it has a place.
-    fn tree(&self, alloc: Global, number: u8) -> Tree
-        ensures { result ≡ ring_tree self.now.kind self.now.height number }
+    // A number's trees: the shared ones if they have a place.
+    fn trees(&self, alloc: Global, number: u8) -> HeldTrees
+        ensures { result ≡ ring_seed self.now.kind self.now.height number }
     {
-        if let Some(tree) = self.place(number) {
-            if let Ok(tree) = tree.clone() {
-                return Tree::shared(tree);
+        if let Some(trees) = self.place(number) {
+            if let Ok(trees) = trees.clone() {
+                return HeldTrees::shared(trees);
             }
         }
         let secret = secret_of(self.kind, number);
-        Tree::own(LateTree::new(alloc, secret, self.height))
+        HeldTrees::own(KeyTrees::new(alloc, secret, self.height))
     }
 
-    // A number's tree of any kind. It is shared if the kind is that of these keys.
-    fn tree_of_kind(&self, alloc: Global, kind: u8, number: u8) -> Tree
-        ensures { result ≡ ring_tree kind self.now.height number }
+    // A number's trees of any kind. They are shared if the kind is that of these keys.
+    fn trees_of_kind(&self, alloc: Global, kind: u8, number: u8) -> HeldTrees
+        ensures { result ≡ ring_seed kind self.now.height number }
     {
         if kind == self.kind {
-            return self.tree(alloc, number);
+            return self.trees(alloc, number);
         }
-        Tree::own(LateTree::new(alloc, secret_of(kind, number), self.height))
+        HeldTrees::own(KeyTrees::new(alloc, secret_of(kind, number), self.height))
     }
 }
 
@@ -154,17 +153,16 @@ impl Model for Keyring {
 
     ghost Value = { List PublicKeyView };
 
-    ghost use Rattle.iss_keys.specs.Sources.{keys_of};
+    ghost use Rattle.iss_keys.specs.Internal.Sources.{keys_of};
 
     ghost view = { λ k. keys_of k.source };
 }
 
 impl Keyring {
-    /// The public keys for the secrets of the numbers below `count`, with trees of one height.
+    /// The public keys for the secrets of the numbers below `count`, all of one height.
     pub fn own(alloc: Global, kind: u8, count: u32, height: u8) -> Result<Keyring, NoMemory>
         requires count { count ≤ 256 }
-        requires low { 2 ≤ height }
-        requires high { height ≤ 12 }
+        requires height { IsHeight height }
         ensures { IfOk result (λ ring. ring ≡ public_keys_of (λ i. sha256 (kind ∷ i ∷ [])) height count) }
     {
         let keys = OwnKeys::new(alloc, kind, count, height)?;
@@ -175,8 +173,7 @@ impl Keyring {
 
     /// The same without memory: keys are computed again each time.
     pub fn alone(alloc: Global, kind: u8, count: u32, height: u8) -> Keyring
-        requires low { 2 ≤ height }
-        requires high { height ≤ 12 }
+        requires height { IsHeight height }
         ensures { result ≡ public_keys_of (λ i. sha256 (kind ∷ i ∷ [])) height count }
     {
         Keyring {
@@ -207,7 +204,7 @@ impl Keyring {
         }
     }
     /// The key with the secret of a number of this kind, and the height of the public key of this number. No leaf is
-    /// used. If this public key is its own, its tree is shared.
+    /// used. If this public key is its own, its trees are shared.
     pub fn keys(&self, alloc: Global, kind: u8, number: u8) -> Keys
         requires { number < length self.now }
         ensures { IfSome (slice_get self.now number)
@@ -216,9 +213,10 @@ impl Keyring {
         match &self.source {
             Source::Given(keys) => {
                 let height = keys[number as usize].levels();
-                Keys::of(Tree::own(LateTree::new(alloc, secret_of(kind, number), height)))
+                let trees = KeyTrees::new(alloc, secret_of(kind, number), height);
+                Keys::of(HeldTrees::own(trees))
             }
-            Source::Own(keys) => Keys::of(keys.tree_of_kind(alloc, kind, number)),
+            Source::Own(keys) => Keys::of(keys.trees_of_kind(alloc, kind, number)),
         }
     }
 }

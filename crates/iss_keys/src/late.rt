@@ -2,55 +2,14 @@
 //! computed.
 
 ghost use Rattle.std.specs.Prelude.{◌≡◌, ◌≤◌, IfOk, IfSome};
-ghost use Rattle.iss_keys.specs.Trees.{root_of, KeyTree, AreNodesOf};
+ghost use Rattle.iss_keys.specs.Trees.{tree_root, KeyTree};
 
+use crate::made::MadeTree;
 use crate::signing::NoMemory;
-use crate::tree::{root_of_secret, tree_of};
-use std::alloc::{AllocError, Global};
+use crate::tree::root_of_secret;
+use std::alloc::Global;
 use std::cell::OnceCell;
 use std::marker::Model;
-use std::rc::Rc;
-
-// A computed tree, and its secret.
-#[derive(Drop)]
-struct MadeTree {
-    secret: [u8; 32],
-    height: u8,
-    nodes: Vec<[u8; 32]>,
-}
-
-impl Model for MadeTree {
-    ghost Value = { KeyTree };
-
-    ghost view = { λ t. record { secret = t.secret; height = t.height } };
-
-    ghost invariant = { λ t. AreNodesOf t.secret t.height t.nodes.items };
-}
-
-impl MadeTree {
-    fn make(alloc: Global, secret: &[u8; 32], height: u8) -> Result<MadeTree, AllocError>
-        requires { height ≤ 12 }
-        ensures { IfOk result (λ t. t ≡ record { secret = secret.now; height = height }) }
-    {
-        let nodes = tree_of(alloc, secret, height)?;
-        Ok(MadeTree {
-            secret: *secret,
-            height,
-            nodes,
-        })
-    }
-
-    // The nodes, if this is the tree asked for.
-    fn nodes(&self, secret: &[u8; 32], height: u8) -> Option<&[[u8; 32]]>
-        ensures { IfSome result (λ nodes. AreNodesOf secret.now height nodes.now) }
-    {
-        if self.secret == *secret && self.height == height {
-            Some(&self.nodes)
-        } else {
-            None
-        }
-    }
-}
 
 // A computed root, with the secret and height of its tree.
 #[derive(Clone, Copy)]
@@ -58,7 +17,7 @@ struct MadeRoot {
     secret: [u8; 32],
     height: u8,
     root: [u8; 32],
-    ghost is_own: { root ≡ root_of secret height },
+    ghost is_own: { root ≡ tree_root secret height },
 }
 
 // Computes a root without its tree.
@@ -77,7 +36,7 @@ fn make_root(secret: &[u8; 32], height: u8) -> MadeRoot
 
 // The root in a cell, if it is the one asked for.
 fn root_in(cell: &OnceCell<MadeRoot>, secret: &[u8; 32], height: u8) -> Option<[u8; 32]>
-    ensures { IfSome result (λ root. root ≡ root_of secret.now height) }
+    ensures { IfSome result (λ root. root ≡ tree_root secret.now height) }
 {
     let made = *cell.get()?;
     if made.secret == *secret && made.height == height {
@@ -85,14 +44,6 @@ fn root_in(cell: &OnceCell<MadeRoot>, secret: &[u8; 32], height: u8) -> Option<[
     } else {
         None
     }
-}
-
-// The root of a computed tree.
-fn root_of_nodes(nodes: &[[u8; 32]], secret: &[u8; 32], height: u8) -> [u8; 32]
-    requires { AreNodesOf secret.now height nodes.now }
-    ensures { result ≡ root_of secret.now height }
-{
-    nodes[1]
 }
 
 /// The tree over a secret, computed when it is first needed. If there is no memory for it, only its root is computed
@@ -114,14 +65,13 @@ impl Model for LateTree {
 
     ghost view = { λ t. record { secret = t.secret; height = t.height } };
 
-    ghost invariant = { λ t. (2 ≤ t.height) × (t.height ≤ 12) };
+    ghost invariant = { λ t. t.height ≤ 12 };
 }
 
 impl LateTree {
     /// A tree of which nothing is computed yet.
     pub fn new(alloc: Global, secret: [u8; 32], height: u8) -> LateTree
-        requires low { 2 ≤ height }
-        requires high { height ≤ 12 }
+        requires { height ≤ 12 }
         ensures { result ≡ record { secret = secret; height = height } }
     {
         LateTree {
@@ -138,50 +88,34 @@ impl LateTree {
         self.alloc
     }
 
-    /// The secret.
-    pub fn secret(&self) -> &[u8; 32]
-        ensures { result.now ≡ self.now.secret }
-    {
-        &self.secret
-    }
-
-    /// The height.
-    pub fn height(&self) -> u8
-        ensures value { result ≡ self.now.height }
-        ensures low { 2 ≤ result }
-        ensures high { result ≤ 12 }
-    {
-        self.height
-    }
-
-    // The nodes, if they are computed.
-    fn made_nodes(&self) -> Option<&[[u8; 32]]>
-        ensures { IfSome result (λ nodes. AreNodesOf self.now.secret self.now.height nodes.now) }
+    // The tree, if it is computed.
+    fn made(&self) -> Option<&MadeTree>
+        ensures { IfSome result (λ t. t.now ≡ self.now) }
     {
         match self.tree.get() {
-            Some(made) => made.nodes(&self.secret, self.height),
+            Some(made) => made.same(&self.secret, self.height),
             None => None,
         }
     }
 
-    /// The nodes, which are computed if they are not yet there.
-    pub fn nodes(&self) -> Result<&[[u8; 32]], NoMemory>
-        ensures { IfOk result (λ nodes. AreNodesOf self.now.secret self.now.height nodes.now) }
+    /// The tree, which is computed if it is not yet there.
+    pub fn tree(&self) -> Result<&MadeTree, NoMemory>
+        ensures { IfOk result (λ t. t.now ≡ self.now) }
     {
-        if let Some(nodes) = self.made_nodes() {
-            return Ok(nodes);
+        if let Some(made) = self.made() {
+            return Ok(made);
         }
         let made = MadeTree::make(self.alloc, &self.secret, self.height)?;
         let _ = self.tree.set(made);
-        match self.made_nodes() {
-            Some(nodes) => Ok(nodes),
+        match self.made() {
+            Some(made) => Ok(made),
             None => Err(NoMemory),
         }
     }
 
     // The root from its cell, or computed without the tree and then put there.
     fn lone_root(&self) -> [u8; 32]
-        ensures { result ≡ root_of self.now.secret self.now.height }
+        ensures { result ≡ tree_root self.now.secret self.now.height }
     {
         let made = make_root(&self.secret, self.height);
         let _ = self.root.set(made);
@@ -191,66 +125,14 @@ impl LateTree {
     /// The root. If there is memory, the whole tree is computed for it, since a key that is needed once is needed
     /// again.
     pub fn root(&self) -> [u8; 32]
-        ensures { result ≡ root_of self.now.secret self.now.height }
+        ensures { result ≡ tree_root self.now.secret self.now.height }
     {
         if let Some(root) = root_in(&self.root, &self.secret, self.height) {
             return root;
         }
-        match self.nodes() {
-            Ok(nodes) => root_of_nodes(nodes, &self.secret, self.height),
+        match self.tree() {
+            Ok(made) => made.root(),
             Err(NoMemory) => self.lone_root(),
-        }
-    }
-}
-
-#[derive(Drop)]
-enum Held {
-    Own(LateTree),
-    Shared(Rc<LateTree>),
-}
-
-/// A late tree, which may be shared.
-#[derive(Drop)]
-pub struct Tree {
-    held: Held,
-}
-
-impl Model for Tree {
-    ghost use Rattle.iss_keys.specs.Trees.{KeyTree};
-
-    ghost Value = { KeyTree };
-
-    ghost use Rattle.iss_keys.specs.Held.{tree_in};
-
-    ghost view = { λ t. tree_in t.held };
-}
-
-impl Tree {
-    /// A tree with one owner.
-    pub fn own(tree: LateTree) -> Tree
-        ensures { result ≡ tree }
-    {
-        Tree {
-            held: Held::Own(tree),
-        }
-    }
-
-    /// A tree with several owners.
-    pub fn shared(tree: Rc<LateTree>) -> Tree
-        ensures { result ≡ tree.value }
-    {
-        Tree {
-            held: Held::Shared(tree),
-        }
-    }
-
-    /// The tree.
-    pub fn late(&self) -> &LateTree
-        ensures { result.now ≡ self.now }
-    {
-        match &self.held {
-            Held::Own(tree) => tree,
-            Held::Shared(tree) => tree.as_ref(),
         }
     }
 }

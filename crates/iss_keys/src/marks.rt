@@ -11,6 +11,12 @@ pub const INNER_NODE: u8 = 0x13;
 
 pub const STATEMENT: u8 = 0x14;
 
+pub const BOTTOM_SECRET: u8 = 0x15;
+
+pub const TOP_SECRET: u8 = 0x16;
+
+pub const BOTTOM_ROOT: u8 = 0x17;
+
 pub const NODE_SECRET: u8 = 0x20;
 
 pub const CLIENT_SECRET: u8 = 0x21;

@@ -1,8 +1,9 @@
 //! A directory with several owners. Each node of a process has one, and all of them share what is computed.
 
 ghost use Rattle.std.specs.Prelude.{◌≡◌, ◌≤◌, IfOk};
+ghost use Rattle.iss_base.specs.Heights.{IsHeight};
 ghost use Rattle.iss_keys.specs.Directories.{directory_of};
-ghost use Rattle.iss_keys.specs.Homes.{directory_in};
+ghost use Rattle.iss_keys.specs.Internal.Homes.{directory_in};
 
 use crate::directories::Directory;
 use crate::signing::NoMemory;
@@ -32,7 +33,7 @@ impl Model for SharedDirectory {
 
     ghost Value = { DirectoryView };
 
-    ghost use Rattle.iss_keys.specs.Homes.{directory_in, IsHome};
+    ghost use Rattle.iss_keys.specs.Internal.Homes.{directory_in, IsHome};
 
     ghost view = { λ d. directory_in d.home };
 
@@ -40,7 +41,7 @@ impl Model for SharedDirectory {
 }
 
 impl SharedDirectory {
-    /// The directory of nodes and clients whose trees all have one height, the same as `Directory::make`.
+    /// The directory of nodes and clients whose keys all have one height, the same as `Directory::make`.
     pub fn make(
         alloc: Global,
         n: u32,
@@ -49,8 +50,7 @@ impl SharedDirectory {
     ) -> Result<SharedDirectory, NoMemory>
         requires n { n ≤ 256 }
         requires clients { clients ≤ 256 }
-        requires low { 2 ≤ height }
-        requires high { height ≤ 12 }
+        requires height { IsHeight height }
         ensures { IfOk result (λ d. d ≡ directory_of n clients height) }
     {
         let directory = Directory::make(alloc, n, clients, height)?;

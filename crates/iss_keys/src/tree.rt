@@ -3,7 +3,7 @@
 
 ghost use Rattle.std.specs.Prelude.{◌≡◌, ℕ, List, ◌+◌, ◌*◌, ◌^◌, ◌<◌, ◌≤◌, ◌++◌, length, IfOk, OnOk};
 ghost use Rattle.iss_keys.specs.Pieces.{join_below};
-ghost use Rattle.iss_keys.specs.Trees.{inner, node, root_of, beside, path_node, HasNodesFrom};
+ghost use Rattle.iss_keys.specs.Trees.{inner, node, tree_root, beside, path_node, HasNodesFrom};
 ghost use Rattle.iss_keys.specs.Signatures.{climb};
 
 use crate::chain::{piece_at, value_of_leaf};
@@ -76,7 +76,7 @@ fn node_of(secret: &[u8; 32], level: u8, place: u32) -> [u8; 32]
 /// The root of the tree over a secret, computed without the tree: by the same hashes, and without allocating.
 pub fn root_of_secret(secret: &[u8; 32], height: u8) -> [u8; 32]
     requires { height ≤ 12 }
-    ensures { result ≡ root_of secret.now height }
+    ensures { result ≡ tree_root secret.now height }
 {
     node_of(secret, height, 0)
 }

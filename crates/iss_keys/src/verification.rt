@@ -1,15 +1,18 @@
 //! Public keys, and whether a signature is valid.
 
-ghost use Rattle.std.specs.Prelude.{◌≡◌, ◌↔◌, ◌+◌, ◌*◌, ◌≤◌, length, drop, IsTrue};
-ghost use Rattle.iss_keys.specs.Signatures.{part_root, Verifies};
+ghost use Rattle.std.specs.Prelude.{◌≡◌, ◌↔◌, ◌+◌, ◌*◌, ◌^◌, ◌<◌, ◌≤◌, length, drop, IsTrue};
+ghost use Rattle.iss_base.specs.Heights.{IsHeight, digests_of_height, signature_length};
+ghost use Rattle.iss_keys.specs.Signatures.{part_root, root_of_parts, Verifies};
 ghost use Rattle.iss_keys.specs.KeyStates.{PublicKeyView};
 
 use crate::chain::leaf_from_part;
-use crate::digits::digest_of_statement;
+use crate::digits::{digest_of_root, digest_of_statement};
+use crate::levels::{BOTTOM, BOTTOM_LEAVES};
 use crate::tree::root_from_leaf;
+use iss_base::heights::{digests_of_height, has_two_levels};
 use std::marker::Model;
 
-/// A public key: the root of a key's tree, and its height.
+/// A public key: the root of a key's only or top tree, and the key's height.
 #[derive(Clone, Copy)]
 pub struct PublicKey {
     root: [u8; 32],
@@ -17,11 +20,14 @@ pub struct PublicKey {
 }
 
 impl Model for PublicKey {
+    ghost use Rattle.iss_base.specs.Heights.{IsHeight};
+    ghost use Rattle.iss_keys.specs.KeyStates.{PublicKeyView};
+
     ghost Value = { PublicKeyView };
 
     ghost view = { λ k. record { root = k.root; height = k.height } };
 
-    ghost invariant = { λ k. (2 ≤ k.height) × (k.height ≤ 12) };
+    ghost invariant = { λ k. IsHeight k.height };
 
     ghost inverse = { λ k. record { root = k.root; height = k.height } };
 }
@@ -29,14 +35,13 @@ impl Model for PublicKey {
 impl PublicKey {
     // The key with this root and height.
     pub(crate) fn from_parts(root: [u8; 32], height: u8) -> PublicKey
-        requires low { 2 ≤ height }
-        requires high { height ≤ 12 }
+        requires height { IsHeight height }
         ensures { result ≡ record { root = root; height = height } }
     {
         PublicKey { root, height }
     }
 
-    /// The root of the tree.
+    /// The root of the only or the top tree.
     pub fn root(&self) -> [u8; 32]
         ensures { result ≡ self.now.root }
     {
@@ -46,13 +51,12 @@ impl PublicKey {
     // The height, as a type with its range.
     pub(crate) fn levels(&self) -> u8
         ensures value { result ≡ self.now.height }
-        ensures low { 2 ≤ result }
-        ensures high { result ≤ 12 }
+        ensures height { IsHeight result }
     {
         self.height
     }
 
-    /// The height of the tree, which has `2^height` leaves.
+    /// The height of the key, which has `2^height` leaves.
     pub fn height(&self) -> u8
         ensures { result ≡ self.now.height }
     {
@@ -60,15 +64,21 @@ impl PublicKey {
     }
 }
 
-// What follows the height and the leaf's number.
-fn behind_head(signature: &[u8]) -> &[u8]
-    requires { 5 ≤ length signature.now }
-    ensures { result.now ≡ drop 5 signature.now }
+// The length of a signature's height and leaf, and that of the part by a bottom tree.
+const HEAD: usize = 5;
+
+const BOTTOM_PART: usize = 2464;
+
+// The bytes behind the first ones.
+fn behind(bytes: &[u8], first: usize) -> &[u8]
+    requires { first ≤ length bytes.now }
+    ensures bytes { result.now ≡ drop first bytes.now }
+    ensures size { length result.now + first ≡ length bytes.now }
 {
-    &signature[5..]
+    &bytes[first..]
 }
 
-// The root computed from the chain values and the authentication path of a signature.
+// The root computed from the chain values and the authentication path in a part of a signature.
 fn root_of_part(leaf: u32, height: u8, digest: &[u8; 32], part: &[u8]) -> [u8; 32]
     requires height { height ≤ 12 }
     requires room { 2144 + 32 * height ≤ length part.now }
@@ -78,13 +88,42 @@ fn root_of_part(leaf: u32, height: u8, digest: &[u8; 32], part: &[u8]) -> [u8; 3
     root_from_leaf(leaf, height, value, part)
 }
 
+// The root computed from both parts of a signature by a key with two levels.
+#[tactic(auto, unfolding(crate::specs::Signatures::root_of_parts))]
+fn root_of_two(leaf: u32, height: u8, statement: &[u8], parts: &[u8]) -> [u8; 32]
+    requires two { 12 < height }
+    requires high { height ≤ 20 }
+    requires room { 32 * (134 + height) ≤ length parts.now }
+    ensures { result ≡ root_of_parts leaf statement.now parts.now height }
+{
+    let bottom = leaf / BOTTOM_LEAVES;
+    let digest = digest_of_statement(statement);
+    let root = root_of_part(leaf % BOTTOM_LEAVES, BOTTOM, &digest, parts);
+    let digest = digest_of_root(bottom, &root);
+    root_of_part(bottom, height - BOTTOM, &digest, behind(parts, BOTTOM_PART))
+}
+
+// The root computed from the parts of a signature.
+#[tactic(auto, unfolding(crate::specs::Signatures::root_of_parts, iss_base::specs::Heights::digests_of_height))]
+fn root_of_parts(leaf: u32, height: u8, statement: &[u8], parts: &[u8]) -> [u8; 32]
+    requires height { IsHeight height }
+    requires room { length parts.now ≡ 32 * digests_of_height height }
+    ensures { result ≡ root_of_parts leaf statement.now parts.now height }
+{
+    if has_two_levels(height) {
+        root_of_two(leaf, height, statement, parts)
+    } else {
+        root_of_part(leaf, height, &digest_of_statement(statement), parts)
+    }
+}
+
 /// Whether `signature` is a signature of `statement` under `key`. It allocates nothing; `signature` may be any bytes.
 // rule: Signatures: A signature verifies if its chains and its path lead to the root of the key
 pub fn verify(key: &PublicKey, statement: &[u8], signature: &[u8]) -> bool
     ensures { IsTrue result ↔ Verifies key.now.root key.now.height statement.now signature.now }
 {
     let height = key.height;
-    if signature.len() != 2149 + 32 * height as usize {
+    if signature.len() != 5 + 32 * digests_of_height(height) {
         return false;
     }
     if signature[0] != height {
@@ -94,7 +133,6 @@ pub fn verify(key: &PublicKey, statement: &[u8], signature: &[u8]) -> bool
     if leaf >> height != 0 {
         return false;
     }
-    let digest = digest_of_statement(statement);
-    let root = root_of_part(leaf, height, &digest, behind_head(signature));
+    let root = root_of_parts(leaf, height, statement, behind(signature, HEAD));
     root == key.root
 }

@@ -4,7 +4,7 @@ use Rattle.std.proofs.lemmas.Nat.{mod_below}
 use Rattle.std.proofs.lemmas.Bool.{cases_lt}
 use Rattle.std.specs.List.{filter, list_any}
 use Rattle.iss_base.specs.Lists.{In}
-use Rattle.iss_request.specs.Setup.{IsGoodSetup, AreRising, nodes_of_kind}
+use Rattle.iss_request.specs.Setup.{IsGoodSetup, AreAscendingBelow, nodes_of_kind}
 use Rattle.iss_request.specs.Slots.{AreAscending}
 use Rattle.iss_request.specs.declared.ids.NodeId.{NodeId}
 use Rattle.iss_request.specs.declared.ids.Slot.{Slot}
@@ -45,35 +45,35 @@ pub length_below : (n : ℕ) → length (nodes_below n) ≡ n
 length_below zero = refl
 length_below (suc n) = let here = length_below n in let more = length-append (nodes_below n) (node n ∷ []) in omega arith
 
-rising_more : (from n : ℕ) (xs : List NodeId) → AreRising from n xs → from ≤ n → AreRising from (suc n) (xs ++ node n ∷ [])
+rising_more : (from n : ℕ) (xs : List NodeId) → AreAscendingBelow from n xs → from ≤ n → AreAscendingBelow from (suc n) (xs ++ node n ∷ [])
 rising_more from n [] h le = (le, omega arith, tt)
 rising_more from n (x ∷ xs) h le = let lt = h.1 in (h.0, omega arith, rising_more (suc x.0) n xs h.2 lt)
 
-pub rising_below : (n : ℕ) → AreRising 0 n (nodes_below n)
+pub rising_below : (n : ℕ) → AreAscendingBelow 0 n (nodes_below n)
 rising_below zero = tt
 rising_below (suc n) = rising_more 0 n (nodes_below n) (rising_below n) (omega arith)
 
-rising_lower : (from low n : ℕ) (xs : List NodeId) → low ≤ from → AreRising from n xs → AreRising low n xs
+rising_lower : (from low n : ℕ) (xs : List NodeId) → low ≤ from → AreAscendingBelow from n xs → AreAscendingBelow low n xs
 rising_lower from low n [] le h = tt
 rising_lower from low n (x ∷ xs) le h = let first = h.0 in (omega arith, h.1, h.2)
 
-rising_filter : (p : NodeId → Bool) (from n : ℕ) (xs : List NodeId) → AreRising from n xs → AreRising from n (filter p xs)
+rising_filter : (p : NodeId → Bool) (from n : ℕ) (xs : List NodeId) → AreAscendingBelow from n xs → AreAscendingBelow from n (filter p xs)
 rising_filter p from n [] h = tt
 rising_filter p from n (x ∷ xs) h = go (p x) (rising_filter p (suc x.0) n xs h.2)
   where
-    go : (b : Bool) → AreRising (suc x.0) n (filter p xs) → AreRising from n (cond b (x ∷ filter p xs) (filter p xs))
+    go : (b : Bool) → AreAscendingBelow (suc x.0) n (filter p xs) → AreAscendingBelow from n (cond b (x ∷ filter p xs) (filter p xs))
     go true rest = (h.0, h.1, rest)
     go false rest = let first = h.0 in let le : from ≤ suc x.0 = omega arith in rising_lower (suc x.0) from n (filter p xs) le rest
 
 -- some nodes lead, and no more than exist
 pub record AreLeaders (n : ℕ) (xs : List NodeId) : Type 0 where
-  pub rising : AreRising 0 n xs
+  pub ascending : AreAscendingBelow 0 n xs
   pub some : 1 ≤ length xs
   pub no_more : length xs ≤ n
 
-leaders_or : (n : ℕ) (xs all : List NodeId) → AreRising 0 n xs → length xs ≤ n → AreLeaders n all → AreLeaders n (or_else xs all)
-leaders_or n [] all rising few h = h
-leaders_or n (x ∷ xs) all rising few h = record { rising = rising; some = omega arith; no_more = few }
+leaders_or : (n : ℕ) (xs all : List NodeId) → AreAscendingBelow 0 n xs → length xs ≤ n → AreLeaders n all → AreLeaders n (or_else xs all)
+leaders_or n [] all ascending few h = h
+leaders_or n (x ∷ xs) all ascending few h = record { ascending = ascending; some = omega arith; no_more = few }
 
 pub good_leaders : (s : Setup) (c : ℕ → Conduct) → IsGoodSetup s → AreLeaders s.n (leaders_by s c)
 good_leaders s c good =
@@ -83,13 +83,13 @@ good_leaders s c good =
     leaders_or s.n (filter (may_lead s.policy s c) (nodes_below s.n)) (nodes_below s.n)
     (rising_filter (may_lead s.policy s c) 0 s.n (nodes_below s.n) (rising_below s.n))
     (omega (arith, long, shorter))
-    (record { rising = rising_below s.n; some = omega (arith, nodes.0, long); no_more = omega (arith, long) })
+    (record { ascending = rising_below s.n; some = omega (arith, nodes.0, long); no_more = omega (arith, long) })
 
 pub good_plan_by : (s : Setup) (e start : ℕ) (c : ℕ → Conduct) → IsGoodSetup s → start + s.epoch ≤ 2 ^ 64 → IsGoodPlan (plan_by s e start c)
 good_plan_by s e start c good fits =
     let lead = good_leaders s c good in
     record {
-      rising = lead.rising;
+      ascending = lead.ascending;
       some = lead.some;
       no_more = lead.no_more;
       few_nodes = (few_nodes s good).1;
@@ -297,7 +297,7 @@ some_slot p enough i h =
 pub fair : (p : Plan) → IsGoodPlan p → IsFair p
 fair p good = record {
   some = good.some;
-  nodes = good.rising;
+  nodes = good.ascending;
   led = λ s at. one_leader p good s at;
   owned = λ b. has_owner p good b;
   segments = λ i. record {

@@ -3,7 +3,7 @@
 use Rattle.std.proofs.Common.{◌≡◌, List, [], ◌∷◌, refl, Some}
 use Rattle.iss_request.specs.declared.ids.NodeId.{NodeId}
 use Rattle.iss_request.specs.declared.requests.Value.{Value}
-use Rattle.iss_request.specs.declared.requests.Value.TheVariants.{Nil, Batch as Value_batch}
+use Rattle.iss_request.specs.declared.requests.Value.TheVariants.{Nil as Value_nil, Batch as Value_batch}
 use Rattle.iss_request.specs.declared.setups.Kind.TheVariants.{Byzantine}
 use Rattle.iss_request.specs.declared.setups.Policy.{Policy}
 use Rattle.iss_request.specs.declared.setups.Policy.TheVariants.{Simple, Backoff, Blacklist}
@@ -44,14 +44,14 @@ then log a b c d = d ∷ c ∷ b ∷ a ∷ log
 
 -- node 1 fails in epoch 0, where slot 1 is its own
 abbrev one : List Value
-one = then [] empty Nil empty empty
+one = then [] empty Value_nil empty empty
 
 abbrev two : List Value
 two = then one empty empty empty empty
 
 -- and again in epoch 2, which it leads: slot 9
 abbrev three : List Value
-three = then two empty Nil empty empty
+three = then two empty Value_nil empty empty
 
 abbrev four : List Value
 four = then three empty empty empty empty
@@ -112,16 +112,16 @@ bucket_3 : bucket_owner (plan_of (by Blacklist) 1 4 one) 3 ≡ Some (node 0)
 bucket_3 = refl
 
 -- slot 6 belongs to node 3: it failed last, so it takes the one place on the list
-blacklist_2 : leaders_of (by Blacklist) 2 (then one empty empty Nil empty) ≡ node 0 ∷ node 1 ∷ node 2 ∷ []
+blacklist_2 : leaders_of (by Blacklist) 2 (then one empty empty Value_nil empty) ≡ node 0 ∷ node 1 ∷ node 2 ∷ []
 blacklist_2 = refl
 
 -- nil slots of an epoch have no effect on its own leaders
-not_its_own : leaders_of (by Blacklist) 1 (then one empty empty Nil empty) ≡ but_1
+not_its_own : leaders_of (by Blacklist) 1 (then one empty empty Value_nil empty) ≡ but_1
 not_its_own = refl
 
 -- if all fail, all are banned, and then all lead
 abbrev all_fail : List Value
-all_fail = then [] Nil Nil Nil Nil
+all_fail = then [] Value_nil Value_nil Value_nil Value_nil
 
 backoff_all : leaders_of (by Backoff) 1 all_fail ≡ all
 backoff_all = refl

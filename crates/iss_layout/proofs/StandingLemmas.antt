@@ -11,7 +11,7 @@ use Rattle.iss_request.specs.declared.setups.Policy.{Policy}
 use Rattle.iss_request.specs.declared.setups.Policy.TheVariants.{Simple, Backoff, Blacklist}
 use Rattle.iss_request.specs.declared.setups.Setup.{Setup}
 use Rattle.iss_layout.specs.Layout.{Conduct, Ended, IsStanding, Plan, carried, conduct_of, is_listed, is_node, is_slot_of_leader, leaders_by, leads, may_lead, nils_under, node, nodes_below, or_else, past_all, plan_by, slot_leader}
-use Rattle.iss_layout.specs.Standings.{changed, shown}
+use Rattle.iss_layout.specs.Internal.Standings.{changed, shown}
 use Rattle.iss_layout.specs.declared.standing.Record.{Record}
 
 -- ---- the greatest of slots

@@ -8,7 +8,7 @@ use Rattle.std.specs.Prelude.{Bool, true, false, not, ◌&&◌, List, [], ◌∷
 use Rattle.std.specs.List.{count_by, filter, list_any}
 use Rattle.iss_base.specs.Lists.{In}
 use Rattle.iss_request.specs.Formats.{is_batch}
-use Rattle.iss_request.specs.Setup.{AreRising}
+use Rattle.iss_request.specs.Setup.{AreAscendingBelow}
 use Rattle.iss_request.specs.Slots.{AreAscending}
 use Rattle.iss_request.specs.declared.ids.NodeId.{NodeId}
 use Rattle.iss_request.specs.declared.ids.ReqId.{ReqId}
@@ -215,7 +215,7 @@ IsStanding s past cs = (i : ℕ) → i < s.n → carried cs i ≡ conduct_of pas
 
 -- the bounds of each epoch's plan under a good set-up
 pub record IsGoodPlan (p : Plan) : Type 0 where
-  pub rising : AreRising 0 p.nodes p.leaders
+  pub ascending : AreAscendingBelow 0 p.nodes p.leaders
   pub some : 1 ≤ length p.leaders
   pub no_more : length p.leaders ≤ p.nodes
   pub few_nodes : p.nodes ≤ 10
@@ -249,7 +249,7 @@ pub record IsSegment (p : Plan) (i : ℕ) : Type 0 where
 pub record IsFair (p : Plan) : Type 0 where
   pub some : 1 ≤ length p.leaders
   -- existing nodes, strictly ascending
-  pub nodes : AreRising 0 p.nodes p.leaders
+  pub nodes : AreAscendingBelow 0 p.nodes p.leaders
   pub led : (s : Slot) → IsSlotOf p s.0 → HasOneLeader p s
   pub owned : (b : ℕ) → HasOwner p b
   pub segments : (i : ℕ) → IsSegment p i

@@ -4,7 +4,7 @@ ghost use Rattle.std.specs.List.{All, count_by, filter};
 ghost use Rattle.iss_request.specs.Setup.{IsGoodSetup};
 ghost use Rattle.iss_request.specs.declared.setups.Setup.{Setup};
 ghost use Rattle.iss_layout.specs.Layout.{Ended, IsSlotOf, IsStanding, carried, doubled, is_listed, is_slot_of_leader, leads, may_lead, nodes_below, past_all};
-ghost use Rattle.iss_layout.specs.Standings.{behind, changed, shown};
+ghost use Rattle.iss_layout.specs.Internal.Standings.{behind, changed, shown};
 
 use crate::layout::Layout;
 use iss_request::{NodeId, Policy, Setup, Slot};
@@ -30,7 +30,7 @@ pub struct Standing {
 impl Model for Standing {
     ghost use Rattle.std.specs.Prelude.{◌≡◌, List, length, map};
     ghost use Rattle.iss_layout.specs.Layout.{Conduct};
-    ghost use Rattle.iss_layout.specs.Standings.{shown};
+    ghost use Rattle.iss_layout.specs.Internal.Standings.{shown};
 
     ghost Value = { List Conduct };
 

@@ -7,7 +7,7 @@ use Rattle.iss_links.specs.Frames.{Fragment, fragments, part_of, parts_of}
 use Rattle.iss_links.specs.Reassembly.{IsOutcome, completed_by, partials_after}
 use Rattle.iss_links.specs.Ends.{End, IsArrival, IsFirst, after_send, after_take, empty_end, end_at, first_taken, with_packet}
 use Rattle.iss_links.specs.Joined.{AreWithin, IsJoined, partials_of}
-use Rattle.iss_links.specs.Runs.{IsTakenAndJoined, LinkCall, ends_after, sends, taken_at, takes}
+use Rattle.iss_links.specs.Internal.Runs.{IsTakenAndJoined, LinkCall, ends_after, sends, taken_at, takes}
 use Rattle.iss_links.specs.declared.links.Arrival.{Arrival}
 use Rattle.iss_links.specs.declared.links.Arrival.TheVariants.{Got, Part, Nothing}
 use Rattle.iss_links.proofs.JoinedLemmas.{Each, are-joined}

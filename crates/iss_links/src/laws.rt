@@ -1,6 +1,6 @@
 // What a complete packet is made of.
 ghost use Rattle.iss_links.specs.Joined.{AllPartsComplete, ArriveAsSent, PacketsAreJoined};
-ghost use Rattle.iss_links.specs.Runs.{TakesAreJoined};
+ghost use Rattle.iss_links.specs.Internal.Runs.{TakesAreJoined};
 
 /// A packet that arrives is the first of each of its parts that were taken since the end had none of them, joined in
 /// order of their indices. It arrives once all its parts are received. It is the packet that was sent, if all fragments

@@ -28,6 +28,10 @@ pub end-append : (version : ℕ) (before : End) (a : List Value) (v : Value) →
 end-append version before [] v = refl
 end-append version before (u ∷ a) v = end-append version (next_end version before u) a v
 
+-- one more value
+pub end-next : (version : ℕ) (start end next : End) (a b : List Value) (v : Value) → end ≡ end_from version start a → next ≡ next_end version end v → b ≡ a ++ v ∷ [] → next ≡ end_from version start b
+end-next version start end next a b v he hn hb = hn ∙ ap (λ (x : End). next_end version x v) he ∙ sym (end-append version start a v) ∙ ap (λ (xs : List Value). end_from version start xs) (sym hb)
+
 -- the chain digest after these values
 pub end-chain : (version : ℕ) (before : End) (a : List Value) → (end_from version before a).chain ≡ chain_from version before.chain a
 end-chain version before [] = refl

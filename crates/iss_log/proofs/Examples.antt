@@ -3,7 +3,7 @@
 use Rattle.std.proofs.Common.{◌≡◌, ℕ, [], ◌∷◌, refl, Some, None}
 use Rattle.iss_request.specs.Log.{requests}
 use Rattle.iss_request.specs.declared.requests.Request.{Request}
-use Rattle.iss_request.specs.declared.requests.Value.TheVariants.{Nil, Batch as Value_batch}
+use Rattle.iss_request.specs.declared.requests.Value.TheVariants.{Nil as Value_nil, Batch as Value_batch}
 use Rattle.iss_log.specs.LogState.{LogState, value_at, first_number_of}
 
 abbrev request : ℕ → Request
@@ -11,7 +11,7 @@ request t = record { id = record { client = 0; number = t }; payload = []; sig =
 
 abbrev example : LogState
 example = record {
-  entries = Value_batch (request 0 ∷ request 1 ∷ []) ∷ Nil ∷ Value_batch (request 7 ∷ []) ∷ [];
+  entries = Value_batch (request 0 ∷ request 1 ∷ []) ∷ Value_nil ∷ Value_batch (request 7 ∷ []) ∷ [];
   ahead = (4, Value_batch []) ∷ [];
 }
 
@@ -33,7 +33,7 @@ all_three = refl
 gap : value_at example 3 ≡ None
 gap = refl
 
-nil_is_a_value : value_at example 1 ≡ Some Nil
+nil_is_a_value : value_at example 1 ≡ Some Value_nil
 nil_is_a_value = refl
 
 behind_the_gap : value_at example 4 ≡ Some (Value_batch [])

@@ -6,7 +6,7 @@ use Rattle.iss_request.specs.declared.requests.Request.{Request}
 use Rattle.iss_request.specs.declared.requests.Value.{Value}
 use Rattle.iss_request.specs.declared.requests.Value.TheVariants.{Batch as Value_batch}
 use Rattle.iss_schedule.specs.declared.schedules.Event.{Event}
-use Rattle.iss_schedule.specs.declared.schedules.Event.TheVariants.{Request as Event_request, Propose, Timeout, Deliver, Pump, Calm, Hold, Restart, Crash}
+use Rattle.iss_schedule.specs.declared.schedules.Event.TheVariants.{Request as Event_request, Propose, Timeout as Event_timeout, Deliver, Pump, Calm, Hold, Restart, Crash}
 use Rattle.iss_rules.specs.declared.events.Why.TheVariants.{NoPacket, NothingToCast, Stopped}
 use Rattle.iss_rules.specs.Past.{log_of}
 use Rattle.iss_model.proofs.Example.{Word, easy, plain, plain_request, short, telling}
@@ -99,7 +99,7 @@ missed = refl
 
 -- A reason of the node itself comes before a failed disk, and makes no call. A packet that does not exist comes before
 -- both.
-own_cause : (course_of (Propose 0 ∷ Crash 0 0 ∷ Propose 0 ∷ Timeout 0 (record { 0 = 1 }) ∷ Propose 0 ∷ Deliver 9 ∷ [])).drops ≡
+own_cause : (course_of (Propose 0 ∷ Crash 0 0 ∷ Propose 0 ∷ Event_timeout 0 (record { 0 = 1 }) ∷ Propose 0 ∷ Deliver 9 ∷ [])).drops ≡
     (5, NoPacket) ∷ (4, Stopped) ∷ (3, Stopped) ∷ (2, NothingToCast) ∷ []
 own_cause = refl
 

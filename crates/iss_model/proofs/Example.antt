@@ -10,7 +10,7 @@ use Rattle.iss_request.specs.declared.ids.Slot.{Slot}
 use Rattle.iss_request.specs.declared.requests.Batch.{Batch}
 use Rattle.iss_request.specs.declared.requests.Request.{Request}
 use Rattle.iss_request.specs.declared.requests.Value.{Value}
-use Rattle.iss_request.specs.declared.requests.Value.TheVariants.{Batch as Value_batch, Nil}
+use Rattle.iss_request.specs.declared.requests.Value.TheVariants.{Batch as Value_batch, Nil as Value_nil}
 use Rattle.iss_request.specs.declared.setups.Kind.TheVariants.{Stopping}
 use Rattle.iss_request.specs.declared.setups.Policy.TheVariants.{Backoff, Simple}
 use Rattle.iss_request.specs.declared.setups.Setup.{Setup}
@@ -68,7 +68,7 @@ made_of (Some w) = record { sends = (To_all, w) ∷ []; accepted = Some w; strin
 abbrev pub told : ℕ → ℕ → Input Word → Option Value
 told leader s (Cast slot batch) = None
 told leader s (Receive from word) = cond ((from.0 == leader) && (word.0.0 == s)) (Some (Value_batch word.1)) None
-told leader s Timeout = Some Nil
+told leader s Timeout = Some Value_nil
 
 abbrev pub first_told : ℕ → ℕ → List (Item Word) → Option Value
 first_told leader s [] = None
@@ -104,7 +104,7 @@ read_batch _ = []
 -- values: nil, no request, or one
 abbrev spell_values : List Value → List ℕ
 spell_values [] = []
-spell_values (Nil ∷ vs) = 0 ∷ spell_values vs
+spell_values (Value_nil ∷ vs) = 0 ∷ spell_values vs
 spell_values (Value_batch [] ∷ vs) = 1 ∷ spell_values vs
 spell_values (Value_batch (q ∷ qs) ∷ vs) = 2 ∷ q.id.client ∷ q.id.number ∷ spell_byte q.payload ∷ spell_values vs
   where
@@ -114,7 +114,7 @@ spell_values (Value_batch (q ∷ qs) ∷ vs) = 2 ∷ q.id.client ∷ q.id.number
 
 abbrev read_values : ℕ → List ℕ → List Value × List ℕ
 read_values zero bytes = ([], bytes)
-read_values (suc n) (zero ∷ bytes) = let r = read_values n bytes in (Nil ∷ r.0, r.1)
+read_values (suc n) (zero ∷ bytes) = let r = read_values n bytes in (Value_nil ∷ r.0, r.1)
 read_values (suc n) (suc zero ∷ bytes) = let r = read_values n bytes in (Value_batch [] ∷ r.0, r.1)
 read_values (suc n) (suc (suc kind) ∷ client ∷ number ∷ byte ∷ bytes) =
     let r = read_values n bytes in (Value_batch (plain_request client number (byte ∷ []) ∷ []) ∷ r.0, r.1)
@@ -169,7 +169,7 @@ short = record { wrap = λ k. spell k.from k.epoch k.body; unwrap = read }
 -- what identifies a log here (newest value first), in place of a digest
 abbrev sketch : List Value → List ℕ
 sketch [] = []
-sketch (Nil ∷ older) = 0 ∷ sketch older
+sketch (Value_nil ∷ older) = 0 ∷ sketch older
 sketch (Value_batch b ∷ older) = suc (length b) ∷ sketch older
 
 -- Rules that compute: every request counts as signed, a signature is a node and a leaf and is valid for the first n
@@ -286,7 +286,7 @@ none_left = refl
 abbrev timed_out : List Event
 timed_out = Event_request 0 0 0 (170 ∷ []) ∷ Propose 0 ∷ Event_timeout 0 (record { 0 = 0 }) ∷ []
 
-nil : after timed_out 0 ≡ Nil ∷ []
+nil : after timed_out 0 ≡ Value_nil ∷ []
 unfolding after
 nil = refl
 

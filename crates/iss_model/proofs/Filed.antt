@@ -11,7 +11,7 @@ use Rattle.iss_request.specs.declared.ids.Slot.{Slot}
 use Rattle.iss_request.specs.declared.requests.Batch.{Batch}
 use Rattle.iss_request.specs.declared.requests.Request.{Request}
 use Rattle.iss_request.specs.declared.requests.Value.{Value}
-use Rattle.iss_request.specs.declared.requests.Value.TheVariants.{Nil, Batch as Value_batch}
+use Rattle.iss_request.specs.declared.requests.Value.TheVariants.{Nil as Value_nil, Batch as Value_batch}
 use Rattle.iss_model.specs.Node.{flown, flying, is_nil_at, joined, returned}
 use Rattle.iss_model.proofs.Casts.{joined-newer}
 use Rattle.iss_model.proofs.Flights.{nil-below}
@@ -82,7 +82,7 @@ not-nil [] s lt h = absurd (omega (arith, lt))
 not-nil (v ∷ older) s lt h = go (not-nil older s) (eqb s (length older)) refl h
   where
     here : (u : Value) → s ≡ length older → not (is_batch u) ≡ false → Stood (u ∷ older) s
-    here Nil q k = absurd (true≢false k)
+    here Value_nil q k = absurd (true≢false k)
     here (Value_batch b) q k = record { older = older; batch = b; part = extends-refl _; slot = sym q }
 
     differs : eqb s (length older) ≡ false → s < length older

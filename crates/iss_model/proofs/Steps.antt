@@ -16,7 +16,7 @@ use Rattle.iss_rules.specs.declared.events.NodeEvent.{NodeEvent}
 use Rattle.iss_rules.specs.declared.events.NodeEvent.TheVariants.{Packet as On_packet, Propose as On_propose, Timeout as On_timeout, AskFrom as On_ask}
 use Rattle.iss_rules.specs.declared.events.Refusal.{Refusal}
 use Rattle.iss_rules.specs.declared.events.Why.{Why}
-use Rattle.iss_rules.specs.declared.events.Why.TheVariants.{BadClaim, BadRequest, EarlyFull, Known, NoCert, NoKeys, NotLeader, NotNeeded, OtherEpoch, OutOfWindow, WrongChain}
+use Rattle.iss_rules.specs.declared.events.Why.TheVariants.{BadClaim, BadRequest, EarlyFull, Known, NoCert, NoKeys, NotLeader, NotNeeded, OtherEpoch, OutOfWindow as Why_out_of_window, WrongChain as Why_wrong_chain}
 use Rattle.iss_buckets.specs.Waiting.{cut, uncut}
 use Rattle.iss_rules.specs.Parcels.{Body, Formats, OfAsk, OfModule, OfPiece, OfRequest, OfVote, Parcel}
 use Rattle.iss_rules.specs.Verdicts.{verdict}
@@ -130,7 +130,7 @@ module _ {Msg : Type 0} (F : Formats Msg) (R : Rules) (M : Module Msg) (me : ℕ
   request-taken q t h =
       let a = undropped (not (R.signed q)) BadRequest _ t h in
       let b = undropped (is_known R M me c q.id) Known _ t a.1 in
-      let d = undropped (not (R.inside (before R M me c.past c.past.epoch) c.past.epoch q.id)) OutOfWindow _ t b.1 in
+      let d = undropped (not (R.inside (before R M me c.past c.past.epoch) c.past.epoch q.id)) Why_out_of_window _ t b.1 in
       record { signed = not-false _ a.0; unknown = b.0; inside = not-false _ d.0; is = turn-is _ t d.1 }
 
   pub cast-taken : (o : Option Slot) (t : Turn Msg) → next_slot R M me c ≡ o → R.leads (before R M me c.past c.past.epoch) c.past.epoch me ≡ true →
@@ -179,7 +179,7 @@ module _ {Msg : Type 0} (F : Formats Msg) (R : Rules) (M : Module Msg) (me : ℕ
       let b = undropped (nat_lt e p.epoch.0) OtherEpoch _ t a.1 in
       let d = undropped (not (has_shape R bf e p)) OtherEpoch _ t b.1 in
       let f = undropped (not (is_true_cert R p.cert)) BadClaim _ t d.1 in
-      let g = undropped (not (leads_to R bf p)) WrongChain _ t f.1 in
+      let g = undropped (not (leads_to R bf p)) Why_wrong_chain _ t f.1 in
       let shape = and-true (eqb p.cert.epoch.0 e) (eqb (length p.values) (R.slots bf e)) (not-false _ d.0) in
       let high = not-below p.epoch.0 e a.0 in
       let low = not-below e p.epoch.0 b.0 in

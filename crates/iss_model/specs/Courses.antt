@@ -8,7 +8,7 @@ use Rattle.iss_network.specs.Network.{Network, cleared, due, held_to, settled}
 use Rattle.iss_network.specs.declared.packets.Sent.{Sent}
 use Rattle.iss_request.specs.declared.setups.Setup.{Setup}
 use Rattle.iss_schedule.specs.declared.schedules.Event.{Event}
-use Rattle.iss_schedule.specs.declared.schedules.Event.TheVariants.{Request as Event_request, Propose, Timeout, Ask, Deliver, Lose, Pump, Calm, Hold, Free, Drop, Restart, Crash, Bytes}
+use Rattle.iss_schedule.specs.declared.schedules.Event.TheVariants.{Request as Event_request, Propose, Timeout as Event_timeout, Ask, Deliver, Lose, Pump, Calm, Hold, Free, Drop as Event_drop, Restart, Crash, Bytes}
 use Rattle.iss_sb.specs.declared.effects.Claim.{Claim}
 use Rattle.iss_sb.specs.Evidence.{Module}
 use Rattle.iss_rules.specs.declared.events.NodeEvent.{NodeEvent}
@@ -173,7 +173,7 @@ apply_event s F R M w (Event_request c client number payload) =
     at_machine s F R M w c
     (On_packet (F.wrap (record { from = 255; epoch = 0; body = OfRequest (request_of s client number payload) })))
 apply_event s F R M w (Propose c) = at_machine s F R M w c On_propose
-apply_event s F R M w (Timeout c l) = at_machine s F R M w c (On_timeout l)
+apply_event s F R M w (Event_timeout c l) = at_machine s F R M w c (On_timeout l)
 apply_event s F R M w (Ask c peer) = at_machine s F R M w c (On_ask peer)
 apply_event s F R M w (Deliver k) = delivers s F R M w k
 apply_event s F R M w (Lose k) = loses w k (nth w.held.net.network.packets k)
@@ -181,7 +181,7 @@ apply_event s F R M w Pump = pumps s F R M w
 apply_event s F R M w (Calm m) = calms s F R M m w
 apply_event s F R M w (Hold c) = machines_done (with_packets w (held_to w.held.net.network c true))
 apply_event s F R M w (Free c) = machines_done (with_packets w (held_to w.held.net.network c false))
-apply_event s F R M w (Drop c) = machines_done (with_packets w (cleared w.held.net.network c))
+apply_event s F R M w (Event_drop c) = machines_done (with_packets w (cleared w.held.net.network c))
 apply_event s F R M w (Restart c) = machines_done (recover s F R M w c)
 apply_event s F R M w (Crash c calls) = machines_done (with_disk w c (fused (w.disks c) calls))
 apply_event s F R M w (Bytes c bytes) = injects s F R M w c bytes

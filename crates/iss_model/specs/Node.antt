@@ -31,7 +31,7 @@ use Rattle.iss_rules.specs.declared.events.NodeEvent.{NodeEvent}
 use Rattle.iss_rules.specs.declared.events.NodeEvent.TheVariants.{Packet as On_packet, Propose as On_propose, Timeout as On_timeout, AskFrom as On_ask}
 use Rattle.iss_rules.specs.declared.events.Refusal.{Refusal}
 use Rattle.iss_rules.specs.declared.events.Why.{Why}
-use Rattle.iss_rules.specs.declared.events.Why.TheVariants.{NotPacket, BadRequest, Known, OutOfWindow, OtherEpoch, EarlyFull, NotLeader, BadClaim, NothingToCast, NoKeys, Refused, NoCert, NotNeeded, WrongChain}
+use Rattle.iss_rules.specs.declared.events.Why.TheVariants.{NotPacket, BadRequest, Known, OutOfWindow as Why_out_of_window, OtherEpoch, EarlyFull, NotLeader, BadClaim, NothingToCast, NoKeys, Refused, NoCert, NotNeeded, WrongChain as Why_wrong_chain}
 use Rattle.iss_rules.specs.Judge.{marks}
 use Rattle.iss_rules.specs.Past.{Past, adopts, advanced, before_own, cut_at, ended_log, initial_history, is_complete, leads_in, log_of, made_in, params_of, start_of, taken_in, takes}
 use Rattle.iss_rules.specs.Rules.{Rules}
@@ -280,7 +280,7 @@ abbrev pub takes_request : {Msg : Type 0} → Rules → Module Msg → ℕ → C
 takes_request R M me c q =
     cond (not (R.signed q)) (Dropped BadRequest)
     (cond (is_known R M me c q.id) (Dropped Known)
-    (cond (not (R.inside (before_own R M me c.past) c.past.epoch q.id)) (Dropped OutOfWindow)
+    (cond (not (R.inside (before_own R M me c.past) c.past.epoch q.id)) (Dropped Why_out_of_window)
     (Taken (unchanged (record c { waiting = c.waiting ++ q ∷ [] })))))
 
 -- the most early messages that a node keeps
@@ -401,7 +401,7 @@ takes_piece F R M me c p =
     (cond (nat_lt e p.epoch.0) (Dropped OtherEpoch)
     (cond (not (has_shape R before e p)) (Dropped OtherEpoch)
     (cond (not (is_true_cert R p.cert)) (Dropped BadClaim)
-    (cond (not (leads_to R before p)) (Dropped WrongChain)
+    (cond (not (leads_to R before p)) (Dropped Why_wrong_chain)
     (Taken (then_turn (adopts_piece R M me c p) (takes_each F R M me (suc e) c.early)))))))
 
 -- ---- packets

@@ -17,7 +17,7 @@ use Rattle.iss_sb.specs.declared.effects.To.{To}
 use Rattle.iss_sb.specs.declared.effects.To.TheVariants.{All as To_all, One as To_one}
 use Rattle.iss_sb.specs.Evidence.{Module, is_correct}
 use Rattle.iss_schedule.specs.declared.schedules.Event.{Event}
-use Rattle.iss_schedule.specs.declared.schedules.Event.TheVariants.{Request as Event_request, Propose, Timeout, Ask, Deliver, Lose, Pump, Calm, Hold, Free, Drop, Restart, Crash, Bytes}
+use Rattle.iss_schedule.specs.declared.schedules.Event.TheVariants.{Request as Event_request, Propose, Timeout as Event_timeout, Ask, Deliver, Lose, Pump, Calm, Hold, Free, Drop as Event_drop, Restart, Crash, Bytes}
 use Rattle.iss_rules.specs.declared.events.NodeEvent.{NodeEvent}
 use Rattle.iss_rules.specs.declared.events.NodeEvent.TheVariants.{Packet as On_packet, Propose as On_propose, Timeout as On_timeout, AskFrom as On_ask}
 use Rattle.iss_rules.specs.declared.events.Why.{Why}
@@ -228,7 +228,7 @@ apply_event s F R M h (Event_request c client number payload) =
     at_core s F R M h c
     (On_packet (F.wrap (record { from = 255; epoch = 0; body = OfRequest (request_of s client number payload) })))
 apply_event s F R M h (Propose c) = at_core s F R M h c On_propose
-apply_event s F R M h (Timeout c l) = at_core s F R M h c (On_timeout l)
+apply_event s F R M h (Event_timeout c l) = at_core s F R M h c (On_timeout l)
 apply_event s F R M h (Ask c peer) = at_core s F R M h c (On_ask peer)
 apply_event s F R M h (Deliver k) = delivers s F R M h k
 apply_event s F R M h (Lose k) = loses h k (nth h.net.network.packets k)
@@ -236,7 +236,7 @@ apply_event s F R M h Pump = pumps s F R M h
 apply_event s F R M h (Calm m) = calms s F R M m h
 apply_event s F R M h (Hold c) = done (with_network h (held_to h.net.network c true))
 apply_event s F R M h (Free c) = done (with_network h (held_to h.net.network c false))
-apply_event s F R M h (Drop c) = done (with_network h (cleared h.net.network c))
+apply_event s F R M h (Event_drop c) = done (with_network h (cleared h.net.network c))
 apply_event s F R M h (Restart c) = done h
 apply_event s F R M h (Crash c calls) = done h
 apply_event s F R M h (Bytes c bytes) = injects s F R M h c bytes

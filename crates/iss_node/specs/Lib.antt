@@ -1,12 +1,4 @@
-pub mod Casts
-pub mod Cells
-pub mod Epochs
 pub mod Flights
-pub mod Growth
-pub mod Inputs
-pub mod Parcels
-pub mod Shape
+pub mod Internal
 pub mod State
 pub mod Steps
-pub mod Transfers
-pub mod Votes

@@ -14,10 +14,10 @@ use Rattle.iss_model.specs.Frames.{ends_in, finish_step_in, frame_of}
 use Rattle.iss_rules.specs.declared.events.NodeEvent.{NodeEvent}
 use Rattle.iss_rules.specs.declared.events.NodeEvent.TheVariants.{Packet as On_packet, Propose as On_propose, Timeout as On_timeout, AskFrom as On_ask}
 use Rattle.iss_rules.specs.declared.events.Why.{Why}
-use Rattle.iss_node.specs.Epochs.{HasClosed, HasOpened}
+use Rattle.iss_node.specs.Internal.Epochs.{HasClosed, HasOpened}
 use Rattle.iss_node.specs.State.{NodeView, RefinesBareCore, RefinesCore, RefinesPast, StateRefinesCore, StateView, core_of}
 use Rattle.iss_node.specs.declared.answers.Answer.{Answer}
-use Rattle.iss_node.specs.declared.answers.Answer.TheVariants.{Dropped, NoMemory, Stale, Taken}
+use Rattle.iss_node.specs.declared.answers.Answer.TheVariants.{Dropped as Node_dropped, NoMemory as Node_no_memory, Stale as Node_stale, Taken as Node_taken}
 use Rattle.iss_node.specs.declared.answers.Early.{Early}
 use Rattle.iss_node.specs.declared.answers.Outcome.{Outcome}
 use Rattle.iss_node.specs.declared.answers.StepResult.{StepResult}
@@ -185,10 +185,10 @@ pub record IsDrop {M Msg : Type 0} (m : Module Msg) (refines : Relation M Msg) (
 -- The answer to the step of a core that the node refines. Such a node is not stale.
 abbrev pub IsAnswer : {M Msg : Type 0} → Module Msg → Relation M Msg → Type 0 → Core Msg → Stepped Msg →
     NodeView M Msg → Answer → Type 0
-IsAnswer m refines asked c stepped new (Taken outcome) = IsTurn m refines asked stepped new outcome
-IsAnswer m refines asked c stepped new (Dropped why) = IsDrop m refines c stepped new why
-IsAnswer m refines asked c stepped new NoMemory = Unit {0}
-IsAnswer m refines asked c stepped new Stale = ⊥
+IsAnswer m refines asked c stepped new (Node_taken outcome) = IsTurn m refines asked stepped new outcome
+IsAnswer m refines asked c stepped new (Node_dropped why) = IsDrop m refines c stepped new why
+IsAnswer m refines asked c stepped new Node_no_memory = Unit {0}
+IsAnswer m refines asked c stepped new Node_stale = ⊥
 
 -- Memory ran out: the node is stale, and reports the log and the epoch that it had.
 pub record IsSpoiled {M Msg : Type 0} (old new : NodeView M Msg) : Type 0 where
@@ -199,10 +199,10 @@ pub record IsSpoiled {M Msg : Type 0} (old new : NodeView M Msg) : Type 0 where
 -- What an answer says about any node, stale or not.
 -- rule: Runs: A node or a world that ran out of memory says so from then on
 abbrev pub IsLeft : {M Msg : Type 0} → NodeView M Msg → NodeView M Msg → Answer → Type 0
-IsLeft old new (Taken outcome) = Unit {0}
-IsLeft old new (Dropped why) = Unit {0}
-IsLeft old new NoMemory = IsSpoiled old new
-IsLeft old new Stale = (old.stale ≡ true) × (new ≡ old)
+IsLeft old new (Node_taken outcome) = Unit {0}
+IsLeft old new (Node_dropped why) = Unit {0}
+IsLeft old new Node_no_memory = IsSpoiled old new
+IsLeft old new Node_stale = (old.stale ≡ true) × (new ≡ old)
 
 -- The node truncated its log to its first slots, set its epoch back, and is stale.
 -- rule: Persistence: A node that retreats keeps the given prefix of its log and takes nothing more

@@ -1,10 +1,12 @@
 //! How a node proposes batches (ISS: SB-cast).
-ghost use Rattle.std.specs.Prelude.{◌≡◌, ◌<◌, Some, List, IfOk};
+ghost use Rattle.std.specs.Prelude.{◌≡◌, ◌<◌, ◌≤◌, Some, List, IfOk, OnOk, is_some, true};
+ghost use Rattle.iss_keys.specs.KeyStates.{left_of};
 ghost use Rattle.iss_rules.specs.Concrete.{rules_of};
 ghost use Rattle.iss_model.specs.Node.{first_slot, next_slot, step};
 ghost use Rattle.iss_rules.specs.Past.{Past};
 ghost use Rattle.iss_model.specs.Views.{is_castable_now};
-ghost use Rattle.iss_node.specs.Casts.{IsCut, casting, is_open};
+ghost use Rattle.iss_node.specs.Internal.Casts.{IsCut, casting, is_open};
+ghost use Rattle.iss_node.specs.Internal.Ready.{HasLeaves, RefinesSome};
 ghost use Rattle.iss_node.specs.State.{RefinesPast, core_of, led};
 ghost use Rattle.iss_node.specs.Steps.{IsLater, IsStepOf, IsTurnOf};
 ghost use Rattle.iss_sb.specs.Evidence.{Item};
@@ -23,6 +25,7 @@ use std::alloc::Global;
 impl<M: Sequenced> NodeState<M> {
     /// Proposes a batch of waiting requests for the first free slot of the node's own segment.
     pub(crate) fn propose(&mut self, alloc: Global) -> Result<StepResult, NoMemory>
+        requires { RefinesSome M.spec M.refines self.old }
         ensures answer { IfOk result
             (λ a. IsStepOf M.spec M.refines self.old (λ F R me c. step F R M.spec me c NodeEvent.Propose) self.new a) }
         ensures later { IsLater self.old self.new }
@@ -64,10 +67,12 @@ impl<M: Sequenced> NodeState<M> {
 
     // Proposes for a slot; all checks have passed. The only error is out of memory.
     fn cast(&mut self, alloc: Global, slot: Slot) -> Result<Outcome, NoMemory>
-        requires { self.old.me.0 < self.old.setup.n }
+        requires me { self.old.me.0 < self.old.setup.n }
+        requires leaves { HasLeaves M.spec self.old self.old.me.0 }
         ensures taken { IfOk result
             (λ outcome. IsTurnOf M.spec M.refines self.old
             (λ F R me c. casting F R M.spec me c slot) self.new outcome) }
+        ensures leaf { OnOk result (1 ≤ left_of self.new.keys) }
         ensures later { IsLater self.old self.new }
     {
         let batch = self.cut(alloc, slot)?;
@@ -76,11 +81,12 @@ impl<M: Sequenced> NodeState<M> {
 
     // Takes a batch out of the waiting requests and notes it as in flight for the slot.
     fn cut(&mut self, alloc: Global, slot: Slot) -> Result<Batch, NoMemory>
+        requires { is_some (led self.old.segments self.old.me.0) ≡ true }
         ensures cut { IfOk result (λ batch. IsCut self.old self.new slot batch) }
         ensures later { IsLater self.old self.new }
     {
         let Some(segment) = &self.segments[self.me.0 as usize] else {
-            return Err(NoMemory);
+            unreachable!();
         };
         let most = self.setup.batch as usize;
         let marked = segment.marked().as_slice();

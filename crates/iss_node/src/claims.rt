@@ -6,7 +6,7 @@ ghost use Rattle.iss_rules.specs.Concrete.{rules_of};
 ghost use Rattle.iss_rules.specs.Votes.{all_verify};
 ghost use Rattle.iss_model.specs.Node.{claims_in, claims_of_input, only_by, own_claims};
 ghost use Rattle.iss_rules.specs.Past.{Past, leads_in, params_of};
-ghost use Rattle.iss_node.specs.Inputs.{IsHandedOut};
+ghost use Rattle.iss_node.specs.Internal.Inputs.{IsHandedOut};
 ghost use Rattle.iss_node.specs.State.{RefinesPast, led};
 ghost use Rattle.iss_node.specs.Steps.{IsNodeInput};
 ghost use Rattle.iss_sb.specs.Calls.{IsGoodParams};

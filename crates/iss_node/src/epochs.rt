@@ -3,8 +3,9 @@ ghost use Rattle.std.specs.Prelude.{◌≡◌, ◌<◌, ◌+◌, ◌^◌, ◌++�
 ghost use Rattle.std.specs.List.{filter};
 ghost use Rattle.iss_layout.specs.Layout.{slots_from};
 ghost use Rattle.iss_model.specs.Node.{advance_epochs, is_nil_at, or_unchanged, takes_each, takes_early, then_turn, try_step};
-ghost use Rattle.iss_node.specs.Epochs.{HasClosed, HasOpened, appended, notes};
-ghost use Rattle.iss_node.specs.Shape.{AreFrom};
+ghost use Rattle.iss_node.specs.Internal.Epochs.{HasClosed, HasOpened, appended, notes};
+ghost use Rattle.iss_node.specs.Internal.Ready.{IsOpen, IsReady, IsToComplete, MayVote};
+ghost use Rattle.iss_node.specs.Internal.Shape.{AreFrom};
 ghost use Rattle.iss_node.specs.State.{seen_early, seen_one};
 ghost use Rattle.iss_node.specs.Steps.{IsEnded, IsLater, IsNextEpoch, IsSettled, IsTurnBehind, IsTurnOf};
 ghost use Rattle.iss_window.specs.Kept.{RefinesNoted};
@@ -30,6 +31,7 @@ impl<M: Sequenced> NodeState<M> {
         alloc: Global,
         step: StepResult,
     ) -> Result<StepResult, NoMemory>
+        requires { IsToComplete M.spec M.refines self.old step }
         ensures answer { IfOk result (λ a. IsSettled M.spec M.refines self.old self.new step a) }
         ensures later { IsLater self.old self.new }
     {
@@ -47,6 +49,7 @@ impl<M: Sequenced> NodeState<M> {
         alloc: Global,
         outcome: Outcome,
     ) -> Result<Outcome, NoMemory>
+        requires { IsReady M.spec M.refines self.old }
         ensures turn { IfOk result
             (λ o. IsTurnBehind M.spec M.refines self.old
             (λ F R me t. advance_epochs F R M.spec me t) outcome self.new o) }
@@ -64,9 +67,11 @@ impl<M: Sequenced> NodeState<M> {
     // Votes on the node's complete epoch (ISS: checkpoint) and starts the next one. Returns the vote's outcome and the
     // messages that arrived early.
     fn end_epoch(&mut self, alloc: Global) -> Result<(Outcome, Vec<Early<M::Msg>>), NoMemory>
+        requires { MayVote M.spec M.refines self.old }
         ensures ended { IfOk result
             (λ appended. IsEnded M.spec M.refines self.old self.new appended.0 appended.1.items) }
         ensures from { IfOk result (λ appended. AreFrom self.new.setup.n appended.1.items) }
+        ensures begun { OnOk result (IsOpen M.spec M.refines self.new) }
         ensures later { IsLater self.old self.new }
     {
         let _setup = &self.setup;
@@ -84,7 +89,8 @@ impl<M: Sequenced> NodeState<M> {
         outcome: Outcome,
         early: Vec<Early<M::Msg>>,
     ) -> Result<Outcome, NoMemory>
-        requires { AreFrom self.old.setup.n early.items }
+        requires from { AreFrom self.old.setup.n early.items }
+        requires lasts { IsOpen M.spec M.refines self.old }
         ensures turn { IfOk result (λ o. IsTurnBehind M.spec M.refines self.old
             (λ F R me t. then_turn t (takes_each F R M.spec me self.old.epoch (seen_early early.items))) outcome
             self.new o) }
@@ -105,10 +111,12 @@ impl<M: Sequenced> NodeState<M> {
     // reported.
     // rule: Evidence: The claims of an early message are read even where the message is then refused
     fn take_early(&mut self, alloc: Global, message: Early<M::Msg>) -> Result<Outcome, NoMemory>
-        requires { message.from.0 < self.old.setup.n }
+        requires from { message.from.0 < self.old.setup.n }
+        requires lasts { IsOpen M.spec M.refines self.old }
         ensures turn { IfOk result
             (λ o. IsTurnOf M.spec M.refines self.old
             (λ F R me c. takes_early F R M.spec me c (seen_one message)) self.new o) }
+        ensures goes_on { OnOk result (IsOpen M.spec M.refines self.new) }
         ensures later { IsLater self.old self.new }
     {
         let claims = self.claims_in(alloc, message.leader, message.from, &message.msg)?;
@@ -122,10 +130,12 @@ impl<M: Sequenced> NodeState<M> {
 
     // Takes a message of the current epoch. The outcome is empty if it is refused.
     fn try_now(&mut self, alloc: Global, message: Early<M::Msg>) -> Result<Outcome, NoMemory>
-        requires { message.from.0 < self.old.setup.n }
+        requires from { message.from.0 < self.old.setup.n }
+        requires lasts { IsOpen M.spec M.refines self.old }
         ensures turn { IfOk result (λ o. IsTurnOf M.spec M.refines self.old
             (λ F R me c. or_unchanged c
             (try_step F R M.spec me c message.leader.0 (Input.Receive message.from message.msg))) self.new o) }
+        ensures ready { OnOk result (IsReady M.spec M.refines self.new) }
         ensures later { IsLater self.old self.new }
     {
         let Early { from, leader, msg } = message;

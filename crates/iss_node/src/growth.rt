@@ -2,8 +2,8 @@
 ghost use Rattle.std.specs.Prelude.{◌≡◌, List, OnOk, IfOk, fold, length, reverse};
 ghost use Rattle.iss_log.specs.LogState.{GoesOn};
 ghost use Rattle.iss_log.specs.Chains.{IsChainOf};
-ghost use Rattle.iss_node.specs.Growth.{AreJoined, IsGrown, and_values, waits_on};
-ghost use Rattle.iss_node.specs.Cells.{AreFilled};
+ghost use Rattle.iss_node.specs.Internal.Growth.{AreJoined, IsGrown, and_values, waits_on};
+ghost use Rattle.iss_node.specs.Internal.Cells.{AreFilled};
 ghost use Rattle.iss_model.specs.Node.{is_nil_at};
 ghost use Rattle.iss_request.specs.declared.requests.Value.{Value as LogValue};
 

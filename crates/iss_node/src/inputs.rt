@@ -1,7 +1,9 @@
 //! The inputs of a node's instances, and their effects on the node.
-ghost use Rattle.std.specs.Prelude.{◌≡◌, ◌<◌, ◌≤◌, IfOk, OnOk, drop, length};
+ghost use Rattle.std.specs.Prelude.{◌≡◌, ◌≢◌, ◌<◌, ◌≤◌, Ok, Err, IfOk, OnOk, drop, length};
+ghost use Rattle.iss_keys.specs.KeyStates.{left_of};
 ghost use Rattle.iss_model.specs.Node.{step_unjudged, try_step};
-ghost use Rattle.iss_node.specs.Inputs.{HasAppliedDeliveries, HasAppliedEffects, IsChained, IsHandedOut, IsInputTaken, IsJudgedInput, and_accepted};
+ghost use Rattle.iss_node.specs.Internal.Inputs.{HasAppliedDeliveries, HasAppliedEffects, IsChained, IsHandedOut, IsInputTaken, IsJudgedInput, and_accepted};
+ghost use Rattle.iss_node.specs.Internal.Ready.{HasLeaves, IsTried};
 ghost use Rattle.iss_node.specs.Steps.{IsLater, IsNodeInput, IsStepOf, IsTurnOf};
 
 use crate::answers::{Accepted, Outcome, StepResult};
@@ -9,7 +11,7 @@ use crate::growth::{extend_log, join_all, retire_ordered};
 use crate::state::NodeState;
 use iss_request::{Batch, Bytes, NoMemory, NodeId, Seq, Slot, Value};
 use iss_rules::Why;
-use iss_sb::{Effects, Input, Sequenced};
+use iss_sb::{Effects, Input, Sequenced, StepError};
 use iss_segment::StepRefusal;
 use std::alloc::Global;
 
@@ -26,6 +28,7 @@ impl<M: Sequenced> NodeState<M> {
         requires { IsNodeInput self.old.setup.n input }
         ensures answer { IfOk result
             (λ a. IsStepOf M.spec M.refines self.old (λ F R me c. try_step F R M.spec me c leader.0 input) self.new a) }
+        ensures tried { IfOk result (IsTried self.old self.new) }
         ensures later { IsLater self.old self.new }
     {
         M::laws();
@@ -43,7 +46,8 @@ impl<M: Sequenced> NodeState<M> {
         match self.judged_step(alloc, leader, input) {
             Ok(effects) => Ok(StepResult::Taken(self.apply_effects(alloc, leader, effects)?)),
             Err(StepRefusal::Refused(refusal)) => Ok(StepResult::Dropped(Why::Refused(refusal))),
-            Err(StepRefusal::Spent | StepRefusal::NoMemory) => Err(NoMemory),
+            Err(StepRefusal::NoMemory) => Err(NoMemory),
+            Err(StepRefusal::Spent) => unreachable!(),
         }
     }
 
@@ -56,9 +60,11 @@ impl<M: Sequenced> NodeState<M> {
     ) -> Result<Outcome, NoMemory>
         requires leader { leader.0 < self.old.setup.n }
         requires input { IsNodeInput self.old.setup.n input }
+        requires leaves { HasLeaves M.spec self.old leader.0 }
         ensures taken { IfOk result
             (λ outcome. IsTurnOf M.spec M.refines self.old
             (λ F R me c. step_unjudged F R M.spec me c leader.0 input) self.new outcome) }
+        ensures leaf { OnOk result (1 ≤ left_of self.new.keys) }
         ensures later { IsLater self.old self.new }
     {
         M::laws();
@@ -76,11 +82,12 @@ impl<M: Sequenced> NodeState<M> {
     ) -> Result<Effects<M::Msg>, StepRefusal>
         requires leader { leader.0 < self.old.setup.n }
         requires input { IsNodeInput self.old.setup.n input }
+        requires leaves { HasLeaves M.spec self.old leader.0 }
         ensures step { IsJudgedInput M.spec M.refines self.old self.new leader.0 input result }
         ensures later { IsLater self.old self.new }
     {
         let Some(segment) = &mut self.segments[leader.0 as usize] else {
-            return Err(StepRefusal::NoMemory);
+            unreachable!();
         };
         segment.step(alloc, &self.layout, &self.windows, input, &mut self.keys)
     }
@@ -94,16 +101,15 @@ impl<M: Sequenced> NodeState<M> {
     ) -> Result<Effects<M::Msg>, NoMemory>
         requires leader { leader.0 < self.old.setup.n }
         requires input { IsNodeInput self.old.setup.n input }
+        requires leaves { HasLeaves M.spec self.old leader.0 }
         ensures taken { IfOk result (λ e. IsInputTaken M.spec M.refines self.old self.new leader.0 input e) }
         ensures later { IsLater self.old self.new }
     {
         let Some(segment) = &mut self.segments[leader.0 as usize] else {
-            return Err(NoMemory);
+            unreachable!();
         };
-        let Ok(effects) = segment.take(alloc, input, &mut self.keys) else {
-            return Err(NoMemory);
-        };
-        Ok(effects)
+        let stepped = segment.take(alloc, input, &mut self.keys);
+        with_leaves(stepped)
     }
 
     // Applies the effects of an instance's step to the node, and makes its outcome.
@@ -164,6 +170,18 @@ impl<M: Sequenced> NodeState<M> {
         join_all(directory, &mut self.chains, joined, hashed)?;
         retire_ordered(joined, &mut self.waiting, &mut self.logged)?;
         self.complete_casts(alloc)
+    }
+}
+
+// The effects of a step that had enough leaves.
+fn with_leaves<T: Drop>(stepped: Result<Effects<T>, StepError>) -> Result<Effects<T>, NoMemory>
+    requires { stepped ≢ Err StepError.Spent }
+    ensures { IfOk result (λ e. stepped ≡ Ok e) }
+{
+    match stepped {
+        Ok(effects) => Ok(effects),
+        Err(StepError::NoMemory) => Err(NoMemory),
+        Err(StepError::Spent) => unreachable!(),
     }
 }
 

@@ -1,5 +1,5 @@
 //! A node: its state, and whether it is stale.
-ghost use Rattle.std.specs.Prelude.{◌≡◌, ◌<◌, ◌≤◌, ℕ, IfOk, is_some, length, map, not, option_map, reverse, slice_get};
+ghost use Rattle.std.specs.Prelude.{◌≡◌, ◌<◌, ◌≤◌, ◌↔◌, ℕ, true, IfOk, is_some, length, map, not, option_map, reverse, slice_get};
 ghost use Rattle.std.specs.List.{list_any};
 ghost use Rattle.iss_ballots.specs.Ballots.{cert_in};
 ghost use Rattle.iss_keys.specs.Directories.{AreKeysOf};
@@ -11,6 +11,7 @@ ghost use Rattle.iss_rules.specs.Past.{Past, log_of};
 ghost use Rattle.iss_rules.specs.Setups.{IsSetupOf};
 ghost use Rattle.iss_model.specs.Views.{accepted_by, is_castable_now, is_unfilled, unfilled};
 ghost use Rattle.iss_model.specs.Frames.{claims_of_bytes_in, frame_of, step_in};
+ghost use Rattle.iss_node.specs.Internal.Ready.{RefinesSome};
 ghost use Rattle.iss_node.specs.State.{RefinesCore, RefinesPast, accepted_of};
 ghost use Rattle.iss_request.specs.Log.{ids};
 ghost use Rattle.iss_node.specs.Steps.{HasRetreated, IsAnswer, IsHeldStepOf, IsLeft, IsOfNodes, IsSameNode};
@@ -43,7 +44,7 @@ pub struct Node<M: Sequenced> {
 }
 
 impl<M: Sequenced> Model for Node<M> {
-    ghost use Rattle.iss_node.specs.Shape.{IsNode};
+    ghost use Rattle.iss_node.specs.Internal.Shape.{IsNode};
     ghost use Rattle.iss_node.specs.State.{NodeView};
 
     ghost Value = { NodeView M M.Msg };
@@ -103,12 +104,13 @@ impl<M: Sequenced> Node<M> {
     }
 
     /// Takes an event. A dropped event changes nothing. After `NoMemory` the node is stale, and reports the log and
-    /// epoch from before the event.
+    /// epoch from before the event. Answers `Stale` if and only if the node is stale.
     // rule: Signatures: A node signs at most one statement with each leaf
     pub fn take(&mut self, alloc: Global, event: NodeEvent) -> Answer
         ensures answer { (c : Core M.Msg) → RefinesCore M.spec M.refines self.old c →
             IsAnswer M.spec M.refines (IsOfNodes self.old.state.setup.n event) c
             (step_in (frame_of self.old.state.setup M.spec) self.old.state.me.0 c event) self.new result }
+        ensures refused { (result ≡ Answer.Stale) ↔ (self.old.stale ≡ true) }
         ensures left { IsLeft self.old self.new result }
         ensures same { (self.new.state.setup ≡ self.old.state.setup) × (self.new.state.me ≡ self.old.state.me) }
     {
@@ -234,6 +236,7 @@ impl<M: Sequenced> Node<M> {
 impl<M: Sequenced> NodeState<M> {
     // Takes an event. The only error is out of memory; the state may be half updated then.
     fn turn(&mut self, alloc: Global, event: NodeEvent) -> Result<StepResult, NoMemory>
+        requires { RefinesSome M.spec M.refines self.old }
         ensures answer { IfOk result (λ a. IsHeldStepOf M.spec M.refines (IsOfNodes self.old.setup.n event) self.old
             (λ F R me c. step F R M.spec me c event) self.new a) }
         ensures same { IsSameNode self.old self.new }

@@ -6,7 +6,8 @@ ghost use Rattle.iss_rules.specs.Formats.{message_in, parcel_of_kind, piece_in, 
 ghost use Rattle.iss_model.specs.Node.{Core, finish_step, keeps_early, takes_bytes, takes_message, takes_parcel, try_step};
 ghost use Rattle.iss_model.specs.Views.{claims_of_bytes, claims_of_parcel};
 ghost use Rattle.iss_model.specs.Frames.{claims_of_bytes_in, frame_of};
-ghost use Rattle.iss_node.specs.Parcels.{IsFromNode, seen_body};
+ghost use Rattle.iss_node.specs.Internal.Parcels.{IsFromNode, seen_body};
+ghost use Rattle.iss_node.specs.Internal.Ready.{RefinesSome};
 ghost use Rattle.iss_node.specs.State.{RefinesPast, seen_one};
 ghost use Rattle.iss_node.specs.Steps.{IsHeldStepOf, IsLater, IsSameNode, IsStepOf};
 ghost use Rattle.iss_packet.specs.Packets.{is_routed};
@@ -32,6 +33,7 @@ impl<M: Sequenced> NodeState<M> {
         alloc: Global,
         bytes: &Bytes,
     ) -> Result<StepResult, NoMemory>
+        requires { RefinesSome M.spec M.refines self.old }
         ensures answer { IfOk result (λ a. IsHeldStepOf M.spec M.refines (Unit {0}) self.old
             (λ F R me c. takes_bytes F R M.spec me c (F.unwrap bytes.now)) self.new a) }
         ensures same { IsSameNode self.old self.new }
@@ -121,7 +123,8 @@ impl<M: Sequenced> NodeState<M> {
 
     // Takes the content of a packet.
     fn take_parcel(&mut self, alloc: Global, parcel: Parcel<M::Msg>) -> Result<StepResult, NoMemory>
-        requires { IsFromNode self.old.setup.n parcel }
+        requires from { IsFromNode self.old.setup.n parcel }
+        requires refined { RefinesSome M.spec M.refines self.old }
         ensures answer { IfOk result (λ a. IsHeldStepOf M.spec M.refines (Unit {0}) self.old
             (λ F R me c. takes_parcel F R M.spec me c parcel.from.0 parcel.epoch.0 (seen_body parcel.body))
             self.new a) }
@@ -146,7 +149,8 @@ impl<M: Sequenced> NodeState<M> {
         epoch: Epoch,
         message: Early<M::Msg>,
     ) -> Result<StepResult, NoMemory>
-        requires { message.from.0 < self.old.setup.n }
+        requires from { message.from.0 < self.old.setup.n }
+        requires refined { RefinesSome M.spec M.refines self.old }
         ensures answer { IfOk result (λ a. IsStepOf M.spec M.refines self.old
             (λ F R me c. takes_message F R M.spec me c message.from.0 epoch.0 message.leader.0 message.msg)
             self.new a) }
@@ -163,7 +167,8 @@ impl<M: Sequenced> NodeState<M> {
 
     // Takes a module's message of the current epoch.
     fn take_now(&mut self, alloc: Global, message: Early<M::Msg>) -> Result<StepResult, NoMemory>
-        requires { message.from.0 < self.old.setup.n }
+        requires from { message.from.0 < self.old.setup.n }
+        requires refined { RefinesSome M.spec M.refines self.old }
         ensures answer { IfOk result (λ a. IsStepOf M.spec M.refines self.old
             (λ F R me c. finish_step F R M.spec me
             (try_step F R M.spec me c message.leader.0 (Input.Receive message.from message.msg))) self.new a) }

@@ -3,7 +3,7 @@ ghost use Rattle.std.specs.Prelude.{◌≡◌, IfOk, IfSome, true};
 ghost use Rattle.iss_rules.specs.Formats.{formats_of, packet_as, parcel_in, parcel_of_kind, message_in, request_in, whole};
 ghost use Rattle.iss_rules.specs.Parcels.{Formats, OfModule};
 ghost use Rattle.iss_model.specs.Node.{packed};
-ghost use Rattle.iss_node.specs.Parcels.{IsFromNode, body_of_ask, body_of_piece, body_of_vote, carried, seen};
+ghost use Rattle.iss_node.specs.Internal.Parcels.{IsFromNode, body_of_ask, body_of_piece, body_of_vote, carried, seen};
 ghost use Rattle.iss_request.specs.declared.setups.Setup.{Setup};
 ghost use Rattle.iss_request.specs.Formats.{parse_request};
 ghost use Rattle.iss_packet.specs.Packets.{is_routed, parse_packet};

@@ -4,7 +4,7 @@ ghost use Rattle.iss_buckets.specs.Waiting.{AreNew, absent};
 ghost use Rattle.iss_rules.specs.Concrete.{rules_of};
 ghost use Rattle.iss_model.specs.Node.{returned, takes_request};
 ghost use Rattle.iss_node.specs.Flights.{IsCompleted};
-ghost use Rattle.iss_node.specs.Inputs.{AreLogged, HasCompletedCasts};
+ghost use Rattle.iss_node.specs.Internal.Inputs.{AreLogged, HasCompletedCasts};
 ghost use Rattle.iss_node.specs.Steps.{IsLater, IsStepOf};
 ghost use Rattle.iss_request.specs.Log.{has_id, ids};
 ghost use Rattle.iss_request.specs.declared.ids.ReqId.{ReqId as Identity};

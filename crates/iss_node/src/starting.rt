@@ -1,9 +1,10 @@
 //! Starting the instances of an epoch.
-ghost use Rattle.std.specs.Prelude.{◌≡◌, ◌<◌, [], IfOk, IfSome, is_some, length};
+ghost use Rattle.std.specs.Prelude.{◌≡◌, ◌<◌, [], IfOk, IfSome, is_some, length, option_map};
 ghost use Rattle.iss_layout.specs.Layout.{IsGoodPlan, leads};
 ghost use Rattle.iss_rules.specs.Concrete.{keys_of};
 ghost use Rattle.iss_rules.specs.Setups.{IsSetupOf};
-ghost use Rattle.iss_node.specs.Epochs.{AreStarted, params_by};
+ghost use Rattle.iss_node.specs.Internal.Epochs.{AreStarted, params_by};
+ghost use Rattle.iss_sb.specs.Calls.{IsGoodParams};
 ghost use Rattle.iss_segment.specs.Instance.{RefinesItems};
 
 use iss_keys::SharedDirectory;
@@ -33,49 +34,57 @@ pub fn start_segments<M: Sequenced>(
 {
     let mut segments = Vec::new(alloc);
     for node in 0..setup.n {
-        let segment = start_if_leader::<M>(
-            alloc,
-            setup,
-            directory,
-            epoch,
-            layout,
-            NodeId(node as u8),
-            me,
-        )?;
+        let leader = NodeId(node as u8);
+        let params = params_of::<M>(alloc, setup, directory, epoch, layout, leader)?;
+        let segment = start_with::<M>(alloc, params, me)?;
         segments.push(segment)?;
     }
     Ok(segments)
 }
 
-// The instance of a node, if it leads the epoch.
-fn start_if_leader<M: Sequenced>(
+// The parameters of a node's instance, if it leads the epoch.
+fn params_of<M: Sequenced>(
     alloc: Global,
     setup: &Setup,
     directory: &SharedDirectory,
     epoch: Epoch,
     layout: &Layout,
     leader: NodeId,
-    me: NodeId,
-) -> Result<Option<Segment<M>>, NoMemory>
+) -> Result<Option<Params>, NoMemory>
     requires good { IsSetupOf M.spec setup.now }
     requires directory { directory.now ≡ keys_of setup.now }
     requires leader { leader.0 < setup.now.n }
-    requires me { me.0 < setup.now.n }
     requires plan { IsGoodPlan layout.now }
     ensures leads { IfOk result (λ o. is_some o ≡ leads layout.now leader.0) }
-    ensures refines { IfOk result (λ o. IfSome o (λ g. RefinesItems M.refines g [])) }
-    ensures params { IfOk result (λ o. IfSome o (λ g. g.params ≡ params_by setup.now epoch.0 layout.now leader.0)) }
-    ensures node { IfOk result (λ o. IfSome o (λ g. g.me ≡ me)) }
+    ensures params { IfOk result (λ o. IfSome o (λ p. p ≡ params_by setup.now epoch.0 layout.now leader.0)) }
+    ensures good { IfOk result (λ o. IfSome o (λ p. IsGoodParams M.spec p)) }
 {
     if !layout.leads(leader) {
         return Ok(None);
     }
-    let params = Params {
+    Ok(Some(Params {
         setup: setup.copy()?,
         epoch,
         leader,
         slots: layout.slots_of(alloc, leader)?,
         directory: directory.share(),
-    };
-    Ok(Some(Segment::start(alloc, params, me)?))
+    }))
+}
+
+// The instance with these parameters, if there are any.
+fn start_with<M: Sequenced>(
+    alloc: Global,
+    params: Option<Params>,
+    me: NodeId,
+) -> Result<Option<Segment<M>>, NoMemory>
+    requires { IfSome params (λ p. IsGoodParams M.spec p × (me.0 < p.setup.n)) }
+    ensures started { IfOk result (λ o. is_some o ≡ is_some params) }
+    ensures refines { IfOk result (λ o. IfSome o (λ g. RefinesItems M.refines g [])) }
+    ensures node { IfOk result (λ o. IfSome o (λ g. g.me ≡ me)) }
+    ensures params { IfOk result (λ o. option_map (λ g. g.params) o ≡ params) }
+{
+    match params {
+        Some(params) => Ok(Some(Segment::start(alloc, params, me)?)),
+        None => Ok(None),
+    }
 }

@@ -2,6 +2,7 @@
 ghost use Rattle.std.specs.Prelude.{◌≡◌, ◌<◌, ◌+◌, Some, IsSome, IsTrue, is_some, nat_le, length, option_map};
 ghost use Rattle.iss_keys.specs.Directories.{AreKeysOf};
 ghost use Rattle.iss_model.specs.Node.{has_leaves};
+ghost use Rattle.iss_node.specs.Internal.Ready.{HasLeaves, is_full};
 ghost use Rattle.iss_node.specs.State.{led};
 ghost use Rattle.iss_segment.specs.Instance.{SegmentState};
 
@@ -47,7 +48,7 @@ pub struct NodeState<M: Sequenced> {
 }
 
 impl<M: Sequenced> Model for NodeState<M> {
-    ghost use Rattle.iss_node.specs.Shape.{IsNodeState};
+    ghost use Rattle.iss_node.specs.Internal.Shape.{IsNodeState};
     ghost use Rattle.iss_node.specs.State.{StateView};
 
     ghost Value = { StateView M M.Msg };
@@ -117,7 +118,8 @@ impl<M: Sequenced> NodeState<M> {
     /// of the epoch.
     // rule: Acceptance: A node keeps one leaf back for its vote at the end of the epoch
     pub(crate) fn has_leaves(&self, leader: NodeId) -> bool
-        ensures { (g : SegmentState M) → led self.now.segments leader.0 ≡ Some g →
+        ensures enough { IsTrue result → HasLeaves M.spec self.now leader.0 }
+        ensures is { (g : SegmentState M) → led self.now.segments leader.0 ≡ Some g →
             AreKeysOf self.now.me.0 self.now.setup.keys self.now.keys →
             result ≡ has_leaves M.spec g.params self.now.keys.used }
     {
@@ -129,7 +131,7 @@ impl<M: Sequenced> NodeState<M> {
 
     /// Whether the log has all slots of the epoch.
     pub(crate) fn is_complete(&self) -> bool
-        ensures { result ≡ nat_le (self.now.plan.start + self.now.setup.epoch) (length self.now.log.entries) }
+        ensures { result ≡ is_full self.now }
     {
         self.layout.first().0 + self.setup.epoch <= self.log.entries().len() as u64
     }

@@ -1,10 +1,11 @@
 //! State transfer: how a node asks for an epoch, hands one out, and adopts one (ISS: state transfer).
-ghost use Rattle.std.specs.Prelude.{◌≡◌, ◌<◌, ◌≤◌, ◌∷◌, [], IfOk, List, drop, length, take};
+ghost use Rattle.std.specs.Prelude.{◌≡◌, ◌<◌, ◌≤◌, ◌+◌, ◌^◌, ◌∷◌, [], IfOk, List, drop, length, take};
 ghost use Rattle.iss_checkpoint.specs.Votes.{voters_of};
 ghost use Rattle.iss_log.specs.Chains.{IsChainOf};
 ghost use Rattle.iss_rules.specs.Votes.{cert_on};
 ghost use Rattle.iss_model.specs.Node.{asking, hands_out, Taken as Step_taken, takes_piece};
-ghost use Rattle.iss_node.specs.Transfers.{IsAdoptedBy, IsHandedPiece, at_slots, held_slots, held_values};
+ghost use Rattle.iss_node.specs.Internal.Ready.{MayAdopt, RefinesSome};
+ghost use Rattle.iss_node.specs.Internal.Transfers.{IsAdoptedBy, IsHandedPiece, at_slots, held_slots, held_values};
 ghost use Rattle.iss_request.specs.declared.requests.Value.{Value as LogValue};
 ghost use Rattle.iss_transfer.specs.Adoption.{adoption};
 ghost use Rattle.iss_node.specs.Steps.{IsHeldStepOf, IsOfNodes, IsSameNode};
@@ -99,6 +100,7 @@ impl<M: Sequenced> NodeState<M> {
     /// Adopts the values of the current epoch from a piece, unless it is refused. The epoch then ends without the
     /// node's vote.
     pub(crate) fn take_piece(&mut self, alloc: Global, piece: Piece) -> Result<StepResult, NoMemory>
+        requires { RefinesSome M.spec M.refines self.old }
         ensures answer { IfOk result (λ a. IsHeldStepOf M.spec M.refines (Unit {0}) self.old
             (λ F R me c. takes_piece F R M.spec me c piece) self.new a) }
         ensures same { IsSameNode self.old self.new }
@@ -117,18 +119,12 @@ impl<M: Sequenced> NodeState<M> {
         }
     }
 
-    // Whether the node may adopt the piece. `NoMemory` also if the log lacks a slot before the epoch, which never
-    // happens.
+    // Whether the node may adopt the piece. The only error is out of memory.
     fn adoption(&self, alloc: Global, piece: &Piece) -> Result<Adoption, NoMemory>
+        requires { RefinesSome M.spec M.refines self.now }
         ensures { IfOk result (λ a. (log : List LogValue) → IsChainOf self.now.chains log →
             a ≡ adoption self.now.setup (voters_of self.now.setup self.now.directory) log self.now.epoch piece.now) }
     {
-        let Some(start) = self.epoch.0.checked_mul(self.setup.epoch) else {
-            return Err(NoMemory);
-        };
-        if start > self.chains.slots() as u64 {
-            return Err(NoMemory);
-        }
         let directory = self.directory.directory();
         adopt(
             alloc,
@@ -149,6 +145,7 @@ impl<M: Sequenced> NodeState<M> {
         piece: Piece,
         hashed: Seq<Bytes>,
     ) -> Result<Outcome, NoMemory>
+        requires { MayAdopt M.spec M.refines self.old piece hashed }
         ensures adopted { IfOk result (λ o. IsAdoptedBy M.spec M.refines self.old piece hashed self.new o) }
         ensures same { IsSameNode self.old self.new }
     {
@@ -166,7 +163,7 @@ impl<M: Sequenced> NodeState<M> {
 
 // The values from index `first` up to, but not including, `end`.
 fn between(values: &[Value], first: usize, end: usize) -> &[Value]
-    requires rising { first ≤ end }
+    requires ascending { first ≤ end }
     requires within { end ≤ length values.now }
     ensures { result.now ≡ drop first (take end values.now) }
 {
@@ -185,16 +182,14 @@ fn copies_of(alloc: Global, values: &[Value]) -> Result<Seq<Value>, NoMemory>
 
 // Values with their slots, which are consecutive from `first` on.
 fn at_slots(alloc: Global, first: Slot, values: Seq<Value>) -> Result<Vec<(Slot, Value)>, NoMemory>
+    requires { first.0 + length values < 2 ^ 64 }
     ensures { IfOk result (λ ds. ds.items ≡ at_slots first.0 values) }
 {
     let mut delivers = Vec::new(alloc);
     let mut next = first.0;
     for value in values.into_vec() {
         delivers.push((Slot(next), value))?;
-        let Some(after) = next.checked_add(1) else {
-            return Err(NoMemory);
-        };
-        next = after;
+        next += 1;
     }
     Ok(delivers)
 }

@@ -1,13 +1,15 @@
 //! How a node votes on its log at the end of an epoch, and counts votes (PBFT and ISS: checkpoints).
 ghost use Rattle.std.specs.Prelude.{◌≡◌, ◌+◌, suc, IfOk, nat_lt, slice_get};
 ghost use Rattle.iss_model.specs.Node.{takes_vote};
-ghost use Rattle.iss_node.specs.Votes.{IsVoteHandedOut, IsVoted};
+ghost use Rattle.iss_node.specs.Internal.Ready.{MayVote};
+ghost use Rattle.iss_node.specs.Internal.Votes.{IsVoteHandedOut, IsVoted};
 ghost use Rattle.iss_node.specs.Steps.{IsHeldStepOf, IsLater, IsSameNode};
 
 use crate::answers::{Outcome, StepResult};
 use crate::state::NodeState;
 use iss_ballots::{Taking, claim_of_vote, pack_vote};
 use iss_checkpoint::{Vote, vote_statement};
+use iss_keys::SignError;
 use iss_log::End;
 use iss_request::{Bytes, Epoch, NoMemory, Seq};
 use iss_rules::Why;
@@ -15,29 +17,30 @@ use iss_sb::{Sequenced, To};
 use std::alloc::Global;
 
 impl<M: Sequenced> NodeState<M> {
-    /// The node's vote on its complete epoch, signed by the next leaf. `NoMemory` also if no leaf is left, which never
-    /// happens.
+    /// The node's vote on its complete epoch, signed by the next leaf. The only error is out of memory.
     // rule: Checkpoints: A node whose log ends an epoch votes to all on the log's chain and request count
     pub(crate) fn vote(&mut self) -> Result<Vote, NoMemory>
+        requires { MayVote M.spec M.refines self.old }
         ensures voted { IfOk result (λ v. IsVoted self.old self.new v) }
         ensures later { IsLater self.old self.new }
     {
         let Some(end) = self.end() else {
-            return Err(NoMemory);
+            unreachable!();
         };
         let chain = end.chain;
         let requests = end.requests;
         let statement = vote_statement(&self.setup.tag, self.epoch.0, &chain, requests);
-        let Ok(sig) = self.keys.sign(&statement) else {
-            return Err(NoMemory);
-        };
-        Ok(Vote {
-            epoch: self.epoch,
-            chain,
-            requests,
-            by: self.me,
-            sig: Bytes::of(sig),
-        })
+        match self.keys.sign(&statement) {
+            Ok(sig) => Ok(Vote {
+                epoch: self.epoch,
+                chain,
+                requests,
+                by: self.me,
+                sig: Bytes::of(sig),
+            }),
+            Err(SignError::NoMemory) => Err(NoMemory),
+            Err(SignError::Spent) => unreachable!(),
+        }
     }
 
     // The digest and the number of requests of the log at the end of the current epoch.

@@ -11,7 +11,7 @@ use Rattle.iss_request.proofs.OneSpelling.{done_good, Whole}
 use Rattle.iss_request.proofs.ParserLemmas.{then_good, first_bad, then_parts, done_parts, test_passed, test_failed, test_bad, test_parts, byte_again, byte_parts, wide32, wide64, number_again, number_parts, block_again, block_parts}
 use Rattle.iss_packet.specs.declared.packets.Packet.{Packet}
 use Rattle.iss_packet.specs.declared.packets.PacketKind.{PacketKind}
-use Rattle.iss_packet.specs.declared.packets.PacketKind.TheVariants.{Message, Vote, Ask, Piece, Request}
+use Rattle.iss_packet.specs.declared.packets.PacketKind.TheVariants.{Message, Vote as Kind_vote, Ask, Piece as Kind_piece, Request as Kind_request}
 use Rattle.iss_packet.specs.Packets.{kind_byte, is_kind, kind_at, is_routed, is_spellable, route_bytes, body_bytes, no_packet, spell_packet, IsSpelledPacket, parse_version, parse_kind, parse_size, parse_parts, parse_packet}
 use Rattle.iss_packet.proofs.PacketLemmas.{packet_spelled, packet_unspelled}
 
@@ -19,10 +19,10 @@ use Rattle.iss_packet.proofs.PacketLemmas.{packet_spelled, packet_unspelled}
 
 kind_again : (k : PacketKind) → (is_kind (kind_byte k) ≡ true) × (kind_at (kind_byte k) ≡ k)
 kind_again Message = (refl, refl)
-kind_again Vote = (refl, refl)
+kind_again Kind_vote = (refl, refl)
 kind_again Ask = (refl, refl)
-kind_again Piece = (refl, refl)
-kind_again Request = (refl, refl)
+kind_again Kind_piece = (refl, refl)
+kind_again Kind_request = (refl, refl)
 
 one_of_five : (n : ℕ) → is_kind n ≡ true → (n ≡ 1) ⊎ (n ≡ 2) ⊎ (n ≡ 3) ⊎ (n ≡ 4) ⊎ (n ≡ 5)
 one_of_five n e =

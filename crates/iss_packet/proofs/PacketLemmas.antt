@@ -13,7 +13,7 @@ use Rattle.iss_packet.specs.declared.packets.Packet.{Packet}
 use Rattle.iss_packet.specs.declared.packets.PacketKind.{PacketKind}
 use Rattle.iss_packet.specs.declared.packets.PacketError.{PacketError}
 use Rattle.iss_packet.specs.declared.packets.PacketError.TheVariants.{NotPacket}
-use Rattle.iss_packet.specs.Errors.{as_packet_error}
+use Rattle.iss_packet.specs.Internal.Errors.{as_packet_error}
 use Rattle.iss_packet.specs.Packets.{is_kind, kind_at, is_spellable, route_bytes, body_bytes, no_packet, spell_packet, parse_kind}
 
 pub kind_read : (n : ℕ) (a b : Reading) (found : ℕ) (k : PacketKind) → found ≡ n → IsRead byte a b found →

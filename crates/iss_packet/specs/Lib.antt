@@ -1,2 +1,2 @@
+pub mod Internal
 pub mod Packets
-pub mod Errors

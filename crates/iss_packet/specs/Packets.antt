@@ -10,32 +10,32 @@ use Rattle.iss_request.specs.Formats.{version_byte}
 use Rattle.iss_request.specs.Parsing.{Parser, ◌>>=◌, done, such_that, byte, number, block}
 use Rattle.iss_packet.specs.declared.packets.Packet.{Packet}
 use Rattle.iss_packet.specs.declared.packets.PacketKind.{PacketKind}
-use Rattle.iss_packet.specs.declared.packets.PacketKind.TheVariants.{Message, Vote, Ask, Piece, Request}
+use Rattle.iss_packet.specs.declared.packets.PacketKind.TheVariants.{Message, Vote as Kind_vote, Ask, Piece as Kind_piece, Request as Kind_request}
 
 -- ---- kinds
 
 abbrev pub kind_byte : PacketKind → ℕ
 kind_byte Message = 1
-kind_byte Vote = 2
+kind_byte Kind_vote = 2
 kind_byte Ask = 3
-kind_byte Piece = 4
-kind_byte Request = 5
+kind_byte Kind_piece = 4
+kind_byte Kind_request = 5
 
 abbrev pub is_kind : ℕ → Bool
 is_kind b = nat_le 1 b && nat_le b 5
 
 abbrev pub kind_at : ℕ → PacketKind
 kind_at b = if b == 1 then Message
-    else (if b == 2 then Vote else (if b == 3 then Ask else (if b == 4 then Piece else Request)))
+    else (if b == 2 then Kind_vote else (if b == 3 then Ask else (if b == 4 then Kind_piece else Kind_request)))
 
 -- whether the packet's kind fits its sender, epoch and leader in a cluster of n nodes
 -- rule: Formats: A packet has one encoding a version, and its kind fits its sender, epoch and leader
 abbrev pub is_routed_as : ℕ → PacketKind → ℕ → ℕ → ℕ → Bool
 is_routed_as n Message from epoch leader = nat_lt from n && nat_lt leader n
-is_routed_as n Vote from epoch leader = nat_lt from n && (leader == 0)
+is_routed_as n Kind_vote from epoch leader = nat_lt from n && (leader == 0)
 is_routed_as n Ask from epoch leader = nat_lt from n && (leader == 0)
-is_routed_as n Piece from epoch leader = nat_lt from n && (leader == 0)
-is_routed_as n Request from epoch leader = (from == 255) && ((epoch == 0) && (leader == 0))
+is_routed_as n Kind_piece from epoch leader = nat_lt from n && (leader == 0)
+is_routed_as n Kind_request from epoch leader = (from == 255) && ((epoch == 0) && (leader == 0))
 
 unfoldable pub is_routed : ℕ → Packet → Bool
 is_routed n p = is_routed_as n p.kind p.from p.epoch.0 p.leader

@@ -40,7 +40,7 @@ pub enum PacketError {
 
 impl From<DecodeError> for PacketError {
     ghost use Rattle.std.specs.Prelude.{◌≡◌};
-    ghost use Rattle.iss_packet.specs.Errors.{as_packet_error};
+    ghost use Rattle.iss_packet.specs.Internal.Errors.{as_packet_error};
 
     ghost from_gives = { λ d e. e ≡ as_packet_error d };
 

@@ -13,7 +13,8 @@ use Rattle.iss_theorems.specs.Headline.{course_after}
 use Rattle.iss_theorems.proofs.CrashRecovery.LostEventsAreNumbered.{after-one, after-stays, end-notes-nothing, further-on}
 use Rattle.iss_model.proofs.Twins.{node-is}
 use Rattle.iss_rules.specs.declared.events.Why.{Why}
-use Rattle.iss_replay.specs.Text.{drop_line, node_block}
+use Rattle.iss_replay.specs.Text.{first_line, drop_line, node_block}
+use Rattle.iss_replay.specs.Summary.{line_of, node_lines}
 use Rattle.iss_replay.specs.Report.{block_of, drop_lines, node_blocks}
 use Rattle.iss_replay.specs.Refines.{ReportRefinesRun, end_at, end_kept, numbered}
 use Rattle.iss_schedule.specs.declared.schedules.Event.{Event}
@@ -33,7 +34,7 @@ use Rattle.iss_world.specs.State.{WorldState}
 use Rattle.iss_world.specs.declared.ends.Evidence.{Evidence}
 use Rattle.iss_world.specs.declared.ends.Evidence.TheVariants.{Forged as Evidence_forged, Collision as Evidence_collision}
 use Rattle.iss_world.specs.declared.world.EventResult.{EventResult}
-use Rattle.iss_world.specs.declared.world.EventResult.TheVariants.{Done, Lost, Forged as Result_forged, Collision as Result_collision}
+use Rattle.iss_world.specs.declared.world.EventResult.TheVariants.{Done as Result_done, Lost as Result_lost, Forged as Result_forged, Collision as Result_collision}
 
 in-range-get : (s : Setup) (es : List Event) (i : ℕ) (d : Event) → AreInRange s es → i < length es → IsInRange s (get_or es i d)
 in-range-get s [] i d h lt = absurd (omega arith)
@@ -80,17 +81,17 @@ module _ {M Msg : Type 0} (m : Module Msg) (refines : Relation M Msg) where
 
   -- The three cases of an event: it is applied, it is lost, or it reveals evidence.
   pub went-on : (s : Setup) (F : Formats Msg) (R : Rules) (later : WorldState M Msg) (drops : List (ℕ × Why)) (p : Course Msg) (e : Event) →
-      HasHappened m refines later p (run_event_if_open p.ended s F R m p e) Done → end_kept None ≡ p.ended → reverse drops ≡ p.drops →
+      HasHappened m refines later p (run_event_if_open p.ended s F R m p e) Result_done → end_kept None ≡ p.ended → reverse drops ≡ p.drops →
       ReportRefinesRun m refines later drops None (run_event s F R m p e)
   went-on s F R later drops p e h going d =
-      let r = happened-on s F R later p e Done going h in
+      let r = happened-on s F R later p e Result_done going h in
       record { refined = r.0; drops_are = d ∙ sym r.2; end_is = sym r.1 }
 
   pub was-lost : (s : Setup) (F : Formats Msg) (R : Rules) (later : WorldState M Msg) (old drops : List (ℕ × Why)) (p : Course Msg) (e : Event) (k : ℕ) (why : Why) →
-      HasHappened m refines later p (run_event_if_open p.ended s F R m p e) (Lost why) → end_kept None ≡ p.ended → p.event ≡ k → reverse old ≡ p.drops → drops ≡ old ++ (k, why) ∷ [] →
+      HasHappened m refines later p (run_event_if_open p.ended s F R m p e) (Result_lost why) → end_kept None ≡ p.ended → p.event ≡ k → reverse old ≡ p.drops → drops ≡ old ++ (k, why) ∷ [] →
       ReportRefinesRun m refines later drops None (run_event s F R m p e)
   was-lost s F R later old drops p e k why h going n d is =
-      let r = happened-on s F R later p e (Lost why) going h in
+      let r = happened-on s F R later p e (Result_lost why) going h in
       record {
         refined = r.0;
         drops_are =
@@ -178,3 +179,25 @@ module _ {M Msg : Type 0} (m : Module Msg) (refines : Relation M Msg) where
   pub no-block : (s : Setup) (w : Net Msg) (out : List ℕ) (i : ℕ) → is_correct s i ≡ false → out ≡ out ++ block_of s m w i
   no-block s w out i faulty =
       sym (append-nil out) ∙ ap (λ (b : Bool). out ++ cond b (node_block i (w.cores i).past.epoch (log_of (rules_of s) m i (w.cores i).past)) []) (sym faulty)
+
+  -- ---- summaries
+
+  pub summary-next : (s : Setup) (w : Net Msg) (out now later : List ℕ) (k : ℕ) → now ≡ out ++ node_lines s m w k → later ≡ now ++ line_of s m w k → later ≡ out ++ node_lines s m w (k + 1)
+  summary-next s w out now later k a b =
+      b ∙ ap (λ (t : List ℕ). t ++ line_of s m w k) a
+      ∙ append_assoc out (node_lines s m w k) (line_of s m w k)
+      ∙ ap (λ (j : ℕ). out ++ node_lines s m w j) (sym (add-one k))
+
+  -- The line of a correct node. A faulty node has none.
+  pub line-told : (s : Setup) (w : Net Msg) (out now : List ℕ) (i e : ℕ) (log : List Value) → is_correct s i ≡ true → i < s.n → e ≡ (w.cores i).past.epoch →
+      log_of (rules_of s) m (node_of s i) (w.cores i).past ≡ log → now ≡ out ++ first_line i e log → now ≡ out ++ line_of s m w i
+  line-told s w out now i e log correct lt epoch is told =
+      let own : log_of (rules_of s) m i (w.cores i).past ≡ log = ap (λ (k : ℕ). log_of (rules_of s) m k (w.cores i).past) (sym (node-is s i lt)) ∙ is in
+      told
+      ∙ ap (λ (k : ℕ). out ++ first_line i k log) epoch
+      ∙ ap (λ (l : List Value). out ++ first_line i (w.cores i).past.epoch l) (sym own)
+      ∙ ap (λ (b : Bool). out ++ cond b (first_line i (w.cores i).past.epoch (log_of (rules_of s) m i (w.cores i).past)) []) (sym correct)
+
+  pub no-line : (s : Setup) (w : Net Msg) (out : List ℕ) (i : ℕ) → is_correct s i ≡ false → out ≡ out ++ line_of s m w i
+  no-line s w out i faulty =
+      sym (append-nil out) ∙ ap (λ (b : Bool). out ++ cond b (first_line i (w.cores i).past.epoch (log_of (rules_of s) m i (w.cores i).past)) []) (sym faulty)

@@ -5,7 +5,7 @@ use Rattle.iss_request.specs.Log.{requests}
 use Rattle.iss_request.specs.declared.requests.Request.{Request}
 use Rattle.iss_request.specs.declared.requests.Value.{Value}
 use Rattle.iss_request.specs.declared.errors.NoMemory.{NoMemory}
-use Rattle.iss_replay.specs.Text.{node_block, node_line, request_word, request_words, slot_line, slot_lines}
+use Rattle.iss_replay.specs.Text.{first_line, node_block, node_line, request_word, request_words, slot_line, slot_lines}
 use Rattle.iss_log.proofs.LogLemmas.{requests-turned}
 
 pub request_words-append : (xs ys : List Request) → request_words (xs ++ ys) ≡ request_words xs ++ request_words ys
@@ -34,6 +34,13 @@ slots-next out vs i v lt is =
     ∙ ap (λ k. out ++ (slot_lines (reverse front) ++ slot_line k (requests front) v)) (sym count)
     ∙ ap (λ k. out ++ (slot_lines (reverse front) ++ slot_line (length (reverse front)) k v)) (sym (requests-turned front))
     ∙ ap (λ (xs : List Value). out ++ slot_lines xs) (sym turned)
+
+-- The line of a node.
+pub first-line-is : (out now : List ℕ) (n e slots count : ℕ) (vs : List Value) → slots ≡ length vs → count ≡ requests vs
+    → (r : Result (Unit {0}) NoMemory) → OnOk r (now ≡ out ++ node_line n e slots count) → OnOk r (now ≡ out ++ first_line n e (reverse vs))
+first-line-is out now n e slots count vs many all (Ok u) h =
+    h ∙ ap (λ k. out ++ node_line n e k count) (many ∙ sym (length-reverse vs)) ∙ ap (λ k. out ++ node_line n e (length (reverse vs)) k) (all ∙ sym (requests-turned vs))
+first-line-is out now n e slots count vs many all (Err x) h = tt
 
 -- The line of a node, then the lines of its slots.
 pub block-is : (out mid now : List ℕ) (n e slots count : ℕ) (vs : List Value) → slots ≡ length vs → count ≡ requests vs → mid ≡ out ++ node_line n e slots count

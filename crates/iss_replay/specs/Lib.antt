@@ -1,3 +1,4 @@
 pub mod Report
 pub mod Refines
+pub mod Summary
 pub mod Text

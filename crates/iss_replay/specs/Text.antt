@@ -2,17 +2,18 @@
 -- the number of its first request. A lost event has a line with its cause. The last line is `end ok`, or the event
 -- that ended the run with its evidence. Logs are newest first here; numbers are decimal.
 use Rattle.std.specs.Prelude.{ℕ, List, [], ◌∷◌, ◌++◌, length, codes, decimal, Option, Some, None}
+use Rattle.sha2.specs.Sha256.{sha256}
 use Rattle.iss_request.specs.Log.{requests}
 use Rattle.iss_request.specs.declared.requests.Request.{Request}
 use Rattle.iss_request.specs.declared.requests.Value.{Value}
-use Rattle.iss_request.specs.declared.requests.Value.TheVariants.{Nil, Batch as Value_batch}
+use Rattle.iss_request.specs.declared.requests.Value.TheVariants.{Nil as Value_nil, Batch as Value_batch}
 use Rattle.iss_schedule.specs.Words.{word_of}
 use Rattle.iss_sb.specs.declared.effects.Claim.{Claim}
 use Rattle.iss_rules.specs.Ends.{End, Forged, Collision}
 use Rattle.iss_rules.specs.declared.events.Refusal.{Refusal}
 use Rattle.iss_rules.specs.declared.events.Refusal.TheVariants.{TooLarge, ForeignBucket, BadSignature, OutOfWindow, Ordered, Marked}
 use Rattle.iss_rules.specs.declared.events.Why.{Why}
-use Rattle.iss_rules.specs.declared.events.Why.TheVariants.{NoPacket, Stopped, NotPacket, BadRequest, Known, OutOfWindow as Outside, OtherEpoch, EarlyFull, NotLeader, BadClaim, NothingToCast, NoKeys, Refused, NoCert, NotNeeded, WrongChain}
+use Rattle.iss_rules.specs.declared.events.Why.TheVariants.{NoPacket, Stopped, NotPacket, BadRequest, Known, OutOfWindow as Why_out_of_window, OtherEpoch, EarlyFull, NotLeader, BadClaim, NothingToCast, NoKeys, Refused, NoCert, NotNeeded, WrongChain as Why_wrong_chain}
 
 abbrev pub refusal_word : Refusal → List ℕ
 refusal_word TooLarge = codes "TooLarge"
@@ -28,7 +29,7 @@ why_word Stopped = codes "Stopped"
 why_word NotPacket = codes "NotPacket"
 why_word BadRequest = codes "BadRequest"
 why_word Known = codes "Known"
-why_word Outside = codes "OutOfWindow"
+why_word Why_out_of_window = codes "OutOfWindow"
 why_word OtherEpoch = codes "OtherEpoch"
 why_word EarlyFull = codes "EarlyFull"
 why_word NotLeader = codes "NotLeader"
@@ -38,7 +39,7 @@ why_word NoKeys = codes "NoKeys"
 why_word (Refused x) = codes "Refused " ++ refusal_word x
 why_word NoCert = codes "NoCert"
 why_word NotNeeded = codes "NotNeeded"
-why_word WrongChain = codes "WrongChain"
+why_word Why_wrong_chain = codes "WrongChain"
 
 -- Each line ends with one line feed, the byte 10.
 -- rule: Reports: Each lost event is reported with its cause
@@ -69,7 +70,7 @@ request_words (q ∷ qs) = request_word q ++ request_words qs
 
 -- Nil, or the number of the first request, the size of the batch, and the identities of its requests.
 abbrev pub value_words : ℕ → Value → List ℕ
-value_words first Nil = codes " nil"
+value_words first Value_nil = codes " nil"
 value_words first (Value_batch b) = codes " " ++ decimal first ++ codes " " ++ decimal (length b) ++ request_words b
 
 abbrev pub slot_line : ℕ → ℕ → Value → List ℕ
@@ -88,3 +89,12 @@ node_line node epoch slots count = codes "node " ++ decimal node ++ codes " epoc
 -- rule: Reports: A node's block has its epoch, and each slot with its first number and its requests
 abbrev pub node_block : ℕ → ℕ → List Value → List ℕ
 node_block node epoch log = node_line node epoch (length log) (requests log) ++ slot_lines log
+
+-- the first line of a node's block
+abbrev pub first_line : ℕ → ℕ → List Value → List ℕ
+first_line node epoch log = node_line node epoch (length log) (requests log)
+
+-- the SHA-256 of a report, in hexadecimal
+-- rule: Reports: A summary has the digest of the whole report
+abbrev pub digest_line : List ℕ → List ℕ
+digest_line report = codes "digest " ++ word_of (sha256 report) ++ 10 ∷ []

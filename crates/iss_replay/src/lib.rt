@@ -3,8 +3,10 @@
 
 pub mod lines;
 pub mod replays;
+pub mod summaries;
 pub mod texts;
 pub mod words;
 
 pub use replays::{Report, replay};
+pub use summaries::summary;
 pub use texts::text;

@@ -91,8 +91,8 @@ pub fn put_node(out: &mut Vec<u8>, node: NodeId, epoch: Epoch, log: &Log) -> Res
     put_slots(out, log)
 }
 
-// Writes the first line of a node's block.
-fn put_node_line(
+/// Writes the first line of a node's block.
+pub fn put_node_line(
     out: &mut Vec<u8>,
     node: NodeId,
     epoch: Epoch,

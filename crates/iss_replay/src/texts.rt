@@ -87,8 +87,8 @@ fn put_block<M: Sequenced>(out: &mut Vec<u8>, world: &World<M>, node: u32) -> Re
     put_node(out, NodeId(node as u8), world.epoch(node), world.log(node))
 }
 
-// Writes the last line.
-fn put_end(
+/// Writes the last line. The only error is out of memory.
+pub fn put_end(
     alloc: Global,
     out: &mut Vec<u8>,
     ended: &Option<(u64, Evidence)>,

@@ -219,7 +219,7 @@ pub record IsFrom (id : ReqId) (rs : List Reply) (b : Stated) : Type 0 where
 from-more : (id : ReqId) (x : Reply) (rs : List Reply) (b : Stated) → IsFrom id rs b → IsFrom id (x ∷ rs) b
 from-more id x rs b h = record { reply = h.reply; there = inr h.there; stated = h.stated; own = h.own }
 
-who-stated : (id : ReqId) (rs : List Reply) (b : Stated) → In b (stated_to id rs) → IsFrom id rs b
+pub who-stated : (id : ReqId) (rs : List Reply) (b : Stated) → In b (stated_to id rs) → IsFrom id rs b
 who-stated id [] b = λ h. absurd h
 who-stated id (r ∷ earlier) b = go (λ i. who-stated id earlier b i) (same_id r.id id) refl
   where

@@ -4,7 +4,7 @@ use Rattle.std.proofs.Common.{◌≡◌, ℕ, [], ◌∷◌, List, refl, Some, N
 use Rattle.iss_request.specs.declared.ids.ReqId.{ReqId}
 use Rattle.iss_request.specs.declared.requests.Request.{Request}
 use Rattle.iss_request.specs.declared.requests.Value.{Value}
-use Rattle.iss_request.specs.declared.requests.Value.TheVariants.{Nil, Batch as Value_batch}
+use Rattle.iss_request.specs.declared.requests.Value.TheVariants.{Nil as Value_nil, Batch as Value_batch}
 use Rattle.iss_reply.specs.declared.clients.Stated.{Stated}
 use Rattle.iss_reply.specs.declared.clients.Taken.TheVariants.{Counted, Accepted}
 use Rattle.iss_reply.specs.declared.replies.Reply.{Reply}
@@ -22,7 +22,7 @@ request t payload = record { id = id t; payload = payload; sig = [] }
 
 abbrev log : List Value
 log =
-    Value_batch (request 0 (1 ∷ 1 ∷ 97 ∷ 98 ∷ 98 ∷ []) ∷ request 1 (0 ∷ 1 ∷ 97 ∷ []) ∷ []) ∷ Nil
+    Value_batch (request 0 (1 ∷ 1 ∷ 97 ∷ 98 ∷ 98 ∷ []) ∷ request 1 (0 ∷ 1 ∷ 97 ∷ []) ∷ []) ∷ Value_nil
     ∷ Value_batch (request 2 (2 ∷ 1 ∷ 97 ∷ []) ∷ request 3 (0 ∷ 1 ∷ 97 ∷ []) ∷ request 4 (0 ∷ 1 ∷ 97 ∷ 98 ∷ []) ∷ []) ∷ []
 
 -- a put finds nothing, and a get finds what was put

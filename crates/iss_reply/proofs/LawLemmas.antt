@@ -1,6 +1,7 @@
 -- What the laws of replies rest on.
-use Rattle.std.proofs.Common.{◌≡◌, ◌≢◌, refl, sym, ap, subst, ◌∙◌, ℕ, zero, suc, ◌+◌, ◌/◌, ◌^◌, ◌<◌, ◌≤◌, true, List, [], ◌∷◌, ◌++◌, length, length-append, append_assoc, take, Option, Some, None, arith}
-use Rattle.std.specs.Prelude.{IsSomeAnd, slice_get}
+use Rattle.std.proofs.Common.{◌≡◌, ◌≢◌, refl, sym, ap, subst, ◌∙◌, ℕ, zero, suc, ◌+◌, ◌-◌, ◌/◌, ◌^◌, ◌<◌, ◌≤◌, Bool, true, false, cond, List, [], ◌∷◌, ◌++◌, length, length-append, append_assoc, take, Option, Some, None, arith}
+use Rattle.std.specs.Prelude.{IsSomeAnd, nat_lt, slice_get}
+use Rattle.std.proofs.lemmas.Bool.Decides.{nat_tests}
 use Rattle.std.specs.Int.{w16, w32, to_be_bytes}
 use Rattle.sha2.specs.Sha256.{sha256}
 use Rattle.sha2.proofs.Facts256.{length-sha256}
@@ -8,21 +9,22 @@ use Rattle.iss_base.proofs.Lists.{ends-same, some-injective}
 use Rattle.iss_keys.specs.Chains.{chain_start}
 use Rattle.iss_keys.specs.Directories.{public_keys_of}
 use Rattle.iss_keys.specs.KeyStates.{public_key}
+use Rattle.iss_base.specs.Heights.{IsHeight}
 use Rattle.iss_keys.specs.Signatures.{Verifies, signature_of}
 use Rattle.iss_keys.specs.VerifiedBy.{is_verified_by}
 use Rattle.iss_keys.proofs.DirectoryLemmas.{verified-by}
 use Rattle.iss_keys.proofs.ListedLemmas.{slice_get-listed}
 use Rattle.iss_keys.proofs.VerifyLemmas.{signature_verifies}
-use Rattle.iss_request.specs.Log.{requests}
+use Rattle.iss_request.specs.Log.{requests, size_of}
 use Rattle.iss_request.specs.declared.requests.Request.{Request}
 use Rattle.iss_request.specs.declared.requests.Value.{Value}
 use Rattle.iss_request.specs.declared.setups.Setup.{Setup}
 use Rattle.iss_reply.specs.declared.replies.Reply.{Reply}
 use Rattle.iss_reply.specs.Answers.{answer_to, held_after, requests_in, requests_of}
 use Rattle.iss_reply.specs.Clients.{IsReplyOf, cluster_of, is_signed}
-use Rattle.iss_reply.specs.Replies.{Separates, chain_string, replying, reply_at, reply_secret, reply_to, signed_reply, slot_of}
+use Rattle.iss_reply.specs.Replies.{Replying, Separates, chain_string, replying, reply_at, reply_secret, reply_to, signed_reply, slot_of}
 use Rattle.iss_reply.specs.Repliers.{Answered, ReplierState}
-use Rattle.iss_reply.proofs.RequestLemmas.{requests-length}
+use Rattle.iss_reply.proofs.RequestLemmas.{get-below, get-front, requests-length}
 
 -- ---- longer logs
 
@@ -59,6 +61,33 @@ answered-longer r log more a =
           ∙ ap (λ (rs : List Request). held_after rs key) (sym (ap (λ (rs : List Request). take r.number rs) (all-append log more) ∙ take-front (requests_of log) (requests_of more) r.number le));
     }
 
+slot-longer : (log more : List Value) (q : ℕ) → q < requests log → slot_of (log ++ more) q ≡ slot_of log q
+slot-longer [] more q h = absurd (omega (arith, h))
+slot-longer (v ∷ log) more q h = go (λ lt. slot-longer log more (q - size_of v) lt) (nat_lt q (size_of v)) refl
+  where
+    go : (q - size_of v < requests log → slot_of (log ++ more) (q - size_of v) ≡ slot_of log (q - size_of v)) → (b : Bool) → nat_lt q (size_of v) ≡ b
+        → cond b 0 (suc (slot_of (log ++ more) (q - size_of v))) ≡ cond b 0 (suc (slot_of log (q - size_of v)))
+    go rec true e = refl
+    go rec false e = let at : size_of v ≤ q = grind (arith, nat_tests, e) in ap suc (rec (omega (arith, at, h)))
+
+-- a node's reply to a request of a log is its reply in each longer one
+pub reply-longer : (w : Replying) (log more : List Value) (q : ℕ) (r : Reply) → reply_at w log q ≡ Some r → reply_at w (log ++ more) q ≡ Some r
+reply-longer w log more q r h = go (slice_get (requests_of log) q) refl h
+  where
+    go : (o : Option Request) → slice_get (requests_of log) q ≡ o → reply_to w log q o ≡ Some r → reply_at w (log ++ more) q ≡ Some r
+    go None at e = let clash : None ≡ Some r → ⊥ = λ e. cc in absurd (clash e)
+    go (Some x) at e =
+        let lt = get-below (requests_of log) q x at in
+        let all = requests-length log in
+        let le : q ≤ length (requests_of log) = omega (arith, lt) in
+        let there : slice_get (requests_of (log ++ more)) q ≡ Some x =
+        ap (λ (rs : List Request). slice_get rs q) (all-append log more) ∙ get-front (requests_of log) (requests_of more) q lt ∙ at in
+        ap (λ o. reply_to w (log ++ more) q o) there
+        ∙ ap (λ k. Some (signed_reply w (k / w.slots) x.id q (answer_to (held_after (take q (requests_of (log ++ more)))) x.payload))) (slot-longer log more q (omega (arith, lt, all)))
+        ∙ ap (λ (rs : List Request). Some (signed_reply w (slot_of log q / w.slots) x.id q (answer_to (held_after rs) x.payload)))
+        (ap (λ (rs : List Request). take q rs) (all-append log more) ∙ take-front (requests_of log) (requests_of more) q le)
+        ∙ e
+
 -- ---- a node's replies
 
 pub own-reply : (s : Setup) (me q : ℕ) (log : List Value) (r : Reply) → reply_at (replying s me) log q ≡ Some r → IsReplyOf s log r
@@ -79,7 +108,7 @@ own-reply s me q log r h = go (slice_get (requests_of log) q) h
         }
 
 -- a reply that a node made is signed by it
-pub own-signed : (s : Setup) (me q : ℕ) (log : List Value) (r : Reply) → me < s.n → s.keys ≤ 12 → q < 2 ^ s.keys
+pub own-signed : (s : Setup) (me q : ℕ) (log : List Value) (r : Reply) → me < s.n → IsHeight s.keys → q < 2 ^ s.keys
     → reply_at (replying s me) log q ≡ Some r → is_signed (cluster_of s) r ≡ true
 own-signed s me q log r below high lt h = go (slice_get (requests_of log) q) h
   where

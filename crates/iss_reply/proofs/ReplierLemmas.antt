@@ -1,13 +1,16 @@
 -- A replier's next reply, and what it answered then.
 use Rattle.std.proofs.Common.{◌≡◌, refl, sym, ap, subst, ◌∙◌, ℕ, suc, ◌+◌, ◌/◌, ◌≤◌, List, [], ◌∷◌, length, take, Some, arith}
 use Rattle.iss_request.specs.Log.{requests}
+use Rattle.iss_keys.specs.KeyStates.{KeyState}
+use Rattle.iss_keys.specs.Signatures.{signature_of}
+use Rattle.iss_request.specs.declared.ids.ReqId.{ReqId}
 use Rattle.iss_request.specs.declared.requests.Request.{Request}
 use Rattle.iss_request.specs.declared.requests.Value.{Value}
 use Rattle.iss_reply.specs.declared.replies.Reply.{Reply}
 use Rattle.iss_reply.specs.Answers.{answer_to, held_after, left_under, or_before, requests_of}
 use Rattle.iss_reply.specs.Commands.{command_of}
-use Rattle.iss_reply.specs.Held.{held_in}
-use Rattle.iss_reply.specs.Replies.{reply_at, reply_to, signed_reply}
+use Rattle.iss_reply.specs.Internal.Held.{held_in}
+use Rattle.iss_reply.specs.Replies.{Replying, reply_at, reply_key, reply_secret, reply_statement, reply_to, signed_reply, unsigned_reply}
 use Rattle.iss_reply.specs.Repliers.{Answered, ReplierState}
 use Rattle.iss_reply.proofs.RequestLemmas.{IsThere, answer-same, get-below, held-more, requests-length, take-more}
 
@@ -18,6 +21,16 @@ reply-made old log s r reply a there made =
     ∙ ap (λ k. Some (signed_reply old.who (k / old.who.slots) r.id old.number (answer_to (held_after (take old.number (requests_of log))) r.payload))) there.slot
     ∙ ap (λ b. Some (signed_reply old.who (s / old.who.slots) r.id old.number b)) (sym (answer-same (held_in old.store) (held_after (take old.number (requests_of log))) a.held (command_of r.payload)))
     ∙ ap Some (sym made)
+
+-- a draft that the reply key signed is the signed reply
+pub reply-signed : (w : Replying) (key : KeyState) (epoch q : ℕ) (id : ReqId) (answer : List ℕ) (draft reply : Reply) →
+    key ≡ reply_key w.me w.height → draft ≡ unsigned_reply w epoch id q answer
+    → reply ≡ record draft { sig = signature_of key.secret key.height draft.q (reply_statement w.tag draft.epoch.0 draft.id draft.q draft.answer) }
+    → reply ≡ signed_reply w epoch id q answer
+reply-signed w key epoch q id answer draft reply own of made =
+    made
+    ∙ ap (λ (k : KeyState). let r : Reply = record draft { sig = signature_of k.secret k.height draft.q (reply_statement w.tag draft.epoch.0 draft.id draft.q draft.answer) } in r) own
+    ∙ ap (λ (d : Reply). let r : Reply = record d { sig = signature_of (reply_secret w.me) w.height d.q (reply_statement w.tag d.epoch.0 d.id d.q d.answer) } in r) of
 
 -- a request in the log was answered
 pub answered-more : (old new : ReplierState) (log : List Value) (s p : ℕ) (r : Request) → Answered old log → IsThere log s old.number r → s ≤ length log → old.number ≡ requests (take s log) + p

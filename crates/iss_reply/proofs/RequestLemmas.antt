@@ -6,7 +6,7 @@ use Rattle.iss_base.proofs.Lists.{first_of-none}
 use Rattle.iss_request.specs.Log.{requests, size_of}
 use Rattle.iss_request.specs.declared.requests.Request.{Request}
 use Rattle.iss_request.specs.declared.requests.Value.{Value}
-use Rattle.iss_request.specs.declared.requests.Value.TheVariants.{Nil, Batch as Value_batch}
+use Rattle.iss_request.specs.declared.requests.Value.TheVariants.{Nil as Value_nil, Batch as Value_batch}
 use Rattle.iss_reply.specs.Commands.{CommandView, command_of}
 use Rattle.iss_reply.specs.Answers.{answer_by, answer_for, held_after, last_left, left_under, or_before, requests_in, requests_of}
 use Rattle.iss_reply.specs.Replies.{slot_of}
@@ -19,9 +19,11 @@ get-front [] ys k h = absurd (omega arith)
 get-front (x ∷ xs) ys zero h = refl
 get-front (x ∷ xs) ys (suc k) h = let lt : k < length xs = omega arith in get-front xs ys k lt
 
-pub get-behind : {A : Type 0} (xs ys : List A) (k : ℕ) → slice_get (xs ++ ys) (length xs + k) ≡ slice_get ys k
-get-behind [] ys k = let e : 0 + k ≡ k = omega arith in ap (λ i. slice_get ys i) e
-get-behind (x ∷ xs) ys k = let e : suc (length xs) + k ≡ suc (length xs + k) = omega arith in ap (λ i. slice_get (x ∷ (xs ++ ys)) i) e ∙ get-behind xs ys k
+-- the element n places behind the front
+get-past : {A : Type 0} (xs ys : List A) (k n : ℕ) → k ≡ length xs + n → slice_get (xs ++ ys) k ≡ slice_get ys n
+get-past [] ys k n e = let same : k ≡ n = omega (arith, e) in ap (λ i. slice_get ys i) same
+get-past (x ∷ xs) ys zero n e = absurd (omega (arith, e))
+get-past (x ∷ xs) ys (suc k) n e = let less : k ≡ length xs + n = omega (arith, e) in get-past xs ys k n less
 
 pub get-below : {A : Type 0} (xs : List A) (k : ℕ) (x : A) → slice_get xs k ≡ Some x → k < length xs
 get-below [] k x h = let clash : None ≡ Some x → ⊥ = λ e. cc in absurd (clash h)
@@ -42,7 +44,7 @@ get-read (y ∷ xs) (suc k) x h e = let lt : k < length xs = omega arith in get-
 -- ---- requests by number
 
 pub size-in : (v : Value) → size_of v ≡ length (requests_in v)
-size-in Nil = refl
+size-in Value_nil = refl
 size-in (Value_batch b) = refl
 
 pub requests-length : (log : List Value) → length (requests_of log) ≡ requests log
@@ -81,8 +83,7 @@ get-at (x ∷ log) zero p v h lt =
 get-at (x ∷ log) (suc s) p v h lt =
     let size = size-in x in
     let e : (size_of x + requests (take s log)) + p ≡ length (requests_in x) + (requests (take s log) + p) = omega (arith, size) in
-    ap (λ i. slice_get (requests_in x ++ requests_of log) i) e
-    ∙ get-behind (requests_in x) (requests_of log) (requests (take s log) + p) ∙ get-at log s p v h lt
+    get-past (requests_in x) (requests_of log) ((size_of x + requests (take s log)) + p) (requests (take s log) + p) e ∙ get-at log s p v h lt
 
 slot-at : (log : List Value) (s p : ℕ) (v : Value) → slice_get log s ≡ Some v → p < size_of v → slot_of log (requests (take s log) + p) ≡ s
 slot-at [] s p v h lt = let clash : None ≡ Some v → ⊥ = λ e. cc in absurd (clash h)
@@ -118,15 +119,13 @@ is-there log s p q r h e = go (slice_get log s) refl h
 
 -- ---- what a key holds
 
-first-assoc : {A : Type 0} (a b c : Option A) → first_of (first_of a b) c ≡ first_of a (first_of b c)
-first-assoc None b c = refl
-first-assoc (Some x) b c = refl
-
 last-more : (key : List ℕ) (rs : List Request) (r : Request) → last_left key (rs ++ r ∷ []) ≡ first_of (left_under key (command_of r.payload)) (last_left key rs)
 last-more key [] r = sym (first_of-none (left_under key (command_of r.payload)))
-last-more key (x ∷ rs) r =
-    ap (λ o. first_of o (left_under key (command_of x.payload))) (last-more key rs r)
-    ∙ first-assoc (left_under key (command_of r.payload)) (last_left key rs) (left_under key (command_of x.payload))
+last-more key (x ∷ rs) r = go (left_under key (command_of r.payload)) (left_under key (command_of x.payload)) (last-more key rs r)
+  where
+    go : (new own : Option (Option (List ℕ))) → last_left key (rs ++ r ∷ []) ≡ first_of new (last_left key rs) → first_of (last_left key (rs ++ r ∷ [])) own ≡ first_of new (first_of (last_left key rs) own)
+    go None own e = ap (λ o. first_of o own) e
+    go (Some y) own e = ap (λ o. first_of o own) e
 
 before-first : (a b : Option (Option (List ℕ))) → or_before None (first_of a b) ≡ or_before (or_before None b) a
 before-first None b = refl

@@ -6,7 +6,7 @@ use Rattle.std.specs.Global.{Vec}
 use Rattle.std.specs.Map.{lookup, KeepsOthers}
 use Rattle.std.specs.Prelude.{nat_eq}
 use Rattle.std.specs.Str.{bytes_eq}
-use Rattle.iss_reply.specs.Held.{held_in, stored}
+use Rattle.iss_reply.specs.Internal.Held.{held_in, stored}
 
 -- a search in the map finds what the key holds
 pub held-found : (es : List (Vec ℕ × List ℕ)) (key : List ℕ) → lookup (λ k. bytes_eq key k.items) es ≡ held_in (stored es) key

@@ -7,7 +7,7 @@ use Rattle.std.specs.Str.{bytes_eq}
 use Rattle.iss_base.specs.Lists.{first_of}
 use Rattle.iss_request.specs.declared.requests.Request.{Request}
 use Rattle.iss_request.specs.declared.requests.Value.{Value}
-use Rattle.iss_request.specs.declared.requests.Value.TheVariants.{Nil, Batch as Value_batch}
+use Rattle.iss_request.specs.declared.requests.Value.TheVariants.{Nil as Value_nil, Batch as Value_batch}
 use Rattle.iss_reply.specs.declared.commands.Action.{Action}
 use Rattle.iss_reply.specs.declared.commands.Action.TheVariants.{Get, Put, Delete}
 use Rattle.iss_reply.specs.Commands.{CommandView, command_of}
@@ -16,7 +16,7 @@ use Rattle.iss_reply.specs.Commands.{CommandView, command_of}
 
 -- the requests of a value, and of a log, in the order of their numbers
 abbrev pub requests_in : Value → List Request
-requests_in Nil = []
+requests_in Value_nil = []
 requests_in (Value_batch b) = b
 
 abbrev pub requests_of : List Value → List Request

@@ -65,6 +65,11 @@ some_agree f all (b ∷ bs) = nat_lt f (agreeing b all) || some_agree f all bs
 abbrev pub is_answered : ℕ → List Stated → Bool
 is_answered f all = some_agree f all all
 
+-- whether replies to the identity were counted, and it has no answer
+abbrev pub is_open : ℕ → List Stated → Bool
+is_open f [] = false
+is_open f (b ∷ bs) = not (is_answered f (b ∷ bs))
+
 -- ---- what becomes of a reply, given the counted ones to its identity
 
 -- the reply counts; with f that agree it makes f + 1
@@ -111,6 +116,10 @@ outcome c earlier r = outcome_after c (counted c earlier) r
 abbrev pub replied : Cluster → List Reply → List Taken
 replied c [] = []
 replied c (r ∷ earlier) = outcome c earlier r ∷ replied c earlier
+
+-- whether a reply to the identity was counted and no answer accepted
+abbrev pub is_open_after : Cluster → List Reply → ReqId → Bool
+is_open_after c replies id = is_open c.f (stated_to id (counted c replies))
 
 -- ---- what is seen of a client
 

@@ -1,6 +1,6 @@
 pub mod Commands
 pub mod Answers
-pub mod Held
+pub mod Internal
 pub mod Replies
 pub mod Repliers
 pub mod Clients

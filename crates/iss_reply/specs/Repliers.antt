@@ -1,6 +1,6 @@
 -- What is seen of a replier: whose replies it makes, the least number not answered, where that request is in the log,
 -- and the store.
-use Rattle.std.specs.Prelude.{◌≡◌, ◌≢◌, ℕ, ◌+◌, ◌^◌, ◌≤◌, List, length, take, Option, Some, None, slice_get, Result, Ok, Err}
+use Rattle.std.specs.Prelude.{◌≡◌, ◌≢◌, ℕ, ◌+◌, ◌^◌, ◌<◌, ◌≤◌, List, length, take, Option, Some, None, slice_get, Result, Ok, Err}
 use Rattle.iss_request.specs.Log.{requests}
 use Rattle.iss_request.specs.declared.errors.NoMemory.{NoMemory}
 use Rattle.iss_request.specs.declared.requests.Request.{Request}
@@ -8,7 +8,7 @@ use Rattle.iss_request.specs.declared.requests.Value.{Value}
 use Rattle.iss_reply.specs.declared.repliers.Next.{Next}
 use Rattle.iss_reply.specs.declared.repliers.Next.TheVariants.{Reply as Next_reply, UpToDate, Spent}
 use Rattle.iss_reply.specs.Answers.{held_after, requests_in, requests_of}
-use Rattle.iss_reply.specs.Held.{held_in}
+use Rattle.iss_reply.specs.Internal.Held.{held_in}
 use Rattle.iss_reply.specs.Replies.{Replying, reply_at}
 
 pub record ReplierState : Type 0 where
@@ -44,7 +44,7 @@ pub record Answered (r : ReplierState) (log : List Value) : Type 0 where
 -- rule: Replies: A replier answers the least number not answered, up to the leaves of its key
 abbrev pub IsNext : ReplierState → List Value → ReplierState → Result Next NoMemory → Type 0
 IsNext old log new (Ok (Next_reply reply)) = (reply_at old.who log old.number ≡ Some reply)
-    × (new.number ≡ old.number + 1) × (new.who ≡ old.who)
+    × (old.number < 2 ^ old.who.height) × (new.number ≡ old.number + 1) × (new.who ≡ old.who)
 IsNext old log new (Ok UpToDate) = (old.number ≡ requests log) × (new ≡ old)
 IsNext old log new (Ok Spent) = (old.number ≢ requests log) × (2 ^ old.who.height ≤ old.number) × (new ≡ old)
 IsNext old log new (Err e) = new ≡ old

@@ -2,12 +2,12 @@
 -- alone. It signs the reply to request q with leaf q, so it signs one reply with each leaf.
 --
 --   statement   cluster tag (32 bytes), epoch (8), 254, 0, 0, client (1), number (4), q (8), length (2), answer
-use Rattle.std.specs.Prelude.{◌≡◌, ℕ, suc, ◌-◌, ◌/◌, ◌%◌, nat_lt, if◌then◌else◌, List, [], ◌∷◌, ◌++◌, length, take, Option, Some, None, slice_get}
+use Rattle.std.specs.Prelude.{◌≡◌, ℕ, zero, suc, ◌-◌, ◌/◌, ◌%◌, ◌^◌, min, nat_lt, if◌then◌else◌, List, [], ◌∷◌, ◌++◌, length, take, Option, Some, None, slice_get}
 use Rattle.std.specs.Int.{w16, w32, w64, to_be_bytes}
 use Rattle.sha2.specs.Sha256.{sha256}
 use Rattle.iss_keys.specs.KeyStates.{KeyState}
 use Rattle.iss_keys.specs.Signatures.{signature_of}
-use Rattle.iss_request.specs.Log.{size_of}
+use Rattle.iss_request.specs.Log.{requests, size_of}
 use Rattle.iss_request.specs.declared.ids.ReqId.{ReqId}
 use Rattle.iss_request.specs.declared.requests.Request.{Request}
 use Rattle.iss_request.specs.declared.requests.Value.{Value}
@@ -52,14 +52,20 @@ abbrev pub slot_of : List Value → ℕ → ℕ
 slot_of [] q = 0
 slot_of (v ∷ later) q = if nat_lt q (size_of v) then 0 else suc (slot_of later (q - size_of v))
 
--- the reply with this answer to a request with number q in an epoch
-abbrev pub signed_reply : Replying → ℕ → ReqId → ℕ → List ℕ → Reply
-signed_reply w epoch id q answer = record {
+-- the reply with this answer to a request with number q in an epoch, before it is signed
+abbrev pub unsigned_reply : Replying → ℕ → ReqId → ℕ → List ℕ → Reply
+unsigned_reply w epoch id q answer = record {
   by = record { 0 = w.me };
   epoch = record { 0 = epoch };
   q = q;
   id = id;
   answer = answer;
+  sig = [];
+}
+
+-- the same reply, signed
+abbrev pub signed_reply : Replying → ℕ → ReqId → ℕ → List ℕ → Reply
+signed_reply w epoch id q answer = record (unsigned_reply w epoch id q answer) {
   sig = signature_of (reply_secret w.me) w.height q (reply_statement w.tag epoch id q answer);
 }
 
@@ -72,6 +78,20 @@ reply_to w log q (Some r) =
 
 abbrev pub reply_at : Replying → List Value → ℕ → Option Reply
 reply_at w log q = reply_to w log q (slice_get (requests_of log) q)
+
+abbrev pub and_reply : List Reply → Option Reply → List Reply
+and_reply replies None = replies
+and_reply replies (Some r) = replies ++ r ∷ []
+
+-- the node's replies to the requests of a log with numbers below q
+abbrev pub replies_below : Replying → List Value → ℕ → List Reply
+replies_below w log zero = []
+replies_below w log (suc q) = and_reply (replies_below w log q) (reply_at w log q)
+
+-- all of the node's replies to the requests of a log: one for each, as far as the reply key has leaves
+-- rule: Replies: A node writes one reply to each request of its log, as far as its key has leaves
+abbrev pub replies_to : Replying → List Value → List Reply
+replies_to w log = replies_below w log (min (requests log) (2 ^ w.height))
 
 -- ---- reply keys are apart from all others
 

@@ -1,5 +1,6 @@
 //! A client, which believes an answer that f + 1 nodes gave.
 ghost use Rattle.std.specs.Prelude.{◌≡◌, ◌++◌, ◌∷◌, ℕ, List, [], Bool, IfOk, OnOk, OnErr, false, map, length, ◌≤◌, if◌then◌else◌};
+ghost use Rattle.iss_base.specs.Heights.{IsHeight};
 ghost use Rattle.iss_keys.specs.KeyStates.{public_of};
 ghost use Rattle.iss_keys.specs.Directories.{public_keys_of};
 ghost use Rattle.iss_keys.specs.VerifiedBy.{is_verified_by};
@@ -9,7 +10,7 @@ ghost use Rattle.iss_request.specs.declared.ids.ReqId.{ReqId};
 ghost use Rattle.iss_request.specs.declared.requests.Value.{Value};
 ghost use Rattle.iss_request.specs.declared.setups.Setup.{Setup};
 ghost use Rattle.iss_reply.specs.declared.replies.Reply.{Reply};
-ghost use Rattle.iss_reply.specs.Clients.{AreHonest, HasTaken, IsBelieved, accepted_with, agree, agreeing, cluster_of, counts, has_reply_of, is_answered, is_signed, judged, outcome, some_agree, stated_by, stated_in};
+ghost use Rattle.iss_reply.specs.Clients.{AreHonest, HasTaken, IsBelieved, accepted_with, agree, agreeing, cluster_of, counts, has_reply_of, is_answered, is_open, is_open_after, is_signed, judged, outcome, some_agree, stated_by, stated_in};
 ghost use Rattle.iss_reply.specs.Replies.{reply_secret};
 
 use crate::replies::{Reply, reply_key, reply_statement};
@@ -113,6 +114,14 @@ impl Client {
         Ok(taken)
     }
 
+    /// Whether a reply to the request was counted, and no answer accepted.
+    pub fn is_open(&self, id: ReqId) -> bool
+        ensures { (replies : List Reply) → HasTaken self.now replies →
+            result ≡ is_open_after self.now.cluster replies id }
+    {
+        is_open(self.f, self.stated_in(id))
+    }
+
     // What becomes of a reply.
     // rule: Replies: A client refuses a bad signature first, ignores what is late, and then refuses a second reply
     fn judge(&self, reply: &Reply) -> Result<Taken, NoMemory>
@@ -191,8 +200,7 @@ impl Client {
 // The reply keys of the nodes below `n`.
 fn reply_keys(alloc: Global, n: u32, height: u8) -> Result<Vec<Keys>, NoMemory>
     requires n { n ≤ 256 }
-    requires low { 2 ≤ height }
-    requires high { height ≤ 12 }
+    requires height { IsHeight height }
     ensures { IfOk result (λ keys. map public_of keys.items ≡ public_keys_of reply_secret height n) }
 {
     let mut keys = Vec::new(alloc);
@@ -275,6 +283,16 @@ fn is_answered(f: u32, all: &[Stated]) -> bool
     ensures { result ≡ is_answered f all.now }
 {
     some_agree(f, all, all)
+}
+
+// Whether there are replies, and no answer.
+fn is_open(f: u32, all: &[Stated]) -> bool
+    ensures { result ≡ is_open f all.now }
+{
+    match all {
+        [] => false,
+        [_, ..] => !is_answered(f, all),
+    }
 }
 
 // What becomes of a reply that counts, with which `n` others agree.

@@ -1,17 +1,21 @@
 //! Theorems about replies, each as a call without a body.
 ghost use Rattle.std.specs.Prelude.{◌≡◌, ◌≢◌, ◌^◌, ◌<◌, ◌≤◌, ◌++◌, ◌∷◌, [], ℕ, List, Some, true};
+ghost use Rattle.iss_base.specs.Heights.{IsHeight};
 ghost use Rattle.iss_keys.specs.Chains.{chain_start};
 ghost use Rattle.iss_request.specs.declared.requests.Value.{Value};
 ghost use Rattle.iss_request.specs.declared.setups.Setup.{Setup};
 ghost use Rattle.iss_reply.specs.declared.replies.Reply.{Reply};
 ghost use Rattle.iss_reply.specs.Clients.{IsReplyOf, cluster_of, is_signed};
-ghost use Rattle.iss_reply.specs.Replies.{Separates, chain_string, replying, reply_at, reply_secret};
+ghost use Rattle.iss_reply.specs.Replies.{Replying, Separates, chain_string, replying, reply_at, reply_secret};
 ghost use Rattle.iss_reply.specs.Repliers.{Answered, ReplierState};
 ghost use Rattle.sha2.specs.Sha256.{sha256};
 
-/// What a replier answered of a log it answered of each longer one.
+/// What a replier answered of a log it answered of each longer one (`answered`). A node's reply to a request of a log is
+/// its reply in each longer one (`replies`).
 pub fn repliers_follow_the_log()
-    ensures { (r : ReplierState) (log more : List Value) → Answered r log → Answered r (log ++ more) }
+    ensures answered { (r : ReplierState) (log more : List Value) → Answered r log → Answered r (log ++ more) }
+    ensures replies { (w : Replying) (log more : List Value) (q : ℕ) (r : Reply) → reply_at w log q ≡ Some r →
+        reply_at w (log ++ more) q ≡ Some r }
 {}
 
 /// A replier's replies are those that a client may believe: each is its node's reply to a request of the log, and is
@@ -19,7 +23,7 @@ pub fn repliers_follow_the_log()
 pub fn replies_are_their_nodes()
     ensures own { (s : Setup) (me q : ℕ) (log : List Value) (r : Reply) → reply_at (replying s me) log q ≡ Some r →
         IsReplyOf s log r }
-    ensures signed { (s : Setup) (me q : ℕ) (log : List Value) (r : Reply) → me < s.n → s.keys ≤ 12 →
+    ensures signed { (s : Setup) (me q : ℕ) (log : List Value) (r : Reply) → me < s.n → IsHeight s.keys →
         q < 2 ^ s.keys → reply_at (replying s me) log q ≡ Some r → is_signed (cluster_of s) r ≡ true }
 {}
 

@@ -1,11 +1,12 @@
 //! The replies of a node to the requests of its log, in the order of their numbers.
 ghost use Rattle.std.specs.Prelude.{◌≡◌, ◌^◌, ◌<◌, ◌≤◌, List, length, IfOk, IsSome, option_copied};
+ghost use Rattle.iss_keys.specs.Signatures.{signature_of};
 ghost use Rattle.iss_request.specs.Log.{size_of};
 ghost use Rattle.iss_request.specs.Setup.{IsGoodSetup};
 ghost use Rattle.iss_request.specs.declared.requests.Value.{Value};
 ghost use Rattle.iss_reply.specs.Answers.{answer_to};
-ghost use Rattle.iss_reply.specs.Held.{held_in};
-ghost use Rattle.iss_reply.specs.Replies.{replying, signed_reply};
+ghost use Rattle.iss_reply.specs.Internal.Held.{held_in};
+ghost use Rattle.iss_reply.specs.Replies.{replying, reply_statement, unsigned_reply};
 ghost use Rattle.iss_reply.specs.Repliers.{Answered, IsNext, number_at, request_at};
 
 use crate::replies::{Reply, reply_key, reply_statement};
@@ -50,6 +51,7 @@ pub struct Replier {
 
 impl Model for Replier {
     ghost use Rattle.std.specs.Prelude.{◌≡◌, ◌≤◌};
+    ghost use Rattle.iss_base.specs.Heights.{IsHeight};
     ghost use Rattle.iss_reply.specs.Replies.{reply_key};
     ghost use Rattle.iss_reply.specs.Repliers.{ReplierState};
 
@@ -63,7 +65,7 @@ impl Model for Replier {
       store = r.store;
     } };
 
-    ghost invariant = { λ r. (1 ≤ r.slots) × (r.height ≤ 12) × (r.key ≡ reply_key r.me.0 r.height) };
+    ghost invariant = { λ r. (1 ≤ r.slots) × IsHeight r.height × (r.key ≡ reply_key r.me.0 r.height) };
 }
 
 impl Replier {
@@ -109,7 +111,8 @@ impl Replier {
             unreachable!();
         };
         let epoch = at.slot as u64 / self.slots;
-        let reply = self.reply(epoch, request)?;
+        let unsigned = self.unsigned(epoch, request)?;
+        let reply = signed(self.alloc, &self.tag, &mut self.key, unsigned)?;
         self.store.write(request.payload.as_slice())?;
         self.number += 1;
         self.at = Position {
@@ -119,35 +122,48 @@ impl Replier {
         Ok(Next::Reply(reply))
     }
 
-    // The reply to the next request, which is this one.
-    // rule: Replies: A node signs its reply to request q with leaf q of its reply key
-    fn reply(&self, epoch: u64, request: &Request) -> Result<Reply, NoMemory>
-        requires { self.now.number < 2 ^ self.now.who.height }
-        ensures { IfOk result (λ reply. reply ≡ signed_reply self.now.who epoch request.now.id self.now.number
+    // The reply to the next request, which is this one, without its signature.
+    fn unsigned(&self, epoch: u64, request: &Request) -> Result<Reply, NoMemory>
+        ensures { IfOk result (λ reply. reply ≡ unsigned_reply self.now.who epoch request.now.id self.now.number
             (answer_to (held_in self.now.store) request.now.payload)) }
     {
-        let q = self.number;
         let answer = self.store.answer(request.payload.as_slice())?;
-        let statement = reply_statement(
-            self.alloc,
-            &self.tag,
-            epoch,
-            request.id,
-            q,
-            answer.as_slice(),
-        )?;
-        let Ok(sig) = self.key.sign_at(q as u32, statement.as_slice()) else {
-            return Err(NoMemory);
-        };
         Ok(Reply {
             by: self.me,
             epoch: Epoch(epoch),
-            q,
+            q: self.number,
             id: request.id,
             answer,
-            sig: Bytes::of(sig),
+            sig: Bytes::new(self.alloc),
         })
     }
+}
+
+// Signs a reply with the leaf of its number. The key counts no leaf as used.
+// rule: Replies: A node signs its reply to request q with leaf q of its reply key
+fn signed(alloc: Global, tag: &[u8; 32], key: &mut Keys, unsigned: Reply) -> Result<Reply, NoMemory>
+    requires leaf { unsigned.q < 2 ^ key.old.height }
+    requires high { key.old.height ≤ 20 }
+    ensures signed { IfOk result (λ reply. reply ≡ record unsigned {
+      sig = signature_of key.old.secret key.old.height unsigned.q
+          (reply_statement tag.now unsigned.epoch.0 unsigned.id unsigned.q unsigned.answer);
+    }) }
+    ensures same { key.new ≡ key.old }
+{
+    let mut reply = unsigned;
+    let statement = reply_statement(
+        alloc,
+        tag,
+        reply.epoch.0,
+        reply.id,
+        reply.q,
+        reply.answer.as_slice(),
+    )?;
+    let Ok(sig) = key.sign_at(reply.q as u32, statement.as_slice()) else {
+        return Err(NoMemory);
+    };
+    reply.sig = Bytes::of(sig);
+    Ok(reply)
 }
 
 // The number of requests in a value.

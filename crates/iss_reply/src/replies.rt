@@ -1,5 +1,6 @@
 //! Replies, and what they sign.
 ghost use Rattle.std.specs.Prelude.{◌≡◌, ◌≤◌, IfOk};
+ghost use Rattle.iss_base.specs.Heights.{IsHeight};
 ghost use Rattle.iss_reply.specs.Replies.{reply_key, reply_secret, reply_statement};
 
 use iss_keys::Keys;
@@ -34,8 +35,7 @@ fn reply_secret(node: u8) -> [u8; 32]
 /// A node's reply key. Its tree is computed at the first signature.
 // rule: Replies: A node's reply key has a secret of its own, made behind a byte that no other key uses
 pub(crate) fn reply_key(alloc: Global, node: u8, height: u8) -> Result<Keys, iss_keys::NoMemory>
-    requires low { 2 ≤ height }
-    requires high { height ≤ 12 }
+    requires height { IsHeight height }
     ensures { IfOk result (λ key. key ≡ reply_key node height) }
 {
     Keys::make(alloc, reply_secret(node), height)

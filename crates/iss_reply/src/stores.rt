@@ -3,7 +3,7 @@ ghost use Rattle.std.specs.Prelude.{◌≡◌, ◌∷◌, ℕ, List, [], IfOk, O
 ghost use Rattle.std.specs.Str.{bytes_eq};
 ghost use Rattle.iss_reply.specs.Answers.{answer_for, answer_to, left_under, or_before};
 ghost use Rattle.iss_reply.specs.Commands.{command_of};
-ghost use Rattle.iss_reply.specs.Held.{held_in};
+ghost use Rattle.iss_reply.specs.Internal.Held.{held_in};
 
 use crate::commands::{Action, Command, command_of};
 use iss_request::{Bytes, NoMemory};
@@ -27,7 +27,7 @@ pub struct Store {
 
 impl Model for Store {
     ghost use Rattle.std.specs.Prelude.{ℕ, List};
-    ghost use Rattle.iss_reply.specs.Held.{stored};
+    ghost use Rattle.iss_reply.specs.Internal.Held.{stored};
 
     ghost Value = { List (List ℕ × List ℕ) };
 

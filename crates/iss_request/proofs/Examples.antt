@@ -3,10 +3,10 @@ use Rattle.std.proofs.Common.{◌≡◌, [], ◌∷◌, refl}
 use Rattle.iss_request.specs.Fields.{Good, Bad}
 use Rattle.iss_request.specs.Parsing.{◌>>=◌, done, such_that, byte, number, block, digests, times, at_end, all_of}
 use Rattle.iss_request.specs.Formats.{spell_count, spell_batch, spell_value, parse_payload, parse_signature, parse_request, count_field, parse_count, parse_batch, parse_rest, parse_value}
-use Rattle.iss_request.specs.declared.requests.Value.TheVariants.{Nil, Batch as Value_batch}
+use Rattle.iss_request.specs.declared.requests.Value.TheVariants.{Nil as Value_nil, Batch as Value_batch}
 
 -- nil is one byte, and the empty batch is two, by the second version three
-nil_value : (spell_value 1 Nil ≡ 0 ∷ []) × (spell_value 2 Nil ≡ 0 ∷ [])
+nil_value : (spell_value 1 Value_nil ≡ 0 ∷ []) × (spell_value 2 Value_nil ≡ 0 ∷ [])
 unfolding spell_value
 nil_value = (refl, refl)
 
@@ -35,12 +35,12 @@ many : (parse_value 1 (1 ∷ 33 ∷ []) ≡ Bad 1) × (parse_value 2 (2 ∷ 1 �
 unfolding parse_value parse_rest parse_batch parse_count count_field such_that byte number times done ◌>>=◌
 many = (refl, refl)
 
--- request 7.1 with payload aa: one without a signature, and one with a signature of height 13
+-- request 7.1 with payload aa: one without a signature, and one with a signature of height 21
 unsigned : parse_request (7 ∷ 0 ∷ 0 ∷ 0 ∷ 1 ∷ 0 ∷ 1 ∷ 0xaa ∷ []) ≡ Bad 8
 unfolding parse_request parse_payload parse_signature such_that byte number block digests done ◌>>=◌
 unsigned = refl
 
-tall : parse_request (7 ∷ 0 ∷ 0 ∷ 0 ∷ 1 ∷ 0 ∷ 1 ∷ 0xaa ∷ 13 ∷ 0 ∷ []) ≡ Bad 8
+tall : parse_request (7 ∷ 0 ∷ 0 ∷ 0 ∷ 1 ∷ 0 ∷ 1 ∷ 0xaa ∷ 21 ∷ 0 ∷ []) ≡ Bad 8
 unfolding parse_request parse_payload parse_signature such_that byte number block digests done ◌>>=◌
 tall = refl
 

@@ -11,7 +11,7 @@ use Rattle.iss_request.specs.Formats.{spell_request, spell_count, spell_batch, s
 use Rattle.iss_request.specs.declared.errors.NoMemory.{NoMemory}
 use Rattle.iss_request.specs.declared.requests.Request.{Request}
 use Rattle.iss_request.specs.declared.requests.Value.{Value}
-use Rattle.iss_request.specs.declared.requests.Value.TheVariants.{Nil, Batch as Value_batch}
+use Rattle.iss_request.specs.declared.requests.Value.TheVariants.{Nil as Value_nil, Batch as Value_batch}
 use Rattle.iss_request.proofs.Readings.{read_then, unread_first, unread_then, read_done, read_passed}
 
 -- ---- the first byte of a value
@@ -39,7 +39,7 @@ batch_rest version = rest_of version (is_second version)
 
 -- ---- reading a value
 
-pub nil_read : (a b : Reading) (first : ℕ) → first ≡ 0 → IsRead byte a b first → IsRead (parse_value a.version) a b Nil
+pub nil_read : (a b : Reading) (first : ℕ) → first ≡ 0 → IsRead byte a b first → IsRead (parse_value a.version) a b Value_nil
 unfolding parse_value parse_rest
 nil_read a b first e r =
     let zero_read : IsRead byte a b 0 = subst (λ (n : ℕ). IsRead byte a b n) e r in
@@ -116,7 +116,7 @@ pub batch_spelled : (version : ℕ) (b : List Request) → length b ≤ requests
 unfolding spell_batch
 batch_spelled version b le = rw (le-leb (length b) (requests_most version) le) refl
 
-pub nil_spelled : (version : ℕ) (v : Value) → v ≡ Nil → spell_value version v ≡ 0 ∷ []
+pub nil_spelled : (version : ℕ) (v : Value) → v ≡ Value_nil → spell_value version v ≡ 0 ∷ []
 unfolding spell_value
 nil_spelled version v e = rw e refl
 

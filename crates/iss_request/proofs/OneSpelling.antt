@@ -1,6 +1,6 @@
 -- Requests and values have at most one encoding each.
 use Rattle.std.proofs.Common.{◌≡◌, ℕ, zero, suc, ◌+◌, ◌*◌, ◌^◌, ◌<◌, ◌≤◌, Bool, true, false, cond, ltb, leb, eqb, ◌&&◌, ◌||◌, List, [], ◌∷◌, ◌++◌, length, take, drop, refl, sym, ap, subst, ◌∙◌, append_assoc, arith, inl, inr, ◌⊎◌, eqb-true, eq-eqb, append-nil}
-use Rattle.std.specs.Prelude.{◌↔◌}
+use Rattle.std.specs.Prelude.{◌↔◌, slice_index}
 use Rattle.std.specs.List.{AllByRecursion, flat_map}
 use Rattle.std.specs.Int.{w16, w32, to_be_bytes}
 use Rattle.std.proofs.lemmas.Bool.{cases_lt, ne_eqb, ltb-true, leb-true, lt-ltb, le-leb}
@@ -8,11 +8,13 @@ use Rattle.std.proofs.lemmas.List.{take-append-drop, length-append, length-take,
 use Rattle.iss_base.proofs.Lists.{and-true}
 use Rattle.iss_request.specs.Fields.{Good, Bad, IsBad, IsGrammar}
 use Rattle.iss_request.specs.Parsing.{Parser, done, such_that, byte, number, block, times}
-use Rattle.iss_request.specs.Formats.{is_second, version_byte, requests_most, HasSpelling, IsSpelledRequest, IsSpelledValue, is_height, is_signature, has_spelling, request_bytes, no_request, no_batch}
+use Rattle.iss_base.specs.Heights.{IsHeight, digests_of_height, is_height, signature_length}
+use Rattle.iss_base.proofs.HeightLemmas.{height-tested}
+use Rattle.iss_request.specs.Formats.{is_second, version_byte, requests_most, HasSpelling, IsSpelledRequest, IsSpelledValue, is_signature, has_spelling, request_bytes, no_request, no_batch}
 use Rattle.iss_request.specs.Formats.{spell_request, spell_count, spell_batch, spell_value, parse_payload, parse_signature, parse_request, count_field, parse_count, parse_batch, is_first, parse_rest, parse_value}
 use Rattle.iss_request.specs.declared.requests.Request.{Request}
 use Rattle.iss_request.specs.declared.requests.Value.{Value}
-use Rattle.iss_request.specs.declared.requests.Value.TheVariants.{Nil, Batch as Value_batch}
+use Rattle.iss_request.specs.declared.requests.Value.TheVariants.{Nil as Value_nil, Batch as Value_batch}
 use Rattle.iss_request.proofs.ParserLemmas.{then_good, then_bad, first_bad, then_parts, done_parts, test_passed, test_failed, test_parts, byte_again, byte_parts, wide16, wide32, number_again, number_parts, block_again, block_parts, digests_again, digests_parts}
 use Rattle.iss_request.proofs.FormatLemmas.{request_spelled, request_unspelled, batch_first, batch_rest, batch_spelled, batch_unspelled}
 
@@ -54,12 +56,21 @@ payload_parts bytes rest payload e =
 
 record IsShaped (height : ℕ) (rest : List ℕ) : Type 0 where
   pub tall : is_height height ≡ true
-  pub long : length rest ≡ 4 + 32 * (67 + height)
+  pub long : length rest ≡ 4 + 32 * digests_of_height height
 
 shaped : (h : ℕ) (rest : List ℕ) → is_signature (h ∷ rest) ≡ true → IsShaped h rest
 shaped h rest e =
-    let both = and-true (is_height h) (eqb (length rest) (4 + 32 * (67 + h))) e in
+    let both = and-true (is_height h) (eqb (length rest) (4 + 32 * digests_of_height h)) e in
     record { tall = both.0; long = eqb-true _ _ both.1 }
+
+-- bytes of a key's height and of the length that it fixes have the shape of a signature
+pub signature_shaped : (h : ℕ) (sig : List ℕ) → IsHeight h → length sig ≡ signature_length h → slice_index sig 0 ≡ h →
+    is_signature sig ≡ true
+signature_shaped h [] high long first = absurd (omega (arith, long))
+signature_shaped h (x ∷ rest) high long first =
+    let is : x ≡ h = first in
+    let size : length rest ≡ 4 + 32 * digests_of_height h = omega (arith, long) in
+    rw (is, height-tested h high) (eq-eqb (length rest) (4 + 32 * digests_of_height h) size)
 
 pub signature_again : (sig rest : List ℕ) → is_signature sig ≡ true → parse_signature (sig ++ rest) ≡ Good sig rest
 unfolding parse_signature
@@ -69,7 +80,7 @@ signature_again (h ∷ tail) rest e =
     let leaf = take 4 tail in
     let nodes = drop 4 tail in
     let leaf_len : length leaf ≡ 4 = omega (arith, length-take 4 tail, shape.long) in
-    let nodes_len : length nodes ≡ 32 * (67 + h) = omega (arith, length-drop 4 tail, shape.long) in
+    let nodes_len : length nodes ≡ 32 * digests_of_height h = omega (arith, length-drop 4 tail, shape.long) in
     let split : tail ++ rest ≡ leaf ++ (nodes ++ rest) = ap (λ (x : List ℕ). x ++ rest) (sym (take-append-drop 4 tail))
     ∙ append_assoc leaf nodes rest in
     let whole : h ∷ leaf ++ nodes ≡ h ∷ tail = ap (λ (x : List ℕ). h ∷ x) (take-append-drop 4 tail) in
@@ -77,7 +88,7 @@ signature_again (h ∷ tail) rest e =
     (byte_again h (tail ++ rest)) shape.tall in
     let leaf_read : block 4 (tail ++ rest) ≡ Good leaf (nodes ++ rest) = ap (block 4) split
     ∙ block_again leaf (nodes ++ rest) 4 leaf_len in
-    let nodes_read = digests_again nodes rest (67 + h) nodes_len in
+    let nodes_read = digests_again nodes rest (digests_of_height h) nodes_len in
     let end_read : done (h ∷ leaf ++ nodes) rest ≡ Good (h ∷ tail) rest = ap (λ (x : List ℕ). done x rest) whole
     ∙ done_good (h ∷ tail) rest in
     then_good _ _ _ (tail ++ rest) rest h (h ∷ tail) height_read
@@ -98,11 +109,11 @@ signature_parts bytes rest sig e =
     let height = test_parts is_height byte bytes a.mid a.thing a.first in
     let front = byte_parts bytes a.mid a.thing height.0 in
     let leaf = block_parts 4 a.mid b.mid b.thing b.first in
-    let nodes = digests_parts (67 + a.thing) b.mid c.mid c.thing c.first in
+    let nodes = digests_parts (digests_of_height a.thing) b.mid c.mid c.thing c.first in
     let tail : a.mid ≡ (b.thing ++ c.thing) ++ rest = leaf.parts
     ∙ ap (λ (x : List ℕ). b.thing ++ x) (nodes.parts ∙ ap (λ (x : List ℕ). c.thing ++ x) d.1)
     ∙ sym (append_assoc b.thing c.thing rest) in
-    let long : length (b.thing ++ c.thing) ≡ 4 + 32 * (67 + a.thing) =
+    let long : length (b.thing ++ c.thing) ≡ 4 + 32 * digests_of_height a.thing =
     omega (arith, length-append b.thing c.thing, leaf.len, nodes.len) in
     record {
       parts = rw (← d.0) (front ∙ ap (λ (x : List ℕ). a.thing ∷ x) tail);
@@ -396,10 +407,10 @@ batch_grammar version = record {
 
 -- ---- values
 
-nil_whole : (version : ℕ) (rest : List ℕ) → parse_value version (0 ∷ rest) ≡ Good Nil rest
+nil_whole : (version : ℕ) (rest : List ℕ) → parse_value version (0 ∷ rest) ≡ Good Value_nil rest
 unfolding parse_value parse_rest
-nil_whole version rest = then_good _ _ _ rest rest 0 Nil
-    (test_passed (is_first version) byte _ rest 0 (byte_again 0 rest) refl) (done_good Nil rest)
+nil_whole version rest = then_good _ _ _ rest rest 0 Value_nil
+    (test_passed (is_first version) byte _ rest 0 (byte_again 0 rest) refl) (done_good Value_nil rest)
 
 -- the first byte of a batch
 holds_first : (version : ℕ) (rest : List ℕ) → such_that (is_first version) byte (version_byte version ∷ rest)
@@ -427,7 +438,7 @@ holds_bad version bytes bad = (
 
 value_whole : (version : ℕ) (v : Value) → Whole (spell_value version v) (parse_value version) v
 unfolding spell_value
-value_whole version Nil = inl (λ rest. nil_whole version rest)
+value_whole version Value_nil = inl (λ rest. nil_whole version rest)
 value_whole version (Value_batch b) =
     elim (batch_whole version b) [
       | inl good ↦ inl (λ rest. holds_good version b (spell_batch version b ++ rest) rest (good rest))
@@ -436,7 +447,7 @@ value_whole version (Value_batch b) =
 
 -- what is known of a value that was read
 abbrev IsValue : ℕ → List ℕ → List ℕ → Value → Type 0
-IsValue version bytes rest Nil = bytes ≡ 0 ∷ rest
+IsValue version bytes rest Value_nil = bytes ≡ 0 ∷ rest
 IsValue version bytes rest (Value_batch b) = (mid : List ℕ) × (bytes ≡ version_byte version ∷ mid)
     × IsBatch version mid rest b
 
@@ -447,7 +458,7 @@ rest_parts : (version n : ℕ) (bytes rest : List ℕ) (v : Value) → is_first 
     parse_rest version n bytes ≡ Good v rest → IsValue version (n ∷ bytes) rest v
 unfolding parse_rest
 rest_parts version zero bytes rest v t e =
-    let ends = done_parts Nil v bytes rest e in
+    let ends = done_parts Value_nil v bytes rest e in
     subst (λ (x : Value). IsValue version (0 ∷ bytes) rest x) ends.0 (ap (λ (x : List ℕ). 0 ∷ x) ends.1)
 rest_parts version (suc n) bytes rest v t e =
     let a = then_parts _ _ bytes rest v e in
@@ -469,7 +480,7 @@ value_parts version bytes rest v e =
 value_only : (version : ℕ) (v : Value) (bytes rest : List ℕ) → IsValue version bytes rest v →
     bytes ≡ spell_value version v ++ rest
 unfolding spell_value
-value_only version Nil bytes rest is = is
+value_only version Value_nil bytes rest is = is
 value_only version (Value_batch b) bytes rest is = is.1 ∙ ap (λ (x : List ℕ). version_byte version ∷ x) is.2.parts
 
 pub value_grammar : (version : ℕ) → IsGrammar (spell_value version) (parse_value version)
@@ -508,7 +519,7 @@ batch_table version b le h = batch_spelled version b le
     ∙ ap (λ (x : List ℕ). spell_count version (length b) ++ x) (all_spelled b h)
 
 table_parts : (version : ℕ) (v : Value) (bytes : List ℕ) → IsValue version bytes [] v → IsSpelledValue version v bytes
-table_parts version Nil bytes is = is
+table_parts version Value_nil bytes is = is
 table_parts version (Value_batch b) bytes is =
     let batch = is.2 in
     let spelled : is.0 ≡ spell_count version (length b) ++ flat_map request_bytes b = batch.parts
@@ -517,7 +528,7 @@ table_parts version (Value_batch b) bytes is =
 
 table_again : (version : ℕ) (v : Value) (bytes : List ℕ) → IsSpelledValue version v bytes →
     parse_value version bytes ≡ Good v []
-table_again version Nil bytes h = ap (parse_value version) h ∙ nil_whole version []
+table_again version Value_nil bytes h = ap (parse_value version) h ∙ nil_whole version []
 table_again version (Value_batch b) bytes h =
     let spelled : bytes ≡ version_byte version ∷ (spell_batch version b ++ []) = h.2
     ∙ ap (λ (x : List ℕ). version_byte version ∷ x)

@@ -39,6 +39,14 @@ unread_then {A} {B} p q {a} {b} {x} {at} r u = record {
   field = omega (arith, r.forward, r.behind, u.field);
 }
 
+-- what an equal count of digests reads
+pub read_counted : {n m : ℕ} {a b : Reading} {x : List ℕ} → n ≡ m → IsRead (digests n) a b x → IsRead (digests m) a b x
+read_counted {n} {m} {a} {b} {x} e r = subst (λ (k : ℕ). IsRead (digests k) a b x) e r
+
+pub unread_counted : {n m : ℕ} {a : Reading} {at : ℕ} → n ≡ m → IsUnreadable (digests n) a at →
+    IsUnreadable (digests m) a at
+unread_counted {n} {m} {a} {at} e u = subst (λ (k : ℕ). IsUnreadable (digests k) a at) e u
+
 pub read_done : {A : Type 0} (x : A) (a : Reading) → IsRead (done x) a a x
 unfolding done
 read_done x a = record { found = refl; version = refl; same = refl; forward = omega arith; behind = refl }

@@ -4,15 +4,16 @@
 --   request     client (1 byte), number (4), length of the payload (2, at most 256), payload, signature
 --   value       0 for nil; 1, count (1 byte, at most 32), requests
 --               in version 2: 0 for nil; 2, count (2 bytes, at most 256), requests
---   signature   height of the key's tree (1 byte, 2 to 12), leaf (4), 67 + height digests of 32 bytes
+--   signature   height of the key (1 byte), leaf (4), and as many digests of 32 bytes as a key of this height has
 use Rattle.std.specs.Prelude.{◌≡◌, ◌≤◌, ℕ, zero, suc, ◌+◌, ◌*◌, ◌^◌, List, [], ◌∷◌, ◌++◌, length}
 use Rattle.std.specs.Prelude.{Bool, true, false, nat_le, nat_lt, ◌==◌, ◌&&◌, ◌||◌, if◌then◌else◌}
 use Rattle.std.specs.List.{AllByRecursion, flat_map}
 use Rattle.std.specs.Int.{w16, w32, to_be_bytes}
+use Rattle.iss_base.specs.Heights.{digests_of_height, is_height}
 use Rattle.iss_request.specs.Parsing.{Parser, ◌>>=◌, done, such_that, byte, number, block, digests, times}
 use Rattle.iss_request.specs.declared.requests.Request.{Request}
 use Rattle.iss_request.specs.declared.requests.Value.{Value}
-use Rattle.iss_request.specs.declared.requests.Value.TheVariants.{Nil, Batch as Value_batch}
+use Rattle.iss_request.specs.declared.requests.Value.TheVariants.{Nil as Value_nil, Batch as Value_batch}
 
 -- ---- versions
 
@@ -30,23 +31,20 @@ requests_most version = if is_second version then 256 else 32
 -- ---- values
 
 abbrev pub is_batch : Value → Bool
-is_batch Nil = false
+is_batch Value_nil = false
 is_batch (Value_batch b) = true
 
 -- the requests of a value; nil has none
 abbrev pub batch_of : Value → List Request
-batch_of Nil = []
+batch_of Value_nil = []
 batch_of (Value_batch b) = b
 
 -- ---- what has an encoding
 
-abbrev pub is_height : ℕ → Bool
-is_height h = nat_le 2 h && nat_le h 12
-
--- rule: Formats: A signature begins with its tree's height, from 2 to 12, which fixes its length
+-- rule: Formats: A signature begins with its key's height, which fixes its length
 abbrev pub is_signature : List ℕ → Bool
 is_signature [] = false
-is_signature (h ∷ rest) = is_height h && (length rest == 4 + 32 * (67 + h))
+is_signature (h ∷ rest) = is_height h && (length rest == 4 + 32 * digests_of_height h)
 
 abbrev pub has_spelling : Request → Bool
 has_spelling r = nat_lt r.id.number (2 ^ 32) && (nat_le (length r.payload) 256 && is_signature r.sig)
@@ -74,7 +72,7 @@ spell_batch version b = if nat_le (length b) (requests_most version)
     then spell_count version (length b) ++ flat_map spell_request b else no_batch
 
 unfoldable pub spell_value : ℕ → Value → List ℕ
-spell_value version Nil = 0 ∷ []
+spell_value version Value_nil = 0 ∷ []
 spell_value version (Value_batch b) = version_byte version ∷ spell_batch version b
 
 -- the string hashed for a value's digest
@@ -96,7 +94,7 @@ value_bytes version b = version_byte version ∷ spell_count version (length b) 
 
 -- rule: Formats: A value has one encoding a version: nil, or a batch after a version byte and a count
 abbrev pub IsSpelledValue : ℕ → Value → List ℕ → Type 0
-IsSpelledValue version Nil bytes = bytes ≡ 0 ∷ []
+IsSpelledValue version Value_nil bytes = bytes ≡ 0 ∷ []
 IsSpelledValue version (Value_batch b) bytes = (length b ≤ requests_most version) × AllByRecursion HasSpelling b
     × (bytes ≡ value_bytes version b)
 
@@ -111,7 +109,7 @@ unfoldable pub parse_signature : Parser (List ℕ)
 parse_signature = do
   height ← such_that is_height byte
   leaf ← block 4
-  nodes ← digests (67 + height)
+  nodes ← digests (digests_of_height height)
   done (height ∷ leaf ++ nodes)
 
 unfoldable pub parse_request : Parser Request
@@ -138,7 +136,7 @@ abbrev pub is_first : ℕ → ℕ → Bool
 is_first version b = (b == 0) || (b == version_byte version)
 
 unfoldable pub parse_rest : ℕ → ℕ → Parser Value
-parse_rest version zero = done Nil
+parse_rest version zero = done Value_nil
 parse_rest version (suc b) = do
   batch ← parse_batch version
   done (Value_batch batch)

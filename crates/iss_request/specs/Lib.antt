@@ -1,7 +1,7 @@
-pub mod Bytes
 pub mod Digest
 pub mod Fields
 pub mod Formats
+pub mod Internal
 pub mod Log
 pub mod Parsing
 pub mod Setup

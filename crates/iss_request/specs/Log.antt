@@ -5,7 +5,7 @@ use Rattle.iss_base.specs.Lists.{Different}
 use Rattle.iss_request.specs.declared.ids.ReqId.{ReqId}
 use Rattle.iss_request.specs.declared.requests.Request.{Request}
 use Rattle.iss_request.specs.declared.requests.Value.{Value}
-use Rattle.iss_request.specs.declared.requests.Value.TheVariants.{Nil, Batch as Value_batch}
+use Rattle.iss_request.specs.declared.requests.Value.TheVariants.{Nil as Value_nil, Batch as Value_batch}
 
 -- whether two identities are equal
 abbrev pub same_id : ReqId → ReqId → Bool
@@ -21,7 +21,7 @@ ids [] = []
 ids (q ∷ qs) = q.id ∷ ids qs
 
 abbrev pub value_ids : Value → List ReqId
-value_ids Nil = []
+value_ids Value_nil = []
 value_ids (Value_batch b) = ids b
 
 abbrev pub log_ids : List Value → List ReqId
@@ -34,7 +34,7 @@ Once log = Different (log_ids log)
 
 -- the number of requests in a value; nil has none
 abbrev pub size_of : Value → ℕ
-size_of Nil = 0
+size_of Value_nil = 0
 size_of (Value_batch b) = length b
 
 -- the number of requests in a log, which is the number of the next value's first request

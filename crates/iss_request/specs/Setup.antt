@@ -2,6 +2,7 @@
 -- 3f + 1 and 2f + 1 for Byzantine nodes, 2f + 1 and f + 1 for stopping ones, and 3 and 2 for the relay. At most f
 -- nodes are named faulty, none where they only stop.
 use Rattle.std.specs.Prelude.{◌≡◌, ℕ, suc, ◌+◌, ◌*◌, ◌<◌, ◌≤◌, ◌==◌, if◌then◌else◌, List, [], ◌∷◌, length}
+use Rattle.iss_base.specs.Heights.{IsHeight}
 use Rattle.iss_request.specs.declared.ids.NodeId.{NodeId}
 use Rattle.iss_request.specs.declared.setups.Kind.{Kind}
 use Rattle.iss_request.specs.declared.setups.Kind.TheVariants.{Byzantine, Stopping}
@@ -29,9 +30,9 @@ IsFewFaulty Byzantine f faulty = length faulty ≤ f
 IsFewFaulty Stopping f faulty = faulty ≡ []
 
 -- nodes below n, strictly ascending, none below `from`
-abbrev pub AreRising : ℕ → ℕ → List NodeId → Type 0
-AreRising from n [] = Unit {0}
-AreRising from n (i ∷ is) = (from ≤ i.0) × (i.0 < n) × AreRising (suc i.0) n is
+abbrev pub AreAscendingBelow : ℕ → ℕ → List NodeId → Type 0
+AreAscendingBelow from n [] = Unit {0}
+AreAscendingBelow from n (i ∷ is) = (from ≤ i.0) × (i.0 < n) × AreAscendingBelow (suc i.0) n is
 
 -- rule: Formats: A set-up's fields are in range, and its nodes and quorum fit its fault model and f
 pub record IsGoodSetup (s : Setup) : Type 0 where
@@ -52,7 +53,6 @@ pub record IsGoodSetup (s : Setup) : Type 0 where
   pub window_high : s.window ≤ 64
   pub clients_low : 1 ≤ s.clients
   pub clients_high : s.clients ≤ 256
-  pub keys_low : 2 ≤ s.keys
-  pub keys_high : s.keys ≤ 12
+  pub keys_height : IsHeight s.keys
   pub few_faulty : IsFewFaulty s.kind s.f s.faulty
-  pub rising_faulty : AreRising 0 s.n s.faulty
+  pub ascending_faulty : AreAscendingBelow 0 s.n s.faulty

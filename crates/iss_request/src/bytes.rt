@@ -27,7 +27,7 @@ pub struct Bytes {
 
 impl Model for Bytes {
     ghost use Rattle.std.specs.Prelude.{ℕ, List};
-    ghost use Rattle.iss_request.specs.Bytes.{held_bytes};
+    ghost use Rattle.iss_request.specs.Internal.Bytes.{held_bytes};
 
     ghost Value = { List ℕ };
 

@@ -6,7 +6,7 @@ ghost use Rattle.sha2.specs.Hashers.{Holds256};
 ghost use Rattle.sha2.specs.Sha256.{sha256};
 ghost use Rattle.iss_request.specs.Fields.{and_bytes, IsRead, IsUnreadable, IsGrammar, Good, Bad};
 ghost use Rattle.iss_request.specs.Parsing.{all_of, such_that, times};
-ghost use Rattle.iss_request.specs.Formats.{requests_most, IsSpelledRequest, IsSpelledValue, is_batch, is_height, is_signature, has_spelling};
+ghost use Rattle.iss_request.specs.Formats.{requests_most, IsSpelledRequest, IsSpelledValue, is_batch, is_signature, has_spelling};
 ghost use Rattle.iss_request.specs.Formats.{request_bytes, spell_request, spell_count, spell_batch, spell_value, value_string};
 ghost use Rattle.iss_request.specs.Formats.{parse_payload, parse_signature, parse_request, count_field, parse_count, parse_batch, parse_rest, parse_value};
 ghost use Rattle.iss_request.specs.declared.requests.Request.{Request};
@@ -18,6 +18,7 @@ use crate::fields::{Fields, Writer};
 use crate::ids::ReqId;
 use crate::requests::{Batch, Request, Value};
 use crate::versions::{is_second, requests_most, version_byte};
+use iss_base::heights::{digests_of_height, is_height};
 use sha2::{Digest, Sha256};
 use std::alloc::Global;
 
@@ -33,22 +34,17 @@ const VALUE: u8 = 0x40;
 // What is written for a batch without an encoding: a count that is too large in either version, and nothing after it.
 const NO_BATCH: [u8; 2] = [255, 255];
 
-fn is_tree_height(height: u8) -> bool
-    ensures { result ≡ is_height height }
-{
-    2 <= height && height <= 12
-}
-
-/// Whether bytes have the shape of a signature: a height, a leaf, 67 digests and one for each level. It is not verified
-/// here.
-// rule: Formats: A signature begins with its tree's height, from 2 to 12, which fixes its length
+/// Whether bytes have the shape of a signature: a height, a leaf, and the digests of a key of this height. It is not
+/// verified here.
+// rule: Formats: A signature begins with its key's height, which fixes its length
 pub fn has_shape(sig: &[u8]) -> bool
     ensures { result ≡ is_signature sig.now }
 {
     match sig {
         [] => false,
         [height, rest @ ..] => {
-            is_tree_height(*height) && rest.len() == 4 + 32 * (67 + *height as usize)
+            let digests = digests_of_height(*height);
+            is_height(*height) && rest.len() == 4 + 32 * digests
         }
     }
 }
@@ -152,7 +148,7 @@ fn read_payload(alloc: Global, f: &mut Fields) -> Result<Bytes, DecodeError>
     Ok(f.since(alloc, first)?)
 }
 
-/// Reads a signature of any height from 2 to 12. It is not verified here.
+/// Reads a signature of any height that a key may have. It is not verified here.
 pub fn read_signature(alloc: Global, f: &mut Fields) -> Result<Bytes, DecodeError>
     ensures ok { IfOk result (λ b. IsRead parse_signature f.old f.new b) }
     ensures bad { (at : ℕ) → result ≡ Err (DecodeError.BadField at) → IsUnreadable parse_signature f.old at }
@@ -160,11 +156,11 @@ pub fn read_signature(alloc: Global, f: &mut Fields) -> Result<Bytes, DecodeErro
     let no_height = f.bad_field();
     let first = f.at();
     let height = f.read_u8()?;
-    if !is_tree_height(height) {
+    if !is_height(height) {
         return Err(no_height);
     }
     let _leaf = f.read_bytes(4)?;
-    let _digests = f.read_digests(67 + height as usize)?;
+    let _digests = f.read_digests(digests_of_height(height))?;
     Ok(f.since(alloc, first)?)
 }
 

@@ -10,7 +10,7 @@ use Rattle.iss_checkpoint.specs.declared.votes.Vote.{Vote as Voted}
 use Rattle.iss_packet.specs.Packets.{is_routed, is_routed_as, parse_packet, parse_parts}
 use Rattle.iss_packet.specs.declared.packets.Packet.{Packet}
 use Rattle.iss_packet.specs.declared.packets.PacketKind.{PacketKind}
-use Rattle.iss_packet.specs.declared.packets.PacketKind.TheVariants.{Message, Vote, Ask, Piece, Request as Kind_request}
+use Rattle.iss_packet.specs.declared.packets.PacketKind.TheVariants.{Message, Vote as Kind_vote, Ask, Piece as Kind_piece, Request as Kind_request}
 use Rattle.iss_request.specs.Fields.{Bad, Good, IsGrammar, IsReadAgain, Parsed}
 use Rattle.iss_request.specs.Formats.{HasSpelling, parse_request, parse_value, spell_value}
 use Rattle.iss_request.specs.declared.requests.Request.{Request}
@@ -127,9 +127,9 @@ pieces-read {Msg} s M bytes k x u b v i = packet (whole (parse_packet s.version 
 
     kind : (p : Packet) (kd : PacketKind) → parcel_of_kind M s.version p kd ≡ Some k → IsReadValue s v
     kind p Message h = absurd (other-sort k (OfPiece x) 0 3 b refl (message-sort k p (whole (M.parse s.version p.body)) h) (λ q. omega (arith, q)))
-    kind p Vote h = absurd (other-sort k (OfPiece x) 1 3 b refl (vote-sort k p (whole (parse_vote p.from p.epoch.0 p.body)) h) (λ q. omega (arith, q)))
+    kind p Kind_vote h = absurd (other-sort k (OfPiece x) 1 3 b refl (vote-sort k p (whole (parse_vote p.from p.epoch.0 p.body)) h) (λ q. omega (arith, q)))
     kind p Ask h = absurd (other-sort k (OfPiece x) 2 3 b refl (ask-sort k p (whole (parse_ask p.epoch.0 p.body)) h) (λ q. omega (arith, q)))
-    kind p Piece h = piece p (whole (parse_piece s.version p.epoch.0 p.body)) refl h
+    kind p Kind_piece h = piece p (whole (parse_piece s.version p.epoch.0 p.body)) refl h
     kind p Kind_request h = absurd (other-sort k (OfPiece x) 4 3 b refl (request-sort k p (whole (parse_request p.body)) h) (λ q. omega (arith, q)))
 
     packet : (o : Option Packet) → parcel_in M s.version o ≡ Some k → IsReadValue s v
@@ -164,9 +164,9 @@ requests-spelled {Msg} s M bytes k q u b = packet (whole (parse_packet s.version
 
     kind : (p : Packet) (kd : PacketKind) → parcel_of_kind M s.version p kd ≡ Some k → HasSpelling q
     kind p Message h = message p (whole (M.parse s.version p.body)) h
-    kind p Vote h = absurd (other-sort k (OfRequest q) 1 4 b refl (vote-sort k p (whole (parse_vote p.from p.epoch.0 p.body)) h) (λ e. omega (arith, e)))
+    kind p Kind_vote h = absurd (other-sort k (OfRequest q) 1 4 b refl (vote-sort k p (whole (parse_vote p.from p.epoch.0 p.body)) h) (λ e. omega (arith, e)))
     kind p Ask h = absurd (other-sort k (OfRequest q) 2 4 b refl (ask-sort k p (whole (parse_ask p.epoch.0 p.body)) h) (λ e. omega (arith, e)))
-    kind p Piece h =
+    kind p Kind_piece h =
         absurd (other-sort k (OfRequest q) 3 4 b refl (piece-sort k p (whole (parse_piece s.version p.epoch.0 p.body)) h) (λ e. omega (arith, e)))
     kind p Kind_request h = request p (whole (parse_request p.body)) refl h
 
@@ -202,10 +202,10 @@ module _ {Msg : Type 0} (s : Setup) (M : Module Msg) (grammar : (version : ℕ) 
 
       kind : (p : Packet) (kd : PacketKind) → is_routed s.n p ≡ true → p.kind ≡ kd → parcel_of_kind M s.version p kd ≡ Some k → Told k msg
       kind p Message r q h = message p (whole (M.parse s.version p.body)) refl r q h
-      kind p Vote r q h =
+      kind p Kind_vote r q h =
           absurd (other-sort k (OfModule l msg) 1 0 b refl (vote-sort k p (whole (parse_vote p.from p.epoch.0 p.body)) h) (λ e. omega (arith, e)))
       kind p Ask r q h = absurd (other-sort k (OfModule l msg) 2 0 b refl (ask-sort k p (whole (parse_ask p.epoch.0 p.body)) h) (λ e. omega (arith, e)))
-      kind p Piece r q h =
+      kind p Kind_piece r q h =
           absurd (other-sort k (OfModule l msg) 3 0 b refl (piece-sort k p (whole (parse_piece s.version p.epoch.0 p.body)) h) (λ e. omega (arith, e)))
       kind p Kind_request r q h = request p (whole (parse_request p.body)) h
 

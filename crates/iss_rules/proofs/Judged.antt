@@ -11,7 +11,7 @@ use Rattle.iss_request.specs.declared.requests.Batch.{Batch}
 use Rattle.iss_request.specs.declared.requests.Request.{Request}
 use Rattle.iss_request.specs.declared.requests.Value.{Value}
 use Rattle.iss_rules.specs.declared.events.Refusal.{Refusal}
-use Rattle.iss_rules.specs.Judge.{any, any_marked, judge, marks}
+use Rattle.iss_rules.specs.Judge.{IsValid, any, any_marked, judge, marks}
 use Rattle.iss_rules.specs.Rules.{Rules}
 use Rattle.iss_rules.proofs.Ids.{has-not, ids-in, not-has}
 
@@ -109,6 +109,10 @@ module _ (R : Rules) (before : List Value) (e l : ℕ) (marked : List ReqId) (ba
       (pass _ _ _ (none-any outside batch (λ q i. not-not (R.inside before e q.id) (a.inside q i)))
       (pass _ _ _ (none-any old batch (λ q i. has-not q.id (log_ids before) (a.unordered q i)))
       (pass _ _ _ (are-unmarked marked (ids batch) a.unmarked a.different) refl)))))
+
+pub valid-of : (R : Rules) (before : List Value) (e l : ℕ) (marked : List ReqId) (batch : Batch) → Accepted R before e l marked batch → (q : Request) →
+    In q batch → IsValid R before e q
+valid-of R before e l marked batch a q i = record { signed = a.signed q i; inside = a.inside q i; unordered = a.unordered q i }
 
 pub owner-of : (R : Rules) (before : List Value) (e l : ℕ) (marked : List ReqId) (batch : Batch) → Accepted R before e l marked batch → (x : ReqId) →
     In x (ids batch) → R.owner before e x ≡ l

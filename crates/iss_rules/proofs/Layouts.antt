@@ -5,14 +5,16 @@ use Rattle.std.proofs.lemmas.Bool.Decides.{leb_tells}
 use Rattle.std.proofs.Math.Pow.{pow_mono}
 use Rattle.std.specs.List.{list_any}
 use Rattle.std.specs.Prelude.{nat_lt, slice_index}
+use Rattle.iss_base.specs.Heights.{IsHeight}
 use Rattle.iss_base.specs.Lists.{In}
 use Rattle.iss_base.proofs.Lists.{and-true, both, eqb-same}
 use Rattle.iss_keys.specs.Directories.{client_secret, node_secret}
 use Rattle.iss_keys.specs.Signatures.{signature_of}
 use Rattle.iss_keys.specs.VerifiedBy.{is_verified_by}
 use Rattle.iss_keys.proofs.DirectoryLemmas.{client-root, client-verifies, node-verifies, verified-by}
-use Rattle.iss_request.specs.Formats.{HasSpelling, is_height, is_signature, requests_most}
-use Rattle.iss_request.specs.Setup.{AreRising}
+use Rattle.iss_request.specs.Formats.{HasSpelling, requests_most}
+use Rattle.iss_request.proofs.OneSpelling.{signature_shaped}
+use Rattle.iss_request.specs.Setup.{AreAscendingBelow}
 use Rattle.iss_request.specs.declared.ids.NodeId.{NodeId}
 use Rattle.iss_request.specs.declared.ids.ReqId.{ReqId}
 use Rattle.iss_request.specs.declared.ids.Slot.{Slot}
@@ -29,10 +31,10 @@ use Rattle.iss_rules.specs.Past.{before_at, epoch_at, start_by}
 use Rattle.iss_rules.specs.Rules.{Rules}
 use Rattle.iss_rules.specs.Setups.{IsSetupOf}
 
-rising-low : (from n : ℕ) (ls : List NodeId) → AreRising from n ls → (l : NodeId) → In l ls → l.0 < n
-rising-low from n [] h l i = absurd i
-rising-low from n (x ∷ ls) h l (inl e) = rw e h.1
-rising-low from n (x ∷ ls) h l (inr i) = rising-low (suc x.0) n ls h.2 l i
+ascending-low : (from n : ℕ) (ls : List NodeId) → AreAscendingBelow from n ls → (l : NodeId) → In l ls → l.0 < n
+ascending-low from n [] h l i = absurd i
+ascending-low from n (x ∷ ls) h l (inl e) = rw e h.1
+ascending-low from n (x ∷ ls) h l (inr i) = ascending-low (suc x.0) n ls h.2 l i
 
 leads-of : (ls : List NodeId) (l : NodeId) → In l ls → list_any (λ (x : NodeId). eqb x.0 l.0) ls ≡ true
 leads-of [] l i = absurd i
@@ -74,7 +76,7 @@ segment-low p l bound fits = below-all bound (segment p l)
     (λ x i. let within = ((segment_slots p l x).0 i).0 in let high = within.1 in omega (arith, high, fits))
 
 -- a node's own signature is valid by the rules
-pub own-verifies : (s : Setup) (k q : ℕ) (statement : List ℕ) → s.keys ≤ 12 → q < 2 ^ s.keys → k < s.n →
+pub own-verifies : (s : Setup) (k q : ℕ) (statement : List ℕ) → IsHeight s.keys → q < 2 ^ s.keys → k < s.n →
     (rules_of s).verifies k statement (signature_of (node_secret k) s.keys q statement) ≡ true
 own-verifies s k q statement high leaf number =
     (verified-by (keys_of s).nodes k statement (signature_of (node_secret k) s.keys q statement)).1
@@ -100,14 +102,13 @@ module _ {Msg : Type 0} (M : Module Msg) (s : Setup) (h : IsSetupOf M s) where
       let inside : In (node l) p.leaders = leads_means l p.leaders lead in
       record {
         setup = h.good;
-        tag = h.tag;
         kind = h.kind;
         nodes = h.nodes;
         majority = h.majority;
-        leader = rising-low 0 s.n p.leaders plan.rising (node l) inside;
+        leader = ascending-low 0 s.n p.leaders plan.ascending (node l) inside;
         some = some_slot p (omega (arith, plan.no_more, plan.enough)) l inside;
         few = omega (arith, segment_few p l, h.good.epoch_high);
-        rising = segment_ascending p l;
+        ascending = segment_ascending p l;
         slots_low = segment-low p l (2 ^ 64) (start-low s h.good.epoch_high log e);
         directory = refl;
       }
@@ -141,7 +142,7 @@ however-signed M s R signed h = record {
 }
 
 -- a request that a client signs with the leaf of its number is validly signed
-pub request-signed : (s : Setup) (client number : ℕ) (payload : List ℕ) → s.keys ≤ 12 → client < s.clients → number < 2 ^ s.keys → length payload ≤ 256 →
+pub request-signed : (s : Setup) (client number : ℕ) (payload : List ℕ) → IsHeight s.keys → client < s.clients → number < 2 ^ s.keys → length payload ≤ 256 →
     (rules_of s).signed (request_of s client number payload) ≡ true
 request-signed s client number payload high below leaf few =
     let id : ReqId = record { client = client; number = number } in
@@ -150,22 +151,14 @@ request-signed s client number payload high below leaf few =
     let verified : is_verified_by (keys_of s).clients client statement sig ≡ true =
     (verified-by (keys_of s).clients client statement sig).1 (client-verifies s.n s.clients s.keys client number statement high leaf below) in
     let short : nat_le (length payload) 256 ≡ true = le-leb (length payload) 256 few in
-    let low : nat_lt number (2 ^ 32) ≡ true = le-leb (suc number) (2 ^ 32) (lt_of_lt_of_le leaf (pow_mono (let le : s.keys ≤ 32 = omega (arith, high) in le))) in
+    let low : nat_lt number (2 ^ 32) ≡ true = le-leb (suc number) (2 ^ 32) (lt_of_lt_of_le leaf (pow_mono (let le : s.keys ≤ 32 = omega (arith, high.1) in le))) in
     both (nat_lt number (2 ^ 32)) _ low (both (nat_le (length payload) 256) _ short verified)
 
-sized : (h : ℕ) (sig : List ℕ) → 2 ≤ h → h ≤ 12 → length sig ≡ 2149 + 32 * h → slice_index sig 0 ≡ h → is_signature sig ≡ true
-sized h [] low high e q = absurd (omega (arith, e))
-sized h (x ∷ rest) low high e q =
-    let first : x ≡ h = q in
-    let long : length rest ≡ 4 + 32 * (67 + x) = rw first (omega (arith, e)) in
-    both (is_height x) _ (both (nat_le 2 x) (nat_le x 12) (le-leb 2 x (rw first low)) (le-leb x 12 (rw first high)))
-    (subst (λ (n : ℕ). eqb (length rest) n ≡ true) long (eqb-same (length rest)))
-
 -- a signed request has an encoding
-pub signed-spelled : (s : Setup) → 2 ≤ s.keys → s.keys ≤ 12 → (q : Request) → (rules_of s).signed q ≡ true → HasSpelling q
-signed-spelled s low high q h =
+pub signed-spelled : (s : Setup) → IsHeight s.keys → (q : Request) → (rules_of s).signed q ≡ true → HasSpelling q
+signed-spelled s high q h =
     let statement : List ℕ = request_statement q.id q.payload in
     let a = and-true (nat_lt q.id.number (2 ^ 32)) _ h in
     let b = and-true (nat_le (length q.payload) 256) _ a.1 in
     let v = client-root s.n s.clients s.keys q.id.client statement q.sig ((verified-by (keys_of s).clients q.id.client statement q.sig).0 b.1) in
-    both (nat_lt q.id.number (2 ^ 32)) _ a.0 (both (nat_le (length q.payload) 256) _ b.0 (sized s.keys q.sig low high v.exact v.height))
+    both (nat_lt q.id.number (2 ^ 32)) _ a.0 (both (nat_le (length q.payload) 256) _ b.0 (signature_shaped s.keys q.sig high v.exact v.height))

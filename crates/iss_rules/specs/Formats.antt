@@ -6,7 +6,7 @@ use Rattle.iss_checkpoint.specs.declared.votes.Vote.{Vote as Voted}
 use Rattle.iss_packet.specs.Packets.{parse_packet, spell_packet}
 use Rattle.iss_packet.specs.declared.packets.Packet.{Packet}
 use Rattle.iss_packet.specs.declared.packets.PacketKind.{PacketKind}
-use Rattle.iss_packet.specs.declared.packets.PacketKind.TheVariants.{Message, Vote, Ask, Piece, Request as Kind_request}
+use Rattle.iss_packet.specs.declared.packets.PacketKind.TheVariants.{Message, Vote as Kind_vote, Ask, Piece as Kind_piece, Request as Kind_request}
 use Rattle.iss_request.specs.Fields.{Bad, Good, Parsed}
 use Rattle.iss_request.specs.Formats.{parse_request, spell_request}
 use Rattle.iss_request.specs.declared.requests.Request.{Request}
@@ -28,7 +28,7 @@ abbrev pub packet_as : {Msg : Type 0} → Module Msg → ℕ → ℕ → ℕ →
 packet_as M version from e (OfModule l msg) =
     record { kind = Message; from = from; epoch = record { 0 = e }; leader = l; body = M.spell version msg }
 packet_as M version from e (OfVote v) = record {
-  kind = Vote;
+  kind = Kind_vote;
   from = from;
   epoch = record { 0 = e };
   leader = 0;
@@ -43,7 +43,7 @@ packet_as M version from e OfAsk =
       body = spell_ask (record { epoch = record { 0 = e } });
     }
 packet_as M version from e (OfPiece p) = record {
-  kind = Piece;
+  kind = Kind_piece;
   from = from;
   epoch = record { 0 = e };
   leader = 0;
@@ -81,9 +81,9 @@ piece_in p (Some x) = Some (record { from = p.from; epoch = p.epoch.0; body = Of
 -- decodes the content of a packet by its kind
 abbrev pub parcel_of_kind : {Msg : Type 0} → Module Msg → ℕ → Packet → PacketKind → Option (Parcel Msg)
 parcel_of_kind M version p Message = message_in p (whole (M.parse version p.body))
-parcel_of_kind M version p Vote = vote_in p (whole (parse_vote p.from p.epoch.0 p.body))
+parcel_of_kind M version p Kind_vote = vote_in p (whole (parse_vote p.from p.epoch.0 p.body))
 parcel_of_kind M version p Ask = ask_in p (whole (parse_ask p.epoch.0 p.body))
-parcel_of_kind M version p Piece = piece_in p (whole (parse_piece version p.epoch.0 p.body))
+parcel_of_kind M version p Kind_piece = piece_in p (whole (parse_piece version p.epoch.0 p.body))
 parcel_of_kind M version p Kind_request = request_in p (whole (parse_request p.body))
 
 -- the same of a packet, if the bytes are one

@@ -1,8 +1,10 @@
--- Whether a batch is accepted in a segment: the first refusal that holds for it or for any of its requests. In order:
+-- When a request is valid in an epoch, and whether a batch is accepted in a segment: the first refusal that holds for
+-- it or for any of its requests. In order:
 -- too many requests; a bucket that the leader does not own; no such client, or a bad signature; a number outside its
 -- window; a request that the log before the epoch holds; one accepted before in this segment, or twice in the batch.
-use Rattle.std.specs.Prelude.{ℕ, Bool, false, not, ◌||◌, ◌==◌, nat_lt, cond, List, [], ◌∷◌, ◌++◌, length, Option, Some, None}
+use Rattle.std.specs.Prelude.{◌≡◌, ℕ, Bool, true, false, not, ◌||◌, ◌==◌, nat_lt, cond, List, [], ◌∷◌, ◌++◌, length, Option, Some, None}
 use Rattle.std.specs.List.{list_any}
+use Rattle.iss_base.specs.Lists.{In}
 use Rattle.iss_request.specs.Log.{has_id, ids, log_ids}
 use Rattle.iss_request.specs.declared.ids.ReqId.{ReqId}
 use Rattle.iss_request.specs.declared.ids.Slot.{Slot}
@@ -12,6 +14,14 @@ use Rattle.iss_request.specs.declared.requests.Value.{Value}
 use Rattle.iss_rules.specs.declared.events.Refusal.{Refusal}
 use Rattle.iss_rules.specs.declared.events.Refusal.TheVariants.{TooLarge, ForeignBucket, BadSignature, OutOfWindow, Ordered, Marked}
 use Rattle.iss_rules.specs.Rules.{Rules}
+
+-- A request is valid in an epoch if its client exists and signed it, its number is inside the client's window there,
+-- and the log before the epoch does not hold it (ISS, request validity).
+-- rule: Acceptance: An accepted request is signed, inside its client's window, and of no earlier epoch
+pub record IsValid (R : Rules) (before : List Value) (e : ℕ) (q : Request) : Type 0 where
+  pub signed : R.signed q ≡ true
+  pub inside : R.inside before e q.id ≡ true
+  pub unordered : In q.id (log_ids before) → ⊥
 
 -- some element passes the test
 abbrev pub any : {A : Type 0} → (A → Bool) → List A → Bool

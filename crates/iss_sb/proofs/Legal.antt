@@ -11,7 +11,7 @@ use Rattle.iss_sb.specs.declared.effects.Input.TheVariants.{Cast, Receive, Timeo
 use Rattle.iss_sb.specs.declared.effects.Params.{Params}
 use Rattle.iss_sb.specs.Calls.{IsGoodParams}
 use Rattle.iss_sb.specs.Evidence.{Item, Module, World, Move, IsReached, at_start, after, MayArrive, MayCome, IsString, Separate, accepts, empty_world, is_correct}
-use Rattle.iss_sb.specs.Laws.{IsBroadcast, IsSafe}
+use Rattle.iss_sb.specs.Laws.{AcceptsOnce, IsBroadcast, IsSafe}
 use Rattle.iss_sb.specs.Legal.{AreMade, Front, HaveCome, IsLegal, IsMadeAt}
 use Rattle.iss_sb.proofs.Quorums.{none-faulty}
 use Rattle.iss_sb.proofs.Worlds.{accepts-old, by_node, IsSent-later, IsSigned-later, Separate-before}
@@ -65,6 +65,10 @@ module _ {M : Type 0} (m : Module M) (p : Params) where
 -- a module is safe if each legal world without collisions is a broadcast
 pub safe-legal : {M : Type 0} (m : Module M) → ((p : Params) (w : World M) → IsGoodParams m p → IsLegal m p w → Separate (IsString w) → IsBroadcast m p w) → IsSafe m
 safe-legal m gives p w good reached sep = gives p w good (legal-reached m p w reached) sep
+
+-- a correct leader accepts one batch at a slot if no history that the module makes has two accepted there
+pub once-made : {M : Type 0} (m : Module M) → ((p : Params) (me : ℕ) (xs : List (Item M)) → IsGoodParams m p → AreMade m p me xs → (s : Slot) (b c : Batch) → In {A = Slot × Batch} (s, b) (accepts xs) → In {A = Slot × Batch} (s, c) (accepts xs) → b ≡ c) → AcceptsOnce m
+once-made m gives p w good reached sep correct = gives p p.leader.0 (w p.leader.0) good ((legal-reached m p w reached).made p.leader.0)
 
 -- an inductive invariant of worlds: it holds at the start, moves between legal worlds without collisions keep it, and
 -- it implies a broadcast

@@ -2,9 +2,11 @@
 use Rattle.std.proofs.Common.{◌≡◌, ◌≤◌, ◌&&◌, ◌||◌, ◌==◌, not, ℕ, suc, Bool, true, false, List, [], ◌∷◌, length, refl, sym, true≢false}
 use Rattle.std.specs.Prelude.{nat_le, nat_lt}
 use Rattle.std.proofs.lemmas.Bool.{eq-eqb, eqb-true, leb-true, ltb-true}
+use Rattle.iss_base.specs.Heights.{is_height}
+use Rattle.iss_base.proofs.HeightLemmas.{tested-height}
 use Rattle.iss_base.proofs.Lists.{and-true}
 use Rattle.iss_request.proofs.StoppingKinds.{is_stopping, stops}
-use Rattle.iss_request.specs.Setup.{AreRising, IsFewFaulty, IsGoodSetup, node_count, quorum_count}
+use Rattle.iss_request.specs.Setup.{AreAscendingBelow, IsFewFaulty, IsGoodSetup, node_count, quorum_count}
 use Rattle.iss_request.specs.declared.ids.NodeId.{NodeId}
 use Rattle.iss_request.specs.declared.setups.Kind.{Kind}
 use Rattle.iss_request.specs.declared.setups.Kind.TheVariants.{Byzantine, Stopping}
@@ -32,7 +34,7 @@ is_between low high x = nat_le low x && nat_le x high
 abbrev has_ranges : Setup → Bool
 has_ranges s =
     is_between s.n 64 s.epoch && (is_between 1 256 s.buckets && (is_between 1 32 s.batch &&
-    (is_between 1 64 s.window && (is_between 1 256 s.clients && is_between 2 12 s.keys))))
+    (is_between 1 64 s.window && (is_between 1 256 s.clients && is_height s.keys))))
 
 abbrev pub is_good : Setup → Bool
 is_good s = has_counts s && (has_ranges s && (few_faulty s.kind s.f s.faulty && are_ascending 0 s.n s.faulty))
@@ -42,7 +44,7 @@ faulty-few Byzantine f is h = leb-true (length is) f h
 faulty-few Stopping f [] h = refl
 faulty-few Stopping f (i ∷ is) h = absurd (true≢false (sym h))
 
-faulty-ascend : (from n : ℕ) (is : List NodeId) → are_ascending from n is ≡ true → AreRising from n is
+faulty-ascend : (from n : ℕ) (is : List NodeId) → are_ascending from n is ≡ true → AreAscendingBelow from n is
 faulty-ascend from n [] h = tt
 faulty-ascend from n (i ∷ is) h =
     let a = and-true (nat_le from i.0) (nat_lt i.0 n && are_ascending (suc i.0) n is) h in
@@ -73,14 +75,14 @@ good-by s h =
     let r1 = and-true (is_between s.n 64 s.epoch) _ others.0 in
     let r2 = and-true (is_between 1 256 s.buckets) _ r1.1 in
     let r3 = and-true (is_between 1 32 s.batch) _ r2.1 in
-    let r4 = and-true (is_between 1 64 s.window) (is_between 1 256 s.clients && is_between 2 12 s.keys) r3.1 in
-    let r5 = and-true (is_between 1 256 s.clients) (is_between 2 12 s.keys) r4.1 in
+    let r4 = and-true (is_between 1 64 s.window) (is_between 1 256 s.clients && is_height s.keys) r3.1 in
+    let r5 = and-true (is_between 1 256 s.clients) (is_height s.keys) r4.1 in
     let epoch = between s.n 64 s.epoch r1.0 in
     let buckets = between 1 256 s.buckets r2.0 in
     let batch = between 1 32 s.batch r3.0 in
     let window = between 1 64 s.window r4.0 in
     let clients = between 1 256 s.clients r5.0 in
-    let keys = between 2 12 s.keys r5.1 in
+    let keys = tested-height s.keys r5.1 in
     record {
       version = eqb-true s.version 1 version.0;
       faults = leb-true s.f 3 faults.0;
@@ -98,8 +100,7 @@ good-by s h =
       window_high = window.1;
       clients_low = clients.0;
       clients_high = clients.1;
-      keys_low = keys.0;
-      keys_high = keys.1;
+      keys_height = keys;
       few_faulty = faulty-few s.kind s.f s.faulty faulty.0;
-      rising_faulty = faulty-ascend 0 s.n s.faulty faulty.1;
+      ascending_faulty = faulty-ascend 0 s.n s.faulty faulty.1;
     }

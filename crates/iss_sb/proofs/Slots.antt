@@ -1,7 +1,7 @@
 -- Slots of a segment.
 use Rattle.std.proofs.Common.{◌≡◌, ◌<◌, ◌≤◌, ℕ, zero, suc, Bool, true, false, ◌||◌, ◌==◌, List, [], ◌∷◌, length, drop, Option, Some, None, refl, sym, ap, subst, inl, inr, true≢false, arith}
 use Rattle.iss_base.specs.Lists.{In, nth}
-use Rattle.iss_base.proofs.Lists.{eqb-other, is-eq}
+use Rattle.iss_base.proofs.Lists.{eqb-other, is-eq, nth-in, some-injective}
 use Rattle.iss_request.specs.Slots.{AreAscending}
 use Rattle.iss_request.specs.declared.ids.NodeId.{NodeId}
 use Rattle.iss_request.specs.declared.ids.Slot.{Slot}
@@ -54,6 +54,17 @@ ascending-above low s (t ∷ ss) a (inr h) = let r = ascending-above (suc t.0) s
 -- a later slot differs from the first
 pub another : (low : ℕ) (t s : Slot) (ss : List Slot) → AreAscending low (t ∷ ss) → In s ss → (t.0 == s.0) ≡ false
 another low t s ss a h = let r = ascending-above (suc t.0) s ss a.1 h in eqb-other t.0 s.0 (λ e. omega (arith, r, e))
+
+same-slot : (t s : Slot) → Some t ≡ Some s → t.0 ≡ s.0
+same-slot t s e = ap (λ (z : Slot). z.0) (some-injective t s e)
+
+-- so a slot has one place
+pub one-place : (low : ℕ) (ss : List Slot) (m n : ℕ) (s : Slot) → AreAscending low ss → nth ss m ≡ Some s → nth ss n ≡ Some s → m ≡ n
+one-place low [] m n s a e f = absurd cc
+one-place low (t ∷ ss) zero zero s a e f = refl
+one-place low (t ∷ ss) zero (suc n) s a e f = absurd (omega (arith, same-slot t s e, ascending-above (suc t.0) s ss a.1 (nth-in ss n s f)))
+one-place low (t ∷ ss) (suc m) zero s a e f = absurd (omega (arith, same-slot t s f, ascending-above (suc t.0) s ss a.1 (nth-in ss m s e)))
+one-place low (t ∷ ss) (suc m) (suc n) s a e f = ap suc (one-place (suc t.0) ss m n s a.1 e f)
 
 pub drop-slot : (s : Slot) (k : ℕ) (ss : List Slot) → In s (drop k ss) → In s ss
 drop-slot s zero ss h = h

@@ -4,7 +4,7 @@ use Rattle.std.specs.Fmt.{digits}
 use Rattle.hex.specs.Hex.{encode_with}
 use Rattle.iss_request.specs.declared.ids.NodeId.{NodeId}
 use Rattle.iss_schedule.specs.declared.errors.LineFault.TheVariants.{Cut}
-use Rattle.iss_schedule.specs.declared.schedules.Event.TheVariants.{Request, Propose, Timeout, Ask, Deliver, Lose, Pump, Calm, Hold, Free, Drop, Restart, Crash}
+use Rattle.iss_schedule.specs.declared.schedules.Event.TheVariants.{Request as Event_request, Propose, Timeout as Event_timeout, Ask, Deliver, Lose, Pump, Calm, Hold, Free, Drop as Event_drop, Restart, Crash}
 use Rattle.iss_schedule.specs.declared.schedules.Schedule.{Schedule}
 use Rattle.iss_schedule.specs.BadLines.{IsFirstBad}
 use Rattle.iss_schedule.specs.Cores.{cores_of}
@@ -21,8 +21,8 @@ three = 0 ∷ 0 ∷ 0 ∷ 3 ∷ 3 ∷ 4 ∷ 8 ∷ 0 ∷ 1 ∷ 4 ∷ []
 worked : Schedule
 worked = record {
   setup = setup_with three [] [];
-  events = Request 0 0 0 (170 ∷ []) ∷ Propose 0 ∷ Timeout 1 (record { 0 = 2 }) ∷ Ask 2
-      (record { 0 = 0 }) ∷ Deliver 12 ∷ Lose 0 ∷ Pump ∷ Calm 10 ∷ Hold 2 ∷ Free 2 ∷ Drop 1 ∷ Crash 1 0 ∷ Restart 1 ∷ [];
+  events = Event_request 0 0 0 (170 ∷ []) ∷ Propose 0 ∷ Event_timeout 1 (record { 0 = 2 }) ∷ Ask 2
+      (record { 0 = 0 }) ∷ Deliver 12 ∷ Lose 0 ∷ Pump ∷ Calm 10 ∷ Hold 2 ∷ Free 2 ∷ Event_drop 1 ∷ Crash 1 0 ∷ Restart 1 ∷ [];
 }
 
 worked_text : text_of worked

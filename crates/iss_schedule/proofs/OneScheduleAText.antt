@@ -11,7 +11,7 @@ use Rattle.iss_request.specs.Setup.{IsGoodSetup}
 use Rattle.iss_request.specs.declared.ids.NodeId.{NodeId}
 use Rattle.iss_request.specs.declared.setups.Setup.{Setup}
 use Rattle.iss_schedule.specs.declared.schedules.Event.{Event}
-use Rattle.iss_schedule.specs.declared.schedules.Event.TheVariants.{Request, Propose, Timeout, Ask, Deliver, Lose, Pump, Calm, Hold, Free, Drop, Restart, Crash, Bytes}
+use Rattle.iss_schedule.specs.declared.schedules.Event.TheVariants.{Request as Event_request, Propose, Timeout as Event_timeout, Ask, Deliver, Lose, Pump, Calm, Hold, Free, Drop as Event_drop, Restart, Crash, Bytes}
 use Rattle.iss_schedule.specs.declared.schedules.Schedule.{Schedule}
 use Rattle.iss_schedule.specs.Cores.{cores_of}
 use Rattle.iss_schedule.specs.Events.{event_words, spell_event, IsInRange, AreInRange}
@@ -51,7 +51,7 @@ one f _ = Pump
 -- `request` and `restart` have the same length and first letter
 abbrev one_or_four : List (List ℕ) → Event
 one_or_four (a ∷ []) = Restart (back_number a)
-one_or_four (a ∷ b ∷ c ∷ d ∷ []) = Request (back_number a) (back_number b) (back_number c) (back_bytes d)
+one_or_four (a ∷ b ∷ c ∷ d ∷ []) = Event_request (back_number a) (back_number b) (back_number c) (back_bytes d)
 one_or_four _ = Pump
 
 abbrev two : List (List ℕ) → Event
@@ -72,10 +72,10 @@ back_event (w ∷ ws) =
     let key = length w * 1000 + get_or w 0 0 in
     cond (eqb key 7114) (one_or_four ws)
     (cond (eqb key 7112) (one Propose ws)
-    (cond (eqb key 7116) (core_node Timeout ws)
+    (cond (eqb key 7116) (core_node Event_timeout ws)
     (cond (eqb key 3097) (core_node Ask ws) (cond (eqb key 7100) (one Deliver ws) (cond (eqb key 4108) (one Lose ws)
     (cond (eqb key 4099) (one Calm ws)
-    (cond (eqb key 4104) (one Hold ws) (cond (eqb key 4102) (one Free ws) (cond (eqb key 4100) (one Drop ws)
+    (cond (eqb key 4104) (one Hold ws) (cond (eqb key 4102) (one Free ws) (cond (eqb key 4100) (one Event_drop ws)
     (cond (eqb key 5099) (two ws) (cond (eqb key 5098) (number_bytes ws) Pump)))))))))))
 
 core_back : (s : Setup) (core : ℕ) → IsGoodSetup s → core < cores_of s → back_number (decimal core) ≡ core
@@ -88,12 +88,12 @@ core_node_back s f core node good ok low =
     ∙ ap (λ n. f core (record { 0 = n })) (number_back node.0 (omega arith))
 
 event_back : (s : Setup) (e : Event) → IsGoodSetup s → IsInRange s e → back_event (event_words e) ≡ e
-event_back s (Request core client number payload) good ok =
-    let leaves : 2 ^ s.keys ≤ 2 ^ 12 = pow_mono good.keys_high in
+event_back s (Event_request core client number payload) good ok =
+    let leaves : 2 ^ s.keys ≤ 2 ^ 20 = pow_mono good.keys_height.1 in
     let a = core_back s core good ok.0 in let b = number_back client (omega arith) in
     let c = number_back number (omega arith) in let d = bytes_back payload ok.3.0 in cc
 event_back s (Propose core) good ok = ap Propose (core_back s core good ok)
-event_back s (Timeout core leader) good ok = core_node_back s Timeout core leader good ok.0 ok.1
+event_back s (Event_timeout core leader) good ok = core_node_back s Event_timeout core leader good ok.0 ok.1
 event_back s (Ask core peer) good ok = core_node_back s Ask core peer good ok.0 ok.1
 event_back s (Deliver packet) good ok = ap Deliver (number_back packet ok)
 event_back s (Lose packet) good ok = ap Lose (number_back packet ok)
@@ -101,7 +101,7 @@ event_back s Pump good ok = refl
 event_back s (Calm pumps) good ok = ap Calm (number_back pumps (omega arith))
 event_back s (Hold core) good ok = ap Hold (core_back s core good ok)
 event_back s (Free core) good ok = ap Free (core_back s core good ok)
-event_back s (Drop core) good ok = ap Drop (core_back s core good ok)
+event_back s (Event_drop core) good ok = ap Event_drop (core_back s core good ok)
 event_back s (Restart core) good ok = ap Restart (core_back s core good ok)
 event_back s (Crash core calls) good ok = ap (λ n. Crash n (back_number (decimal calls))) (core_back s core good ok.0)
     ∙ ap (λ n. Crash core n) (number_back calls (omega arith))
@@ -130,7 +130,7 @@ events_same s (x ∷ xs) (f ∷ fs) good r q e =
 
 -- ---- schedules
 
-same_lines : (xs ys : List (List ℕ)) → Meets xs ys [] [] → xs ≡ ys
+pub same_lines : (xs ys : List (List ℕ)) → Meets xs ys [] [] → xs ≡ ys
 same_lines xs ys (Same e f) = e
 same_lines xs ys (Left m ms e f) = absurd (nonempty m (ended ms ++ []) (sym (f ∙ append_assoc m (10 ∷ ended ms) [])))
 same_lines xs ys (Right m ms e f) = absurd (nonempty m (ended ms ++ []) (sym (f ∙ append_assoc m (10 ∷ ended ms) [])))

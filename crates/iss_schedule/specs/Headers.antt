@@ -36,6 +36,7 @@ module_rows =
     ∷ row (codes "module raft") 2 Stopping 3
     ∷ row (codes "module pbft") 3 Byzantine 3
     ∷ row (codes "module hotstuff") 4 Byzantine 3
+    ∷ row (codes "module chained") 5 Byzantine 3
     ∷ []
 
 abbrev pub lines_of_rows : List ModuleRow → List (List ℕ)
@@ -138,7 +139,7 @@ header_fields =
     ∷ Number (codes "window") (λ above. 1) (λ above. 65)
     ∷ OneOf policy_lines
     ∷ Number (codes "clients") (λ above. 1) (λ above. 257)
-    ∷ Number (codes "keys") (λ above. 2) (λ above. 13)
+    ∷ Number (codes "keys") (λ above. 2) (λ above. 21)
     ∷ []
 
 -- a name and a number

@@ -1,6 +1,6 @@
 -- Where a reader stands in the lines of a text, for private functions alone.
 use Rattle.std.specs.Prelude.{◌≡◌, ◌≢◌, ◌⊎◌, ◌<◌, ◌≤◌, ◌+◌, ℕ, List, [], ◌∷◌, ◌++◌, length, map, Result, Ok, Err}
-use Rattle.iss_request.specs.Setup.{AreRising}
+use Rattle.iss_request.specs.Setup.{AreAscendingBelow}
 use Rattle.iss_request.specs.declared.ids.NodeId.{NodeId}
 use Rattle.iss_request.specs.declared.setups.Kind.{Kind}
 use Rattle.iss_request.specs.declared.setups.Kind.TheVariants.{Byzantine, Stopping}
@@ -46,7 +46,7 @@ ReadsField f above old new (Err why) = IsFieldFault f above old.rest why
 
 -- at most `most` nodes, strictly ascending, with numbers below n
 abbrev pub AreFew : ℕ → ℕ → List NodeId → Type 0
-AreFew most n nodes = (length nodes ≤ most) × AreRising 0 n nodes
+AreFew most n nodes = (length nodes ≤ most) × AreAscendingBelow 0 n nodes
 
 -- how many nodes may be faulty: f, and none in the crash model
 abbrev pub most_faulty : Kind → ℕ → ℕ

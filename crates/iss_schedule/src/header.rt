@@ -175,7 +175,7 @@ fn read_field(lines: &mut Lines, above: &[u32]) -> Result<u32, LineFault>
         6 => number(lines, b"window", 1, 65),
         7 => policy(lines),
         8 => number(lines, b"clients", 1, 257),
-        _ => number(lines, b"keys", 2, 13),
+        _ => number(lines, b"keys", 2, 21),
     }
 }
 

@@ -16,9 +16,9 @@ mod words;
 mod writing;
 
 pub use errors::{LineFault, ReadError};
-pub use events::bytes_from;
+pub use events::{bytes_from, bytes_in};
 pub use lines::Lines;
 pub use reading::{MOST_BYTES, MOST_EVENTS, read, read_setup};
 pub use schedules::{Event, Schedule};
-pub use words::{behind, bytes_of};
-pub use writing::write;
+pub use words::{Words, behind, bytes_of, cut_at, is_number, number_of};
+pub use writing::{put, put_bytes, put_decimal, put_header, put_number, write};

@@ -22,6 +22,7 @@ const MODULES: &[Module] = &[
     Module { line: b"module raft", number: 2, kind: Kind::Stopping, most_faults: 3 },
     Module { line: b"module pbft", number: 3, kind: Kind::Byzantine, most_faults: 3 },
     Module { line: b"module hotstuff", number: 4, kind: Kind::Byzantine, most_faults: 3 },
+    Module { line: b"module chained", number: 5, kind: Kind::Byzantine, most_faults: 3 },
 ];
 
 // rule: Schedules: A module is one row: its word, its number, its fault model, the most faults

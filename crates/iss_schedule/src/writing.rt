@@ -17,25 +17,32 @@ use iss_request::setups::{Policy, Setup};
 use itoa::Buffer;
 use std::alloc::Global;
 
-// Appends a text.
-fn put(out: &mut Vec<u8>, text: &[u8]) -> Result<(), NoMemory>
+/// Appends a text. The only error is out of memory; a part may have been appended then. So it is with all of these.
+pub fn put(out: &mut Vec<u8>, text: &[u8]) -> Result<(), NoMemory>
     ensures { OnOk result (out.new.items ≡ out.old.items ++ text.now) }
 {
     out.extend_from_slice(text)?;
     Ok(())
 }
 
-// Appends a space and a number.
-fn put_number(out: &mut Vec<u8>, number: u64) -> Result<(), NoMemory>
-    ensures { OnOk result (out.new.items ≡ out.old.items ++ 32 ∷ decimal number) }
+/// Appends a number in decimal.
+pub fn put_decimal(out: &mut Vec<u8>, number: u64) -> Result<(), NoMemory>
+    ensures { OnOk result (out.new.items ≡ out.old.items ++ decimal number) }
 {
     let mut buffer = Buffer::new();
-    put(out, b" ")?;
     put(out, buffer.format(number).as_bytes())
 }
 
-// Appends a space and the word of some bytes.
-fn put_bytes(alloc: Global, out: &mut Vec<u8>, bytes: &[u8]) -> Result<(), NoMemory>
+/// Appends a space and a number.
+pub fn put_number(out: &mut Vec<u8>, number: u64) -> Result<(), NoMemory>
+    ensures { OnOk result (out.new.items ≡ out.old.items ++ 32 ∷ decimal number) }
+{
+    put(out, b" ")?;
+    put_decimal(out, number)
+}
+
+/// Appends a space and the word of some bytes.
+pub fn put_bytes(alloc: Global, out: &mut Vec<u8>, bytes: &[u8]) -> Result<(), NoMemory>
     ensures { OnOk result (out.new.items ≡ out.old.items ++ 32 ∷ word_of bytes.now) }
 {
     put(out, b" ")?;
@@ -118,8 +125,8 @@ fn put_faulty(out: &mut Vec<u8>, nodes: &[NodeId]) -> Result<(), NoMemory>
     put(out, b"\n")
 }
 
-// Appends the lines of a header.
-fn put_header(out: &mut Vec<u8>, setup: &Setup) -> Result<(), NoMemory>
+/// Appends the lines of a header.
+pub fn put_header(out: &mut Vec<u8>, setup: &Setup) -> Result<(), NoMemory>
     ensures { OnOk result (out.new.items ≡ out.old.items ++ ended (header_lines setup.now)) }
 {
     put_front(out, setup)?;

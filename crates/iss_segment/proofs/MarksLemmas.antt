@@ -8,7 +8,7 @@ use Rattle.iss_rules.specs.declared.events.Refusal.TheVariants.{TooLarge, Foreig
 use Rattle.iss_request.specs.declared.setups.Setup.{Setup}
 use Rattle.iss_request.proofs.Identities.{same_id-flip}
 use Rattle.iss_rules.specs.Judge.{any, any_marked, judge}
-use Rattle.iss_segment.specs.Marks.{twice}
+use Rattle.iss_segment.specs.Internal.Marks.{twice}
 use Rattle.iss_request.specs.Log.{has_id, ids, log_ids, same_id}
 use Rattle.iss_request.specs.declared.requests.Value.{Value}
 use Rattle.iss_segment.specs.Ground.{RestsOn, noted_before}

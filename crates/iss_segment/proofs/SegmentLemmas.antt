@@ -9,7 +9,7 @@ use Rattle.iss_rules.specs.declared.events.Refusal.{Refusal}
 use Rattle.iss_rules.specs.declared.events.Refusal.TheVariants.{TooLarge, ForeignBucket, BadSignature, OutOfWindow, Ordered, Marked}
 use Rattle.iss_segment.proofs.MarksLemmas.{any_marked-same}
 use Rattle.iss_segment.specs.Answers.{IsInstanceTaken}
-use Rattle.iss_segment.specs.Marks.{and_marks}
+use Rattle.iss_segment.specs.Internal.Marks.{and_marks}
 use Rattle.iss_segment.specs.Instance.{SameIds, SegmentState}
 use Rattle.iss_request.specs.Log.{has_id, ids, log_ids}
 use Rattle.iss_request.specs.declared.ids.ReqId.{ReqId}

@@ -1,4 +1,4 @@
 pub mod Answers
 pub mod Ground
 pub mod Instance
-pub mod Marks
+pub mod Internal

@@ -1,6 +1,6 @@
 //! The validity check of a batch: whether a segment accepts it.
 ghost use Rattle.std.specs.Prelude.{◌≡◌, ◌<◌, ◌≤◌, ◌==◌, ◌||◌, ℕ, List, not, length, drop};
-ghost use Rattle.iss_segment.specs.Marks.{twice};
+ghost use Rattle.iss_segment.specs.Internal.Marks.{twice};
 ghost use Rattle.iss_layout.specs.Layout.{bucket_of, bucket_owner};
 ghost use Rattle.iss_rules.specs.Concrete.{is_signed_by, keys_of, number_of, rules_of};
 ghost use Rattle.iss_rules.specs.Judge.{any, any_marked, judge};
@@ -22,6 +22,7 @@ use iss_window::{Ids, Place, Windows};
 /// identities that the segment accepted earlier. (ISS: valid requests, from the leader's buckets, neither accepted in
 /// this epoch nor delivered before.)
 // rule: Acceptance: A batch is refused for its first fault: size, bucket, signature, window, ordered, marked
+// rule: Acceptance: An accepted request is signed, inside its client's window, and of no earlier epoch
 pub fn refusal(
     setup: &Setup,
     directory: &Directory,

@@ -11,7 +11,7 @@ ghost use Rattle.iss_sb.specs.Evidence.{Item, accepts};
 ghost use Rattle.iss_segment.specs.Answers.{IsInstanceStep, IsJudgedStep, IsVerdict};
 ghost use Rattle.iss_segment.specs.Ground.{RestsOn};
 ghost use Rattle.iss_segment.specs.Instance.{RefinesItems, SegmentState};
-ghost use Rattle.iss_segment.specs.Marks.{and_marks};
+ghost use Rattle.iss_segment.specs.Internal.Marks.{and_marks};
 
 use crate::judge::refusal;
 use iss_keys::Keys;

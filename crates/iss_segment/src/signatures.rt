@@ -33,11 +33,12 @@ pub fn is_signed(directory: &Directory, request: &Request) -> bool
 
 /// The client's signature of a request, by the leaf whose index is the request's number. The only error is out of
 /// memory.
-pub fn sign_request(keys: &Keys, id: ReqId, payload: &[u8]) -> Result<Bytes, NoMemory>
-    requires leaf { id.number < 2 ^ keys.now.height }
+pub fn sign_request(keys: &mut Keys, id: ReqId, payload: &[u8]) -> Result<Bytes, NoMemory>
+    requires leaf { id.number < 2 ^ keys.old.height }
     requires payload { length payload.now ≤ 256 }
-    ensures { IfOk result (λ sig. sig ≡ signature_of keys.now.secret keys.now.height id.number
+    ensures signed { IfOk result (λ sig. sig ≡ signature_of keys.old.secret keys.old.height id.number
         (request_statement id payload.now)) }
+    ensures same { keys.new ≡ keys.old }
 {
     let mut buffer = [0u8; HEAD + PAYLOAD_MOST];
     put_statement(id, payload, &mut buffer);

@@ -1,5 +1,5 @@
+pub mod CourseKeepsWhatStepsKeep
 pub mod Headline
 pub mod JournaledEventsEnter
 pub mod LostEventsAreNumbered
 pub mod RunsInSequence
-pub mod SlotsHaveOneNumber

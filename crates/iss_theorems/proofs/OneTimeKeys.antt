@@ -1,2 +1,3 @@
-pub mod CoresHaveHistories
 pub mod LeafSignsOnce
+pub mod LivesAreOfJournals
+pub mod OwnClaims

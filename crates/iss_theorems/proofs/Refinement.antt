@@ -10,5 +10,6 @@ pub mod MovesReachCluster
 pub mod PacketsHoldSends
 pub mod RunKeepsInvariant
 pub mod RunKeepsWhatStepsKeep
+pub mod SlotsHaveOneNumber
 pub mod StepIsMove
 pub mod StepsHashChains

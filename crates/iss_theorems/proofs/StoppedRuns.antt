@@ -1,3 +1,4 @@
 pub mod BookIsComplete
+pub mod BooksAreWritten
 pub mod EvidenceIsValid
 pub mod RunShowsEvidence

@@ -1,17 +1,13 @@
 -- No request is lost: each identity that a correct core took is in exactly one of its log, its waiting list and its
--- batches in flight. This asks that a correct leader accepts one batch per slot.
+-- batches in flight. It rests on the law that a correct leader accepts one batch at a slot.
 use Rattle.std.specs.Prelude.{◌≡◌, ◌⊎◌, ℕ, true, cond, ◌==◌, List, [], ◌∷◌, Option, Some, None}
 use Rattle.iss_base.specs.Lists.{In}
 use Rattle.iss_request.specs.Log.{ids, log_ids}
 use Rattle.iss_request.specs.declared.ids.ReqId.{ReqId}
-use Rattle.iss_request.specs.declared.ids.Slot.{Slot}
-use Rattle.iss_request.specs.declared.requests.Batch.{Batch}
 use Rattle.iss_request.specs.declared.setups.Setup.{Setup}
 use Rattle.iss_schedule.specs.declared.schedules.Event.{Event}
-use Rattle.iss_schedule.specs.declared.schedules.Event.TheVariants.{Request as Event_request, Propose, Timeout, Ask, Deliver, Lose, Pump, Calm, Hold, Free, Drop, Restart, Crash, Bytes}
-use Rattle.iss_sb.specs.declared.effects.Params.{Params}
-use Rattle.iss_sb.specs.Calls.{IsGoodParams}
-use Rattle.iss_sb.specs.Evidence.{IsReached, IsString, Module, Separate, World, accepts, is_correct}
+use Rattle.iss_schedule.specs.declared.schedules.Event.TheVariants.{Request as Event_request, Propose, Timeout as Event_timeout, Ask, Deliver, Lose, Pump, Calm, Hold, Free, Drop as Event_drop, Restart, Crash, Bytes}
+use Rattle.iss_sb.specs.Evidence.{Module, is_correct}
 use Rattle.iss_rules.specs.declared.events.Why.{Why}
 use Rattle.iss_rules.specs.Concrete.{rules_of}
 use Rattle.iss_rules.specs.Formats.{formats_of}
@@ -28,7 +24,7 @@ asked_by i (Event_request c client number payload) None =
     cond (c == i) (record { client = client; number = number } ∷ []) []
 asked_by i (Event_request c client number payload) (Some why) = []
 asked_by i (Propose c) lost = []
-asked_by i (Timeout c l) lost = []
+asked_by i (Event_timeout c l) lost = []
 asked_by i (Ask c peer) lost = []
 asked_by i (Deliver k) lost = []
 asked_by i (Lose k) lost = []
@@ -36,7 +32,7 @@ asked_by i Pump lost = []
 asked_by i (Calm m) lost = []
 asked_by i (Hold c) lost = []
 asked_by i (Free c) lost = []
-asked_by i (Drop c) lost = []
+asked_by i (Event_drop c) lost = []
 asked_by i (Restart c) lost = []
 asked_by i (Crash c calls) lost = []
 asked_by i (Bytes c bytes) lost = []
@@ -67,14 +63,6 @@ pub data One (A B C : Type 0) : Type 0 where
 -- the identity is in exactly one place at the core: its log, the waiting requests, or a batch in flight
 abbrev pub IsInOnePlace : {Msg : Type 0} → Rules → Module Msg → ℕ → Core Msg → ReqId → Type 0
 IsInOnePlace R M i c x = One (In x (log_ids (log_of R M i c.past))) (In x (ids c.waiting)) (In x (flown c.flight))
-
--- in every reachable world, a correct leader accepts at most one batch a slot
-abbrev pub AcceptsOnce : {Msg : Type 0} → Module Msg → Type 0
-AcceptsOnce {Msg} m =
-    (p : Params) (w : World Msg) → IsGoodParams m p → IsReached m p w → Separate (IsString w) →
-    is_correct p.setup p.leader.0 ≡ true →
-    (slot : Slot) (b c : Batch) → In {A = Slot × Batch} (slot, b) (accepts (w p.leader.0)) →
-    In {A = Slot × Batch} (slot, c) (accepts (w p.leader.0)) → b ≡ c
 
 -- No loss: each request that a correct core accepted is still there, in exactly one place.
 -- rule: Epochs: A request that a correct node took is in one place: its log, waiting, or in flight

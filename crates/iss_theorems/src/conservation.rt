@@ -2,7 +2,7 @@
 ghost use Rattle.std.specs.Prelude.{List};
 ghost use Rattle.iss_request.specs.declared.setups.Setup.{Setup};
 ghost use Rattle.iss_schedule.specs.declared.schedules.Event.{Event};
-ghost use Rattle.iss_theorems.specs.Conserved.{AcceptsOnce, IsConserved};
+ghost use Rattle.iss_theorems.specs.Conserved.{IsConserved};
 ghost use Rattle.iss_rules.specs.Setups.{IsSetupOf};
 ghost use Rattle.iss_model.specs.Runs.{AreAtCores};
 
@@ -11,8 +11,8 @@ use iss_sb::Sequenced;
 /// No request is lost or duplicated. Each request that a correct core accepted is in exactly one place: its log, the
 /// waiting requests, or a batch in flight (ISS, conservation).
 pub fn requests_are_conserved<M: Sequenced>()
-    ensures { (s : Setup) → IsSetupOf M.spec s → AcceptsOnce M.spec →
-        (events : List Event) → AreAtCores s events → IsConserved s M.spec events }
+    ensures { (s : Setup) → IsSetupOf M.spec s → (events : List Event) → AreAtCores s events →
+        IsConserved s M.spec events }
 {
     M::laws();
 }

@@ -11,5 +11,6 @@ pub use conservation::requests_are_conserved;
 pub use recovery::restarts_change_nothing;
 pub use signing::leaves_sign_once;
 pub use theorems::{
-    adopted_was_delivered, certificates_are_of_logs, cluster_runs, runs_end_with_evidence,
+    books_are_complete, casts_are_accepted, certificates_are_of_logs, cluster_runs,
+    deliveries_come_first, runs_end_with_evidence,
 };

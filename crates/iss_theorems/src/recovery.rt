@@ -7,20 +7,24 @@ ghost use Rattle.iss_rules.specs.Setups.{IsSetupOf};
 ghost use Rattle.iss_theorems.specs.Headline.{IsWhole};
 
 use crate::{
-    adopted_was_delivered, certificates_are_of_logs, cluster_runs, requests_are_conserved,
-    runs_end_with_evidence,
+    books_are_complete, casts_are_accepted, certificates_are_of_logs, cluster_runs,
+    leaves_sign_once, requests_are_conserved, runs_end_with_evidence,
 };
+use iss_composition::claims_are_of_one_instance;
 use iss_sb::Sequenced;
 
 /// The headline, with crash recovery (ISS, whole protocol). Disks may fail at any call, and cores are recovered from
 /// what their disks kept. Such a run equals a failure-free run of the events that were journaled. What follows for
-/// logs, requests, checkpoints and evidence is told at `IsWhole` in `specs/Headline.antt`.
+/// logs, instances, requests, checkpoints, signatures and evidence is told at `IsWhole` in `specs/Headline.antt`.
 pub fn restarts_change_nothing<M: Sequenced>()
     ensures { (s : Setup) → IsSetupOf M.spec s → (events : List Event) → AreAtCores s events → IsWhole s M.spec events }
 {
     cluster_runs::<M>();
+    claims_are_of_one_instance::<M>();
+    casts_are_accepted::<M>();
     certificates_are_of_logs::<M>();
-    adopted_was_delivered::<M>();
+    books_are_complete::<M>();
+    leaves_sign_once::<M>();
     runs_end_with_evidence::<M>();
     requests_are_conserved::<M>();
 }

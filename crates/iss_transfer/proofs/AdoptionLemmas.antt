@@ -6,7 +6,7 @@ use Rattle.iss_base.proofs.Lists.{and-true, ends-same, is-eq, same_bytes-is, som
 use Rattle.iss_keys.specs.Directories.{DirectoryView, VerifiesBy}
 use Rattle.iss_log.specs.Chains.{ChainsState, IsChainOf, chain_from, chain_of, end_from, end_of, linked, next_end, strings_from, strings_of, value_link}
 use Rattle.iss_log.specs.declared.chains.End.{End}
-use Rattle.iss_log.proofs.ChainLemmas.{end-append, end-chain, end-from, strings-more}
+use Rattle.iss_log.proofs.ChainLemmas.{end-chain, end-from, strings-more}
 use Rattle.iss_request.specs.Digest.{digest}
 use Rattle.iss_request.specs.Fields.{Good, IsReadAgain}
 use Rattle.iss_request.specs.Formats.{parse_value, spell_value, value_string}
@@ -67,7 +67,7 @@ said-by-correct s d log e p hashed good h =
 
 -- ---- chains
 
-digest-length : (x : List ℕ) → length (digest x) ≡ 32
+pub digest-length : (x : List ℕ) → length (digest x) ≡ 32
 digest-length [] = refl
 digest-length (b ∷ bs) = length-sha256 (b ∷ bs)
 
@@ -83,11 +83,11 @@ value-same version v u rv ru h =
     good-same v u [] [] (sym (rv []) ∙ ap (λ (t : List ℕ). parse_value version (t ++ [])) bytes ∙ ru [])
 
 -- chains of equally many values from two starts
-record AreSame (x y : List ℕ) (a b : List Value) : Type 0 where
+pub record AreSame (x y : List ℕ) (a b : List Value) : Type 0 where
   pub starts : x ≡ y
   pub values : a ≡ b
 
-chains-same : (version : ℕ) (all : List (List ℕ)) → Separate (λ x. In x all) → (x y : List ℕ) → length x ≡ 32 → length y ≡ 32 → (a b : List Value) → length a ≡ length b
+pub chains-same : (version : ℕ) (all : List (List ℕ)) → Separate (λ x. In x all) → (x y : List ℕ) → length x ≡ 32 → length y ≡ 32 → (a b : List Value) → length a ≡ length b
     → ((v : Value) → In v a → IsReadAgain (spell_value version) (parse_value version) v) → ((v : Value) → In v b → IsReadAgain (spell_value version) (parse_value version) v)
     → ((t : List ℕ) → In t (strings_from version x a) → In t all) → ((t : List ℕ) → In t (strings_from version y b) → In t all)
     → chain_from version x a ≡ chain_from version y b → AreSame x y a b
@@ -119,9 +119,6 @@ take-suc (x ∷ xs) (suc i) v lt h = let within : i < length xs = omega (arith, 
 
 pub take-next : (xs : List Value) (i : ℕ) (v : Value) → i < length xs → v ≡ get_or xs i v → take (i + 1) xs ≡ take i xs ++ v ∷ []
 take-next xs i v lt h = let e : i + 1 ≡ suc i = omega arith in rw e (take-suc xs i v lt h)
-
-pub end-next : (version : ℕ) (start end next : End) (a b : List Value) (v : Value) → end ≡ end_from version start a → next ≡ next_end version end v → b ≡ a ++ v ∷ [] → next ≡ end_from version start b
-end-next version start end next a b v he hn hb = hn ∙ ap (λ (x : End). next_end version x v) he ∙ sym (end-append version start a v) ∙ ap (λ (xs : List Value). end_from version start xs) (sym hb)
 
 pub strings-next : (version : ℕ) (start end : End) (a b : List Value) (v : Value) (first before later : List (List ℕ)) → end ≡ end_from version start a → before ≡ first ++ strings_from version start.chain a
     → later ≡ before ++ strings_of version end.chain v → b ≡ a ++ v ∷ [] → later ≡ first ++ strings_from version start.chain b

@@ -6,27 +6,27 @@ use Rattle.iss_keep.specs.State.{KeptState}
 use Rattle.iss_model.specs.Run.{cores_of}
 use Rattle.iss_rules.specs.Setups.{IsSetupOf}
 use Rattle.iss_network.specs.Network.{Network, empty_network}
-use Rattle.iss_request.specs.Setup.{AreRising, IsGoodSetup}
+use Rattle.iss_request.specs.Setup.{AreAscendingBelow, IsGoodSetup}
 use Rattle.iss_request.specs.declared.ids.NodeId.{NodeId}
 use Rattle.iss_request.specs.declared.setups.Setup.{Setup}
 use Rattle.iss_model.specs.Courses.{begin_machines}
 use Rattle.iss_sb.specs.Calls.{Relation}
 use Rattle.iss_sb.specs.Evidence.{Module}
 use Rattle.iss_world.specs.Books.{AreHashed, AreSigned}
-use Rattle.iss_world.specs.Shape.{AreForCores, IsSimulation}
+use Rattle.iss_world.specs.Internal.Shape.{AreForCores, IsSimulation}
 use Rattle.iss_world.specs.Refines.{AreFresh, IsFresh, RefinesMachines}
 
-rising-at : (from n : ℕ) (xs : List NodeId) (j : ℕ) (d : NodeId) → AreRising from n xs → j < length xs → (slice_index_or xs j d).0 < n
-rising-at from n [] j d h lt = absurd (omega (arith, lt))
-rising-at from n (x ∷ xs) zero d h lt = h.1
-rising-at from n (x ∷ xs) (suc j) d h lt = rising-at (suc x.0) n xs j d h.2 (omega (arith, lt))
+ascending-at : (from n : ℕ) (xs : List NodeId) (j : ℕ) (d : NodeId) → AreAscendingBelow from n xs → j < length xs → (slice_index_or xs j d).0 < n
+ascending-at from n [] j d h lt = absurd (omega (arith, lt))
+ascending-at from n (x ∷ xs) zero d h lt = h.1
+ascending-at from n (x ∷ xs) (suc j) d h lt = ascending-at (suc x.0) n xs j d h.2 (omega (arith, lt))
 
 -- A faulty node is a member of the cluster.
 pub twin-below : (s : Setup) (good : IsGoodSetup s) (faulty : List NodeId) (core j : ℕ) (d : NodeId) → faulty ≡ s.faulty → core < cores_of s → s.n ≤ core → j ≡ core - s.n →
     (slice_index_or faulty j d).0 < s.n
 twin-below s good faulty core j d e lt le is =
     let far : j < length s.faulty = omega (arith, lt, le, is) in
-    subst (λ (xs : List NodeId). (slice_index_or xs j d).0 < s.n) (sym e) (rising-at 0 s.n s.faulty j d good.rising_faulty far)
+    subst (λ (xs : List NodeId). (slice_index_or xs j d).0 < s.n) (sym e) (ascending-at 0 s.n s.faulty j d good.ascending_faulty far)
 
 at-end : {A : Type 0} (xs : List A) (x g : A) (i : ℕ) → slice_get (xs ++ x ∷ []) i ≡ Some g → (slice_get xs i ≡ Some g) ⊎ ((i ≡ length xs) × (g ≡ x))
 at-end [] x g zero e = inr (refl, cc)

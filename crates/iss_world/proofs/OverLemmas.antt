@@ -36,7 +36,7 @@ use Rattle.iss_rules.specs.Setups.{IsSetupOf}
 use Rattle.iss_sb.specs.Calls.{Relation}
 use Rattle.iss_sb.specs.Evidence.{Module}
 use Rattle.iss_world.specs.Refines.{LeadsBy, RefinesMachine, RefinesOrShowsCore, ShowsCore, calls_to_come}
-use Rattle.iss_world.specs.Steps.{HasAnswered, IsKeptTurn, IsStop}
+use Rattle.iss_world.specs.Internal.Steps.{HasAnswered, IsKeptTurn, IsStop}
 
 -- Being the same node is transitive.
 pub same-again : {M Msg : Type 0} (a b c : KeptState M Msg MemoryDisk) → IsSame a b → IsSame b c → IsSame a c

@@ -13,7 +13,7 @@ use Rattle.iss_network.specs.Network.{Network, posted}
 use Rattle.iss_network.specs.declared.packets.Sent.{Sent}
 use Rattle.iss_sb.specs.declared.effects.To.{To}
 use Rattle.iss_sb.specs.Calls.{AreToNodes, IsToNode}
-use Rattle.iss_world.specs.Shape.{AreForCores, IsNetworkOf}
+use Rattle.iss_world.specs.Internal.Shape.{AreForCores, IsNetworkOf}
 
 for-more : (n : ℕ) (ps : List Sent) (p : Sent) → AreForCores n ps → p.to < n → AreForCores n (ps ++ p ∷ [])
 for-more n [] p h lt = (lt, tt)

@@ -40,10 +40,10 @@ use Rattle.iss_theorems.proofs.CrashRecovery.JournaledEventsEnter.{forged-first}
 use Rattle.iss_world.proofs.BookLemmas.{forged-append}
 use Rattle.iss_world.proofs.OverLemmas.{at-working, epoch-grown, log-grown, over-shows, over-stale}
 use Rattle.iss_world.specs.Books.{AreHashed, AreSigned}
-use Rattle.iss_world.specs.Shape.{IsNetworkOf, IsSimulation}
-use Rattle.iss_world.specs.Refines.{HasChanged, RefinesMachine, RefinesMachines, RefinesOrShows, ShowsCore, ShowsHeld, end_of}
+use Rattle.iss_world.specs.Internal.Shape.{IsNetworkOf, IsSimulation}
+use Rattle.iss_world.specs.Refines.{HasChanged, HasRetreated, IsLeft, RefinesMachine, RefinesMachines, RefinesOrRetreated, RefinesOrShows, ShowsCore, end_of, spelled}
 use Rattle.iss_world.specs.State.{SimulationState}
-use Rattle.iss_world.specs.Steps.{HasAnswered, IsBehind, IsKeptTurn, ends_by, forged_in, kept_at, kept_to, stepped_to}
+use Rattle.iss_world.specs.Internal.Steps.{HasAnswered, IsBehind, IsKeptTurn, ends_by, forged_in, kept_at, kept_to, stepped_to}
 use Rattle.iss_world.specs.declared.ends.EventOutcome.{EventOutcome}
 use Rattle.iss_world.specs.declared.ends.EventOutcome.TheVariants.{Done, Lost, Ended}
 use Rattle.iss_world.specs.declared.ends.Evidence.{Evidence}
@@ -209,11 +209,38 @@ module _ {M Msg : Type 0} (m : Module Msg) (refines : Relation M Msg) where
     epoch = shown.epoch;
   }
 
-  pub runs-show : (v : SimulationState M Msg) (w : Machines Msg) → IsSimulation m v → RefinesMachines m refines v w → ShowsHeld m v w.held
+  -- each kept node reports the log and epoch of its core
+  abbrev pub ShowsHeld : SimulationState M Msg → Held Msg → Type 0
+  ShowsHeld v h = (i : ℕ) (g : KeptState M Msg MemoryDisk) → slice_get v.nodes i ≡ Some g → ShowsCore m v.setup (node_of v.setup i) g (h.net.cores i)
+
+  pub runs-show : (v : SimulationState M Msg) (w : Machines Msg) → IsSimulation m v → RefinesMachines m refines v w → ShowsHeld v w.held
   runs-show v w r st i g at = core-shown v i g (w.held.net.cores i) r at (over-shows m refines g (w.held.net.cores i) (w.disks i) (st.cores i g at))
 
-  pub shown-shows : (v : SimulationState M Msg) (w : Machines Msg) → IsSimulation m v → RefinesOrShows m refines v w → ShowsHeld m v w.held
-  shown-shows v w r k = elim k [ inl st ↦ runs-show v w r st | inr sh ↦ sh ]
+  here-shows : (v : SimulationState M Msg) (i : ℕ) (g : KeptState M Msg MemoryDisk) (c : Core Msg) (d : Disk) → IsSimulation m v → slice_get v.nodes i ≡ Some g →
+      RefinesOrRetreated m refines v.setup (node_of v.setup i) g c d → ShowsCore m v.setup (node_of v.setup i) g c
+  here-shows v i g c d r at k = elim k [ inl st ↦ core-shown v i g c r at (over-shows m refines g c d st) | inr back ↦ back.shows ]
+
+  left-shows : (v : SimulationState M Msg) (w : Machines Msg) → IsSimulation m v → IsLeft m refines v w → ShowsHeld v w.held
+  left-shows v w r left i g at = elim (eqb_tells i left.core) [
+    | inl t ↦ subst (λ (n : ℕ). ShowsCore m v.setup (node_of v.setup n) g (w.held.net.cores n)) (sym t.1)
+        (here-shows v left.core g (w.held.net.cores left.core) (w.disks left.core) r (subst (λ (n : ℕ). slice_get v.nodes n ≡ Some g) t.1 at)
+        (left.there g (subst (λ (n : ℕ). slice_get v.nodes n ≡ Some g) t.1 at)))
+    | inr t ↦ core-shown v i g (w.held.net.cores i) r at
+        (over-shows m refines g (w.held.net.cores i) (w.disks i) (left.others i g at t.1))
+  ]
+
+  pub shown-shows : (v : SimulationState M Msg) (w : Machines Msg) → IsSimulation m v → RefinesOrShows m refines v w → ShowsHeld v w.held
+  shown-shows v w r k = elim k [ inl st ↦ runs-show v w r st | inr left ↦ left-shows v w r left ]
+
+  -- A simulation that refines machines is left so by evidence that changes nothing.
+  pub runs-left : (v : SimulationState M Msg) (w : Machines Msg) → RefinesMachines m refines v w → IsLeft m refines v w
+  runs-left v w st = record {
+    core = 0;
+    others = λ i g at ne. st.cores i g at;
+    there = λ g at. inl (st.cores 0 g at);
+    network = st.network;
+    signed = st.signed;
+  }
 
   -- ---- a node is replaced by a later state of it
 
@@ -383,7 +410,7 @@ module _ {M Msg : Type 0} (m : Module Msg) (refines : Relation M Msg) where
 
         -- The core took its turn, and everything else is unchanged.
         pub behind : (slots epoch : ℕ) → slots ≡ length g.node.state.log.entries → epoch ≡ g.node.state.epoch →
-            IsBehind m refines (v_later v i g later r lt at) w (kept_at w i event) i turn-kept.turn slots epoch
+            IsBehind m refines (v_later v i g later r lt at) w event i turn-kept.turn slots epoch
         behind slots epoch are was =
             let shown = runs-show v w r st i g at in
             record {
@@ -417,23 +444,46 @@ module _ {M Msg : Type 0} (m : Module Msg) (refines : Relation M Msg) where
 
   -- ---- the effect of a turn
 
-  module _ (v : SimulationState M Msg) (i : ℕ) (r : IsSimulation m v) (lt : i < length v.nodes) (w : Machines Msg) (behind-it : ℕ → Disk) (t : Turn Msg) (slots epoch : ℕ)
-      (b : IsBehind m refines v w behind-it i t slots epoch) where
+  module _ (v : SimulationState M Msg) (i : ℕ) (r : IsSimulation m v) (lt : i < length v.nodes) (w : Machines Msg) (event : NodeEvent) (t : Turn Msg) (slots epoch : ℕ)
+      (b : IsBehind m refines v w event i t slots epoch) where
+    abbrev behind-it : ℕ → Disk
+    behind-it = kept_at w i event
+
+    -- another core is as it was
+    other-there : (j : ℕ) (k : KeptState M Msg MemoryDisk) → eqb j i ≡ false → slice_get v.nodes j ≡ Some k → RefinesMachine m refines k (w.held.net.cores j) (w.disks j)
+    other-there j k ne e =
+        subst (λ (d : Disk). RefinesMachine m refines k (w.held.net.cores j) d) (ap (λ (q : Bool). cond q (keeps (w.disks i) event) (w.disks j)) ne)
+        (subst (λ (c : Core Msg). RefinesMachine m refines k c (behind-it j)) (ap (λ (q : Bool). cond q t.core (w.held.net.cores j)) ne) (b.cores j k e))
+
     -- The core retreats.
     module _ (g later : KeptState M Msg MemoryDisk) (at : slice_get v.nodes i ≡ Some g) (cut : later.node.state.log.entries ≡ take slots g.node.state.log.entries)
-        (back : later.node.state.epoch ≡ epoch) (net : Network) (signed : List (List ℕ)) (hashed : List (List ℕ × List ℕ)) where
-      pub shows-before : ShowsHeld m (record { setup = v.setup; nodes = set v.nodes i later; network = net; signed = signed; hashed = hashed }) w.held
-      shows-before j k e = elim (written v.nodes i j later k lt e) [
-        | inl z ↦ subst (λ (n : ℕ). ShowsCore m v.setup (node_of v.setup n) k (w.held.net.cores n)) (sym z.1)
-            (subst (λ (x : KeptState M Msg MemoryDisk). ShowsCore m v.setup (node_of v.setup i) x (w.held.net.cores i)) (sym z.2) (record {
-              log = b.log g at ∙ ap (λ (xs : List Value). reverse xs) (sym cut);
-              epoch = back ∙ b.epoch;
-            }))
-        | inr z ↦
-            let there : RefinesMachine m refines k (w.held.net.cores j) (behind-it j) =
-            subst (λ (c : Core Msg). RefinesMachine m refines k c (behind-it j)) (ap (λ (q : Bool). cond q t.core (w.held.net.cores j)) z.0) (b.cores j k z.1) in
-            core-shown v j k (w.held.net.cores j) r z.1 (over-shows m refines k (w.held.net.cores j) (behind-it j) there)
-      ]
+        (back : later.node.state.epoch ≡ epoch) (gone : later.stale ≡ true) (kept : later.entries ≡ g.entries)
+        (net : Network) (signed : List (List ℕ)) (hashed : List (List ℕ × List ℕ)) (same_net : net ≡ v.network) (same_signed : signed ≡ v.signed) where
+      -- the node that retreats has one entry more than its core's disk
+      retreated : HasRetreated m v.setup (node_of v.setup i) later (w.held.net.cores i) (w.disks i)
+      retreated = record {
+        stale = gone;
+        shows = record {
+          log = b.log g at ∙ ap (λ (xs : List Value). reverse xs) (sym cut);
+          epoch = back ∙ b.epoch;
+        };
+        event = event;
+        entries = kept ∙ (b.cores i g at).entries ∙ ap (λ (d : Disk). spelled d.kept) (set_at-same w.disks i (keeps (w.disks i) event));
+      }
+
+      pub left-so : IsLeft m refines (record { setup = v.setup; nodes = set v.nodes i later; network = net; signed = signed; hashed = hashed }) w
+      left-so = record {
+        core = i;
+        others = λ j k e ne. elim (written v.nodes i j later k lt e) [
+          | inl z ↦ absurd (ne z.1)
+          | inr z ↦ other-there j k z.0 z.1
+        ];
+        there = λ k e.
+            let is : k ≡ later = some-injective k later (sym e ∙ get-set_same v.nodes i later lt) in
+            inr (subst (λ (x : KeptState M Msg MemoryDisk). HasRetreated m v.setup (node_of v.setup i) x (w.held.net.cores i) (w.disks i)) (sym is) retreated);
+        network = same_net ∙ b.network;
+        signed = subst (λ (xs : List (List ℕ)). AreSigned xs w.held.signed) (sym same_signed) b.signed;
+      }
 
       pub turn-ended : (outcome : Outcome) (end : Evidence) → IsMade t outcome → Some (end_of end) ≡ ends_by v.setup w.held.signed w.held.hashed outcome.early outcome.hashed →
           HasChanged m refines (record { setup = v.setup; nodes = set v.nodes i later; network = net; signed = signed; hashed = hashed })
@@ -442,7 +492,7 @@ module _ {M Msg : Type 0} (m : Module Msg) (refines : Relation M Msg) where
           subst (λ (d : Happening Msg). HasChanged m refines (record { setup = v.setup; nodes = set v.nodes i later; network = net; signed = signed; hashed = hashed })
           (with_disks w behind-it d) (Ended end))
           (sym (turn-ends v.setup w.held i t (end_of end) (sym (is ∙ made-ends v.setup w.held t outcome made))))
-          (shows-before, refl, refl)
+          (left-so, refl, refl)
 
     pub turn-refines : (outcome : Outcome) (net : Network) (signed : List (List ℕ)) (hashed : List (List ℕ × List ℕ)) → IsMade t outcome →
         ends_by v.setup w.held.signed w.held.hashed outcome.early outcome.hashed ≡ None →

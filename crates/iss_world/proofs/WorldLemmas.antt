@@ -1,10 +1,13 @@
 -- A world that refines a run, as events are applied to it.
 use Rattle.std.proofs.Common.{inl, inr, ◌≡◌, ℕ, suc, Bool, false, List, Option, Some, None, refl, sym, subst}
-use Rattle.std.specs.Prelude.{option_map}
+use Rattle.std.specs.Prelude.{option_map, slice_get}
+use Rattle.std.proofs.lemmas.Bool.Decides.{eqb_tells}
+use Rattle.iss_disk.specs.declared.memory.MemoryDisk.{MemoryDisk}
+use Rattle.iss_keep.specs.State.{KeptState}
 use Rattle.iss_base.proofs.Lists.{none-some}
 use Rattle.iss_rules.specs.Ends.{End}
 use Rattle.iss_rules.specs.declared.events.Why.{Why}
-use Rattle.iss_model.specs.Run.{ended_at, noted}
+use Rattle.iss_model.specs.Run.{ended_at, node_of, noted}
 use Rattle.iss_request.specs.declared.setups.Setup.{Setup}
 use Rattle.iss_model.specs.Courses.{Course, Machines, Upshot, apply_event, run_event_if_open}
 use Rattle.iss_rules.specs.Parcels.{Formats}
@@ -12,22 +15,39 @@ use Rattle.iss_rules.specs.Rules.{Rules}
 use Rattle.iss_schedule.specs.declared.schedules.Event.{Event}
 use Rattle.iss_sb.specs.Calls.{Relation}
 use Rattle.iss_sb.specs.Evidence.{Module}
-use Rattle.iss_world.specs.Refines.{HasChanged, HasHappened, RefinesMachines, RefinesOrShows, RefinesRun, RefinesRunUntil, awake, end_of, result_of}
+use Rattle.iss_world.specs.Refines.{HasChanged, HasHappened, RefinesMachines, RefinesOrRetreated, RefinesOrShows, RefinesRun, RefinesRunUntil, awake, end_of, result_of}
 use Rattle.iss_world.specs.State.{SimulationState, WorldState}
 use Rattle.iss_world.specs.declared.ends.EventOutcome.{EventOutcome}
 use Rattle.iss_world.specs.declared.ends.EventOutcome.TheVariants.{Ended}
 use Rattle.iss_world.specs.declared.ends.Evidence.{Evidence}
-use Rattle.iss_world.specs.declared.ends.Evidence.TheVariants.{Forged, Collision}
+use Rattle.iss_world.specs.declared.ends.Evidence.TheVariants.{Forged as Evidence_forged, Collision as Evidence_collision}
 use Rattle.iss_world.specs.declared.world.EventResult.{EventResult}
 
 module _ {M Msg : Type 0} (m : Module Msg) (refines : Relation M Msg) where
   -- If the world refines the machines, its simulation refines or reports them.
   shown-then : (v : WorldState M Msg) (w : Machines Msg) (o : Option (ℕ × End)) → RefinesRunUntil m refines v w o → RefinesOrShows m refines v.simulation w
   shown-then v w None k = inl k.simulation
-  shown-then v w (Some at) k = inr k.shows
+  shown-then v w (Some at) k = inr k.left
 
   pub shown-at : (v : WorldState M Msg) (p : Course Msg) → RefinesRun m refines v p → RefinesOrShows m refines v.simulation p.machines
   shown-at v p k = shown-then v p.machines p.ended k
+
+  -- A kept node of the world refines its core, or has retreated to it.
+  left-then : (v : WorldState M Msg) (w : Machines Msg) (o : Option (ℕ × End)) → RefinesRunUntil m refines v w o → (i : ℕ) (g : KeptState M Msg MemoryDisk) →
+      slice_get v.simulation.nodes i ≡ Some g →
+      RefinesOrRetreated m refines v.simulation.setup (node_of v.simulation.setup i) g (w.held.net.cores i) (w.disks i)
+  left-then v w None k i g at = inl (k.simulation.cores i g at)
+  left-then v w (Some end) k i g at = elim (eqb_tells i k.left.core) [
+    | inr t ↦ inl (k.left.others i g at t.1)
+    | inl t ↦
+        let P : ℕ → Type 0 = λ n. RefinesOrRetreated m refines v.simulation.setup (node_of v.simulation.setup n) g (w.held.net.cores n) (w.disks n) in
+        subst P (sym t.1) (k.left.there g (subst (λ (n : ℕ). slice_get v.simulation.nodes n ≡ Some g) t.1 at))
+  ]
+
+  pub node-left : (v : WorldState M Msg) (p : Course Msg) → RefinesRun m refines v p → (i : ℕ) (g : KeptState M Msg MemoryDisk) →
+      slice_get v.simulation.nodes i ≡ Some g →
+      RefinesOrRetreated m refines v.simulation.setup (node_of v.simulation.setup i) g (p.machines.held.net.cores i) (p.machines.disks i)
+  node-left v p k = left-then v p.machines p.ended k
 
   -- A world that was not stale.
   pub awake-at : (v : SimulationState M Msg) (end : Option Evidence) (b : Bool) (p : Course Msg) → b ≡ false → RefinesRun m refines (record { simulation = v; ended = end; stale = b }) p → RefinesRun m refines (awake v end) p
@@ -40,12 +60,12 @@ module _ {M Msg : Type 0} (m : Module Msg) (refines : Relation M Msg) where
 
   told-ended : (v : SimulationState M Msg) (old : Course Msg) (d : Upshot Msg) (k : ℕ) (drops : List (ℕ × Why)) (end : Evidence) → HasChanged m refines v d (Ended end) →
       HasHappened m refines (awake v (Some end)) old (then_ended k drops d.machines d.ended) (result_of end)
-  told-ended v old d k drops (Forged claim) h =
-      subst (λ (o : Option End). HasHappened m refines (awake v (Some (Forged claim))) old (then_ended k drops d.machines o) (result_of (Forged claim))) (sym h.2)
-      (record { fresh = refl; ended = refl; shows = h.0 }, refl)
-  told-ended v old d k drops (Collision first second) h =
-      subst (λ (o : Option End). HasHappened m refines (awake v (Some (Collision first second))) old (then_ended k drops d.machines o) (result_of (Collision first second))) (sym h.2)
-      (record { fresh = refl; ended = refl; shows = h.0 }, refl)
+  told-ended v old d k drops (Evidence_forged claim) h =
+      subst (λ (o : Option End). HasHappened m refines (awake v (Some (Evidence_forged claim))) old (then_ended k drops d.machines o) (result_of (Evidence_forged claim))) (sym h.2)
+      (record { fresh = refl; ended = refl; left = h.0 }, refl)
+  told-ended v old d k drops (Evidence_collision first second) h =
+      subst (λ (o : Option End). HasHappened m refines (awake v (Some (Evidence_collision first second))) old (then_ended k drops d.machines o) (result_of (Evidence_collision first second))) (sym h.2)
+      (record { fresh = refl; ended = refl; left = h.0 }, refl)
 
   module _ (s : Setup) (F : Formats Msg) (R : Rules) (v later : SimulationState M Msg) (before : Option Evidence) (p : Course Msg) (e : Event) (r : EventOutcome) (end : Evidence)
       (none : before ≡ None) (was : r ≡ Ended end) (happened : (w : Machines Msg) → RefinesMachines m refines v w → HasChanged m refines later (apply_event s F R m w e) r) where

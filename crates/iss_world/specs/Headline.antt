@@ -1,23 +1,27 @@
 -- What an event promises for a world that refined the run of the events before it: it refines the run with this event.
--- The recovery theorem holds for that run, numbers agree between nodes, and no leaf signs two statements over all
--- restarts.
-use Rattle.std.specs.Prelude.{◌≡◌, ℕ, true, List, Some, slice_get}
+-- The recovery theorem holds for that run, numbers agree between nodes, the journals hold the events that the run's
+-- cores kept, and no leaf signs two statements over all restarts.
+use Rattle.std.specs.Prelude.{◌≡◌, ◌⊎◌, ℕ, true, List, ◌∷◌, Option, None, Some, slice_get}
 use Rattle.iss_disk.specs.declared.memory.MemoryDisk.{MemoryDisk}
 use Rattle.iss_keep.specs.Deeds.{deeds_of}
 use Rattle.iss_keep.specs.State.{KeptState}
 use Rattle.iss_log.specs.LogState.{first_number_of}
 use Rattle.iss_model.specs.Frames.{frame_of}
+use Rattle.iss_model.specs.Courses.{Course}
+use Rattle.iss_model.specs.Disks.{Disk}
 use Rattle.iss_model.specs.Run.{Held}
+use Rattle.iss_rules.specs.Ends.{End}
+use Rattle.iss_rules.specs.declared.events.NodeEvent.{NodeEvent}
 use Rattle.iss_request.specs.declared.setups.Setup.{Setup}
 use Rattle.iss_theorems.specs.Headline.{IsWhole, course_after, held_after, shown}
 use Rattle.iss_schedule.specs.declared.schedules.Event.{Event}
 use Rattle.iss_sb.specs.Evidence.{Module, is_correct}
 use Rattle.iss_sb.specs.Calls.{Relation}
 use Rattle.iss_theorems.specs.Leaves.{SignsOnceEach}
-use Rattle.iss_world.specs.Refines.{RefinesRun}
+use Rattle.iss_world.specs.Refines.{RefinesRun, spelled}
 use Rattle.iss_world.specs.State.{WorldState}
 use Rattle.iss_world.specs.declared.world.EventResult.{EventResult}
-use Rattle.iss_world.specs.declared.world.EventResult.TheVariants.{Done, Lost, Forged, Collision, NoMemory, Stale}
+use Rattle.iss_world.specs.declared.world.EventResult.TheVariants.{Done as Result_done, Lost as Result_lost, Forged as Result_forged, Collision as Result_collision, NoMemory, Stale}
 
 -- The world refines the run of these events from the start.
 abbrev pub RefinesEvents : {M Msg : Type 0} → Setup → Module Msg → Relation M Msg → WorldState M Msg →
@@ -26,10 +30,10 @@ RefinesEvents s m refines v events = RefinesRun m refines v (course_after s m ev
 
 -- The event did not run out of memory.
 abbrev pub IsAnswered : EventResult → Type 0
-IsAnswered Done = Unit {0}
-IsAnswered (Lost why) = Unit {0}
-IsAnswered (Forged by statement sig) = Unit {0}
-IsAnswered (Collision first second) = Unit {0}
+IsAnswered Result_done = Unit {0}
+IsAnswered (Result_lost why) = Unit {0}
+IsAnswered (Result_forged by statement sig) = Unit {0}
+IsAnswered (Result_collision first second) = Unit {0}
 IsAnswered NoMemory = ⊥
 IsAnswered Stale = ⊥
 
@@ -47,13 +51,27 @@ SignOnce {M = M} {Msg = Msg} s m v = (i : ℕ) (g : KeptState M Msg MemoryDisk) 
     slice_get v.simulation.nodes i ≡ Some g →
     SignsOnceEach (frame_of s m) g.me.0 (deeds_of s m g.me.0 g.entries)
 
+-- The entries of a journal are the events that the model's disk keeps. After evidence there may be one more: the event
+-- that revealed it, of which nothing came out.
+abbrev pub HoldsKept : List (List ℕ) → Disk → Option (ℕ × End) → Type 0
+HoldsKept entries d None = entries ≡ spelled d.kept
+HoldsKept entries d (Some at) = (entries ≡ spelled d.kept)
+    ⊎ ((event : NodeEvent) × (entries ≡ spelled (event ∷ d.kept)))
+
+-- So of each core's journal, whether or not the run has stopped. What the cores signed and sent by these events is told
+-- by `IsWhole`.
+abbrev pub HoldKept : {M Msg : Type 0} → WorldState M Msg → Course Msg → Type 0
+HoldKept {M = M} {Msg = Msg} v p = (i : ℕ) (g : KeptState M Msg MemoryDisk) → slice_get v.simulation.nodes i ≡ Some g →
+    HoldsKept g.entries (p.machines.disks i) p.ended
+
 -- The headline. The world refines the run of these events, up to the evidence that stopped it, if any (`run`). The
--- theorems of composition and recovery hold for that run (`whole`). Correct nodes number requests alike (`numbers`),
--- and no leaf signs two statements (`leaves`).
+-- theorems of composition and recovery hold for that run (`whole`). Correct nodes number requests alike (`numbers`).
+-- The journals hold the run's kept events (`journals`), and no leaf signs two statements in them (`leaves`).
 -- rule: Runs: After each event the world refines the run with that event
 pub record IsHeadline {M Msg : Type 0} (s : Setup) (m : Module Msg) (refines : Relation M Msg)
     (v : WorldState M Msg) (events : List Event) : Type 0 where
   pub run : RefinesEvents s m refines v events
   pub whole : IsWhole s m events
   pub numbers : AgreeOnNumbers s m (held_after s m events)
+  pub journals : HoldKept v (course_after s m events)
   pub leaves : SignOnce s m v

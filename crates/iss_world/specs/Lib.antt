@@ -1,6 +1,5 @@
 pub mod Books
 pub mod Headline
-pub mod Shape
+pub mod Internal
 pub mod Refines
 pub mod State
-pub mod Steps

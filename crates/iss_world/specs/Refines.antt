@@ -1,7 +1,7 @@
 -- When a simulation and a world refine a run with disk failures and restarts, and what an event made of it. A kept
 -- node refines a core over its disk: it is at the core, or its disk has failed and it shows the core's log and epoch.
 -- Its entries are the events that the disk keeps. The networks are the same, and the books hold what the run's hold.
-use Rattle.std.specs.Prelude.{◌≡◌, ◌⊎◌, ◌↔◌, ℕ, Bool, true, false, List, [], ◌∷◌, ◌++◌, length, Option, Some, None, option_map, reverse, slice_get}
+use Rattle.std.specs.Prelude.{◌≡◌, ◌≢◌, ◌⊎◌, ◌↔◌, ℕ, Bool, true, false, List, [], ◌∷◌, ◌++◌, length, Option, Some, None, option_map, reverse, slice_get}
 use Rattle.iss_rules.specs.Ends.{End, Forged, Collision}
 use Rattle.iss_rules.specs.declared.events.NodeEvent.{NodeEvent}
 use Rattle.iss_disk.specs.Calls.{IfTold, Passes, script, up_to}
@@ -92,16 +92,36 @@ pub record RefinesMachines {M Msg : Type 0} (m : Module Msg) (refines : Relation
   pub signed : AreSigned v.signed w.held.signed
   pub hashed : AreHashed v.hashed w.held.hashed
 
--- Each kept node reports the log and epoch of its core.
-abbrev pub ShowsHeld : {M Msg : Type 0} → Module Msg → SimulationState M Msg → Held Msg → Type 0
-ShowsHeld {M = M} {Msg = Msg} m v h =
-    (i : ℕ) (g : KeptState M Msg MemoryDisk) → slice_get v.nodes i ≡ Some g →
-    ShowsCore m v.setup (node_of v.setup i) g (h.net.cores i)
+-- A kept node whose last event revealed the evidence. It went back to the core from before that event: it is stale, and
+-- reports the core's log and epoch. Its journal holds the event after those that the model's disk keeps.
+pub record HasRetreated {M Msg : Type 0} (m : Module Msg) (s : Setup) (me : ℕ) (g : KeptState M Msg MemoryDisk)
+    (c : Core Msg) (d : Disk) : Type 0 where
+  pub stale : g.stale ≡ true
+  pub shows : ShowsCore m s me g c
+  pub event : NodeEvent
+  pub entries : g.entries ≡ spelled (event ∷ d.kept)
 
--- The simulation refines these machines, or at least reports their logs and epochs.
+-- The kept node refines this core with its disk, or has retreated to it.
+abbrev pub RefinesOrRetreated : {M Msg : Type 0} → Module Msg → Relation M Msg → Setup → ℕ →
+    KeptState M Msg MemoryDisk → Core Msg → Disk → Type 0
+RefinesOrRetreated m refines s me g c d = RefinesMachine m refines g c d ⊎ HasRetreated m s me g c d
+
+-- What evidence leaves of a simulation. All kept nodes refine their cores, but for the one that took the last event: it
+-- may have retreated. The network is the model's, and so are the recorded claims.
+pub record IsLeft {M Msg : Type 0} (m : Module Msg) (refines : Relation M Msg) (v : SimulationState M Msg)
+    (w : Machines Msg) : Type 0 where
+  pub core : ℕ
+  pub others : (i : ℕ) (g : KeptState M Msg MemoryDisk) → slice_get v.nodes i ≡ Some g → i ≢ core →
+      RefinesMachine m refines g (w.held.net.cores i) (w.disks i)
+  pub there : (g : KeptState M Msg MemoryDisk) → slice_get v.nodes core ≡ Some g →
+      RefinesOrRetreated m refines v.setup (node_of v.setup core) g (w.held.net.cores core) (w.disks core)
+  pub network : v.network ≡ w.held.net.network
+  pub signed : AreSigned v.signed w.held.signed
+
+-- The simulation refines these machines, or evidence left it so.
 abbrev pub RefinesOrShows : {M Msg : Type 0} → Module Msg → Relation M Msg → SimulationState M Msg →
     Machines Msg → Type 0
-RefinesOrShows m refines v w = RefinesMachines m refines v w ⊎ ShowsHeld m v w.held
+RefinesOrShows m refines v w = RefinesMachines m refines v w ⊎ IsLeft m refines v w
 
 -- The model's evidence.
 abbrev pub end_of : Evidence → End
@@ -109,12 +129,12 @@ end_of (Evidence_forged claim) = Forged claim
 end_of (Evidence_collision first second) = Collision first second
 
 -- The simulation refines the state after the event, with its reason of loss if it was lost. If the event revealed
--- evidence, the simulation reports the logs and epochs from before that delivery.
+-- evidence, all of the simulation but the node that took it still refines the state from before that delivery.
 abbrev pub HasChanged : {M Msg : Type 0} → Module Msg → Relation M Msg → SimulationState M Msg → Upshot Msg →
     EventOutcome → Type 0
 HasChanged m refines v d Done = RefinesMachines m refines v d.machines × (d.lost ≡ None) × (d.ended ≡ None)
 HasChanged m refines v d (Lost why) = RefinesMachines m refines v d.machines × (d.lost ≡ Some why) × (d.ended ≡ None)
-HasChanged m refines v d (Ended end) = ShowsHeld m v d.machines.held × (d.lost ≡ None) × (d.ended ≡ Some (end_of end))
+HasChanged m refines v d (Ended end) = IsLeft m refines v d.machines × (d.lost ≡ None) × (d.ended ≡ Some (end_of end))
 
 -- The simulation refines some state of the model.
 abbrev pub RefinesSome : {M Msg : Type 0} → Module Msg → Relation M Msg → SimulationState M Msg → Type 0
@@ -140,17 +160,18 @@ pub record WorldRefinesMachines {M Msg : Type 0} (m : Module Msg) (refines : Rel
   pub goes_on : v.ended ≡ None
   pub simulation : RefinesMachines m refines v.simulation w
 
--- The run has stopped with this evidence, and the world reports the state from before.
+-- The run has stopped with this evidence, and the world is as it was before, but for the node that took the last event.
 -- rule: Evidence: A world whose run has ended repeats its evidence and shows the state before it
-pub record HasEnded {M Msg : Type 0} (m : Module Msg) (v : WorldState M Msg) (h : Held Msg) (end : End) : Type 0 where
+pub record HasEnded {M Msg : Type 0} (m : Module Msg) (refines : Relation M Msg) (v : WorldState M Msg)
+    (w : Machines Msg) (end : End) : Type 0 where
   pub fresh : v.stale ≡ false
   pub ended : option_map end_of v.ended ≡ Some end
-  pub shows : ShowsHeld m v.simulation h
+  pub left : IsLeft m refines v.simulation w
 
 abbrev pub RefinesRunUntil : {M Msg : Type 0} → Module Msg → Relation M Msg → WorldState M Msg → Machines Msg →
     Option (ℕ × End) → Type 0
 RefinesRunUntil m refines v w None = WorldRefinesMachines m refines v w
-RefinesRunUntil m refines v w (Some at) = HasEnded m v w.held at.1
+RefinesRunUntil m refines v w (Some at) = HasEnded m refines v w at.1
 
 -- The world refines this run, stopped or not.
 abbrev pub RefinesRun : {M Msg : Type 0} → Module Msg → Relation M Msg → WorldState M Msg → Course Msg → Type 0

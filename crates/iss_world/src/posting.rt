@@ -6,7 +6,7 @@ ghost use Rattle.iss_model.specs.Run.{addressees, cores_of, node_of, posted_all,
 ghost use Rattle.iss_network.specs.Network.{posted};
 ghost use Rattle.iss_request.specs.Setup.{IsGoodSetup};
 ghost use Rattle.iss_sb.specs.Calls.{AreToNodes, IsToNode};
-ghost use Rattle.iss_world.specs.Shape.{IsNetworkOf};
+ghost use Rattle.iss_world.specs.Internal.Shape.{IsNetworkOf};
 
 use crate::cores::{cores_of, node_of};
 use iss_network::Network;

@@ -29,11 +29,11 @@ pub fn request_packet<M: Sequenced>(
     ensures { IfOk result (λ bytes. bytes ≡ (formats_of setup.now M.spec).wrap
         (record { from = 255; epoch = 0; body = OfRequest (request_of setup.now id.client id.number payload.now) })) }
 {
-    let keys = directory.keys_of_client(alloc, id.client);
+    let mut keys = directory.keys_of_client(alloc, id.client);
     let request = Request {
         id,
         payload: payload.copy()?,
-        sig: sign_request(&keys, id, payload.as_slice())?,
+        sig: sign_request(&mut keys, id, payload.as_slice())?,
     };
     Ok(wrapped::<M>(alloc, setup.version, &request)?)
 }

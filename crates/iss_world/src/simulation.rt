@@ -46,7 +46,7 @@ impl<M: Sequenced> Model for Simulation<M> {
     ghost use Rattle.std.specs.Prelude.{◌≡◌};
     ghost use Rattle.iss_rules.specs.Concrete.{keys_of};
     ghost use Rattle.iss_world.specs.State.{SimulationState};
-    ghost use Rattle.iss_world.specs.Shape.{IsSimulation};
+    ghost use Rattle.iss_world.specs.Internal.Shape.{IsSimulation};
 
     ghost Value = { SimulationState M M.Msg };
 

@@ -3,6 +3,7 @@
 ghost use Rattle.std.specs.Prelude.{◌≡◌, ◌<◌, ◌≤◌, ℕ, false, IfOk, List, None, Some, length, option_map, slice_get};
 ghost use Rattle.iss_base.specs.Lists.{push_all};
 ghost use Rattle.iss_rules.specs.Books.{Signed};
+ghost use Rattle.iss_rules.specs.declared.events.NodeEvent.{NodeEvent as ModelEvent};
 ghost use Rattle.iss_rules.specs.Concrete.{keys_of};
 ghost use Rattle.iss_model.specs.Node.{Core, Taken, Turn, step};
 ghost use Rattle.iss_model.specs.Run.{cores_of, node_of};
@@ -17,7 +18,7 @@ ghost use Rattle.iss_model.specs.CourseFrames.{at_machine_in};
 ghost use Rattle.iss_sb.specs.Calls.{AreToNodes};
 ghost use Rattle.iss_world.specs.Books.{AreHashed, AreSigned};
 ghost use Rattle.iss_world.specs.Refines.{HasChanged, RefinesMachine, RefinesMachines, RefinesSome, end_of};
-ghost use Rattle.iss_world.specs.Steps.{HasAnswered, IsBehind, IsWorking, ends_by, kept_to, stepped_to};
+ghost use Rattle.iss_world.specs.Internal.Steps.{HasAnswered, IsBehind, IsWorking, ends_by, kept_at, kept_to, stepped_to};
 
 use crate::claims::{Claims, book_own};
 use crate::ends::{EventOutcome, Evidence};
@@ -148,6 +149,7 @@ impl<M: Sequenced> Simulation<M> {
     // A core accepted and journaled an event. Either its outcome reveals evidence and the core retreats, or its
     // signatures are recorded and its packets posted.
     // rule: Evidence: A world whose run has ended repeats its evidence and shows the state before it
+    // rule: Recovery: All that a core has signed and sent is of the events in its journal
     fn taken(
         &mut self,
         alloc: Global,
@@ -162,10 +164,10 @@ impl<M: Sequenced> Simulation<M> {
             slots ≤ length g.node.state.log.entries }
         requires epoch { (g : KeptState M M.Msg MemoryDisk) → slice_get self.old.nodes core ≡ Some g →
             epoch.0 ≤ g.node.state.epoch }
-        ensures happened { IfOk result (λ r. (w : Machines M.Msg) (behind : ℕ → Disk) (t : Turn M.Msg) →
-            IsBehind M.spec M.refines self.old w behind core t slots epoch.0 → IsMade t outcome.now →
+        ensures happened { IfOk result (λ r. (w : Machines M.Msg) (event : ModelEvent) (t : Turn M.Msg) →
+            IsBehind M.spec M.refines self.old w event core t slots epoch.0 → IsMade t outcome.now →
             HasChanged M.spec M.refines self.new
-            (with_disks w behind (stepped_to self.old.setup w.held core (Taken t))) r) }
+            (with_disks w (kept_at w core event) (stepped_to self.old.setup w.held core (Taken t))) r) }
         ensures same { self.new.setup ≡ self.old.setup }
     {
         let directory = self.directory.directory();

@@ -8,12 +8,11 @@ ghost use Rattle.iss_rules.specs.Setups.{IsSetupOf};
 ghost use Rattle.iss_schedule.specs.Events.{AreInRange, IsInRange};
 ghost use Rattle.iss_schedule.specs.declared.schedules.Event.{Event as ScheduleEvent};
 ghost use Rattle.iss_world.specs.Headline.{IsAnswered, IsHeadline, RefinesEvents};
-ghost use Rattle.iss_world.specs.Shape.{IsWorld};
-ghost use Rattle.iss_world.specs.Refines.{HasHappened, IsOverOr, IsStaleOr, RefinesMachine, RefinesRun, RefinesSome, WorldRefinesMachines, awake, log_at, result_of};
+ghost use Rattle.iss_world.specs.Internal.Shape.{IsWorld};
+ghost use Rattle.iss_world.specs.Refines.{HasHappened, IsOverOr, IsStaleOr, RefinesMachine, RefinesOrRetreated, RefinesRun, RefinesSome, WorldRefinesMachines, awake, log_at, result_of};
 
 use crate::ends::{EventOutcome, Evidence};
 use crate::simulation::Simulation;
-use iss_composition::composition;
 use iss_disk::MemoryDisk;
 use iss_keep::{Kept, leaves_are_of_one_statement};
 use iss_log::Log;
@@ -63,7 +62,7 @@ pub struct World<M: Sequenced> {
 
 impl<M: Sequenced> Model for World<M> {
     ghost use Rattle.iss_world.specs.State.{WorldState};
-    ghost use Rattle.iss_world.specs.Shape.{IsWorld};
+    ghost use Rattle.iss_world.specs.Internal.Shape.{IsWorld};
 
     ghost Value = { WorldState M M.Msg };
 
@@ -109,7 +108,6 @@ impl<M: Sequenced> World<M> {
         ensures over { IsOverOr self.old self.new }
         ensures same { self.new.simulation.setup ≡ self.old.simulation.setup }
     {
-        composition::<M>();
         restarts_change_nothing::<M>();
         leaves_are_of_one_statement::<M>();
         let _setup = self.simulation.setup();
@@ -134,12 +132,15 @@ impl<M: Sequenced> World<M> {
         self.simulation.setup()
     }
 
-    /// The kept node of a core. Its calls report the core's state while the run goes on and the core's disk has not
-    /// failed.
+    /// The kept node of a core. Its calls report the core's state unless the core's disk has failed (`refines`). After
+    /// evidence they still do, but for the node whose event revealed it: that one is stale (`left`).
     pub fn node(&self, core: u32) -> &Kept<M, MemoryDisk>
         requires { core < cores_of self.now.simulation.setup }
         ensures refines { (w : Machines M.Msg) → WorldRefinesMachines M.spec M.refines self.now w →
             RefinesMachine M.spec M.refines result.now (w.held.net.cores core) (w.disks core) }
+        ensures left { (p : Course M.Msg) → RefinesRun M.spec M.refines self.now p →
+            RefinesOrRetreated M.spec M.refines self.now.simulation.setup (node_of self.now.simulation.setup core)
+            result.now (p.machines.held.net.cores core) (p.machines.disks core) }
         ensures same { (result.now.setup ≡ self.now.simulation.setup)
             × (result.now.me.0 ≡ node_of self.now.simulation.setup core) }
     {

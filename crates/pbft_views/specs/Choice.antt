@@ -2,7 +2,7 @@
 -- highest view, that of the lowest node on a tie, and nil if there is none (PBFT).
 use Rattle.std.specs.Prelude.{ℕ, ◌==◌, cond, nat_lt, List, [], ◌∷◌, ◌++◌, Option, Some, None}
 use Rattle.iss_request.specs.declared.requests.Value.{Value}
-use Rattle.iss_request.specs.declared.requests.Value.TheVariants.{Nil}
+use Rattle.iss_request.specs.declared.requests.Value.TheVariants.{Nil as Value_nil}
 use Rattle.pbft_wire.specs.declared.messages.Certificate.{Certificate}
 use Rattle.pbft_wire.specs.declared.messages.Change.{Change}
 
@@ -26,7 +26,7 @@ certificates_of [] = []
 certificates_of (x ∷ xs) = x.certificates ++ certificates_of xs
 
 abbrev pub value_or_nil : Option Certificate → Value
-value_or_nil None = Nil
+value_or_nil None = Value_nil
 value_or_nil (Some c) = c.value
 
 -- the value of the certificate of the highest view at the slot, else nil. In a tie it is that of the lowest replica,

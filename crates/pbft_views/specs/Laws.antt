@@ -4,7 +4,7 @@ use Rattle.iss_base.specs.Lists.{In}
 use Rattle.iss_base.specs.Quorum.{all_below, distinct}
 use Rattle.iss_request.specs.Formats.{is_batch}
 use Rattle.iss_request.specs.declared.requests.Value.{Value}
-use Rattle.iss_request.specs.declared.requests.Value.TheVariants.{Nil}
+use Rattle.iss_request.specs.declared.requests.Value.TheVariants.{Nil as Value_nil}
 use Rattle.iss_sb.specs.declared.effects.Params.{Params}
 use Rattle.pbft_wire.specs.declared.messages.Certificate.{Certificate}
 use Rattle.pbft_wire.specs.declared.messages.Change.{Change}
@@ -46,5 +46,6 @@ pub record IsHighest (xs : List Change) (s : ℕ) (c : Certificate) : Type 0 whe
       change.node.0 ≤ y.node.0
 
 pub data IsChoice (xs : List Change) (s : ℕ) : Value → Type 0 where
-  nothing : ((y : Change) (d : Certificate) → In y xs → In d y.certificates → d.slot.0 ≡ s → ⊥) → IsChoice xs s Nil
+  nothing : ((y : Change) (d : Certificate) → In y xs → In d y.certificates → d.slot.0 ≡ s → ⊥) →
+      IsChoice xs s Value_nil
   highest : (c : Certificate) → IsHighest xs s c → IsChoice xs s c.value

@@ -2,15 +2,15 @@
 ghost use Rattle.std.specs.Prelude.{◌≡◌, ◌++◌, ◌∷◌, [], map, IfOk, OnOk};
 ghost use Rattle.iss_request.specs.Setup.{IsGoodSetup};
 ghost use Rattle.pbft_wire.specs.Marks.{mark_of};
-ghost use Rattle.pbft_wire.specs.Statements.{digest_of, state_at};
-ghost use Rattle.pbft_wire.specs.declared.messages.Message.TheVariants.{NewView, PrePrepare, ViewChange};
+ghost use Rattle.pbft_wire.specs.Statements.{digest_of, state_at, state_change};
+ghost use Rattle.pbft_wire.specs.declared.messages.Message.TheVariants.{NewView, ViewChange};
 ghost use Rattle.pbft_views.specs.Choice.{choice};
 ghost use Rattle.iss_sb.specs.Statements.{claim};
 ghost use Rattle.pbft_views.specs.Claims.{certificate_claims, certificates_claims, change_claims, changes_claims, chosen_claims, claims, vote_claims};
 
 use crate::choosing::choice_digest;
 use crate::goodness::primary;
-use iss_request::{Bytes, NoMemory, NodeId, Seq, Slot, Value};
+use iss_request::{Bytes, NoMemory, NodeId, Seq, Slot};
 use iss_sb::{Claim, Params, Signed};
 use pbft_wire::signing::{COMMIT, PRE_PREPARE, PREPARE};
 use pbft_wire::{
@@ -65,9 +65,9 @@ fn put_certificate_claims(
     requires marked { mark.now ≡ mark_of p.now c.now }
     ensures { OnOk result (all.new ≡ all.old ++ certificate_claims p.now c.now) }
 {
-    let statement = state_at(alloc, p, PRE_PREPARE, mark.view, mark.slot, &mark.digest)?;
+    let statement = state_at(alloc, p, PRE_PREPARE, mark)?;
     put_claim(primary(p, mark.view), statement, &c.sig, all)?;
-    let prepared = state_at(alloc, p, PREPARE, mark.view, mark.slot, &mark.digest)?;
+    let prepared = state_at(alloc, p, PREPARE, mark)?;
     put_vote_claims(p, mark, &prepared, c.prepares.as_slice(), all)
 }
 
@@ -94,26 +94,39 @@ fn put_certificates_claims(
     }
 }
 
-// A ViewChange with more than 255 certificates has no statement: the answer is `NoMemory`.
-fn put_change_claims(
+// Appends the claims of a ViewChange's certificates, and returns its statement. With more than 255 certificates it has
+// none: the answer is `NoMemory`.
+fn change_statement(
     alloc: Global,
     p: &Params,
-    by: NodeId,
     view: u16,
     certificates: &[Certificate],
-    sig: &Bytes,
     all: &mut Seq<Claim>,
-) -> Result<(), NoMemory>
+) -> Result<Bytes, NoMemory>
     requires { IsGoodSetup p.now.setup }
-    ensures { OnOk result (all.new ≡ all.old ++ change_claims p.now by.0 view certificates.now sig.now) }
+    ensures statement { IfOk result (λ s. s ≡ state_change p.now view certificates.now) }
+    ensures claimed { OnOk result (all.new ≡ all.old ++ certificates_claims p.now certificates.now) }
 {
     let mut marks = Seq::new(alloc);
     put_certificates_claims(alloc, p, certificates, &mut marks, all)?;
     if marks.len() > 255 {
         return Err(NoMemory);
     }
-    let statement = state_marked(alloc, p, view, marks.as_slice())?;
-    put_claim(by, statement, sig, all)
+    state_marked(alloc, p, view, marks.as_slice())
+}
+
+fn put_change_claims(
+    alloc: Global,
+    p: &Params,
+    change: &Change,
+    all: &mut Seq<Claim>,
+) -> Result<(), NoMemory>
+    requires { IsGoodSetup p.now.setup }
+    ensures { OnOk result (all.new ≡ all.old ++
+        change_claims p.now change.now.node.0 change.now.view change.now.certificates change.now.sig) }
+{
+    let statement = change_statement(alloc, p, change.view, change.certificates.as_slice(), all)?;
+    put_claim(change.node, statement, &change.sig, all)
 }
 
 fn put_changes_claims(
@@ -127,44 +140,50 @@ fn put_changes_claims(
 {
     match changes {
         [] => Ok(()),
-        [x, others @ ..] => {
-            let certificates = x.certificates.as_slice();
-            put_change_claims(alloc, p, x.node, x.view, certificates, &x.sig, all)?;
+        [change, others @ ..] => {
+            put_change_claims(alloc, p, change, all)?;
             put_changes_claims(alloc, p, others, all)
         }
     }
+}
+
+// The PrePrepares of a NewView: their primary, their view, and the ViewChanges that choose their values.
+#[derive(Drop)]
+struct NewProposals<'a> {
+    by: NodeId,
+    view: u16,
+    changes: &'a [Change],
 }
 
 // The claim of a new primary's PrePrepare, which is for the choice at the slot.
 fn put_chosen_claim(
     alloc: Global,
     p: &Params,
-    by: NodeId,
-    view: u16,
-    changes: &[Change],
+    new: &NewProposals,
     slot: Slot,
     sig: &Bytes,
     all: &mut Seq<Claim>,
 ) -> Result<(), NoMemory>
-    ensures { OnOk result (all.new ≡ all.old ++
-        claim by.0 (state_at p.now 1 view slot.0 (digest_of p.now (choice changes.now slot.0))) sig.now ∷ []) }
+    ensures { OnOk result (all.new ≡ all.old ++ claim new.now.by.0
+        (state_at p.now 1 new.now.view slot.0 (digest_of p.now (choice new.now.changes.now slot.0))) sig.now ∷ []) }
 {
-    let digest = choice_digest(alloc, p, slot, changes);
-    let statement = state_at(alloc, p, PRE_PREPARE, view, slot, &digest)?;
-    put_claim(by, statement, sig, all)
+    let digest = choice_digest(alloc, p, slot, new.changes);
+    let view = new.view;
+    let mark = Mark { slot, view, digest };
+    let statement = state_at(alloc, p, PRE_PREPARE, &mark)?;
+    put_claim(new.by, statement, sig, all)
 }
 
 fn put_chosen_claims(
     alloc: Global,
     p: &Params,
-    by: NodeId,
-    view: u16,
-    changes: &[Change],
+    new: &NewProposals,
     slots: &[Slot],
     signatures: &[Bytes],
     all: &mut Seq<Claim>,
 ) -> Result<(), NoMemory>
-    ensures { OnOk result (all.new ≡ all.old ++ chosen_claims p.now by.0 view changes.now slots.now signatures.now) }
+    ensures { OnOk result (all.new ≡ all.old ++
+        chosen_claims p.now new.now.by.0 new.now.view new.now.changes.now slots.now signatures.now) }
 {
     let [slot, slots @ ..] = slots else {
         return Ok(());
@@ -172,43 +191,44 @@ fn put_chosen_claims(
     let [sig, signatures @ ..] = signatures else {
         return Ok(());
     };
-    put_chosen_claim(alloc, p, by, view, changes, *slot, sig, all)?;
-    put_chosen_claims(alloc, p, by, view, changes, slots, signatures, all)
+    put_chosen_claim(alloc, p, new, *slot, sig, all)?;
+    put_chosen_claims(alloc, p, new, slots, signatures, all)
 }
 
 // ---- the claims of each kind of message
+
+fn one_claim(
+    alloc: Global,
+    by: NodeId,
+    statement: Bytes,
+    sig: &Bytes,
+) -> Result<Seq<Claim>, NoMemory>
+    ensures { IfOk result (λ all. all ≡ claim by.0 statement sig.now ∷ []) }
+{
+    let mut all = Seq::new(alloc);
+    put_claim(by, statement, sig, &mut all)?;
+    Ok(all)
+}
+
+fn mark(view: u16, slot: Slot, digest: [u8; 32]) -> Mark
+    ensures { result ≡ record { slot = slot; view = view; digest = digest } }
+{
+    Mark { slot, view, digest }
+}
 
 fn claims_at(
     alloc: Global,
     p: &Params,
     from: NodeId,
     kind: u8,
-    view: u16,
-    slot: Slot,
-    digest: &[u8; 32],
+    mark: &Mark,
     sig: &Bytes,
 ) -> Result<Seq<Claim>, NoMemory>
-    ensures { IfOk result (λ all. all ≡ claim from.0 (state_at p.now kind view slot.0 digest.now) sig.now ∷ []) }
+    ensures { IfOk result (λ all. all ≡ claim from.0
+        (state_at p.now kind mark.now.view mark.now.slot.0 mark.now.digest) sig.now ∷ []) }
 {
-    let mut all = Seq::new(alloc);
-    let statement = state_at(alloc, p, kind, view, slot, digest)?;
-    put_claim(from, statement, sig, &mut all)?;
-    Ok(all)
-}
-
-fn claims_of_proposal(
-    alloc: Global,
-    p: &Params,
-    from: NodeId,
-    view: u16,
-    slot: Slot,
-    value: &Value,
-    sig: &Bytes,
-) -> Result<Seq<Claim>, NoMemory>
-    ensures { IfOk result (λ all. all ≡ claims p.now from.0 (PrePrepare view slot value.now sig.now)) }
-{
-    let digest = digest_of(alloc, p, value);
-    claims_at(alloc, p, from, PRE_PREPARE, view, slot, &digest, sig)
+    let statement = state_at(alloc, p, kind, mark)?;
+    one_claim(alloc, from, statement, sig)
 }
 
 fn claims_of_change(
@@ -223,28 +243,27 @@ fn claims_of_change(
     ensures { IfOk result (λ all. all ≡ claims p.now from.0 (ViewChange view certificates.now sig.now)) }
 {
     let mut all = Seq::new(alloc);
-    put_change_claims(alloc, p, from, view, certificates, sig, &mut all)?;
+    let statement = change_statement(alloc, p, view, certificates, &mut all)?;
+    put_claim(from, statement, sig, &mut all)?;
     Ok(all)
 }
 
 fn claims_of_new_view(
     alloc: Global,
     p: &Params,
-    from: NodeId,
-    view: u16,
-    changes: &[Change],
+    new: &NewProposals,
     signatures: &[Bytes],
     sig: &Bytes,
 ) -> Result<Seq<Claim>, NoMemory>
     requires { IsGoodSetup p.now.setup }
-    ensures { IfOk result (λ all. all ≡ claims p.now from.0 (NewView view changes.now signatures.now sig.now)) }
+    ensures { IfOk result (λ all. all ≡ claims p.now new.now.by.0
+        (NewView new.now.view new.now.changes.now signatures.now sig.now)) }
 {
     let mut all = Seq::new(alloc);
-    put_changes_claims(alloc, p, changes, &mut all)?;
-    let slots = p.slots.as_slice();
-    put_chosen_claims(alloc, p, from, view, changes, slots, signatures, &mut all)?;
-    let statement = state_new(alloc, p, view)?;
-    put_claim(from, statement, sig, &mut all)?;
+    put_changes_claims(alloc, p, new.changes, &mut all)?;
+    put_chosen_claims(alloc, p, new, p.slots.as_slice(), signatures, &mut all)?;
+    let statement = state_new(alloc, p, new.view)?;
+    put_claim(new.by, statement, sig, &mut all)?;
     Ok(all)
 }
 
@@ -266,19 +285,29 @@ pub fn claims(
             slot,
             value,
             sig,
-        } => claims_of_proposal(alloc, p, from, *view, *slot, value, sig),
+        } => {
+            let digest = digest_of(alloc, p, value);
+            let at = mark(*view, *slot, digest);
+            claims_at(alloc, p, from, PRE_PREPARE, &at, sig)
+        }
         Message::Prepare {
             view,
             slot,
             digest,
             sig,
-        } => claims_at(alloc, p, from, PREPARE, *view, *slot, digest, sig),
+        } => {
+            let at = mark(*view, *slot, *digest);
+            claims_at(alloc, p, from, PREPARE, &at, sig)
+        }
         Message::Commit {
             view,
             slot,
             digest,
             sig,
-        } => claims_at(alloc, p, from, COMMIT, *view, *slot, digest, sig),
+        } => {
+            let at = mark(*view, *slot, *digest);
+            claims_at(alloc, p, from, COMMIT, &at, sig)
+        }
         Message::ViewChange {
             view,
             certificates,
@@ -290,8 +319,12 @@ pub fn claims(
             signatures,
             sig,
         } => {
-            let signatures = signatures.as_slice();
-            claims_of_new_view(alloc, p, from, *view, changes.as_slice(), signatures, sig)
+            let new = NewProposals {
+                by: from,
+                view: *view,
+                changes: changes.as_slice(),
+            };
+            claims_of_new_view(alloc, p, &new, signatures.as_slice(), sig)
         }
     }
 }

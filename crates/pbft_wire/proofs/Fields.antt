@@ -10,7 +10,7 @@ use Rattle.iss_request.specs.Formats.{HasSpelling, IsSpelledValue, has_spelling,
 use Rattle.iss_request.specs.Parsing.{byte, number}
 use Rattle.iss_request.specs.declared.requests.Request.{Request}
 use Rattle.iss_request.specs.declared.requests.Value.{Value}
-use Rattle.iss_request.specs.declared.requests.Value.TheVariants.{Nil, Batch as Value_batch}
+use Rattle.iss_request.specs.declared.requests.Value.TheVariants.{Nil as Value_nil, Batch as Value_batch}
 use Rattle.iss_request.proofs.OneSpelling.{value_grammar, value_related}
 use Rattle.iss_request.proofs.ParserLemmas.{byte_again, byte_parts, number_again, number_parts, test_parts, test_passed, wide16, wide64}
 use Rattle.iss_sb.proofs.Ascending.{IsText}
@@ -57,17 +57,17 @@ spelled-all (r ∷ rs) h = both (has_spelling r) (list_all has_spelling rs) h.0 
 
 module _ (version : ℕ) where
   abbrev text_of : Value → List ℕ
-  text_of Nil = 0 ∷ []
+  text_of Value_nil = 0 ∷ []
   text_of (Value_batch b) = value_bytes version b
 
   text-spelled : (v : Value) → fits_value version v ≡ true → IsSpelledValue version v (text_of v)
-  text-spelled Nil h = refl
+  text-spelled Value_nil h = refl
   text-spelled (Value_batch b) h =
       let t = and-true (nat_le (length b) (requests_most version)) (list_all has_spelling b) h in
       (leb-true (length b) (requests_most version) t.0, all-spelled b t.1, refl)
 
   pub value-fits : (v : Value) (bytes : List ℕ) → IsSpelledValue version v bytes → fits_value version v ≡ true
-  value-fits Nil bytes h = refl
+  value-fits Value_nil bytes h = refl
   value-fits (Value_batch b) bytes h = both (nat_le (length b) (requests_most version)) (list_all has_spelling b) (le-leb (length b) (requests_most version) h.0) (spelled-all b h.1)
 
   -- a well-formed value is read from its encoding, and from nothing else

@@ -11,7 +11,7 @@ use Rattle.iss_request.specs.Parsing.{Parser, ◌>>=◌, byte, done, number, suc
 use Rattle.iss_request.specs.declared.ids.NodeId.{NodeId}
 use Rattle.iss_request.specs.declared.ids.Slot.{Slot}
 use Rattle.iss_request.specs.declared.requests.Value.{Value}
-use Rattle.iss_request.specs.declared.requests.Value.TheVariants.{Nil, Batch as Value_batch}
+use Rattle.iss_request.specs.declared.requests.Value.TheVariants.{Nil as Value_nil, Batch as Value_batch}
 use Rattle.iss_sb.specs.Ascending.{all_ascend, ascending}
 use Rattle.iss_sb.specs.Signers.{AreSigners, are_signers, parse_signers, spell_signed}
 use Rattle.pbft_wire.specs.declared.messages.Certificate.{Certificate}
@@ -29,7 +29,7 @@ abbrev pub fits_count : ℕ → Bool
 fits_count n = nat_le n 255
 
 abbrev pub fits_value : ℕ → Value → Bool
-fits_value version Nil = true
+fits_value version Value_nil = true
 fits_value version (Value_batch b) = nat_le (length b) (requests_most version) && list_all has_spelling b
 
 abbrev pub fits_certificate : ℕ → Certificate → Bool

@@ -29,7 +29,8 @@ pub const VIEW_CHANGE: u8 = 4;
 /// The number of a NewView.
 pub const NEW_VIEW: u8 = 5;
 
-/// What a ViewChange signs of a certificate: its slot, its view, and the digest of its value.
+/// The digest of a value at a slot in a view: what PrePrepares, Prepares and Commits sign, and what a ViewChange signs
+/// of each certificate.
 #[derive(Drop)]
 pub struct Mark {
     pub slot: Slot,
@@ -87,23 +88,17 @@ fn marks_of(alloc: Global, p: &Params, certificates: &[Certificate]) -> Result<S
 
 // ---- statements
 
-/// The statement of a PrePrepare, a Prepare or a Commit (`kind`) for the value with this digest.
+/// The statement of a PrePrepare, a Prepare or a Commit (`kind`).
 // rule: PBFT: A signature covers the instance, kind, view, slot and digest
-pub fn state_at(
-    alloc: Global,
-    p: &Params,
-    kind: u8,
-    view: u16,
-    slot: Slot,
-    digest: &[u8; 32],
-) -> Result<Bytes, NoMemory>
-    ensures { IfOk result (λ s. s ≡ state_at p.now kind view slot.0 digest.now) }
+pub fn state_at(alloc: Global, p: &Params, kind: u8, mark: &Mark) -> Result<Bytes, NoMemory>
+    ensures { IfOk result (λ s. s ≡ state_at p.now kind mark.now.view mark.now.slot.0 mark.now.digest) }
 {
     let mut out = Writer::new(alloc, p.setup.version);
     put_head(p, TAG, &mut out)?;
     out.put_u8(kind)?;
-    out.put_u16(view)?;
-    out.put_u64(slot.0)?;
+    out.put_u16(mark.view)?;
+    out.put_u64(mark.slot.0)?;
+    let digest = &mark.digest;
     out.put_bytes(digest)?;
     Ok(out.into_bytes())
 }

@@ -2,6 +2,7 @@
 use Rattle.std.proofs.Common.{◌≡◌, ◌+◌, ◌*◌, ℕ, List, [], ◌∷◌, ◌++◌, Some, None, refl}
 use Rattle.std.specs.Prelude.{replicate}
 use Rattle.sha2.specs.Sha256.{sha256, digest_bytes, hash_after, compress, rounds, schedule, first_words}
+use Rattle.iss_base.specs.Heights.{digests_of_height}
 use Rattle.iss_keys.specs.Directories.{directory_of}
 use Rattle.iss_request.specs.Formats.{spell_batch, spell_count, spell_value}
 use Rattle.iss_request.specs.declared.ids.NodeId.{NodeId}
@@ -17,7 +18,7 @@ use Rattle.iss_sb.specs.declared.effects.To.TheVariants.{All as To_all}
 use Rattle.iss_sb.specs.Evidence.{Item, and_then, delivered}
 use Rattle.iss_sb.specs.Statements.{signature, wide_bytes}
 use Rattle.sb_echo.specs.declared.word.Word.{Word}
-use Rattle.sb_echo.specs.declared.word.Word.TheVariants.{Say, Echo}
+use Rattle.sb_echo.specs.declared.word.Word.TheVariants.{Say, Echo as Echo_word}
 use Rattle.sb_echo.specs.Echo.{asks, claims, digest_of, echo, spell, statement, string_of}
 
 abbrev pub slot : ℕ → Slot
@@ -64,7 +65,7 @@ sig k kind leaf = signature p k leaf (statement p kind 0 d)
 abbrev pub cast : List (Item Word)
 cast = and_then echo p 0 [] (Cast (slot 0) b) 5
 
-casts : cast ≡ record { input = Cast (slot 0) b; leaf = 5; made = record { sends = (To_all, Say (slot 0) b (sig 0 1 5)) ∷ (To_all, Echo (slot 0) d (sig 0 2 6)) ∷ []; accepted = Some (slot 0, b); strings = string_of p b ∷ []; used = 2 } } ∷ []
+casts : cast ≡ record { input = Cast (slot 0) b; leaf = 5; made = record { sends = (To_all, Say (slot 0) b (sig 0 1 5)) ∷ (To_all, Echo_word (slot 0) d (sig 0 2 6)) ∷ []; accepted = Some (slot 0, b); strings = string_of p b ∷ []; used = 2 } } ∷ []
 casts = refl
 
 casts_once : asks p 0 cast (Cast (slot 0) b) ≡ None
@@ -81,7 +82,7 @@ no_word_to_itself = refl
 abbrev pub word : List (Item Word)
 word = and_then echo p 1 [] (Receive (node 0) (Say (slot 0) b (sig 0 1 5))) 9
 
-echoes : word ≡ record { input = Receive (node 0) (Say (slot 0) b (sig 0 1 5)); leaf = 9; made = record { sends = (To_all, Echo (slot 0) d (sig 1 2 9)) ∷ []; accepted = Some (slot 0, b); strings = string_of p b ∷ []; used = 1 } } ∷ []
+echoes : word ≡ record { input = Receive (node 0) (Say (slot 0) b (sig 0 1 5)); leaf = 9; made = record { sends = (To_all, Echo_word (slot 0) d (sig 1 2 9)) ∷ []; accepted = Some (slot 0, b); strings = string_of p b ∷ []; used = 1 } } ∷ []
 echoes = refl
 
 no_word_outside : asks p 1 [] (Receive (node 0) (Say (slot 1) b [])) ≡ None
@@ -91,11 +92,11 @@ no_word_of_another : asks p 1 [] (Receive (node 2) (Say (slot 0) b [])) ≡ None
 no_word_of_another = refl
 
 -- what is signed: the head, the kind, the slot, the digest
-states : claims p 1 (Echo (slot 4) (9 ∷ []) []) ≡ record { by = node 1; statement = statement p 2 4 (9 ∷ []); sig = [] } ∷ []
+states : claims p 1 (Echo_word (slot 4) (9 ∷ []) []) ≡ record { by = node 1; statement = statement p 2 4 (9 ∷ []); sig = [] } ∷ []
 states = refl
 
 abbrev pub echo_from : ℕ → List (Item Word) → List (Item Word)
-echo_from k xs = and_then echo p 1 xs (Receive (node k) (Echo (slot 0) d (sig k 2 0))) 0
+echo_from k xs = and_then echo p 1 xs (Receive (node k) (Echo_word (slot 0) d (sig k 2 0))) 0
 
 -- two echoes, one of them received twice, decide nothing; the third one decides, and the fourth changes nothing
 two : delivered echo p 1 (echo_from 1 (echo_from 0 (echo_from 0 word))) 0 ≡ None
@@ -130,18 +131,20 @@ abbrev blank : List ℕ
 blank = 2 ∷ replicate (4 + 32 * 69) 0
 
 say-bytes : spell 1 (Say (slot 259) [] blank) ≡ 1 ∷ 0 ∷ 0 ∷ 0 ∷ 0 ∷ 0 ∷ 0 ∷ 1 ∷ 3 ∷ 1 ∷ 0 ∷ blank
-unfolding spell_batch spell_count spell_value
+unfolding spell_batch spell_count spell_value digests_of_height
 say-bytes = refl
 
 say-bytes-second : spell 2 (Say (slot 259) [] blank) ≡ 1 ∷ 0 ∷ 0 ∷ 0 ∷ 0 ∷ 0 ∷ 0 ∷ 1 ∷ 3 ∷ 2 ∷ 0 ∷ 0 ∷ blank
-unfolding spell_batch spell_count spell_value
+unfolding spell_batch spell_count spell_value digests_of_height
 say-bytes-second = refl
 
-echo-bytes : spell 1 (Echo (slot 4) (replicate 32 9) blank) ≡ 2 ∷ 0 ∷ 0 ∷ 0 ∷ 0 ∷ 0 ∷ 0 ∷ 0 ∷ 4 ∷ replicate 32 9 ++ blank
+echo-bytes : spell 1 (Echo_word (slot 4) (replicate 32 9) blank) ≡ 2 ∷ 0 ∷ 0 ∷ 0 ∷ 0 ∷ 0 ∷ 0 ∷ 0 ∷ 4 ∷ replicate 32 9 ++ blank
+unfolding digests_of_height
 echo-bytes = refl
 
 -- a message with a short digest has no encoding
-no-bytes : spell 1 (Echo (slot 4) (replicate 31 9) blank) ≡ 0 ∷ []
+no-bytes : spell 1 (Echo_word (slot 4) (replicate 31 9) blank) ≡ 0 ∷ []
+unfolding digests_of_height
 no-bytes = refl
 
 -- the statement of an echo: the cluster, epoch 2, leader 0, the module, an echo, slot 4, the digest

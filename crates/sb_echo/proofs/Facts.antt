@@ -19,7 +19,7 @@ use Rattle.iss_sb.specs.Legal.{AreMade}
 use Rattle.iss_sb.proofs.Slots.{node-is, slot-is}
 use Rattle.iss_sb.proofs.Worlds.{accepts-cases, accepts-new, accepts-old}
 use Rattle.sb_echo.specs.declared.word.Word.{Word}
-use Rattle.sb_echo.specs.declared.word.Word.TheVariants.{Say, Echo}
+use Rattle.sb_echo.specs.declared.word.Word.TheVariants.{Say, Echo as Echo_word}
 use Rattle.sb_echo.specs.Echo.{asks, batch_for, claims, decide, decided, digest_of, echo, echo_of, has_echo, is_cast, is_echo, is_echoed, is_open, made_of, makes, say, statement, taken, string_of, words}
 use Rattle.sb_echo.proofs.Bytes.{is-same, same-is}
 use Rattle.iss_base.proofs.Quorum.{count-mono, or_right_true}
@@ -56,7 +56,7 @@ pub record IsAsked (p : Params) (me : ℕ) (xs : List (Item Word)) (i : Input Wo
 pub asked : (p : Params) (me : ℕ) (xs : List (Item Word)) (i : Input Word) (a : Slot × Batch) →
     asks p me xs i ≡ Some a → IsAsked p me xs i a
 asked p me xs Timeout a h = absurd (cc)
-asked p me xs (Receive from (Echo slot d sig)) a h = absurd (cc)
+asked p me xs (Receive from (Echo_word slot d sig)) a h = absurd (cc)
 asked p me xs (Cast slot batch) a h = go ((me == p.leader.0) && is_open p slot.0 xs) refl h
   where
     go : (t : Bool) → ((me == p.leader.0) && is_open p slot.0 xs) ≡ t →
@@ -202,7 +202,7 @@ pub record IsEchoOf (s : ℕ) (d : List ℕ) (k : ℕ) (i : Input Word) : Type 0
   pub from : NodeId
   pub slot : Slot
   pub sig : List ℕ
-  pub input : Same i (Receive from (Echo slot d sig))
+  pub input : Same i (Receive from (Echo_word slot d sig))
   pub by : from.0 ≡ k
   pub at_slot : slot.0 ≡ s
 
@@ -210,10 +210,10 @@ echo-is : (s : ℕ) (d : List ℕ) (k : ℕ) (i : Input Word) → is_echo s d k 
 echo-is s d k (Cast slot batch) h = absurd (true≢false (sym h))
 echo-is s d k Timeout h = absurd (true≢false (sym h))
 echo-is s d k (Receive from (Say slot batch sig)) h = absurd (true≢false (sym h))
-echo-is s d k (Receive from (Echo slot e sig)) h =
+echo-is s d k (Receive from (Echo_word slot e sig)) h =
     let t = and-true (from.0 == k) ((slot.0 == s) && same_bytes e d) h in
     let u = and-true (slot.0 == s) (same_bytes e d) t.1 in
-    record { from = from; slot = slot; sig = sig; input = ap (λ (z : List ℕ). Receive from (Echo slot z sig)) (same_bytes-is e d u.1); by = is-same from.0 k t.0; at_slot = is-same slot.0 s u.0 }
+    record { from = from; slot = slot; sig = sig; input = ap (λ (z : List ℕ). Receive from (Echo_word slot z sig)) (same_bytes-is e d u.1); by = is-same from.0 k t.0; at_slot = is-same slot.0 s u.0 }
 
 pub has_echo-is : (s : ℕ) (d : List ℕ) (k : ℕ) (xs : List (Item Word)) → has_echo s d k xs ≡ true →
     (x : Item Word) × In x xs × IsEchoOf s d k x.input

@@ -19,7 +19,7 @@ use Rattle.iss_sb.specs.Statements.{eight_bytes, signature, statement_head}
 use Rattle.iss_sb.proofs.Signatures.{signature-shape}
 use Rattle.iss_sb.proofs.Slots.{below-In, has_slot-In}
 use Rattle.sb_echo.specs.declared.word.Word.{Word}
-use Rattle.sb_echo.specs.declared.word.Word.TheVariants.{Say, Echo}
+use Rattle.sb_echo.specs.declared.word.Word.TheVariants.{Say, Echo as Echo_word}
 use Rattle.sb_echo.specs.Echo.{asks, claims, digest_of, echo, echo_of, is_cast, made_of, makes, say, statement, string_of, tag, taken, words}
 use Rattle.sb_echo.proofs.Bytes.{same-is}
 use Rattle.sb_echo.proofs.Facts.{IsOwn, Same, accepted-is, asked, decided-is}
@@ -29,8 +29,8 @@ named : (p : Params) (from : ℕ) (msg : Word) (c : Claim) → In c (claims p fr
     (rest : List ℕ) × (c.statement ≡ statement_head p tag ++ rest)
 named p from (Say slot batch sig) c (inl e) = (1 ∷ (eight_bytes slot.0 ++ digest_of p batch), ap (λ (z : Claim). z.statement) e)
 named p from (Say slot batch sig) c (inr h) = absurd h
-named p from (Echo slot d sig) c (inl e) = (2 ∷ (eight_bytes slot.0 ++ d), ap (λ (z : Claim). z.statement) e)
-named p from (Echo slot d sig) c (inr h) = absurd h
+named p from (Echo_word slot d sig) c (inl e) = (2 ∷ (eight_bytes slot.0 ++ d), ap (λ (z : Claim). z.statement) e)
+named p from (Echo_word slot d sig) c (inr h) = absurd h
 
 no-word : (s : Slot) (b : Batch) (from : NodeId) (msg : Word) → Same (Cast s b) (Receive from msg) → ⊥
 no-word s b from msg h = cc

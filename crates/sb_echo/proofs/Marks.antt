@@ -19,7 +19,7 @@ use Rattle.iss_sb.proofs.Delivered.{Delivers-from, delivered-decided}
 use Rattle.sb_echo.specs.declared.word.Word.{Word}
 use Rattle.sb_echo.specs.declared.word.Word.TheVariants.{Echo as Echo_word}
 use Rattle.sb_echo.specs.Echo.{decide, decided, digest_of, echo, has_echo, is_echo, is_echoed}
-use Rattle.sb_echo.specs.Refines.{one_at, place_for}
+use Rattle.sb_echo.specs.Internal.Refines.{one_at, place_for}
 use Rattle.sb_echo.proofs.Bytes.{is-same, same-is}
 use Rattle.sb_echo.proofs.Facts.{decided-stays}
 

@@ -21,7 +21,7 @@ use Rattle.iss_sb.proofs.Read.{batch-read}
 use Rattle.iss_sb.proofs.Setups.{good-by}
 use Rattle.iss_sb.proofs.Signatures.{signature-shape, signature-verifies}
 use Rattle.sb_echo.specs.declared.word.Word.{Word}
-use Rattle.sb_echo.specs.declared.word.Word.TheVariants.{Say, Echo}
+use Rattle.sb_echo.specs.declared.word.Word.TheVariants.{Say, Echo as Echo_word}
 use Rattle.iss_sb.specs.Statements.{claim}
 use Rattle.sb_echo.specs.Echo.{claims, echo, statement, string_of}
 use Rattle.sb_echo.proofs.Example.{b, cast, d, echo_from, node, p, setup, sig, slot, word}
@@ -35,14 +35,13 @@ good-setup = good-by setup refl
 good : IsGoodParams echo p
 good = record {
   setup = good-setup;
-  tag = refl;
   kind = refl;
   nodes = refl;
   majority = refl;
   leader = omega arith;
   some = omega arith;
   few = omega arith;
-  rising = (omega arith, (omega arith, tt));
+  ascending = (omega arith, (omega arith, tt));
   slots_low = (omega arith, (omega arith, tt));
   directory = refl;
 }
@@ -75,7 +74,7 @@ b-read = batch-read 1 b (omega arith) (λ q h. absurd h)
 said-read : IsRead (Say (slot 0) b (sig 0 1 5))
 said-read = say-again 1 (slot 0) b (sig 0 1 5) (omega arith) (signature-shape echo p good 0 5 (statement p 1 0 d)) b-read
 
-echo-read : (k : ℕ) → IsRead (Echo (slot 0) d (sig k 2 0))
+echo-read : (k : ℕ) → IsRead (Echo_word (slot 0) d (sig k 2 0))
 echo-read k = echo-again 1 (slot 0) d (sig k 2 0) (omega arith) (digest-length p b) (signature-shape echo p good k 0 (statement p 2 0 d))
 
 -- a signature by the key verifies
@@ -124,25 +123,25 @@ said-signed : IsSigned echo p w1 0 (statement p 1 0 d)
 said-signed = signed-by w1 0 _ said (statement p 1 0 d) (sig 0 1 5) (inl refl) (inl refl) refl
 
 echo-signed : (ys : List (Item Word)) → IsSigned echo p (world cast ys) 0 (statement p 2 0 d)
-echo-signed ys = signed-by (world cast ys) 0 _ (Echo (slot 0) d (sig 0 2 6)) (statement p 2 0 d) (sig 0 2 6) (inl refl) (inr (inl refl)) refl
+echo-signed ys = signed-by (world cast ys) 0 _ (Echo_word (slot 0) d (sig 0 2 6)) (statement p 2 0 d) (sig 0 2 6) (inl refl) (inr (inl refl)) refl
 
 own-signed : IsSigned echo p w3 1 (statement p 2 0 d)
-own-signed = signed-by w3 1 _ (Echo (slot 0) d (sig 1 2 9)) (statement p 2 0 d) (sig 1 2 9) (inr (inl refl)) (inl refl) refl
+own-signed = signed-by w3 1 _ (Echo_word (slot 0) d (sig 1 2 9)) (statement p 2 0 d) (sig 1 2 9) (inr (inl refl)) (inl refl) refl
 
 -- a Byzantine node's claim need not be signed in the history
 none-signed : is_correct setup 3 ≡ true → IsSigned echo p w4 3 (statement p 2 0 d)
 none-signed h = absurd (true≢false (sym h))
 
 abbrev echo-of : ℕ → Input Word
-echo-of k = Receive (node k) (Echo (slot 0) d (sig k 2 0))
+echo-of k = Receive (node k) (Echo_word (slot 0) d (sig k 2 0))
 
 reached : IsReached echo p w5
 reached =
     let r1 : IsReached echo p w1 = after at_start (first-move (Cast (slot 0) b) 5 (refl, b-read)) in
     let r2 : IsReached echo p w2 = after r1 (move-one cast [] (Receive (node 0) said) 9 (claimed w1 0 said (statement p 1 0 d) (sig 0 1 5) (omega arith) refl said-read (verified-by 0 1 5 (omega arith) (omega arith)) (λ q. said-signed))) in
-    let r3 : IsReached echo p w3 = after r2 (move-one cast word (echo-of 0) 0 (claimed w2 0 (Echo (slot 0) d (sig 0 2 0)) (statement p 2 0 d) (sig 0 2 0) (omega arith) refl (echo-read 0) (verified-by 0 2 0 (omega arith) (omega arith)) (λ q. echo-signed word))) in
-    let r4 : IsReached echo p w4 = after r3 (move-one cast (echo_from 0 word) (echo-of 1) 0 (claimed w3 1 (Echo (slot 0) d (sig 1 2 0)) (statement p 2 0 d) (sig 1 2 0) (omega arith) refl (echo-read 1) (verified-by 1 2 0 (omega arith) (omega arith)) (λ q. own-signed))) in
-    after r4 (move-one cast (echo_from 1 (echo_from 0 word)) (echo-of 3) 0 (claimed w4 3 (Echo (slot 0) d (sig 3 2 0)) (statement p 2 0 d) (sig 3 2 0) (omega arith) refl (echo-read 3) (verified-by 3 2 0 (omega arith) (omega arith)) none-signed))
+    let r3 : IsReached echo p w3 = after r2 (move-one cast word (echo-of 0) 0 (claimed w2 0 (Echo_word (slot 0) d (sig 0 2 0)) (statement p 2 0 d) (sig 0 2 0) (omega arith) refl (echo-read 0) (verified-by 0 2 0 (omega arith) (omega arith)) (λ q. echo-signed word))) in
+    let r4 : IsReached echo p w4 = after r3 (move-one cast (echo_from 0 word) (echo-of 1) 0 (claimed w3 1 (Echo_word (slot 0) d (sig 1 2 0)) (statement p 2 0 d) (sig 1 2 0) (omega arith) refl (echo-read 1) (verified-by 1 2 0 (omega arith) (omega arith)) (λ q. own-signed))) in
+    after r4 (move-one cast (echo_from 1 (echo_from 0 word)) (echo-of 3) 0 (claimed w4 3 (Echo_word (slot 0) d (sig 3 2 0)) (statement p 2 0 d) (sig 3 2 0) (omega arith) refl (echo-read 3) (verified-by 3 2 0 (omega arith) (omega arith)) none-signed))
 
 delivers : delivered echo p 1 (w5 1) 0 ≡ Some (Value_batch b)
 unfolding sha256 digest_bytes hash_after compress rounds schedule first_words spell_batch spell_count spell_value

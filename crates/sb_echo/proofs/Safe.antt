@@ -14,13 +14,13 @@ use Rattle.iss_sb.specs.declared.effects.Input.TheVariants.{Cast, Receive}
 use Rattle.iss_sb.specs.declared.effects.Params.{Params}
 use Rattle.iss_sb.specs.Calls.{IsGoodParams}
 use Rattle.iss_sb.specs.Evidence.{Item, World, IsCredible, IsReadBatch, IsSigned, IsString, MayCome, Separate, Verifies, accepts, delivered, is_correct}
-use Rattle.iss_sb.specs.Laws.{IsBroadcast, IsSafe, SharedAcceptor}
+use Rattle.iss_sb.specs.Laws.{AcceptsOnce, IsBroadcast, IsSafe, SharedAcceptor}
 use Rattle.iss_sb.specs.Legal.{IsLegal}
 use Rattle.iss_sb.proofs.Delivered.{delivered-decided}
-use Rattle.iss_sb.proofs.Legal.{safe-legal}
+use Rattle.iss_sb.proofs.Legal.{once-made, safe-legal}
 use Rattle.iss_sb.proofs.Quorums.{Meets, few-faulty, meets}
 use Rattle.sb_echo.specs.declared.word.Word.{Word}
-use Rattle.sb_echo.specs.declared.word.Word.TheVariants.{Say, Echo}
+use Rattle.sb_echo.specs.declared.word.Word.TheVariants.{Say, Echo as Echo_word}
 use Rattle.iss_sb.proofs.Statements.{statement-same}
 use Rattle.iss_sb.specs.Statements.{claim}
 use Rattle.sb_echo.specs.Echo.{digest_of, echo, has_echo, statement, string_of, tag}
@@ -62,7 +62,7 @@ module _ (p : Params) (w : World Word) (legal : IsLegal echo p w) where
   echo-took i s d k h correct =
       let r = has_echo-is s d k (w i) h in
       let e = r.2 in
-      let c = came-signed i r.0 e.from (Echo e.slot d e.sig) r.1 e.input in
+      let c = came-signed i r.0 e.from (Echo_word e.slot d e.sig) r.1 e.input in
       let by : e.from.0 ≡ k = e.by in
       let at_slot : e.slot.0 ≡ s = e.at_slot in
       let signed : IsSigned echo p w e.from.0 (statement p 2 e.slot.0 d) =
@@ -170,3 +170,6 @@ module _ (p : Params) (w : World Word) (legal : IsLegal echo p w) where
 
 pub echo-safe : IsSafe echo
 echo-safe = safe-legal echo (λ p w good legal sep. is-broadcast p w legal sep good)
+
+pub echo-accepts-once : AcceptsOnce echo
+echo-accepts-once = once-made echo (λ p me xs good made s b c. once p me xs s b c made)

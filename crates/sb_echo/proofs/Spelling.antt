@@ -14,10 +14,10 @@ use Rattle.iss_request.proofs.ParserLemmas.{block_again, block_parts, byte_again
 use Rattle.iss_request.specs.declared.ids.Slot.{Slot}
 use Rattle.iss_request.specs.declared.requests.Batch.{Batch}
 use Rattle.iss_request.specs.declared.requests.Value.{Value}
-use Rattle.iss_request.specs.declared.requests.Value.TheVariants.{Nil, Batch as Value_batch}
+use Rattle.iss_request.specs.declared.requests.Value.TheVariants.{Nil as Value_nil, Batch as Value_batch}
 use Rattle.iss_sb.proofs.Read.{read-again}
 use Rattle.sb_echo.specs.declared.word.Word.{Word}
-use Rattle.sb_echo.specs.declared.word.Word.TheVariants.{Say, Echo}
+use Rattle.sb_echo.specs.declared.word.Word.TheVariants.{Say, Echo as Echo_word}
 use Rattle.sb_echo.specs.Echo.{IsSpelledWord, parse, parse_echo, parse_say, spell}
 
 -- in one version of the formats
@@ -48,7 +48,7 @@ module _ (version : ℕ) where
   parse_say-is = refl
 
   abbrev made-echo : ℕ → List ℕ → List ℕ → Parser Word
-  made-echo slot d sig = done (Echo (record { 0 = slot }) d sig)
+  made-echo slot d sig = done (Echo_word (record { 0 = slot }) d sig)
 
   abbrev after_digest : ℕ → List ℕ → Parser Word
   after_digest slot d = parse_signature >>= made-echo slot d
@@ -73,14 +73,14 @@ module _ (version : ℕ) where
   spelled-say slot batch sig h = rw h refl
 
   spelled-echo : (slot : Slot) (d sig : List ℕ) → fits-echo slot d sig ≡ true →
-      spell version (Echo slot d sig) ≡ 2 ∷ to_be_bytes w64 slot.0 ++ d ++ sig
+      spell version (Echo_word slot d sig) ≡ 2 ∷ to_be_bytes w64 slot.0 ++ d ++ sig
   spelled-echo slot d sig h = rw h refl
 
   regroup : (n : ℕ) (a b c rest : List ℕ) → (n ∷ a ++ b ++ c) ++ rest ≡ n ∷ (a ++ (b ++ (c ++ rest)))
   regroup n a b c rest = simp append_assoc
 
   value-is : (v : Value) → is_batch v ≡ true → v ≡ Value_batch (batch_of v)
-  value-is Nil h = absurd (true≢false (sym h))
+  value-is Value_nil h = absurd (true≢false (sym h))
   value-is (Value_batch b) h = refl
 
   both : (a b : Bool) → a ≡ true → b ≡ true → (a && b) ≡ true
@@ -112,7 +112,7 @@ module _ (version : ℕ) where
       let a = then_parts (number w64) after_echo_slot bytes rest msg (rw parse_echo-is at h) in
       let b = then_parts (block 32) (after_digest a.thing) a.mid rest msg a.second in
       let c = then_parts parse_signature (made-echo a.thing b.thing) b.mid rest msg b.second in
-      let d = done_parts (Echo (record { 0 = a.thing }) b.thing c.thing) msg c.mid rest c.second in
+      let d = done_parts (Echo_word (record { 0 = a.thing }) b.thing c.thing) msg c.mid rest c.second in
       let slot = number_parts w64 (2 ^ 64) wide64 bytes a.mid a.thing a.first in
       let piece = block_parts 32 a.mid b.mid b.thing b.first in
       let sig = signature_parts b.mid c.mid c.thing c.first in
@@ -186,16 +186,16 @@ module _ (version : ℕ) where
 
   pub echo-good : (slot : Slot) (d sig rest : List ℕ) → slot.0 < 2 ^ 64 → length d ≡ 32 → is_signature sig ≡ true →
       fits-echo slot d sig ≡ true →
-      parse version (spell version (Echo slot d sig) ++ rest) ≡ Good (Echo slot d sig) rest
+      parse version (spell version (Echo_word slot d sig) ++ rest) ≡ Good (Echo_word slot d sig) rest
   echo-good slot d sig rest lt len shape fits =
-      let msg : Word = Echo slot d sig in
+      let msg : Word = Echo_word slot d sig in
       let text : List ℕ = d ++ (sig ++ rest) in
       let all : List ℕ = to_be_bytes w64 slot.0 ++ text in
       let third = then_good parse_signature (made-echo slot.0 d) (sig ++ rest) rest rest sig msg (signature_again sig rest shape) (done_good msg rest) in
       let second = then_good (block 32) (after_digest slot.0) text (sig ++ rest) rest d msg (block_again d (sig ++ rest) 32 len) third in
       let first = then_good (number w64) after_echo_slot all text rest slot.0 msg (number_again w64 (2 ^ 64) wide64 slot.0 text lt) second in
       let echoed : parse_echo all ≡ Good msg rest = rw parse_echo-is first in
-      let bytes : spell version (Echo slot d sig) ++ rest ≡ 2 ∷ all = ap (λ (x : List ℕ). x ++ rest) (spelled-echo slot d sig fits) ∙ regroup 2 (to_be_bytes w64 slot.0) d sig rest in
+      let bytes : spell version (Echo_word slot d sig) ++ rest ≡ 2 ∷ all = ap (λ (x : List ℕ). x ++ rest) (spelled-echo slot d sig fits) ∙ regroup 2 (to_be_bytes w64 slot.0) d sig rest in
       rw (bytes, parse-is) (then_good (such_that known byte) after_message (2 ∷ all) all rest 2 msg (message-is 2 all refl) echoed)
 
   whole : (msg : Word) → Whole msg
@@ -210,9 +210,9 @@ module _ (version : ℕ) where
             | inl again ↦ inl (λ rest. say-good slot batch sig lt t.1 q rest (again (sig ++ rest)))
             | inr bad ↦ inr (λ rest. say-bad slot batch sig lt t.1 q rest (bad (sig ++ rest)))
           ]
-  whole (Echo slot d sig) = go (fits-echo slot d sig) refl
+  whole (Echo_word slot d sig) = go (fits-echo slot d sig) refl
     where
-      go : (t : Bool) → fits-echo slot d sig ≡ t → Whole (Echo slot d sig)
+      go : (t : Bool) → fits-echo slot d sig ≡ t → Whole (Echo_word slot d sig)
       go false q = inr (λ rest. rw q (none rest))
       go true q =
           let t = and-true (nat_lt slot.0 (2 ^ 64)) ((length d == 32) && is_signature sig) q in
@@ -252,7 +252,7 @@ module _ (version : ℕ) where
   say-again slot batch sig lt shape h rest = say-good slot batch sig lt shape (both (nat_lt slot.0 (2 ^ 64)) (is_signature sig) (lt-ltb slot.0 (2 ^ 64) lt) shape) rest (h (sig ++ rest))
 
   pub echo-again : (slot : Slot) (d sig : List ℕ) → slot.0 < 2 ^ 64 → length d ≡ 32 → is_signature sig ≡ true →
-      IsReadAgain (spell version) (parse version) (Echo slot d sig)
+      IsReadAgain (spell version) (parse version) (Echo_word slot d sig)
   echo-again slot d sig lt len shape rest =
       let tail = both (length d == 32) (is_signature sig) ((Decides-eqb (length d) 32).1 len) shape in
       echo-good slot d sig rest lt len shape (both (nat_lt slot.0 (2 ^ 64)) ((length d == 32) && is_signature sig) (lt-ltb slot.0 (2 ^ 64) lt) tail)
@@ -279,14 +279,14 @@ module _ (version : ℕ) where
           let value = say-read slot batch sig (again-of (Say slot batch sig) bytes h) [] in
           let alone : parse_value version (spell_value version (Value_batch batch)) ≡ Good (Value_batch batch) [] = ap (λ (x : List ℕ). parse_value version x) (sym (append-nil (spell_value version (Value_batch batch)))) ∙ value in
           (ltb-true slot.0 (2 ^ 64) t.0, t.1, (spell_value version (Value_batch batch), (value_related version (Value_batch batch) (spell_value version (Value_batch batch))).0 alone, whole-is (Say slot batch sig) bytes h ∙ spelled-say slot batch sig q))
-  read-spelled (Echo slot d sig) bytes h = go (fits-echo slot d sig) refl
+  read-spelled (Echo_word slot d sig) bytes h = go (fits-echo slot d sig) refl
     where
-      go : (t : Bool) → fits-echo slot d sig ≡ t → IsSpelledWord version (Echo slot d sig) bytes
-      go false q = absurd (unfit (Echo slot d sig) (rw q refl) (again-of (Echo slot d sig) bytes h))
+      go : (t : Bool) → fits-echo slot d sig ≡ t → IsSpelledWord version (Echo_word slot d sig) bytes
+      go false q = absurd (unfit (Echo_word slot d sig) (rw q refl) (again-of (Echo_word slot d sig) bytes h))
       go true q =
           let t = and-true (nat_lt slot.0 (2 ^ 64)) ((length d == 32) && is_signature sig) q in
           let u = and-true (length d == 32) (is_signature sig) t.1 in
-          (ltb-true slot.0 (2 ^ 64) t.0, (Decides-eqb (length d) 32).0 u.0, u.1, whole-is (Echo slot d sig) bytes h ∙ spelled-echo slot d sig q)
+          (ltb-true slot.0 (2 ^ 64) t.0, (Decides-eqb (length d) 32).0 u.0, u.1, whole-is (Echo_word slot d sig) bytes h ∙ spelled-echo slot d sig q)
 
   alone-read : (msg : Word) (bytes : List ℕ) → bytes ≡ spell version msg →
       IsReadAgain (spell version) (parse version) msg → parse version bytes ≡ Good msg []
@@ -302,10 +302,10 @@ module _ (version : ℕ) where
       alone-read (Say slot batch sig) bytes
       (h.2.2 ∙ ap (λ (x : List ℕ). 1 ∷ to_be_bytes w64 slot.0 ++ x ++ sig) is ∙ sym (spelled-say slot batch sig fits))
       (say-again slot batch sig h.0 h.1 again)
-  spelled-read (Echo slot d sig) bytes h =
+  spelled-read (Echo_word slot d sig) bytes h =
       let tail = both (length d == 32) (is_signature sig) ((Decides-eqb (length d) 32).1 h.1) h.2 in
       let fits = both (nat_lt slot.0 (2 ^ 64)) ((length d == 32) && is_signature sig) (lt-ltb slot.0 (2 ^ 64) h.0) tail in
-      alone-read (Echo slot d sig) bytes (h.3 ∙ sym (spelled-echo slot d sig fits)) (echo-again slot d sig h.0 h.1 h.2)
+      alone-read (Echo_word slot d sig) bytes (h.3 ∙ sym (spelled-echo slot d sig fits)) (echo-again slot d sig h.0 h.1 h.2)
 
   pub word-related : (msg : Word) (bytes : List ℕ) →
       (parse version bytes ≡ Good msg []) ↔ IsSpelledWord version msg bytes

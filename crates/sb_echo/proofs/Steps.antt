@@ -24,7 +24,7 @@ use Rattle.sb_echo.specs.declared.word.Word.{Word}
 use Rattle.sb_echo.specs.declared.word.Word.TheVariants.{Say, Echo as Echo_word}
 use Rattle.sb_echo.specs.Echo.{asks, batch_for, decide, decided, digest_of, echo, has_echo, is_cast, is_echo, is_echoed, is_open, made_of, makes, statement, taken, words}
 use Rattle.sb_echo.specs.Heard.{has}
-use Rattle.sb_echo.specs.Refines.{HasCompleted, HasTaken, Refines, completed_of, is_free, is_heard, may_cast, may_take, one_at, place_at, place_for}
+use Rattle.sb_echo.specs.Internal.Refines.{HasCompleted, HasTaken, Refines, completed_of, is_free, is_heard, may_cast, may_take, one_at, place_at, place_for}
 use Rattle.sb_echo.proofs.Bytes.{is-same, same-is}
 use Rattle.sb_echo.proofs.Facts.{accepted-is, decided-stays, none-is}
 use Rattle.sb_echo.proofs.Marks.{IsQuiet, count-alike, decide-quiet, delivers-at, echo-apart, newly, other, some-place}

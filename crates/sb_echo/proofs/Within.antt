@@ -14,7 +14,7 @@ use Rattle.iss_sb.proofs.Slots.{has_slot-In}
 use Rattle.sb_echo.specs.declared.echo.Echo.{Echo}
 use Rattle.sb_echo.specs.declared.word.Word.{Word}
 use Rattle.sb_echo.specs.Echo.{echo}
-use Rattle.sb_echo.specs.Refines.{HasTaken, is_free, one_at}
+use Rattle.sb_echo.specs.Internal.Refines.{HasTaken, is_free, one_at}
 use Rattle.sb_echo.proofs.Marks.{one-within}
 
 pub nothing-within : (p : Params) (k : KeyState) (e : Effects Word) → IsNothing e → IsWithin echo p k k e

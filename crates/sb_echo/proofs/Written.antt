@@ -10,7 +10,7 @@ use Rattle.iss_request.specs.declared.requests.Value.TheVariants.{Batch as Value
 use Rattle.iss_sb.specs.declared.effects.Params.{Params}
 use Rattle.iss_sb.specs.Statements.{statement_head}
 use Rattle.iss_sb.proofs.Statements.{eight-is}
-use Rattle.sb_echo.specs.declared.word.Word.TheVariants.{Say, Echo}
+use Rattle.sb_echo.specs.declared.word.Word.TheVariants.{Say, Echo as Echo_word}
 use Rattle.sb_echo.specs.Echo.{spell, statement}
 
 abbrev start : ℕ → Written
@@ -28,7 +28,7 @@ say-spelled version slot batch sig lt shape = let low = lt-ltb slot.0 (2 ^ 64) l
 
 echo-spelled : (version : ℕ) (slot : Slot) (d sig : List ℕ) → slot.0 < 2 ^ 64 → length d ≡ 32 →
     is_signature sig ≡ true →
-    2 ∷ to_be_bytes w64 slot.0 ++ d ++ sig ≡ spell version (Echo slot d sig)
+    2 ∷ to_be_bytes w64 slot.0 ++ d ++ sig ≡ spell version (Echo_word slot d sig)
 echo-spelled version slot d sig lt long shape = let low = lt-ltb slot.0 (2 ^ 64) lt in rw (low, long, shape) refl
 
 pub say-written : (slot : Slot) (batch : Batch) (sig sent : List ℕ) (a b c d e : Written) → slot.0 < 2 ^ 64 →
@@ -39,5 +39,5 @@ say-written slot batch sig sent a b c d e lt shape hs hb hc hd he = let spelled 
 pub echo-written : (slot : Slot) (digest sig sent : List ℕ) (a b c d e : Written) → slot.0 < 2 ^ 64 →
     length digest ≡ 32 → is_signature sig ≡ true → sent ≡ sig → b ≡ and_bytes a (2 ∷ []) →
     c ≡ and_bytes b (to_be_bytes w64 slot.0) →
-    d ≡ and_bytes c digest → e ≡ and_bytes d sent → e ≡ and_bytes a (spell a.version (Echo slot digest sig))
+    d ≡ and_bytes c digest → e ≡ and_bytes d sent → e ≡ and_bytes a (spell a.version (Echo_word slot digest sig))
 echo-written slot digest sig sent a b c d e lt long shape hs hb hc hd he = let spelled = echo-spelled a.version slot digest sig lt long shape in rw (← spelled, he, hs, hd, hc, hb) (simp append_assoc)

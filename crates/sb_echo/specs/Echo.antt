@@ -24,7 +24,7 @@ use Rattle.iss_sb.specs.Calls.{has_slot}
 use Rattle.iss_sb.specs.Evidence.{Item, Made, Module}
 use Rattle.iss_sb.specs.Statements.{claim, eight_bytes, signature, statement_head}
 use Rattle.sb_echo.specs.declared.word.Word.{Word}
-use Rattle.sb_echo.specs.declared.word.Word.TheVariants.{Say, Echo}
+use Rattle.sb_echo.specs.declared.word.Word.TheVariants.{Say, Echo as Echo_word}
 
 -- ---- digests and statements
 
@@ -46,14 +46,14 @@ statement p kind s d = statement_head p tag ++ (kind ∷ (eight_bytes s ++ d))
 -- rule: Echo: A message claims its sender's signature
 abbrev pub claims : Params → ℕ → Word → List Claim
 claims p from (Say slot batch sig) = claim from (statement p 1 slot.0 (digest_of p batch)) sig ∷ []
-claims p from (Echo slot d sig) = claim from (statement p 2 slot.0 d) sig ∷ []
+claims p from (Echo_word slot d sig) = claim from (statement p 2 slot.0 d) sig ∷ []
 
 -- the messages that a node signs with a leaf
 abbrev pub say : Params → ℕ → ℕ → Slot × Batch → Word
 say p me leaf a = Say a.0 a.1 (signature p me leaf (statement p 1 a.0.0 (digest_of p a.1)))
 
 abbrev pub echo_of : Params → ℕ → ℕ → Slot × Batch → Word
-echo_of p me leaf a = Echo a.0 (digest_of p a.1) (signature p me leaf (statement p 2 a.0.0 (digest_of p a.1)))
+echo_of p me leaf a = Echo_word a.0 (digest_of p a.1) (signature p me leaf (statement p 2 a.0.0 (digest_of p a.1)))
 
 -- ---- accepted batches
 
@@ -78,7 +78,7 @@ abbrev pub asks : Params → ℕ → List (Item Word) → Input Word → Option 
 asks p me xs (Cast slot batch) = if (me == p.leader.0) && is_open p slot.0 xs then Some (slot, batch) else None
 asks p me xs (Receive from (Say slot batch sig)) =
     if (from.0 == p.leader.0) && is_open p slot.0 xs then Some (slot, batch) else None
-asks p me xs (Receive from (Echo slot d sig)) = None
+asks p me xs (Receive from (Echo_word slot d sig)) = None
 asks p me xs Timeout = None
 
 abbrev pub is_cast : Input Word → Bool
@@ -105,7 +105,7 @@ makes p me xs input leaf = made_of p me leaf (is_cast input) (asks p me xs input
 abbrev pub is_echo : ℕ → List ℕ → ℕ → Input Word → Bool
 is_echo s d k (Cast slot batch) = false
 is_echo s d k (Receive from (Say slot batch sig)) = false
-is_echo s d k (Receive from (Echo slot e sig)) = (from.0 == k) && ((slot.0 == s) && same_bytes e d)
+is_echo s d k (Receive from (Echo_word slot e sig)) = (from.0 == k) && ((slot.0 == s) && same_bytes e d)
 is_echo s d k Timeout = false
 
 abbrev pub has_echo : ℕ → List ℕ → ℕ → List (Item Word) → Bool
@@ -132,7 +132,7 @@ IsSpelledWord version (Say slot batch sig) bytes =
     (slot.0 < 2 ^ 64) × (is_signature sig ≡ true)
     × ((value : List ℕ) × IsSpelledValue version (Value_batch batch) value ×
     (bytes ≡ 1 ∷ to_be_bytes w64 slot.0 ++ value ++ sig))
-IsSpelledWord version (Echo slot d sig) bytes =
+IsSpelledWord version (Echo_word slot d sig) bytes =
     (slot.0 < 2 ^ 64) × (length d ≡ 32) × (is_signature sig ≡ true) × (bytes ≡ 2 ∷ to_be_bytes w64 slot.0 ++ d ++ sig)
 
 -- a message without an encoding is written as the number of no message
@@ -140,7 +140,7 @@ abbrev pub spell : ℕ → Word → List ℕ
 spell version (Say slot batch sig) =
     if nat_lt slot.0 (2 ^ 64) && is_signature sig then
     1 ∷ to_be_bytes w64 slot.0 ++ spell_value version (Value_batch batch) ++ sig else 0 ∷ []
-spell version (Echo slot d sig) =
+spell version (Echo_word slot d sig) =
     if nat_lt slot.0 (2 ^ 64) && ((length d == 32) && is_signature sig) then 2 ∷ to_be_bytes w64 slot.0 ++ d ++ sig else
     0 ∷ []
 
@@ -156,7 +156,7 @@ parse_echo = do
   slot ← number w64
   d ← block 32
   sig ← parse_signature
-  done (Echo (record { 0 = slot }) d sig)
+  done (Echo_word (record { 0 = slot }) d sig)
 
 unfoldable pub parse : ℕ → Parser Word
 parse version = do

@@ -3,7 +3,7 @@ ghost use Rattle.std.specs.Prelude.{◌≡◌, ℕ, ◌≤◌, List, IfOk};
 ghost use Rattle.iss_keys.specs.KeyStates.{KeyState, left_of};
 ghost use Rattle.iss_sb.specs.Calls.{IsGoodInput, IsGoodParams, IsTrueStep, has_slot};
 ghost use Rattle.sb_echo.specs.Echo.{echo};
-ghost use Rattle.sb_echo.specs.Refines.{HasCompleted, HasTaken, Refines, is_complete, is_free, is_heard, may_cast, may_take, one_at};
+ghost use Rattle.sb_echo.specs.Internal.Refines.{HasCompleted, HasTaken, Refines, is_complete, is_free, is_heard, may_cast, may_take, one_at};
 
 use crate::echoes::Echoes;
 use crate::signing::{ECHO, SAY, digest_of, sign_word, string_of};
@@ -136,6 +136,7 @@ impl Echo {
     }
 
     // The leader accepts a batch that is cast to it, sends it to all, and echoes it.
+    // rule: Modules: A correct leader accepts one batch at a slot
     fn cast(
         &mut self,
         alloc: Global,

@@ -102,30 +102,27 @@ pub fn claims(alloc: Global, p: &Params, from: NodeId, msg: &Word) -> Result<Seq
         Word::Say { slot, batch, sig } => {
             let string = string_of(alloc, p, batch)?;
             let digest = digest_of(p, batch, &string);
-            one_claim(alloc, p, from, SAY, *slot, &digest, sig)
+            let statement = statement(alloc, p, SAY, *slot, &digest)?;
+            one_claim(alloc, from, statement, sig)
         }
-        Word::Echo { slot, digest, sig } => one_claim(alloc, p, from, ECHO, *slot, digest, sig),
+        Word::Echo { slot, digest, sig } => {
+            let statement = statement(alloc, p, ECHO, *slot, digest)?;
+            one_claim(alloc, from, statement, sig)
+        }
     }
 }
 
 fn one_claim(
     alloc: Global,
-    p: &Params,
-    from: NodeId,
-    kind: u8,
-    slot: Slot,
-    digest: &[u8; 32],
+    by: NodeId,
+    statement: Bytes,
     sig: &Bytes,
 ) -> Result<Seq<Claim>, NoMemory>
-    ensures { IfOk result (λ all. all ≡ claim from.0 (statement p.now kind slot.0 digest.now) sig.now ∷ []) }
+    ensures { IfOk result (λ all. all ≡ claim by.0 statement sig.now ∷ []) }
 {
     let mut all = Seq::new(alloc);
-    let statement = statement(alloc, p, kind, slot, digest)?;
-    all.push(Claim {
-        by: from,
-        statement,
-        sig: sig.copy()?,
-    })?;
+    let sig = sig.copy()?;
+    all.push(Claim { by, statement, sig })?;
     Ok(all)
 }
 

@@ -1,55 +1,21 @@
 -- Basic lemmas: tests as records, the fields of a state, and statements of different messages differ.
-use Rattle.std.proofs.Common.{◌≡◌, ◌≤◌, ℕ, ◌%◌, ◌==◌, ◌&&◌, not, Bool, true, false, if◌then◌else◌, List, ◌∷◌, ◌++◌, Option, Some, None, refl, sym, subst, true≢false, arith}
+use Rattle.std.proofs.Common.{◌≡◌, ◌≤◌, ℕ, ◌%◌, ◌==◌, ◌&&◌, not, true, List, ◌∷◌, ◌++◌, refl, subst, arith}
 use Rattle.std.specs.Prelude.{nat_le}
 use Rattle.std.proofs.lemmas.Bool.{leb-true}
-use Rattle.std.proofs.lemmas.Bool.Decides.{Decides-eqb}
 use Rattle.iss_base.proofs.Lists.{and-true}
 use Rattle.iss_sb.specs.declared.effects.Params.{Params}
 use Rattle.iss_sb.specs.Statements.{four_bytes, statement_head}
 use Rattle.iss_sb.proofs.Statements.{head-same, wide-same}
 use Rattle.iss_sb.specs.declared.content.Content.{Content}
 use Rattle.hs_tree.specs.declared.certificates.Certificate.{Certificate}
-use Rattle.hs_tree.specs.declared.certificates.Certificate.TheVariants.{Root, Votes}
 use Rattle.hs_tree.specs.declared.messages.Message.{Message}
 use Rattle.hs_tree.specs.declared.messages.Message.TheVariants.{NewView, Prepare, PreCommit, Commit, Decide, Vote}
 use Rattle.hs_tree.specs.Certificates.{is_quorum, view_of}
 use Rattle.hs_tree.specs.Statements.{own_statement, vote_statement}
 use Rattle.hs_tree.specs.Tree.{basic}
-use Rattle.sb_hotstuff.specs.Rules.{State, is_good, is_shown, may_second, may_third, node_digest, turn_of}
-
-pub by-if : {A : Type 0} (P : A → Type 0) (t : Bool) (a b : A) → P a → P b → P (if t then a else b)
-by-if P true a b h g = h
-by-if P false a b h g = g
-
-pub by-test : {A : Type 0} (P : A → Type 0) (t : Bool) (a b : A) → (t ≡ true → P a) → P b → P (if t then a else b)
-by-test P true a b h g = h refl
-by-test P false a b h g = g
-
-pub record IsIf {A : Type 0} (t : Bool) (a x : A) : Type 0 where
-  pub passed : t ≡ true
-  pub is : a ≡ x
-
-pub if-some : {A : Type 0} (t : Bool) (a x : A) → (if t then Some a else None) ≡ Some x → IsIf t a x
-if-some true a x h = record { passed = refl; is = cc }
-if-some false a x h = absurd cc
-
-pub record IsIn {A : Type 0} (t : Bool) (o : Option A) (x : A) : Type 0 where
-  pub passed : t ≡ true
-  pub is : o ≡ Some x
-
-pub if-in : {A : Type 0} (t : Bool) (o : Option A) (x : A) → (if t then o else None) ≡ Some x → IsIn t o x
-if-in true o x h = record { passed = refl; is = h }
-if-in false o x h = absurd cc
-
-pub if-not : {A : Type 0} (t : Bool) (o : Option A) (x : A) → (if t then None else o) ≡ Some x → o ≡ Some x
-if-not true o x h = absurd cc
-if-not false o x h = h
-
-pub is-same : (a b : ℕ) → (a == b) ≡ true → a ≡ b
-is-same a b h = (Decides-eqb a b).0 h
-
-pub same-is : (a b : ℕ) → a ≡ b → (a == b) ≡ true
-same-is a b h = (Decides-eqb a b).1 h
+use Rattle.sb_hotstuff.specs.Rules.{State, is_good, is_shown, may_second, may_third, node_digest}
+use Rattle.hs_views.specs.Views.{turn_of}
+use Rattle.hs_views.proofs.Tests.{is-same, quorum-view}
 
 -- ---- Valid certificates
 
@@ -61,10 +27,6 @@ pub record IsGood (p : Params) (phase view : ℕ) (c : Certificate) : Type 0 whe
 
 some-view : (v : ℕ) → 1 ≤ v % 65536 → 1 ≤ v
 some-view v l = omega arith
-
-quorum-view : (quorum phase view : ℕ) (c : Certificate) → is_quorum quorum phase view c ≡ true → view_of c ≡ view
-quorum-view quorum phase view Root h = absurd (true≢false (sym h))
-quorum-view quorum phase view (Votes w q d votes) h = let a = and-true ((w == view) && (q == phase)) _ h in is-same w view (and-true (w == view) (q == phase) a.0).0
 
 pub good-is : (p : Params) (phase view : ℕ) (c : Certificate) → is_good p phase view c ≡ true → IsGood p phase view c
 good-is p phase view c h =

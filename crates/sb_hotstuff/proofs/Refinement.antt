@@ -1,5 +1,4 @@
 pub mod CountsAgree
-pub mod DeliveredSlotsAgree
 pub mod DraftsAgree
 pub mod InputRefines
 pub mod ProposalTestAgrees

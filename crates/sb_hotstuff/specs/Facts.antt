@@ -4,10 +4,12 @@
 use Rattle.std.specs.Prelude.{◌≡◌, ◌≢◌, ◌<◌, ◌≤◌, ◌⊎◌, ℕ, Bool, true, List, ◌∷◌, Some}
 use Rattle.iss_base.specs.Lists.{In}
 use Rattle.iss_base.specs.Quorum.{count_below}
+use Rattle.iss_request.specs.declared.ids.NodeId.{NodeId}
 use Rattle.iss_request.specs.declared.ids.Slot.{Slot}
 use Rattle.iss_request.specs.declared.requests.Batch.{Batch}
 use Rattle.iss_request.specs.declared.requests.Value.{Value}
 use Rattle.iss_request.specs.declared.requests.Value.TheVariants.{Batch as Value_batch}
+use Rattle.iss_sb.specs.declared.effects.Input.TheVariants.{Receive}
 use Rattle.iss_sb.specs.declared.effects.Params.{Params}
 use Rattle.iss_sb.specs.declared.effects.To.{To}
 use Rattle.iss_sb.specs.Evidence.{Item, IsString, World, accepts, delivered, is_correct}
@@ -17,8 +19,11 @@ use Rattle.iss_sb.specs.declared.content.Content.{Content}
 use Rattle.iss_sb.specs.declared.content.Content.TheVariants.{Holds}
 use Rattle.hs_tree.specs.declared.messages.Message.{Message}
 use Rattle.hs_tree.specs.declared.messages.Message.TheVariants.{Vote}
+use Rattle.hs_tree.specs.Certificates.{digest_of, is_phase}
 use Rattle.hs_tree.specs.Paths.{Has, Path, hash}
+use Rattle.hs_tree.specs.Statements.{inside}
 use Rattle.sb_hotstuff.specs.HotStuff.{hotstuff}
+use Rattle.sb_hotstuff.specs.Rules.{is_good}
 
 -- ---- Votes
 
@@ -40,7 +45,7 @@ pub record VoteOnce (w : World Message) : Type 0 where
   pub one : (i : ℕ) (x : Item Message) (phase view q v : ℕ) (d e : List ℕ) → In x (w i) → VotedIn x phase view d →
       VotedIn x q v e →
       (phase ≡ q) × (view ≡ v) × (d ≡ e)
-  pub rising : (i : ℕ) (x y : Item Message) (before : List (Item Message)) (phase view q v : ℕ) (d e : List ℕ) →
+  pub ascending : (i : ℕ) (x y : Item Message) (before : List (Item Message)) (phase view q v : ℕ) (d e : List ℕ) →
       Front (x ∷ before) (w i) → In y before →
       VotedIn x phase view d → VotedIn y q v e → (v < view) ⊎ ((v ≡ view) × (q ≢ phase))
 
@@ -49,6 +54,12 @@ pub record IsCertified (p : Params) (w : World Message) (phase view : ℕ) (d : 
   pub test : ℕ → Bool
   pub many : p.setup.quorum ≤ count_below test p.setup.n
   pub each : (k : ℕ) → test k ≡ true → is_correct p.setup k ≡ true → IsVoted w k phase view d
+
+-- The certificate in each message that a replica received, if it is valid, is votes of a quorum.
+abbrev pub AreCertified : Params → World Message → Type 0
+AreCertified p w = (i phase view : ℕ) (x : Item Message) (from : NodeId) (msg : Message) → In x (w i) →
+    x.input ≡ Receive from msg → is_good p phase view (inside msg) ≡ true →
+    IsCertified p w phase view (digest_of (inside msg))
 
 -- A pre-commit vote implies a prepareQC for its node in its view, and a commit vote implies a precommitQC.
 pub record AreRested (p : Params) (w : World Message) : Type 0 where
@@ -89,9 +100,10 @@ AreSafeVotes p w = (i u v : ℕ) (d e : List ℕ) → IsVoted w i 3 u d → IsVo
 
 -- ---- What certificates imply
 
--- two prepareQCs of one view are for one node
+-- two certificates of one view, each of any of the three phases, are for one node
 abbrev pub HaveOneNode : Params → World Message → Type 0
-HaveOneNode p w = (view : ℕ) (d e : List ℕ) → IsCertified p w 1 view d → IsCertified p w 1 view e → d ≡ e
+HaveOneNode p w = (q r view : ℕ) (d e : List ℕ) → is_phase 3 q ≡ true → is_phase 3 r ≡ true →
+    IsCertified p w q view d → IsCertified p w r view e → d ≡ e
 
 -- a node with a prepareQC in view v extends each node with a commitQC in a view u ≤ v
 abbrev pub AreExtending : Params → World Message → Type 0

@@ -1,10 +1,9 @@
 -- HotStuff as a module: what a replica accepts, sends, hashes and decides, over the list of what it took. 3f+1
 -- replicas, 2f+1 decide.
-use Rattle.std.specs.Prelude.{ℕ, suc, ◌+◌, ◌*◌, ◌==◌, ◌&&◌, ◌||◌, Bool, true, false, List, [], ◌∷◌, ◌++◌, length, Option, Some, None, if◌then◌else◌}
-use Rattle.iss_base.specs.Lists.{first_of, nth, same_bytes}
+use Rattle.std.specs.Prelude.{ℕ, suc, ◌+◌, ◌==◌, ◌&&◌, false, List, [], ◌∷◌, ◌++◌, length, Option, Some, None, if◌then◌else◌}
+use Rattle.iss_base.specs.Lists.{first_of, nth}
 use Rattle.iss_request.specs.declared.ids.Slot.{Slot}
 use Rattle.iss_request.specs.declared.requests.Batch.{Batch}
-use Rattle.iss_request.specs.declared.requests.Request.{Request}
 use Rattle.iss_request.specs.declared.requests.Value.{Value}
 use Rattle.iss_request.specs.Setup.{nodes_of_kind, quorum_of_kind}
 use Rattle.iss_request.specs.declared.setups.Kind.TheVariants.{Byzantine}
@@ -24,7 +23,9 @@ use Rattle.hs_tree.specs.Certificates.{digest_of}
 use Rattle.hs_tree.specs.Messages.{parse, spell}
 use Rattle.hs_tree.specs.Statements.{claims, node_string, own_statement, with_signature}
 use Rattle.hs_tree.specs.Tree.{basic, branch, is_known, strings_of, value_at_slot, value_of}
-use Rattle.sb_hotstuff.specs.Rules.{State, Turn, after, certificate, is_good, is_reached, keeps_vote, kept, leader_of, may_cast, may_end, may_prepare, may_second, may_third, node_digest, proposed, round_of, slots_below, start}
+use Rattle.sb_hotstuff.specs.Rules.{State, after, certificate, is_good, is_reached, keeps_vote, kept, may_cast, may_end, may_prepare, may_second, may_third, node_digest, proposed, slots_below, start}
+use Rattle.hs_views.specs.Views.{Turn, leader_of, round_of}
+use Rattle.hs_views.specs.Batches.{unless_accepted}
 
 -- the state of a replica with this history
 abbrev pub state : Params → ℕ → List (Item Message) → State
@@ -32,29 +33,6 @@ state p me [] = start
 state p me (x ∷ xs) = after p me (state p me xs) x.input
 
 -- ---- Accepted batches: a valid cast, or the batch of a valid proposal, unless it was accepted at that slot before
-
--- whether two requests are equal, byte by byte
-abbrev pub same_request : Request → Request → Bool
-same_request a b = ((a.id.client == b.id.client) && (a.id.number == b.id.number)) &&
-    (same_bytes a.payload b.payload && same_bytes a.sig b.sig)
-
--- whether two batches are equal
-abbrev pub same_batch : List Request → List Request → Bool
-same_batch [] [] = true
-same_batch [] (y ∷ ys) = false
-same_batch (x ∷ xs) [] = false
-same_batch (x ∷ xs) (y ∷ ys) = same_request x y && same_batch xs ys
-
--- whether the batch was accepted at the slot
-abbrev pub was_accepted : ℕ → Batch → List (Slot × Batch) → Bool
-was_accepted s b [] = false
-was_accepted s b (a ∷ old) = ((a.0.0 == s) && same_batch a.1 b) || was_accepted s b old
-
--- the batch with its slot, if there is one and the batch was not accepted there
--- rule: HotStuff: A batch is accepted once at a slot
-abbrev pub unless_accepted : List (Slot × Batch) → Batch → Option Slot → Option (Slot × Batch)
-unless_accepted old b None = None
-unless_accepted old b (Some s) = if was_accepted s.0 b old then None else Some (s, b)
 
 -- the batch of a proposal, at the slot after those of its parent's branch
 abbrev pub offered : Params → State → List (Slot × Batch) → Content → Certificate → Option (Slot × Batch)

@@ -1,7 +1,6 @@
-pub mod Accepted
 pub mod Facts
 pub mod HotStuff
-pub mod Instances
+pub mod Internal
 pub mod Rules
 pub mod Tallies
 pub mod Drafts

@@ -2,36 +2,25 @@
 -- test and what it changes: a cast, a proposal that is safe against the lock, certificates of the three phases, the
 -- end of a round, and the leader's votes and new-view messages. An input leads to at most one proposal: the next turn
 -- once the last one has its quorums, or a new round's first on the best certificate.
-use Rattle.std.specs.Prelude.{ℕ, zero, suc, ◌+◌, ◌*◌, ◌/◌, ◌%◌, ◌==◌, ◌&&◌, ◌||◌, Bool, true, false, not, nat_lt, nat_le, List, [], ◌∷◌, ◌++◌, length, Option, Some, None, is_some, if◌then◌else◌}
+use Rattle.std.specs.Prelude.{ℕ, suc, ◌+◌, ◌*◌, ◌==◌, ◌&&◌, ◌||◌, Bool, true, false, not, nat_lt, nat_le, List, [], ◌∷◌, ◌++◌, length, Option, Some, None, is_some, if◌then◌else◌}
 use Rattle.iss_base.specs.Lists.{nth, same_bytes}
 use Rattle.iss_request.specs.declared.requests.Batch.{Batch}
 use Rattle.iss_sb.specs.Calls.{is_slot}
 use Rattle.iss_sb.specs.declared.effects.Input.{Input}
 use Rattle.iss_sb.specs.declared.effects.Input.TheVariants.{Cast, Receive, Timeout}
 use Rattle.iss_sb.specs.declared.effects.Params.{Params}
-use Rattle.iss_sb.specs.Evidence.{one_or_none}
 use Rattle.iss_sb.specs.declared.content.Content.{Content}
 use Rattle.iss_sb.specs.declared.content.Content.TheVariants.{Nil, Holds, Mark}
 use Rattle.hs_tree.specs.declared.certificates.Certificate.{Certificate}
 use Rattle.hs_tree.specs.declared.certificates.Certificate.TheVariants.{Root, Votes}
-use Rattle.iss_sb.specs.declared.signers.Signed.{Signed}
 use Rattle.hs_tree.specs.declared.messages.Message.{Message}
 use Rattle.hs_tree.specs.declared.messages.Message.TheVariants.{NewView, Prepare, PreCommit, Commit, Decide, Vote}
 use Rattle.hs_tree.specs.Certificates.{digest_of, is_phase, is_quorum, view_of}
 use Rattle.hs_tree.specs.Statements as Statements
 use Rattle.hs_tree.specs.Tree.{Node, basic, branch, extends, filled, is_known, weight}
+use Rattle.hs_views.specs.Views.{round_of, turn_of, leader_of, Turn, is_own_turn, News, news_of, all_news, best, Kept, vote_of, votes_of}
 
 -- ---- Views: a view is a round and a turn in it, view = round * 65536 + turn. Proposals have turns from 1 on
-
-abbrev pub round_of : ℕ → ℕ
-round_of view = view / 65536
-
-abbrev pub turn_of : ℕ → ℕ
-turn_of view = view % 65536
-
--- the leaders of the rounds rotate, beginning with the segment's leader
-abbrev pub leader_of : Params → ℕ → ℕ
-leader_of p round = (p.leader.0 + round) % p.setup.n
 
 -- the digest of the node that the proposal is for
 abbrev pub node_digest : Params → ℕ → Content → Certificate → List ℕ
@@ -48,28 +37,6 @@ is_just p view Root = true
 is_just p view (Votes w q d votes) = is_good p 1 w (Votes w q d votes) && nat_lt w view
 
 -- ---- A replica's state
-
--- A proposal that the leader made. `slots` counts the slots of its branch, its own included.
-pub record Turn : Type 0 where
-  pub view : ℕ
-  pub digest : List ℕ
-  pub just : Certificate
-  pub what : Content
-  pub slots : ℕ
-
--- a vote that the leader received for one of its turns
-pub record Kept : Type 0 where
-  pub by : ℕ
-  pub phase : ℕ
-  pub view : ℕ
-  pub digest : List ℕ
-  pub sig : List ℕ
-
--- a NewView message that the leader of the round received
-pub record News : Type 0 where
-  pub by : ℕ
-  pub round : ℕ
-  pub high : Certificate
 
 pub record State : Type 0 where
   pub view : ℕ
@@ -102,21 +69,6 @@ start = record {
 
 -- ---- Votes that a leader counts: each replica's first for a phase of a turn, up to a quorum
 
--- whether it is replica k's vote for this phase, view and digest
-abbrev pub is_for : ℕ → ℕ → List ℕ → ℕ → Kept → Bool
-is_for phase view d k v = ((v.by == k) && (v.phase == phase)) && ((v.view == view) && same_bytes v.digest d)
-
--- replica k's vote, as part of a certificate
-abbrev pub vote_of : List Kept → ℕ → ℕ → List ℕ → ℕ → Option Signed
-vote_of [] phase view d k = None
-vote_of (v ∷ vs) phase view d k =
-    if is_for phase view d k v then Some (record { by = record { 0 = k }; sig = v.sig }) else vote_of vs phase view d k
-
--- the votes of the replicas below n, by ascending replica
-abbrev pub votes_of : ℕ → List Kept → ℕ → ℕ → List ℕ → List Signed
-votes_of zero vs phase view d = []
-votes_of (suc k) vs phase view d = votes_of k vs phase view d ++ one_or_none (vote_of vs phase view d k)
-
 -- the quorum certificate of the votes received
 abbrev pub certificate : Params → State → ℕ → ℕ → List ℕ → Certificate
 certificate p s phase view d = Votes view phase d (votes_of p.setup.n s.votes phase view d)
@@ -124,11 +76,6 @@ certificate p s phase view d = Votes view phase d (votes_of p.setup.n s.votes ph
 -- whether exactly a quorum's votes were received
 abbrev pub is_reached : Params → State → ℕ → ℕ → List ℕ → Bool
 is_reached p s phase view d = length (votes_of p.setup.n s.votes phase view d) == p.setup.quorum
-
--- whether the leader proposed this digest in this view
-abbrev pub is_own_turn : List Turn → ℕ → List ℕ → Bool
-is_own_turn [] view d = false
-is_own_turn (t ∷ ts) view d = ((t.view == view) && same_bytes t.digest d) || is_own_turn ts view d
 
 -- whether the vote is counted: for a turn of its own, the sender's first, and below a quorum
 abbrev pub keeps_vote : Params → State → ℕ → ℕ → ℕ → List ℕ → Bool
@@ -143,16 +90,6 @@ with_vote s from phase view d sig =
 
 -- ---- NewView messages that a leader counts: each replica's first valid one for a round that it leads, up to a quorum
 
--- replica k's certificate for the round
-abbrev pub news_of : List News → ℕ → ℕ → Option Certificate
-news_of [] round k = None
-news_of (w ∷ ws) round k = if (w.by == k) && (w.round == round) then Some w.high else news_of ws round k
-
--- the certificates of the replicas below n, by ascending replica
-abbrev pub all_news : ℕ → List News → ℕ → List Certificate
-all_news zero ws round = []
-all_news (suc k) ws round = all_news k ws round ++ one_or_none (news_of ws round k)
-
 -- whether the NewView message is counted
 abbrev pub keeps_news : Params → ℕ → State → ℕ → ℕ → Certificate → Bool
 keeps_news p me s from round high =
@@ -161,11 +98,6 @@ keeps_news p me s from round high =
 
 abbrev pub with_news : State → ℕ → ℕ → Certificate → State
 with_news s from round high = record s { news = record { by = from; round = round; high = high } ∷ s.news }
-
--- the first certificate with the highest view (HotStuff: highQC)
-abbrev pub best : Certificate → List Certificate → Certificate
-best c [] = c
-best c (d ∷ ds) = if nat_lt (view_of c) (view_of d) then best d ds else best c ds
 
 -- ---- A cast: at the segment's leader, in round 0, at the next slot
 

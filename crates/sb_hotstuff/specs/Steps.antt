@@ -9,7 +9,8 @@ use Rattle.sb_hotstuff.specs.declared.signing.Draft.{Draft}
 use Rattle.sb_hotstuff.specs.declared.state.Node.{Node}
 use Rattle.sb_hotstuff.specs.Drafts.{AreDrafts}
 use Rattle.sb_hotstuff.specs.HotStuff.{answers, proposals, strings, turn_strings}
-use Rattle.sb_hotstuff.specs.Rules.{State, Turn, after, kept, proposed, with_turn}
+use Rattle.sb_hotstuff.specs.Rules.{State, after, kept, proposed, with_turn}
+use Rattle.hs_views.specs.Views.{Turn}
 use Rattle.sb_hotstuff.specs.Refines.{RefinesState}
 
 -- nothing is sent and nothing is hashed

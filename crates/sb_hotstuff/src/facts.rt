@@ -4,12 +4,17 @@ ghost use Rattle.hs_tree.specs.declared.messages.Message.{Message};
 ghost use Rattle.iss_sb.specs.Calls.{IsGoodParams};
 ghost use Rattle.iss_sb.specs.Evidence.{IsReached, IsString, Separate, World};
 ghost use Rattle.iss_sb.specs.declared.effects.Params.{Params};
-ghost use Rattle.sb_hotstuff.specs.Facts.{AreAgreed, AreBacked, AreExtending, AreFromLeader, AreOnce, AreRested, AreSafeVotes, HaveOneNode, HaveSharedAcceptor, VoteOnce};
+ghost use Rattle.sb_hotstuff.specs.Facts.{AreAgreed, AreBacked, AreCertified, AreExtending, AreFromLeader, AreOnce, AreRested, AreSafeVotes, HaveOneNode, HaveSharedAcceptor, VoteOnce};
 ghost use Rattle.sb_hotstuff.specs.HotStuff.{hotstuff};
 
 /// A correct replica votes at most once for a phase of a view, in views that never decrease.
-pub fn votes_are_once_in_rising_views()
+pub fn votes_are_once_in_ascending_views()
     ensures { (p : Params) (w : World Message) → IsGoodParams hotstuff p → IsReached hotstuff p w → VoteOnce w }
+{}
+
+/// A valid certificate that a replica received is votes: each correct replica of some quorum sent the vote.
+pub fn good_certificates_are_votes()
+    ensures { (p : Params) (w : World Message) → IsGoodParams hotstuff p → IsReached hotstuff p w → AreCertified p w }
 {}
 
 /// A pre-commit vote implies a prepareQC for its node in its view, and a commit vote implies a precommitQC.
@@ -23,7 +28,7 @@ pub fn first_votes_respect_locks()
     ensures { (p : Params) (w : World Message) → IsGoodParams hotstuff p → IsReached hotstuff p w → AreSafeVotes p w }
 {}
 
-/// Two prepareQCs of one view are for the same node.
+/// Two certificates of one view are for the same node, whatever their phases.
 pub fn views_have_one_node()
     ensures { (p : Params) (w : World Message) → IsGoodParams hotstuff p → IsReached hotstuff p w → HaveOneNode p w }
 {}

@@ -5,18 +5,17 @@ ghost use Rattle.iss_request.specs.declared.ids.Slot.{Slot};
 ghost use Rattle.iss_request.specs.declared.requests.Batch.{Batch};
 ghost use Rattle.iss_sb.specs.Calls.{IsGoodInput, IsGoodParams, IsTrueStep, named};
 ghost use Rattle.hs_tree.specs.declared.messages.Message.TheVariants.{NewView, Prepare, PreCommit, Commit, Decide, Vote};
-ghost use Rattle.sb_hotstuff.specs.Accepted.{AreAccepted};
+ghost use Rattle.hs_views.specs.Accepted.{AreAccepted};
 ghost use Rattle.sb_hotstuff.specs.HotStuff.{asked_by, hotstuff, offered};
-ghost use Rattle.sb_hotstuff.specs.Instances.{Refines};
+ghost use Rattle.sb_hotstuff.specs.Internal.Instances.{Refines};
 ghost use Rattle.sb_hotstuff.specs.Rules.{State, may_prepare};
 ghost use Rattle.sb_hotstuff.specs.Refines.{RefinesState};
 
-use crate::accepted::Accepted;
-use crate::accepting::{cast_slot, keep_at, keep_what, offered_slot};
-use crate::delivering::pair;
+use crate::accepting::{cast_slot, offered_slot};
 use crate::signing::claims;
 use crate::state::{Node, PHASES};
 use hs_tree::{Certificate, Message};
+use hs_views::{Accepted, keep_at, keep_what, pair};
 use iss_keys::Keys;
 use iss_request::{
     Batch, Bytes, DecodeError, Fields, Kind, NoMemory, NodeId, Seq, Slot, Writer, nodes_of_kind,

@@ -4,14 +4,10 @@
 //! Abraham, "HotStuff: BFT Consensus with Linearity and Responsiveness"; ISS, "Sequenced Broadcast".)
 #![tactic(auto)]
 
-pub mod accepted;
 pub mod accepting;
-pub mod ballots;
-pub mod delivering;
 pub mod facts;
 pub mod hotstuff;
 pub mod laws;
-pub mod news;
 pub mod outcomes;
 pub mod preparing;
 pub mod proposing;
@@ -22,9 +18,9 @@ pub mod turns;
 
 pub use facts::{
     a_quorum_accepted_what_is_delivered, batches_are_accepted_once, batches_share_an_acceptor,
-    certified_nodes_extend_decided_ones, first_votes_respect_locks,
+    certified_nodes_extend_decided_ones, first_votes_respect_locks, good_certificates_are_votes,
     later_votes_rest_on_certificates, nodes_agree, the_leader_accepted_what_is_delivered,
-    views_have_one_node, votes_are_once_in_rising_views,
+    views_have_one_node, votes_are_once_in_ascending_views,
 };
 pub use hotstuff::HotStuff;
 pub use laws::{hotstuff_has_a_grammar, hotstuff_is_lawful, hotstuff_is_safe};

@@ -1,9 +1,9 @@
 //! The outcome of a rule, not yet signed.
-ghost use Rattle.std.specs.Prelude.{◌≡◌, ◌≤◌, Some, IfOk};
+ghost use Rattle.std.specs.Prelude.{◌≤◌, Some, IfOk};
 ghost use Rattle.iss_keys.specs.KeyStates.{left_of};
 ghost use Rattle.iss_sb.specs.Calls.{IsGoodParams};
 ghost use Rattle.sb_hotstuff.specs.HotStuff.{hotstuff};
-ghost use Rattle.sb_hotstuff.specs.Instances.{IsSigned};
+ghost use Rattle.sb_hotstuff.specs.Internal.Instances.{IsSigned};
 ghost use Rattle.sb_hotstuff.specs.Steps.{IsAnswer, IsQuiet};
 
 use crate::signing::{Draft, send};

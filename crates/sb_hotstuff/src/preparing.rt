@@ -6,7 +6,8 @@ ghost use Rattle.sb_hotstuff.specs.HotStuff.{hotstuff};
 ghost use Rattle.iss_base.specs.Lists.{same_bytes};
 ghost use Rattle.hs_tree.specs.Certificates.{digest_of};
 ghost use Rattle.hs_tree.specs.Tree.{is_known};
-ghost use Rattle.sb_hotstuff.specs.Rules.{State, is_allowed, is_just, is_safe, may_prepare, node_digest, round_of, slots_below};
+ghost use Rattle.sb_hotstuff.specs.Rules.{State, is_allowed, is_just, is_safe, may_prepare, node_digest, slots_below};
+ghost use Rattle.hs_views.specs.Views.{round_of};
 ghost use Rattle.sb_hotstuff.specs.Refines.{RefinesState};
 
 use crate::state::{Node, is_allowed, is_just, round_of};
@@ -22,7 +23,7 @@ impl Node {
         ensures { (s : State) (view : ℕ) → RefinesState self.now s →
             result ≡ same_bytes (node_digest p.now view what.now just.now) (digest_of s.lock) }
     {
-        let node = digest_of_node(p.setup.version, &just.digest(), what);
+        let node = digest_of_node(p.setup.version, None, &just.digest(), what);
         same(&node, &self.lock.digest())
     }
 

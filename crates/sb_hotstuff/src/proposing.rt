@@ -4,7 +4,8 @@ ghost use Rattle.std.specs.Option.{option_copied};
 ghost use Rattle.iss_base.specs.Lists.{nth};
 ghost use Rattle.iss_sb.specs.Calls.{IsGoodParams};
 ghost use Rattle.sb_hotstuff.specs.HotStuff.{hotstuff};
-ghost use Rattle.sb_hotstuff.specs.Rules.{State, Turn, cast_turn, first_turn, next_turn, nil_or_mark, turn, turn_after};
+ghost use Rattle.sb_hotstuff.specs.Rules.{State, cast_turn, first_turn, next_turn, nil_or_mark, turn, turn_after};
+ghost use Rattle.hs_views.specs.Views.{Turn};
 ghost use Rattle.sb_hotstuff.specs.Refines.{IsLow, RefinesState, is_last_ready};
 ghost use Rattle.sb_hotstuff.specs.Steps.{Proposes};
 ghost use Rattle.sb_hotstuff.specs.Tallies.{own_of};
@@ -47,7 +48,7 @@ impl Node {
             IsLow (own_of t) → RefinesState self.old k → Proposes p.now self.old self.new k (Some t) o) }
     {
         let parent = just.digest();
-        let node = hash_node(alloc, p, &parent, &what)?;
+        let node = hash_node(alloc, p, None, &parent, &what)?;
         let digest = node.digest;
         let slots = slots.saturating_add(weight(&what));
         let draft = proposal_draft(alloc, p, view, what, just, &digest)?;

@@ -57,7 +57,7 @@ impl Node {
             Does p.now self.old self.new s (Input.Receive from (Prepare view what just.now sig)) o) }
     {
         let parent = just.digest();
-        let node = hash_node(alloc, p, &parent, &what)?;
+        let node = hash_node(alloc, p, None, &parent, &what)?;
         let digest = node.digest;
         let draft = vote_draft(alloc, p, 1, view, digest)?;
         self.tree.add(digest, parent, what)?;

@@ -1,5 +1,5 @@
 //! What replicas of HotStuff sign, and what their messages claim that replicas signed.
-ghost use Rattle.std.specs.Prelude.{◌≡◌, ◌<◌, ◌+◌, ◌==◌, ◌++◌, ◌∷◌, [], ℕ, List, Some, length, IfOk, OnOk, if◌then◌else◌};
+ghost use Rattle.std.specs.Prelude.{◌≡◌, ◌<◌, ◌+◌, ◌==◌, ◌++◌, ◌∷◌, [], ℕ, List, Some, IfOk, OnOk, if◌then◌else◌};
 ghost use Rattle.iss_keys.specs.Directories.{AreKeysOf};
 ghost use Rattle.iss_keys.specs.KeyStates.{left_of};
 ghost use Rattle.iss_sb.specs.Calls.{AreToNodes, IsGoodParams, IsToNode};
@@ -12,7 +12,8 @@ ghost use Rattle.hs_tree.specs.Statements.{certificate_claims, claims, inside, o
 ghost use Rattle.hs_tree.specs.Tree.{basic};
 ghost use Rattle.sb_hotstuff.specs.Drafts.{AreDrafts, count_of, to_nodes};
 ghost use Rattle.sb_hotstuff.specs.HotStuff.{hotstuff, shows, sign_all, to_leader, voted};
-ghost use Rattle.sb_hotstuff.specs.Rules.{leader_of, node_digest};
+ghost use Rattle.sb_hotstuff.specs.Rules.{node_digest};
+ghost use Rattle.hs_views.specs.Views.{leader_of};
 
 use crate::state::round_of;
 use hs_tree::signing::{
@@ -269,7 +270,7 @@ fn own_statement(alloc: Global, p: &Params, m: &Message) -> Result<Bytes, NoMemo
             just,
             ..
         } => {
-            let node = hash_node(alloc, p, &just.digest(), what)?;
+            let node = hash_node(alloc, p, None, &just.digest(), what)?;
             node_statement(alloc, p, TAG, PREPARE, *view, &node.digest)
         }
         Message::PreCommit { view, shown, .. } => {

@@ -8,12 +8,11 @@ ghost use Rattle.sb_hotstuff.specs.HotStuff.{hotstuff};
 ghost use Rattle.sb_hotstuff.specs.Rules.{State, is_allowed, is_good, is_just, is_reached, is_shown, is_timely, keeps_news, keeps_vote, may_cast, may_second, may_third, start};
 ghost use Rattle.sb_hotstuff.specs.Refines.{RefinesState};
 
-use crate::ballots::Ballots;
-use crate::news::Words;
 use crate::signing::leader_of;
 use crate::turns::Turns;
 use hs_tree::certificates::is_phase;
 use hs_tree::{Certificate, Tree};
+use hs_views::{Ballots, Words};
 use iss_request::{Batch, NodeId, Seq, Slot};
 use iss_sb::{Content, Params, is_next};
 use std::alloc::Global;

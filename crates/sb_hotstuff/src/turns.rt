@@ -1,6 +1,6 @@
 //! The turns of a leader: the proposals that it made.
 ghost use Rattle.std.specs.Prelude.{◌≡◌, ◌∷◌, List, [], OnOk};
-ghost use Rattle.sb_hotstuff.specs.Rules.{Turn, is_own_turn};
+ghost use Rattle.hs_views.specs.Views.{Turn, is_own_turn};
 ghost use Rattle.sb_hotstuff.specs.Tallies.{AreTurns, last_of, own_of};
 
 use iss_request::NoMemory;

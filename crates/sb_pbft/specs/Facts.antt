@@ -65,16 +65,10 @@ AreShown p w =
 abbrev pub AreTrue : Params → World Message → List Claim → Type 0
 AreTrue p w cs = (c : Claim) → In c cs → is_correct p.setup c.by.0 ≡ true → IsSigned pbft p w c.by.0 c.statement
 
--- the value has an encoding, and a correct replica hashed its string
-pub record IsKnown (p : Params) (w : World Message) (x : Value) : Type 0 where
-  pub hashed : IsString w (string_of p x)
-  pub spelled : fits_value p.setup.version x ≡ true
-
--- a valid certificate: it is good, its claims are true, and its value is known
+-- a valid certificate: it is good, and its claims are true
 pub record IsCertificate (p : Params) (w : World Message) (c : Certificate) : Type 0 where
   pub good : is_good p c ≡ true
   pub signed : AreTrue p w (certificate_claims p c)
-  pub known : IsKnown p w c.value
 
 -- the digest is that of the value that 2f+1 good ViewChanges with true claims choose
 pub record IsChosen (p : Params) (w : World Message) (v s : ℕ) (d : List ℕ) : Type 0 where
@@ -133,6 +127,13 @@ AreOnce p w =
     (i : ℕ) (s : Slot) (b c : Batch) → In {A = Slot × Batch} (s, b) (accepts (w i)) →
     In {A = Slot × Batch} (s, c) (accepts (w i)) → b ≡ c
 
--- if a valid certificate holds a batch, such a quorum accepted it in view 0
+-- the value has an encoding, and a correct replica hashed its string
+pub record IsKnown (p : Params) (w : World Message) (x : Value) : Type 0 where
+  pub hashed : IsString w (string_of p x)
+  pub spelled : fits_value p.setup.version x ≡ true
+
+-- If a valid certificate holds a batch, such a quorum accepted it in view 0. The batch must be known: otherwise another
+-- value of its digest may have been accepted.
 abbrev pub AreRooted : Params → World Message → Type 0
-AreRooted p w = (c : Certificate) (b : Batch) → IsCertificate p w c → c.value ≡ Value_batch b → IsRooted p w c.slot.0 b
+AreRooted p w = (c : Certificate) (b : Batch) → IsCertificate p w c → IsKnown p w c.value →
+    c.value ≡ Value_batch b → IsRooted p w c.slot.0 b

@@ -187,6 +187,7 @@ uses p (DraftViewChange v cs) = 1
 uses p (DraftNewView v xs) = length p.slots + 1
 
 -- a NewView signs its PrePrepares first, and then itself
+-- rule: PBFT: A new view's primary signs a PrePrepare of each slot's choice, and then its NewView
 abbrev pub sign : Params → ℕ → ℕ → Draft → Message
 sign p me leaf (DraftPrePrepare slot x) =
     PrePrepare 0 slot x (signature p me leaf (state_at p 1 0 slot.0 (digest_of p x)))

@@ -7,7 +7,7 @@ use Rattle.iss_base.specs.Lists.{first_of, same_bytes}
 use Rattle.iss_request.specs.declared.ids.Slot.{Slot}
 use Rattle.iss_request.specs.declared.requests.Batch.{Batch}
 use Rattle.iss_request.specs.declared.requests.Value.{Value}
-use Rattle.iss_request.specs.declared.requests.Value.TheVariants.{Nil, Batch as Value_batch}
+use Rattle.iss_request.specs.declared.requests.Value.TheVariants.{Nil as Value_nil, Batch as Value_batch}
 use Rattle.iss_sb.specs.declared.effects.Input.{Input}
 use Rattle.iss_sb.specs.declared.effects.Input.TheVariants.{Cast, Receive, Timeout}
 use Rattle.iss_sb.specs.declared.effects.Params.{Params}
@@ -70,7 +70,7 @@ is_open p m s = (m.view == 0) && (m.active && has_slot s p.slots)
 -- rule: PBFT: The leader alone casts, and replicas take a batch from the leader alone
 abbrev pub offer : Params → ℕ → Mode → Input Message → Option (Slot × Batch)
 offer p me m (Cast slot batch) = when ((me == p.leader.0) && is_open p m slot.0) (slot, batch)
-offer p me m (Receive from (PrePrepare v slot Nil sig)) = None
+offer p me m (Receive from (PrePrepare v slot Value_nil sig)) = None
 offer p me m (Receive from (PrePrepare v slot (Value_batch b) sig)) =
     when ((not (me == p.leader.0) && (from.0 == p.leader.0)) && ((v == 0) && is_open p m slot.0)) (slot, b)
 offer p me m (Receive from (Prepare v slot d sig)) = None

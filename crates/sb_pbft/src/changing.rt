@@ -9,17 +9,30 @@ ghost use Rattle.sb_pbft.specs.Makes.{choice_strings, value_strings};
 ghost use Rattle.sb_pbft.specs.Pbft.{pbft};
 ghost use Rattle.sb_pbft.specs.Places.{proposal_at};
 ghost use Rattle.sb_pbft.specs.Rules.{enters, is_newer, passes};
-ghost use Rattle.sb_pbft.specs.Refines.{Does, HasHashed, Renews, chosen_among, held, is_due};
+ghost use Rattle.sb_pbft.specs.Internal.Refines.{Does, HasHashed, Renews, chosen_among, held, is_due};
 
 use crate::pbft::Pbft;
-use crate::proposals::{Proposal, Proposals};
+use crate::proposals::{Choices, Proposal, Proposals};
 use crate::sending::{send_change, send_new_view};
+use crate::settling::Touched;
 use iss_keys::Keys;
 use iss_request::{Bytes, NoMemory, NodeId, Seq, Slot};
 use iss_sb::{Effects, Input, Params};
 use pbft_views::{all_good, are_enough, choice, choice_string, primary};
 use pbft_wire::{Certificate, Change, Message, digest_of, string_of};
 use std::alloc::Global;
+
+/// A replica's ViewChange.
+pub fn change_of(from: NodeId, view: u16, certificates: Seq<Certificate>, sig: Bytes) -> Change
+    ensures { result ≡ record { node = from; view = view; certificates = certificates; sig = sig } }
+{
+    Change {
+        node: from,
+        view,
+        certificates,
+        sig,
+    }
+}
 
 // ---- hashed strings
 
@@ -77,20 +90,43 @@ fn hash_choices(
 
 // ---- what a new view proposes
 
-// Stores the new view's proposals: at each slot the value that these ViewChanges choose, with the signature of its
+/// A NewView with its sender.
+#[derive(Drop)]
+pub struct NewView {
+    pub from: NodeId,
+    pub view: u16,
+    pub changes: Seq<Change>,
+    pub signatures: Seq<Bytes>,
+}
+
+impl NewView {
+    /// The NewView of these.
+    pub fn of(from: NodeId, view: u16, changes: Seq<Change>, signatures: Seq<Bytes>) -> NewView
+        ensures { result ≡ record { from = from; view = view; changes = changes; signatures = signatures } }
+    {
+        NewView {
+            from,
+            view,
+            changes,
+            signatures,
+        }
+    }
+}
+
+// Stores the new view's proposals: at each slot the value that its ViewChanges choose, with the signature of its
 // PrePrepare.
 fn put_choices(
     alloc: Global,
     p: &Params,
-    view: u16,
-    changes: &[Change],
+    choices: &Choices,
     slots: &[Slot],
     signatures: &[Bytes],
     proposals: &mut Proposals,
 ) -> Result<(), NoMemory>
     requires { length signatures.now ≡ length slots.now }
-    ensures { OnOk result ((w s : ℕ) → proposal_at proposals.new w s ≡
-        first_of (chosen_among p.now view changes.now slots.now signatures.now w s) (proposal_at proposals.old w s)) }
+    ensures { OnOk result ((w s : ℕ) → proposal_at proposals.new w s ≡ first_of
+        (chosen_among p.now choices.now.view choices.now.changes.now slots.now signatures.now w s)
+        (proposal_at proposals.old w s)) }
 {
     let [slot, slots @ ..] = slots else {
         return Ok(());
@@ -98,12 +134,12 @@ fn put_choices(
     let [sig, signatures @ ..] = signatures else {
         return Ok(());
     };
-    put_choices(alloc, p, view, changes, slots, signatures, proposals)?;
-    let value = choice(*slot, changes)?;
+    put_choices(alloc, p, choices, slots, signatures, proposals)?;
+    let value = choice(*slot, choices.changes)?;
     let digest = digest_of(alloc, p, &value);
     let sig = sig.copy()?;
     let proposal = Proposal { value, digest, sig };
-    proposals.put(view, *slot, proposal)
+    proposals.put(choices.view, *slot, proposal)
 }
 
 impl Pbft {
@@ -222,32 +258,34 @@ impl Pbft {
         &mut self,
         alloc: Global,
         p: &Params,
-        from: NodeId,
-        view: u16,
-        changes: Seq<Change>,
-        signatures: Seq<Bytes>,
+        new: NewView,
         keys: &mut Keys,
     ) -> Result<Effects<Message>, NoMemory>
         requires good { IsGoodParams pbft p.now }
         requires enough { 2 * length p.now.slots + 1 ≤ left_of keys.old }
-        ensures { IfOk result (λ e. (sig : List ℕ) →
-            Does p.now self.old self.new
-            (Input.Receive from (Message.NewView view changes signatures sig)) keys.old keys.new e) }
+        ensures { IfOk result (λ e. (sig : List ℕ) → Does p.now self.old self.new
+            (Input.Receive new.from (Message.NewView new.view new.changes new.signatures sig)) keys.old keys.new e) }
     {
         let mut effects = Effects::nothing(alloc);
-        let shown = changes.as_slice();
-        let signed = signatures.as_slice();
-        if !self.enters(p, from, view, shown, signed) {
+        let view = new.view;
+        let shown = new.changes.as_slice();
+        let signed = new.signatures.as_slice();
+        if !self.enters(p, new.from, view, shown, signed) {
             return Ok(effects);
         }
         let slots = p.slots.as_slice();
         hash_changes(alloc, p, shown, &mut effects)?;
         hash_choices(alloc, p, shown, slots, &mut effects)?;
-        put_choices(alloc, p, view, shown, slots, signed, &mut self.proposals)?;
+        let choices = Choices {
+            view,
+            changes: shown,
+        };
+        put_choices(alloc, p, &choices, slots, signed, &mut self.proposals)?;
         self.view = view;
         self.active = true;
         let answers = self.follows(p, view);
-        self.settle(alloc, p, answers, view, slots, keys, &mut effects)?;
+        let touched = Touched { view, answers };
+        self.settle(alloc, p, touched, slots, keys, &mut effects)?;
         Ok(effects)
     }
 

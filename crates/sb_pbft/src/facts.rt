@@ -45,8 +45,8 @@ pub fn what_is_delivered_was_decided()
     ensures { (p : Params) (w : World Message) → IsGoodParams pbft p → IsReached pbft p w → AreDecided p w }
 {}
 
-/// If a valid prepared certificate holds a batch, then 2f+1 replicas, the leader among them, accepted the batch. This
-/// assumes that no two hashed strings have one digest.
+/// If a valid prepared certificate holds a batch that a correct replica hashed, then 2f+1 replicas, the leader among
+/// them, accepted the batch. This assumes that no two hashed strings have one digest.
 pub fn batches_come_from_a_quorum()
     ensures { (p : Params) (w : World Message) → IsGoodParams pbft p → IsReached pbft p w → Separate (IsString w) →
         AreRooted p w }

@@ -8,7 +8,7 @@ ghost use Rattle.iss_sb.specs.declared.effects.Input.{Input};
 ghost use Rattle.iss_sb.specs.declared.effects.Params.{Params};
 ghost use Rattle.pbft_wire.specs.declared.messages.Message.{Message};
 ghost use Rattle.sb_pbft.specs.Pbft.{pbft};
-ghost use Rattle.sb_pbft.specs.Turns.{TurnsTo, model, turn};
+ghost use Rattle.sb_pbft.specs.Internal.Turns.{TurnsTo, model, turn};
 
 /// Safety: every reachable world is a Sequenced Broadcast (ISS), over any number of views, whatever Byzantine
 /// replicas send.

@@ -4,19 +4,20 @@ ghost use Rattle.iss_keys.specs.KeyStates.{left_of};
 ghost use Rattle.iss_sb.specs.Calls.{IsGoodInput, IsGoodParams, IsTrueStep, named};
 ghost use Rattle.iss_sb.specs.Evidence.{Item};
 ghost use Rattle.sb_pbft.specs.Pbft.{asks, pbft};
-ghost use Rattle.sb_pbft.specs.Refines.{Does, Refines};
+ghost use Rattle.sb_pbft.specs.Internal.Refines.{Does, Refines};
 
+use crate::changing::{NewView, change_of};
 use crate::prepared::PreparedCertificates;
 use crate::proposals::Proposals;
-use crate::tallies::Votes;
+use crate::tallies::{Envelope, Votes};
 use crate::view_changes::ViewChanges;
 use iss_keys::Keys;
 use iss_request::{
-    Batch, Bytes, DecodeError, Fields, Kind, NoMemory, NodeId, Seq, Slot, Value, Writer,
-    nodes_of_kind, quorum,
+    Batch, DecodeError, Fields, Kind, NoMemory, NodeId, Seq, Slot, Value, Writer, nodes_of_kind,
+    quorum,
 };
 use iss_sb::{Claim, Effects, Input, Params, Sequenced, asks_if};
-use pbft_wire::{Change, Message};
+use pbft_wire::Message;
 use std::alloc::Global;
 use std::collections::BTreeSet;
 
@@ -51,24 +52,18 @@ impl Pbft {
         &mut self,
         alloc: Global,
         p: &Params,
-        from: NodeId,
-        view: u16,
-        slot: Slot,
+        offer: Envelope,
         value: Value,
-        sig: Bytes,
         keys: &mut Keys,
     ) -> Result<Effects<Message>, NoMemory>
         requires good { IsGoodParams pbft p.now }
         requires enough { 2 * length p.now.slots + 1 ≤ left_of keys.old }
-        ensures { IfOk result (λ e.
-            Does p.now self.old self.new
-            (Input.Receive from (Message.PrePrepare view slot value sig)) keys.old keys.new e) }
+        ensures { IfOk result (λ e. Does p.now self.old self.new (Input.Receive offer.from
+            (Message.PrePrepare offer.view offer.slot value offer.sig)) keys.old keys.new e) }
     {
         match value {
             Value::Nil => Ok(Effects::nothing(alloc)),
-            Value::Batch(batch) => Ok(self.take_pre_prepare(
-                alloc, p, from, view, slot, batch, sig, keys,
-            )?),
+            Value::Batch(batch) => Ok(self.take_pre_prepare(alloc, p, offer, batch, keys)?),
         }
     }
 
@@ -117,30 +112,34 @@ impl Pbft {
                 slot,
                 value,
                 sig,
-            } => Ok(self.take_proposal(alloc, p, from, view, slot, value, sig, keys)?),
+            } => {
+                let offer = Envelope::of(from, view, slot, sig);
+                Ok(self.take_proposal(alloc, p, offer, value, keys)?)
+            }
             Message::Prepare {
                 view,
                 slot,
                 digest,
                 sig,
-            } => Ok(self.take_prepare(alloc, p, from, view, slot, digest, sig, keys)?),
+            } => {
+                let vote = Envelope::of(from, view, slot, sig);
+                Ok(self.take_prepare(alloc, p, vote, digest, keys)?)
+            }
             Message::Commit {
                 view,
                 slot,
                 digest,
-                ..
-            } => Ok(self.take_commit(alloc, p, from, view, slot, digest, keys)?),
+                sig,
+            } => {
+                let vote = Envelope::of(from, view, slot, sig);
+                Ok(self.take_commit(alloc, p, vote, digest, keys)?)
+            }
             Message::ViewChange {
                 view,
                 certificates,
                 sig,
             } => {
-                let change = Change {
-                    node: from,
-                    view,
-                    certificates,
-                    sig,
-                };
+                let change = change_of(from, view, certificates, sig);
                 Ok(self.take_change(alloc, p, change, keys)?)
             }
             Message::NewView {
@@ -148,7 +147,10 @@ impl Pbft {
                 changes,
                 signatures,
                 ..
-            } => Ok(self.take_new_view(alloc, p, from, view, changes, signatures, keys)?),
+            } => {
+                let new = NewView::of(from, view, changes, signatures);
+                Ok(self.take_new_view(alloc, p, new, keys)?)
+            }
         }
     }
 }

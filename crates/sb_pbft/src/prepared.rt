@@ -2,7 +2,7 @@
 ghost use Rattle.std.specs.Prelude.{◌≡◌, ℕ, Some, None, IfOk, OnOk};
 ghost use Rattle.iss_base.specs.Lists.{set_at};
 ghost use Rattle.sb_pbft.specs.Places.{top_at};
-ghost use Rattle.sb_pbft.specs.Turns.{is_of, tops_of};
+ghost use Rattle.sb_pbft.specs.Internal.Turns.{is_of, tops_of};
 
 use iss_request::{NoMemory, Seq, Slot};
 use pbft_wire::Certificate;

@@ -5,6 +5,7 @@ ghost use Rattle.iss_base.specs.Lists.{set_at2};
 ghost use Rattle.sb_pbft.specs.Places.{proposal_at};
 
 use iss_request::{Bytes, NoMemory, Slot, Value};
+use pbft_wire::Change;
 use std::alloc::Global;
 use std::collections::BTreeMap;
 
@@ -21,6 +22,13 @@ pub struct Proposal {
     pub value: Value,
     pub digest: [u8; 32],
     pub sig: Bytes,
+}
+
+/// What a new view proposes: at each slot the value that these ViewChanges choose.
+#[derive(Drop)]
+pub struct Choices<'a> {
+    pub view: u16,
+    pub changes: &'a [Change],
 }
 
 /// The accepted proposals: at most one for each view and slot.

@@ -3,17 +3,19 @@ ghost use Rattle.std.specs.Prelude.{◌≡◌, ◌≤◌, ◌*◌, ◌+◌, leng
 ghost use Rattle.iss_keys.specs.KeyStates.{left_of};
 ghost use Rattle.iss_sb.specs.Calls.{IsGoodParams};
 ghost use Rattle.sb_pbft.specs.Pbft.{pbft};
-ghost use Rattle.sb_pbft.specs.Refines.{Does, HasAccepted, held, is_free, may_cast, may_take};
+ghost use Rattle.sb_pbft.specs.Internal.Refines.{Does, HasAccepted, held, is_free, may_cast, may_take};
 
 use crate::pbft::Pbft;
 use crate::proposals::Proposal;
 use crate::sending::{send_prepare, sign_at};
+use crate::settling::Touched;
+use crate::tallies::Envelope;
 use iss_keys::Keys;
-use iss_request::{Batch, Bytes, NoMemory, NodeId, Slot, Value};
+use iss_request::{Batch, NoMemory, NodeId, Slot, Value};
 use iss_sb::{Effects, Input, Params, To};
 use pbft_views::has_slot;
 use pbft_wire::signing::PRE_PREPARE;
-use pbft_wire::{Message, string_of};
+use pbft_wire::{Mark, Message, string_of};
 use std::alloc::Global;
 
 // Accepts a batch at a slot. Returns the value that holds it, the value's digest, and the effects: an accepted batch
@@ -60,6 +62,7 @@ impl Pbft {
     }
 
     // The leader proposes a batch: it accepts the batch and sends the PrePrepare of view 0 to all.
+    // rule: Modules: A correct leader accepts one batch at a slot
     pub(crate) fn cast(
         &mut self,
         alloc: Global,
@@ -76,19 +79,23 @@ impl Pbft {
             return Ok(Effects::nothing(alloc));
         }
         let (value, digest, mut effects) = accept(alloc, p, slot, batch)?;
-        let sig = sign_at(alloc, p, PRE_PREPARE, 0, slot, &digest, keys)?;
+        let view = 0;
+        let mark = Mark { slot, view, digest };
+        let sig = sign_at(alloc, p, PRE_PREPARE, &mark, keys)?;
         let said = value.copy()?;
         let tag = sig.copy()?;
         let msg = Message::PrePrepare {
-            view: 0,
+            view,
             slot,
             value: said,
             sig: tag,
         };
         effects.sends.push((To::All, msg))?;
         let proposal = Proposal { value, digest, sig };
-        self.proposals.put(0, slot, proposal)?;
-        self.settle_at(alloc, p, false, 0, slot, keys, &mut effects)?;
+        self.proposals.put(view, slot, proposal)?;
+        let answers = false;
+        let touched = Touched { view, answers };
+        self.settle_at(alloc, p, touched, slot, keys, &mut effects)?;
         Ok(effects)
     }
 
@@ -97,26 +104,29 @@ impl Pbft {
         &mut self,
         alloc: Global,
         p: &Params,
-        from: NodeId,
-        view: u16,
-        slot: Slot,
+        offer: Envelope,
         batch: Batch,
-        sig: Bytes,
         keys: &mut Keys,
     ) -> Result<Effects<Message>, NoMemory>
         requires good { IsGoodParams pbft p.now }
         requires enough { 2 * length p.now.slots + 1 ≤ left_of keys.old }
-        ensures { IfOk result (λ e. Does p.now self.old self.new
-            (Input.Receive from (Message.PrePrepare view slot (Value.Batch batch) sig)) keys.old keys.new e) }
+        ensures { IfOk result (λ e. Does p.now self.old self.new (Input.Receive offer.from
+            (Message.PrePrepare offer.view offer.slot (Value.Batch batch) offer.sig)) keys.old keys.new e) }
     {
-        if !self.may_take(p, from, view, slot) {
+        if !self.may_take(p, offer.from, offer.view, offer.slot) {
             return Ok(Effects::nothing(alloc));
         }
+        let slot = offer.slot;
         let (value, digest, mut effects) = accept(alloc, p, slot, batch)?;
-        send_prepare(alloc, p, 0, slot, digest, keys, &mut effects.sends)?;
+        let view = 0;
+        let mark = Mark { slot, view, digest };
+        send_prepare(alloc, p, &mark, keys, &mut effects.sends)?;
+        let sig = offer.sig;
         let proposal = Proposal { value, digest, sig };
-        self.proposals.put(0, slot, proposal)?;
-        self.settle_at(alloc, p, false, 0, slot, keys, &mut effects)?;
+        self.proposals.put(view, slot, proposal)?;
+        let answers = false;
+        let touched = Touched { view, answers };
+        self.settle_at(alloc, p, touched, slot, keys, &mut effects)?;
         Ok(effects)
     }
 }

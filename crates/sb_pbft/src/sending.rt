@@ -3,16 +3,18 @@ ghost use Rattle.std.specs.Prelude.{◌≡◌, ◌<◌, ◌≤◌, ℕ, ◌∷�
 ghost use Rattle.iss_keys.specs.Directories.{AreKeysOf};
 ghost use Rattle.iss_keys.specs.KeyStates.{left_of};
 ghost use Rattle.iss_sb.specs.Statements.{signature};
-ghost use Rattle.pbft_wire.specs.Statements.{state_at};
+ghost use Rattle.pbft_views.specs.Choice.{choice};
+ghost use Rattle.pbft_wire.specs.Statements.{digest_of, state_at};
 ghost use Rattle.sb_pbft.specs.Makes.{DraftCommit, DraftNewView, DraftPrepare, DraftViewChange, choice_sigs};
-ghost use Rattle.sb_pbft.specs.Refines.{Sent};
+ghost use Rattle.sb_pbft.specs.Internal.Refines.{Sent};
 
+use crate::proposals::Choices;
 use iss_keys::Keys;
 use iss_request::{Bytes, NoMemory, Seq, Slot};
 use iss_sb::{Params, To, sign};
 use pbft_views::choice_digest;
 use pbft_wire::signing::{COMMIT, PRE_PREPARE, PREPARE};
-use pbft_wire::{Certificate, Change, Message, state_at, state_change, state_new};
+use pbft_wire::{Certificate, Change, Mark, Message, state_at, state_change, state_new};
 use std::alloc::Global;
 
 /// Signs the statement of a PrePrepare, a Prepare or a Commit (`kind`) with the next one-time key.
@@ -20,18 +22,16 @@ pub fn sign_at(
     alloc: Global,
     p: &Params,
     kind: u8,
-    view: u16,
-    slot: Slot,
-    digest: &[u8; 32],
+    mark: &Mark,
     keys: &mut Keys,
 ) -> Result<Bytes, NoMemory>
     requires { 0 < left_of keys.old }
-    ensures sig { IfOk result (λ s. (me : ℕ) → AreKeysOf me p.now.setup.keys keys.old →
-        s ≡ signature p.now me keys.old.used (state_at p.now kind view slot.0 digest.now)) }
+    ensures sig { IfOk result (λ s. (me : ℕ) → AreKeysOf me p.now.setup.keys keys.old → s ≡ signature p.now me
+        keys.old.used (state_at p.now kind mark.now.view mark.now.slot.0 mark.now.digest)) }
     ensures used { OnOk result (keys.new ≡ record keys.old { used = keys.old.used + 1 }) }
     ensures left { OnOk result (left_of keys.new + 1 ≡ left_of keys.old) }
 {
-    let statement = state_at(alloc, p, kind, view, slot, digest)?;
+    let statement = state_at(alloc, p, kind, mark)?;
     sign(&statement, keys)
 }
 
@@ -39,21 +39,20 @@ pub fn sign_at(
 pub fn send_prepare(
     alloc: Global,
     p: &Params,
-    view: u16,
-    slot: Slot,
-    digest: [u8; 32],
+    mark: &Mark,
     keys: &mut Keys,
     sends: &mut Seq<(To, Message)>,
 ) -> Result<(), NoMemory>
     requires { 0 < left_of keys.old }
-    ensures sent { OnOk result (Sent p.now (DraftPrepare view slot digest ∷ []) keys.old keys.new sends.old sends.new) }
+    ensures sent { OnOk result (Sent p.now
+        (DraftPrepare mark.now.view mark.now.slot mark.now.digest ∷ []) keys.old keys.new sends.old sends.new) }
     ensures left { OnOk result (left_of keys.new + 1 ≡ left_of keys.old) }
 {
-    let sig = sign_at(alloc, p, PREPARE, view, slot, &digest, keys)?;
+    let sig = sign_at(alloc, p, PREPARE, mark, keys)?;
     let msg = Message::Prepare {
-        view,
-        slot,
-        digest,
+        view: mark.view,
+        slot: mark.slot,
+        digest: mark.digest,
         sig,
     };
     sends.push((To::All, msg))?;
@@ -64,21 +63,20 @@ pub fn send_prepare(
 pub fn send_commit(
     alloc: Global,
     p: &Params,
-    view: u16,
-    slot: Slot,
-    digest: [u8; 32],
+    mark: &Mark,
     keys: &mut Keys,
     sends: &mut Seq<(To, Message)>,
 ) -> Result<(), NoMemory>
     requires { 0 < left_of keys.old }
-    ensures sent { OnOk result (Sent p.now (DraftCommit view slot digest ∷ []) keys.old keys.new sends.old sends.new) }
+    ensures sent { OnOk result (Sent p.now
+        (DraftCommit mark.now.view mark.now.slot mark.now.digest ∷ []) keys.old keys.new sends.old sends.new) }
     ensures left { OnOk result (left_of keys.new + 1 ≡ left_of keys.old) }
 {
-    let sig = sign_at(alloc, p, COMMIT, view, slot, &digest, keys)?;
+    let sig = sign_at(alloc, p, COMMIT, mark, keys)?;
     let msg = Message::Commit {
-        view,
-        slot,
-        digest,
+        view: mark.view,
+        slot: mark.slot,
+        digest: mark.digest,
         sig,
     };
     sends.push((To::All, msg))?;
@@ -109,33 +107,52 @@ pub fn send_change(
     Ok(())
 }
 
-// Signs the new view's PrePrepares: slot by slot the value that these ViewChanges choose. Each signature takes the
-// next one-time key.
+// Signs the PrePrepare of the choice at the slot.
+fn sign_choice(
+    alloc: Global,
+    p: &Params,
+    choices: &Choices,
+    slot: Slot,
+    keys: &mut Keys,
+) -> Result<Bytes, NoMemory>
+    requires { 0 < left_of keys.old }
+    ensures sig { IfOk result (λ s. (me : ℕ) → AreKeysOf me p.now.setup.keys keys.old →
+        let digest = digest_of p.now (choice choices.now.changes.now slot.0) in
+        s ≡ signature p.now me keys.old.used (state_at p.now 1 choices.now.view slot.0 digest)) }
+    ensures used { OnOk result (keys.new ≡ record keys.old { used = keys.old.used + 1 }) }
+    ensures left { OnOk result (left_of keys.new + 1 ≡ left_of keys.old) }
+{
+    let view = choices.view;
+    let digest = choice_digest(alloc, p, slot, choices.changes);
+    let mark = Mark { slot, view, digest };
+    sign_at(alloc, p, PRE_PREPARE, &mark, keys)
+}
+
+// Signs the new view's PrePrepares, slot by slot. Each signature takes the next one-time key.
 fn sign_choices(
     alloc: Global,
     p: &Params,
-    view: u16,
-    changes: &[Change],
+    choices: &Choices,
     slots: &[Slot],
     keys: &mut Keys,
     all: &mut Seq<Bytes>,
 ) -> Result<(), NoMemory>
     requires { length slots.now ≤ left_of keys.old }
-    ensures sigs { OnOk result ((me : ℕ) → AreKeysOf me p.now.setup.keys keys.old →
-        all.new ≡ all.old ++ choice_sigs p.now me keys.old.used view changes.now slots.now) }
+    ensures sigs { OnOk result ((me : ℕ) → AreKeysOf me p.now.setup.keys keys.old → all.new ≡ all.old ++
+        choice_sigs p.now me keys.old.used choices.now.view choices.now.changes.now slots.now) }
     ensures used { OnOk result (keys.new ≡ record keys.old { used = keys.old.used + length slots.now }) }
     ensures left { OnOk result (left_of keys.new + length slots.now ≡ left_of keys.old) }
 {
     let [slot, others @ ..] = slots else {
         return Ok(());
     };
-    let digest = choice_digest(alloc, p, *slot, changes);
-    let sig = sign_at(alloc, p, PRE_PREPARE, view, *slot, &digest, keys)?;
+    let sig = sign_choice(alloc, p, choices, *slot, keys)?;
     all.push(sig)?;
-    sign_choices(alloc, p, view, changes, others, keys, all)
+    sign_choices(alloc, p, choices, others, keys, all)
 }
 
 /// Signs the NewView with these ViewChanges and its PrePrepares, and sends it to all.
+// rule: PBFT: A new view's primary signs a PrePrepare of each slot's choice, and then its NewView
 pub fn send_new_view(
     alloc: Global,
     p: &Params,
@@ -149,15 +166,11 @@ pub fn send_new_view(
 {
     let slots = p.slots.as_slice();
     let mut signatures = Seq::new(alloc);
-    sign_choices(
-        alloc,
-        p,
+    let choices = Choices {
         view,
-        changes.as_slice(),
-        slots,
-        keys,
-        &mut signatures,
-    )?;
+        changes: changes.as_slice(),
+    };
+    sign_choices(alloc, p, &choices, slots, keys, &mut signatures)?;
     let statement = state_new(alloc, p, view)?;
     let sig = sign(&statement, keys)?;
     let msg = Message::NewView {

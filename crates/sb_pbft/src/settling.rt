@@ -4,16 +4,23 @@ ghost use Rattle.std.specs.Prelude.{◌≡◌, ◌≤◌, ◌*◌, ◌∷◌, []
 ghost use Rattle.iss_keys.specs.KeyStates.{left_of};
 ghost use Rattle.iss_sb.specs.Calls.{IsGoodParams};
 ghost use Rattle.sb_pbft.specs.Pbft.{pbft};
-ghost use Rattle.sb_pbft.specs.Refines.{Answers, Commits, HandsOver, HasCertified, HasDelivered, Settles, held};
-ghost use Rattle.sb_pbft.specs.Turns.{committed_at, newly_at, prepared_at, ready_at};
+ghost use Rattle.sb_pbft.specs.Internal.Refines.{Answers, Commits, HandsOver, HasCertified, HasDelivered, Settles, held};
+ghost use Rattle.sb_pbft.specs.Internal.Turns.{committed_at, newly_at, prepared_at, ready_at};
 
 use crate::pbft::Pbft;
 use crate::sending::{send_commit, send_prepare};
 use iss_keys::Keys;
 use iss_request::{NoMemory, Slot, Value};
 use iss_sb::{Effects, Params};
-use pbft_wire::{Certificate, Message};
+use pbft_wire::{Certificate, Mark, Message};
 use std::alloc::Global;
+
+/// The view in which an input touched slots, and whether the replica answers the proposals of this view with Prepares.
+#[derive(Clone, Copy)]
+pub struct Touched {
+    pub view: u16,
+    pub answers: bool,
+}
 
 impl Pbft {
     // PBFT's "prepared": the replica has a proposal of the view at the slot, and Prepares of 2f replicas for its
@@ -117,29 +124,31 @@ impl Pbft {
         Ok(Some(value))
     }
 
-    // If `answers` (a backup entered this view by a NewView), sends a Prepare for the proposal of the view at the
-    // slot.
+    // If the replica answers (a backup that entered this view by a NewView), sends a Prepare for the proposal of the
+    // view at the slot.
     fn prepare_if_asked(
         &self,
         alloc: Global,
         p: &Params,
-        answers: bool,
-        view: u16,
+        touched: Touched,
         slot: Slot,
         keys: &mut Keys,
         effects: &mut Effects<Message>,
     ) -> Result<(), NoMemory>
         requires { 2 ≤ left_of keys.old }
-        ensures { OnOk result (Answers p.now answers view slot self.now keys.old keys.new effects.old effects.new) }
+        ensures { OnOk result (Answers p.now touched.answers touched.view slot self.now keys.old keys.new effects.old
+            effects.new) }
     {
-        if !answers {
+        if !touched.answers {
             return Ok(());
         }
+        let view = touched.view;
         let Some(proposal) = self.proposals.get(view, slot) else {
             return Ok(());
         };
         let digest = proposal.digest;
-        send_prepare(alloc, p, view, slot, digest, keys, &mut effects.sends)?;
+        let mark = Mark { slot, view, digest };
+        send_prepare(alloc, p, &mark, keys, &mut effects.sends)?;
         Ok(())
     }
 
@@ -159,8 +168,9 @@ impl Pbft {
         let Some(digest) = self.certify(alloc, p, slot)? else {
             return Ok(());
         };
-        let own = self.view;
-        send_commit(alloc, p, own, slot, digest, keys, &mut effects.sends)?;
+        let view = self.view;
+        let mark = Mark { slot, view, digest };
+        send_commit(alloc, p, &mark, keys, &mut effects.sends)?;
         Ok(())
     }
 
@@ -183,13 +193,12 @@ impl Pbft {
         Ok(())
     }
 
-    // Settles one slot that an input touched in `view`: Prepare (if `answers`), Commit, delivery.
+    // Settles one slot that an input touched: Prepare (if the replica answers), Commit, delivery.
     pub(crate) fn settle_at(
         &mut self,
         alloc: Global,
         p: &Params,
-        answers: bool,
-        view: u16,
+        touched: Touched,
         slot: Slot,
         keys: &mut Keys,
         effects: &mut Effects<Message>,
@@ -197,11 +206,12 @@ impl Pbft {
         requires good { IsGoodParams pbft p.now }
         requires enough { 2 ≤ left_of keys.old }
         ensures { OnOk result
-            (Settles p.now answers view (slot ∷ []) self.old self.new keys.old keys.new effects.old effects.new) }
+            (Settles p.now touched.answers touched.view (slot ∷ []) self.old self.new keys.old keys.new effects.old
+            effects.new) }
     {
-        self.prepare_if_asked(alloc, p, answers, view, slot, keys, effects)?;
+        self.prepare_if_asked(alloc, p, touched, slot, keys, effects)?;
         self.commit(alloc, p, slot, keys, effects)?;
-        self.deliver_committed(p, view, slot, effects)?;
+        self.deliver_committed(p, touched.view, slot, effects)?;
         Ok(())
     }
 
@@ -210,8 +220,7 @@ impl Pbft {
         &mut self,
         alloc: Global,
         p: &Params,
-        answers: bool,
-        view: u16,
+        touched: Touched,
         slots: &[Slot],
         keys: &mut Keys,
         effects: &mut Effects<Message>,
@@ -219,10 +228,11 @@ impl Pbft {
         requires good { IsGoodParams pbft p.now }
         requires enough { 2 * length slots.now ≤ left_of keys.old }
         ensures { OnOk result
-            (Settles p.now answers view slots.now self.old self.new keys.old keys.new effects.old effects.new) }
+            (Settles p.now touched.answers touched.view slots.now self.old self.new keys.old keys.new effects.old
+            effects.new) }
     {
         for slot in slots {
-            self.settle_at(alloc, p, answers, view, *slot, keys, effects)?;
+            self.settle_at(alloc, p, touched, *slot, keys, effects)?;
         }
         Ok(())
     }

@@ -9,6 +9,29 @@ use iss_sb::Signed;
 use std::alloc::Global;
 use std::collections::BTreeMap;
 
+/// The sender of a PrePrepare, a Prepare or a Commit, with its view, slot and signature.
+#[derive(Drop)]
+pub struct Envelope {
+    pub from: NodeId,
+    pub view: u16,
+    pub slot: Slot,
+    pub sig: Bytes,
+}
+
+impl Envelope {
+    /// The envelope of these.
+    pub fn of(from: NodeId, view: u16, slot: Slot, sig: Bytes) -> Envelope
+        ensures { result ≡ record { from = from; view = view; slot = slot; sig = sig } }
+    {
+        Envelope {
+            from,
+            view,
+            slot,
+            sig,
+        }
+    }
+}
+
 /// The key of a vote: its view, its slot and the voter.
 #[derive(PartialEq, Eq, PartialOrd, Ord, Drop)]
 pub struct Mark {
@@ -42,26 +65,20 @@ impl Votes {
 
     /// Stores a vote, unless one of this replica in the view at the slot is stored.
     // rule: PBFT: A replica's first Prepare and first Commit count, once a view and slot
-    pub fn keep(
-        &mut self,
-        view: u16,
-        slot: Slot,
-        node: NodeId,
-        digest: [u8; 32],
-        sig: Bytes,
-    ) -> Result<(), NoMemory>
+    pub fn keep(&mut self, vote: Envelope, digest: [u8; 32]) -> Result<(), NoMemory>
         ensures { OnOk result ((v s k : ℕ) → vote_at self.new v s k ≡
             first_of (vote_at self.old v s k)
-            (when (is_at node.0 view slot.0 v s k) (record { digest = digest; sig = sig }))) }
+            (when (is_at vote.from.0 vote.view vote.slot.0 v s k) (record { digest = digest; sig = vote.sig }))) }
     {
         let mark = Mark {
-            view,
-            slot: slot.0,
-            node: node.0,
+            view: vote.view,
+            slot: vote.slot.0,
+            node: vote.from.0,
         };
         if self.first.contains_key(&mark) {
             return Ok(());
         }
+        let sig = vote.sig;
         self.first.insert(mark, Voted { digest, sig })?;
         Ok(())
     }

@@ -94,6 +94,7 @@ greatest test low (suc k) = if nat_lt low (suc k) && test (suc k) then suc k els
 -- ---- AppendEntries: a leader sends each other node the entries from its nextIndex on, with the previous index and
 -- term
 
+-- rule: Raft: An Append has the entries behind an index, and the term of the entry there
 abbrev pub append_behind : State → ℕ → Message
 append_behind s previous = Append s.term previous (term_at s.log previous) s.commit (drop previous s.log)
 
@@ -261,6 +262,7 @@ abbrev pub candidate : ℕ → State → State
 candidate me s = record s { term = s.term + 1; vote = Some me; role = Candidate; granted = λ k. k == me }
 
 -- RequestVote, with the last index and term
+-- rule: Raft: A candidate asks for votes with the index and term of its last entry
 abbrev pub ask_vote : State → ℕ → Message
 ask_vote s k = AskVote s.term (length s.log) (last_term s.log)
 

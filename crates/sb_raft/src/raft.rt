@@ -8,6 +8,7 @@ ghost use Rattle.sb_raft.specs.Refines.{Does, IsLow, Refines, held, role_of};
 
 use crate::log::Log;
 use crate::per_peer::PerPeer;
+use crate::rules::Sent;
 use iss_keys::Keys;
 use iss_request::{
     Batch, DecodeError, Fields, Kind, NoMemory, NodeId, Seq, Slot, Writer, nodes_of_kind, quorum,
@@ -92,16 +93,13 @@ impl Raft {
                 entries,
             } => {
                 self.raise(term);
-                self.take_append(
-                    alloc,
-                    p,
-                    from,
-                    term,
+                let sent = Sent {
                     previous,
                     previous_term,
                     commit,
                     entries,
-                )
+                };
+                self.take_append(alloc, p, from, term, sent)
             }
             Message::Reply { term, ok, index } => {
                 self.raise(term);

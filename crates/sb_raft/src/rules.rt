@@ -16,6 +16,15 @@ use iss_sb::{Content, Effects, Params, To, is_next};
 use raft_wire::{Entry, Message};
 use std::alloc::Global;
 
+/// The entries of an Append, with the index and term of the leader's entry before them, and the leader's commit index.
+#[derive(Drop)]
+pub struct Sent {
+    pub previous: u32,
+    pub previous_term: u16,
+    pub commit: u32,
+    pub entries: Seq<Entry>,
+}
+
 /// The last term: terms have 16 bits.
 const LAST_TERM: u16 = 65_535;
 
@@ -44,6 +53,7 @@ impl Raft {
 
     // rule: Raft: The leader of the first term takes casts, each at the next slot
     // rule: Raft: A node accepts one batch a slot
+    // rule: Modules: A correct leader accepts one batch at a slot
     pub(crate) fn cast(
         &mut self,
         alloc: Global,
@@ -77,23 +87,22 @@ impl Raft {
         p: &Params,
         from: NodeId,
         term: u16,
-        previous: u32,
-        previous_term: u16,
-        commit: u32,
-        entries: Seq<Entry>,
+        sent: Sent,
     ) -> Result<Effects<Message>, NoMemory>
         requires { from.0 < p.now.setup.n }
         ensures { IfOk result (λ e. Does p.now self.old.me (IsLow (held self.old)) (held self.old) self.new
-            (on_append (held self.old) from.0 term previous previous_term commit entries) None e) }
+            (on_append (held self.old) from.0 term sent.previous sent.previous_term sent.commit sent.entries) None e) }
     {
+        let previous = sent.previous as usize;
         if term != self.term {
-            return reply(alloc, from, self.term, false, previous as usize);
+            return reply(alloc, from, self.term, false, previous);
         }
         self.part = Role::Follower;
-        if !self.fits_behind(previous as usize, previous_term) {
-            return reply(alloc, from, self.term, false, previous as usize);
+        if !self.fits_behind(previous, sent.previous_term) {
+            return reply(alloc, from, self.term, false, previous);
         }
-        self.merge(alloc, p, from, previous as usize, commit as usize, entries)
+        let commit = sent.commit as usize;
+        self.merge(alloc, p, from, previous, commit, sent.entries)
     }
 
     // The consistency check: whether the log has an entry of this term at the previous index.

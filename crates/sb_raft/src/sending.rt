@@ -55,6 +55,7 @@ pub fn reply(
 
 impl Raft {
     // An Append with the entries after this index. The only error is out of memory.
+    // rule: Raft: An Append has the entries behind an index, and the term of the entry there
     pub(crate) fn append_behind(&self, alloc: Global, previous: usize) -> Result<Message, NoMemory>
         ensures { IfOk result (λ m. length self.now.log.entries < 2 ^ 32 → previous ≤ length self.now.log.entries →
             m ≡ append_behind (held self.now) previous) }
@@ -127,6 +128,7 @@ impl Raft {
     }
 
     // Appends to `sends` a RequestVote for this node, unless it is the node itself.
+    // rule: Raft: A candidate asks for votes with the index and term of its last entry
     fn ask(&self, node: NodeId, sends: &mut Seq<(To, Message)>) -> Result<(), NoMemory>
         ensures asks { OnOk result (length self.now.log.entries < 2 ^ 32 →
             sends.new ≡ sends.old ++ to_each (ask_vote (held self.now)) (other self.now.me.0 node.0)) }

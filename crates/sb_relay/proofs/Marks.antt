@@ -21,7 +21,7 @@ use Rattle.iss_sb.proofs.Slots.{has_slot-In, slot-is}
 use Rattle.sb_relay.specs.declared.relay.Relay.{Relay}
 use Rattle.sb_relay.specs.declared.say.Say.{Say}
 use Rattle.sb_relay.specs.Relay.{asks, decided, is_for, made_of, relay, said, says}
-use Rattle.sb_relay.specs.Refines.{Refines, may_cast, may_deliver}
+use Rattle.sb_relay.specs.Internal.Refines.{Refines, may_cast, may_deliver}
 
 no_answer : {A : Type 0} (o : Option A) → is_some o ≡ false → o ≡ None
 no_answer None h = refl

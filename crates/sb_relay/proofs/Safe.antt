@@ -18,9 +18,9 @@ use Rattle.iss_sb.specs.declared.effects.To.{To}
 use Rattle.iss_sb.specs.declared.effects.To.TheVariants.{All as To_all, One as To_one}
 use Rattle.iss_sb.specs.Calls.{IsGoodParams, has_slot}
 use Rattle.iss_sb.specs.Evidence.{Item, Made, World, IsReadBatch, IsReadMessage, IsSent, MayCome, accepts, delivered}
-use Rattle.iss_sb.specs.Laws.{IsBroadcast, IsHeard, IsLawful, IsSafe, SignsOnce}
+use Rattle.iss_sb.specs.Laws.{AcceptsOnce, IsBroadcast, IsHeard, IsLawful, IsSafe, SignsOnce}
 use Rattle.iss_sb.specs.Legal.{AreMade, IsLegal}
-use Rattle.iss_sb.proofs.Legal.{all-correct, safe-legal}
+use Rattle.iss_sb.proofs.Legal.{all-correct, once-made, safe-legal}
 use Rattle.iss_sb.proofs.Silent.{silent-once}
 use Rattle.iss_sb.proofs.Slots.{below-In, has_slot-In, node-is, slot-is}
 use Rattle.iss_sb.proofs.Worlds.{accepts-cases, accepts-new, accepts-old}
@@ -133,7 +133,7 @@ fresh-at : (p : Params) (me : ℕ) (x : Item Say) (xs : List (Item Say)) (s : Sl
 fresh-at p me x xs s b made h = (asked p me xs x.input s b (sym (accepted-is (asks p me xs x.input)) ∙ (sym (ap (λ (z : Made Say). z.accepted) made.0) ∙ h))).fresh
 
 -- a node accepts one batch for a slot
-pub once : (p : Params) (me : ℕ) (xs : List (Item Say)) (s : Slot) (b c : Batch) → AreMade relay p me xs →
+once : (p : Params) (me : ℕ) (xs : List (Item Say)) (s : Slot) (b c : Batch) → AreMade relay p me xs →
     In {A = Slot × Batch} (s, b) (accepts xs) → In {A = Slot × Batch} (s, c) (accepts xs) → b ≡ c
 once p me [] s b c made h k = absurd h
 once p me (x ∷ xs) s b c made h k = elim (accepts-cases x xs (s, b) h) [
@@ -146,6 +146,9 @@ once p me (x ∷ xs) s b c made h k = elim (accepts-cases x xs (s, b) h) [
     | inr z ↦ once p me xs s b c made.1 y z
   ]
 ]
+
+pub relay-accepts-once : AcceptsOnce relay
+relay-accepts-once = once-made relay (λ p me xs good made s b c. once p me xs s b c made)
 
 module _ (p : Params) (w : World Say) (legal : IsLegal relay p w) where
   -- what the leader sent, it had accepted

@@ -10,7 +10,7 @@ use Rattle.iss_request.proofs.OneSpelling.{done_good, value_grammar, value_relat
 use Rattle.iss_request.proofs.ParserLemmas.{byte_again, byte_parts, done_parts, first_bad, number_again, number_parts, test_bad, test_failed, test_parts, test_passed, then_bad, then_good, then_parts, wide64}
 use Rattle.iss_request.specs.declared.requests.Batch.{Batch}
 use Rattle.iss_request.specs.declared.requests.Value.{Value}
-use Rattle.iss_request.specs.declared.requests.Value.TheVariants.{Nil, Batch as Value_batch}
+use Rattle.iss_request.specs.declared.requests.Value.TheVariants.{Nil as Value_nil, Batch as Value_batch}
 use Rattle.sb_relay.specs.declared.say.Say.{Say}
 use Rattle.sb_relay.specs.Relay.{IsSpelledSay, parse, spell}
 
@@ -31,7 +31,7 @@ pub not-one : (n : ℕ) → n ≢ 1 → (n == 1) ≡ false
 not-one n h = ne_eqb n 1 h
 
 value-is : (v : Value) (batch : Batch) → is_batch v ≡ true → batch_of v ≡ batch → v ≡ Value_batch batch
-value-is Nil batch h e = absurd (true≢false (sym h))
+value-is Value_nil batch h e = absurd (true≢false (sym h))
 value-is (Value_batch b) batch h e = ap (λ (x : Batch). Value_batch x) e
 
 message-is : (text : List ℕ) → such_that (λ n. n == 1) byte (1 ∷ text) ≡ Good 1 text

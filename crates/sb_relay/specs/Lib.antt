@@ -1,2 +1,2 @@
+pub mod Internal
 pub mod Relay
-pub mod Refines

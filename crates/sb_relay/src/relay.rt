@@ -5,7 +5,7 @@ ghost use Rattle.iss_sb.specs.Calls.{IsGoodInput, IsGoodParams, IsTaken, IsTrueS
 ghost use Rattle.iss_sb.specs.Evidence.{Item, and_then};
 ghost use Rattle.sb_relay.specs.declared.say.Say.{Say};
 ghost use Rattle.sb_relay.specs.Relay.{relay};
-ghost use Rattle.sb_relay.specs.Refines.{IsOfSegment, Refines, may_cast, may_deliver};
+ghost use Rattle.sb_relay.specs.Internal.Refines.{IsOfSegment, Refines, may_cast, may_deliver};
 
 use crate::say::Say;
 use iss_keys::Keys;
@@ -43,6 +43,7 @@ impl Relay {
 
     /// Sends the batch to all, if it may be cast.
     // rule: Relay: The leader sends one batch a slot
+    // rule: Modules: A correct leader accepts one batch at a slot
     fn cast(
         &mut self,
         alloc: Global,

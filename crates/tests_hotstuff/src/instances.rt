@@ -34,7 +34,6 @@ fn directory(alloc: Global, setup: &Setup) -> Result<SharedDirectory, NoMemory>
 
 fn instance(alloc: Global, setup: Setup) -> Result<Params, NoMemory>
     requires good { IsGoodSetup setup }
-    requires tag { setup.«module» ≡ 4 }
     requires kind { setup.kind ≡ Byzantine }
     requires nodes { setup.n ≡ 3 * setup.f + 1 }
     requires majority { setup.quorum ≡ 2 * setup.f + 1 }

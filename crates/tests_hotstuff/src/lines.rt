@@ -74,14 +74,14 @@ pub(crate) fn good(phase: u8, view: u32, at: At) -> Shown {
 
 // A node with a batch on this parent.
 fn batch_on(alloc: Global, parent: &[u8; 32]) -> [u8; 32] {
-    digest_of_node(1, parent, &Content::Holds(Batch::new(alloc)))
+    digest_of_node(1, None, parent, &Content::Holds(Batch::new(alloc)))
 }
 
 fn digest(alloc: Global, at: At) -> [u8; 32] {
     match at {
         At::First => batch_on(alloc, &[0; 32]),
         At::Second => batch_on(alloc, &batch_on(alloc, &[0; 32])),
-        At::Nil => digest_of_node(1, &[0; 32], &Content::Nil),
+        At::Nil => digest_of_node(1, None, &[0; 32], &Content::Nil),
         At::Unknown => [9; 32],
     }
 }

@@ -28,7 +28,6 @@ pub fn instance<M: Sequenced>(
     slots: Seq<Slot>,
 ) -> Result<Params, NoMemory>
     requires good { IsGoodSetup setup }
-    requires tag { setup.module ≡ M.spec.tag }
     requires kind { setup.kind ≡ kind_of M.spec.stopping }
     requires nodes { setup.n ≡ M.spec.nodes setup.f }
     requires majority { setup.quorum ≡ M.spec.quorum setup.f }
@@ -36,7 +35,7 @@ pub fn instance<M: Sequenced>(
     requires whole { setup.n ≤ 256 }
     requires some { 1 ≤ length slots }
     requires few { length slots ≤ 64 }
-    requires rising { AreAscending 0 slots }
+    requires ascending { AreAscending 0 slots }
     requires low { AreBelow (2 ^ 64) slots }
     ensures good { IfOk result (λ p. IsGoodParams M.spec p) }
     ensures setup { IfOk result (λ p. p.setup ≡ setup) }

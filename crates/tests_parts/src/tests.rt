@@ -2,7 +2,6 @@
 mod checkpoints;
 mod echo;
 mod journals;
-mod keys;
 mod layouts;
 mod logs;
 mod network;
@@ -10,6 +9,5 @@ mod packets;
 mod relay;
 mod requests;
 mod schedules;
-mod vectors;
 mod waiting;
 mod windows;

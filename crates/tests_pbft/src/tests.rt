@@ -1,5 +1,6 @@
 //! Runs of a replica of PBFT through the calls of the trait. Replica 0 leads the slots 0 and 7.
 ghost use Rattle.std.specs.Prelude.{◌≤◌};
+ghost use Rattle.iss_base.specs.Heights.{IsHeight};
 ghost use Rattle.iss_sb.specs.Calls.{IsGoodParams};
 ghost use Rattle.sb_pbft.specs.Pbft.{pbft};
 
@@ -14,8 +15,7 @@ use std::alloc::Global;
 use std::test::Fail;
 
 fn key(alloc: Global, height: u8) -> Result<Keys, Fail>
-    requires low { 2 ≤ height }
-    requires high { height ≤ 12 }
+    requires height { IsHeight height }
 {
     Ok(Keys::make(alloc, [0; 32], height)?)
 }

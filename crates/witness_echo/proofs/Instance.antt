@@ -2,6 +2,7 @@
 -- faulty node.
 use Rattle.std.proofs.Common.{◌≡◌, inl, inr, ℕ, ◌<◌, true, List, [], ◌∷◌, ◌++◌, None, append-nil, refl, sym, ap, ◌∙◌, subst, true≢false, arith}
 use Rattle.sha2.specs.Sha256.{compress, digest_bytes, first_words, hash_after, rounds, schedule, sha256}
+use Rattle.iss_base.specs.Heights.{digests_of_height}
 use Rattle.iss_base.specs.Lists.{Extends, In, push_all, set_at}
 use Rattle.iss_base.proofs.Lists.{in_append, in_right, set_at-other, set_at-same}
 use Rattle.iss_request.specs.Formats.{parse_value, spell_batch, spell_count, spell_request, spell_value}
@@ -34,17 +35,19 @@ use Rattle.iss_composition.proofs.Chains.{hashed-older, spelled-older}
 use Rattle.iss_rules.proofs.Layouts.{however-signed, own-verifies, sound-rules}
 use Rattle.iss_theorems.proofs.Refinement.DeliveryChecks.{over-new, over-old, own-is, separate-more}
 use Rattle.sb_echo.specs.declared.word.Word.{Word}
-use Rattle.sb_echo.specs.declared.word.Word.TheVariants.{Say, Echo}
+use Rattle.sb_echo.specs.declared.word.Word.TheVariants.{Say, Echo as Echo_word}
 use Rattle.sb_echo.specs.Echo.{claims, digest_of, echo, statement, string_of}
 use Rattle.sb_echo.proofs.Lawful.{digest-length}
 use Rattle.sb_echo.proofs.Spelling.{echo-again, say-again}
 use Rattle.witness_echo.specs.Shown.{IsWitness, batch, echoed, four, instance, rules, said}
 
 setup-good : IsGoodSetup four
+unfolding digests_of_height
 setup-good = good-by four refl
 
 setup-of : IsSetupOf echo four
-setup-of = record { good = setup-good; tag = refl; kind = refl; nodes = refl; majority = refl }
+unfolding digests_of_height
+setup-of = record { good = setup-good; kind = refl; nodes = refl; majority = refl }
 
 abbrev R : Rules
 R = rules
@@ -53,9 +56,11 @@ abbrev S : Scheme
 S = scheme_of four
 
 pub rules-sound : IsSoundRules four echo R
+unfolding digests_of_height
 rules-sound = however-signed echo four (rules_of four) R.signed (sound-rules echo four setup-of)
 
 good : IsGoodParams echo instance
+unfolding digests_of_height
 good = rules-sound.good [] 0 0 refl
 
 abbrev slot : Slot
@@ -77,9 +82,11 @@ abbrev strings : List (List ℕ)
 strings = push_all (chain_strings S whole) ([] ∷ [])
 
 batch-again : IsReadBatch instance batch
+unfolding digests_of_height
 batch-again = batch-read 1 batch (omega arith) (λ q i. elim i [ inl e ↦ rw e refl | inr none ↦ absurd none ])
 
 batch-spelled : S.spells (Value_batch batch) ≡ true
+unfolding digests_of_height
 batch-spelled = ap (λ (t : List ℕ). is_good (parse_value 1 t)) (sym (append-nil (spell_value 1 (Value_batch batch)))) ∙ ap is_good (batch-again [])
 
 -- the empty log, or the whole log
@@ -87,9 +94,11 @@ abbrev IsPart : List Value → Type 0
 IsPart log = Extends log whole
 
 whole-hashed : IsHashedLog S strings whole
+unfolding digests_of_height
 whole-hashed x h = over-new x (chain_strings S whole) ([] ∷ []) h
 
 whole-spelled : AllSpelled S whole
+unfolding digests_of_height
 whole-spelled v (inl q) = rw q batch-spelled
 whole-spelled v (inr none) = absurd none
 
@@ -122,6 +131,7 @@ record Fits (w : Net) (i : ℕ) (input : Input Word) (leaf : ℕ) : Type 0 where
 
 moves : (w : Net) (i : ℕ) (input : Input Word) (leaf : ℕ) → Reached w → Fits w i input leaf →
     Reached (after w i input leaf)
+unfolding digests_of_height
 moves w i input leaf r f =
     let next = takes R echo i (w.pasts i) 0 input leaf in
     let own = as_signed (own_claims echo (params_of R echo i (w.pasts i) 0) i (made_in R echo i (w.pasts i) 0 input leaf).sends) in
@@ -158,7 +168,7 @@ hears-word = Receive (record { 0 = 0 }) (Say slot batch (sig 0 1 0))
 
 -- the echo of node k, signed with this leaf
 abbrev hears : ℕ → ℕ → Input Word
-hears k leaf = Receive (record { 0 = k }) (Echo slot d (sig k 2 leaf))
+hears k leaf = Receive (record { 0 = k }) (Echo_word slot d (sig k 2 leaf))
 
 abbrev w0 : Net
 w0 = record { pasts = λ j. initial_history; messages = []; book = []; strings = strings }
@@ -180,6 +190,7 @@ w5 = after w4 1 (hears 3 0) 1
 
 -- the string of the batch is that of the value in the log
 batch-hashed : (x : List ℕ) → In x (string_of instance batch ∷ []) → In x strings
+unfolding digests_of_height
 batch-hashed x (inl q) = over-new x (chain_strings S whole) ([] ∷ []) (inl q)
 batch-hashed x (inr none) = absurd none
 
@@ -188,6 +199,7 @@ credible : (w : Net) (k kind leaf : ℕ) (msg : Word) → k < 4 → leaf < 16 �
     claims instance k msg ≡ claim k (statement instance kind 0 d) (sig k kind leaf) ∷ [] →
     IsReadMessage echo instance msg →
     (is_correct four k ≡ true → IsBooked w.book k (statement instance kind 0 d)) → IsCredible echo instance (IsVerified R) (IsBooked w.book) k msg
+unfolding digests_of_height
 credible w k kind leaf msg low few is read booked = record {
   named = low;
   read = read;
@@ -208,21 +220,26 @@ credible w k kind leaf msg low few is read booked = record {
     signed c (inr none) ok = absurd none
 
 word-again : IsReadMessage echo instance (Say slot batch (sig 0 1 0))
+unfolding digests_of_height
 word-again = say-again 1 slot batch (sig 0 1 0) (omega arith) (signature-shape echo instance good 0 0 said) batch-again
 
-again : (k leaf : ℕ) → IsReadMessage echo instance (Echo slot d (sig k 2 leaf))
+again : (k leaf : ℕ) → IsReadMessage echo instance (Echo_word slot d (sig k 2 leaf))
+unfolding digests_of_height
 again k leaf = echo-again 1 slot d (sig k 2 leaf) (omega arith) (digest-length instance batch) (signature-shape echo instance good k leaf echoed)
 
 r0 : Reached w0
+unfolding digests_of_height
 r0 = record {
   reach = begin (record { pasts = λ j ok. refl; messages = λ k h. h; book = λ x h. h; root = over-old [] (chain_strings S whole) ([] ∷ []) (inl refl) });
   same = refl;
 }
 
 r1 : Reached w1
+unfolding digests_of_height
 r1 = moves w0 0 casts 0 r0 (record { correct = refl; leads = refl; may = (refl, batch-again); judged = refl; fresh = batch-hashed; part = (whole, refl) })
 
 r2 : Reached w2
+unfolding digests_of_height
 r2 = moves w1 1 hears-word 0 r1 (record {
   correct = refl;
   leads = refl;
@@ -233,22 +250,22 @@ r2 = moves w1 1 hears-word 0 r1 (record {
 })
 
 r3 : Reached w3
-unfolding spell_value spell_batch spell_count spell_request sha256 digest_bytes hash_after compress rounds schedule first_words
+unfolding spell_value spell_batch spell_count spell_request sha256 digest_bytes hash_after compress rounds schedule first_words digests_of_height
 r3 = moves w2 1 (hears 0 1) 1 r2 (record {
   correct = refl;
   leads = refl;
-  may = credible w2 0 2 1 (Echo slot d (sig 0 2 1)) (omega arith) (omega arith) refl (again 0 1) (λ ok. inr (inr (inl refl)));
+  may = credible w2 0 2 1 (Echo_word slot d (sig 0 2 1)) (omega arith) (omega arith) refl (again 0 1) (λ ok. inr (inr (inl refl)));
   judged = refl;
   fresh = λ x h. absurd h;
   part = (whole, refl);
 })
 
 r4 : Reached w4
-unfolding spell_value spell_batch spell_count spell_request sha256 digest_bytes hash_after compress rounds schedule first_words
+unfolding spell_value spell_batch spell_count spell_request sha256 digest_bytes hash_after compress rounds schedule first_words digests_of_height
 r4 = moves w3 1 (hears 1 0) 1 r3 (record {
   correct = refl;
   leads = refl;
-  may = credible w3 1 2 0 (Echo slot d (sig 1 2 0)) (omega arith) (omega arith) refl (again 1 0) (λ ok. inl refl);
+  may = credible w3 1 2 0 (Echo_word slot d (sig 1 2 0)) (omega arith) (omega arith) refl (again 1 0) (λ ok. inl refl);
   judged = refl;
   fresh = λ x h. absurd h;
   part = (whole, refl);
@@ -256,18 +273,19 @@ r4 = moves w3 1 (hears 1 0) 1 r3 (record {
 
 -- the claims of the faulty node need not be in the book
 none-signed : is_correct four 3 ≡ true → IsBooked w4.book 3 echoed
+unfolding digests_of_height
 none-signed ok = absurd (true≢false (sym ok))
 
 log-is : log_of R echo 1 (w5.pasts 1) ≡ whole
-unfolding spell_value spell_batch spell_count spell_request sha256 digest_bytes hash_after compress rounds schedule first_words
+unfolding spell_value spell_batch spell_count spell_request sha256 digest_bytes hash_after compress rounds schedule first_words digests_of_height
 log-is = refl
 
 r5 : Reached w5
-unfolding spell_value spell_batch spell_count spell_request sha256 digest_bytes hash_after compress rounds schedule first_words
+unfolding spell_value spell_batch spell_count spell_request sha256 digest_bytes hash_after compress rounds schedule first_words digests_of_height
 r5 = moves w4 1 (hears 3 0) 1 r4 (record {
   correct = refl;
   leads = refl;
-  may = credible w4 3 2 0 (Echo slot d (sig 3 2 0)) (omega arith) (omega arith) refl (again 3 0) none-signed;
+  may = credible w4 3 2 0 (Echo_word slot d (sig 3 2 0)) (omega arith) (omega arith) refl (again 3 0) none-signed;
   judged = refl;
   fresh = λ x h. absurd h;
   part = ([], refl);
@@ -275,19 +293,22 @@ r5 = moves w4 1 (hears 3 0) 1 r4 (record {
 
 -- the digests are computed, and are distinct
 no-collision : collision_in (chain_strings S whole) ([] ∷ []) ≡ None
-unfolding spell_value spell_batch spell_count spell_request sha256 digest_bytes hash_after compress rounds schedule first_words
+unfolding spell_value spell_batch spell_count spell_request sha256 digest_bytes hash_after compress rounds schedule first_words digests_of_height
 no-collision = refl
 
 root-separate : Separate (Among ([] ∷ []))
+unfolding digests_of_height
 root-separate a b (inl p) (inl q) h = p ∙ sym q
 root-separate a b (inl p) (inr none) h = absurd none
 root-separate a b (inr none) q h = absurd none
 
 strings-separate : Separate (Among w5.strings)
+unfolding digests_of_height
 strings-separate = separate-more (chain_strings S whole) ([] ∷ []) no-collision root-separate
 
 -- the book has no claim of node 3
 by-few : (x : Signed) → In x w5.book → x.by ≡ 3 → ⊥
+unfolding digests_of_height
 by-few x (inl q) e = absurd (omega (arith, ap (λ (y : Signed). y.by) q, e))
 by-few x (inr (inl q)) e = absurd (omega (arith, ap (λ (y : Signed). y.by) q, e))
 by-few x (inr (inr (inl q))) e = absurd (omega (arith, ap (λ (y : Signed). y.by) q, e))
@@ -295,6 +316,7 @@ by-few x (inr (inr (inr none))) e = none
 
 pub shown : ((w : Cluster Word) → Separate (Among w.strings) → Reach four S R echo w → Ordered four R echo w.pasts) →
     IsWitness
+unfolding digests_of_height
 shown composed = record {
   cluster = w5;
   reached = r5.reach;

@@ -7,7 +7,7 @@ use Rattle.iss_model.specs.Node.{Dropped, Stepped, finish_step, keeps_early, tak
 use Rattle.iss_rules.specs.Parcels.{Formats}
 use Rattle.iss_rules.specs.Past.{Past}
 use Rattle.iss_rules.specs.declared.events.Why.TheVariants.{OtherEpoch}
-use Rattle.iss_node.specs.Shape.{IsNodeState}
+use Rattle.iss_node.specs.Internal.Shape.{IsNodeState}
 use Rattle.iss_node.specs.State.{RefinesPast, StateView, core_of}
 use Rattle.iss_node.specs.Steps.{IsStep}
 use Rattle.iss_node.specs.declared.answers.StepResult.TheVariants.{Dropped as Result_dropped}

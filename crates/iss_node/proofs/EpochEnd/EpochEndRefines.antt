@@ -22,8 +22,8 @@ use Rattle.iss_rules.proofs.Layouts.{start-times}
 use Rattle.iss_node.proofs.WaitingRequests.OrderedLeaveWaiting.{log_ids-append}
 use Rattle.iss_node.proofs.Log.LogIsExtended.{bf-long, bf-part, bounded, split-log}
 use Rattle.iss_node.proofs.Log.LogIsDelivered.{has-slots, start-is}
-use Rattle.iss_node.specs.Epochs.{AreStarted, notes, params_by}
-use Rattle.iss_node.specs.Shape.{IsNodeState}
+use Rattle.iss_node.specs.Internal.Epochs.{AreStarted, notes, params_by}
+use Rattle.iss_node.specs.Internal.Shape.{IsNodeState}
 use Rattle.iss_node.specs.State.{RefinesBareCore, RefinesPast, RefinesPastOver, StateView, core_of, slot_value}
 use Rattle.iss_request.specs.Log.{has_id, log_ids, same_id}
 use Rattle.iss_request.specs.declared.ids.ReqId.{ReqId}

@@ -1,6 +1,6 @@
 -- The instances of an epoch at its start, and a node that has taken no event.
 use Rattle.std.proofs.Common.{inl, inr, arith, ◌≡◌, ℕ, zero, suc, ◌+◌, ◌*◌, ◌^◌, ◌<◌, ◌≤◌, Bool, true, false, List, [], ◌∷◌, ◌++◌, ◌==◌, ◌||◌, Option, Some, None, IfSome, length, refl, sym, ap, ◌∙◌, subst, length-append, true≢false}
-use Rattle.std.specs.Prelude.{is_some}
+use Rattle.std.specs.Prelude.{is_some, option_map}
 use Rattle.std.specs.List.{list_any}
 use Rattle.std.proofs.lemmas.Bool.Decides.{leb_tells, nat_tests}
 use Rattle.iss_base.proofs.Lists.{same_or_not}
@@ -18,11 +18,11 @@ use Rattle.iss_model.specs.Node.{initial_core, joined}
 use Rattle.iss_rules.specs.Past.{before_own, initial_history, log_of}
 use Rattle.iss_rules.specs.Setups.{IsSetupOf}
 use Rattle.iss_model.specs.Sound.{IsSoundCore}
-use Rattle.iss_node.specs.Epochs.{AreStarted, params_by}
-use Rattle.iss_node.specs.Shape.{IsNodeState}
+use Rattle.iss_node.specs.Internal.Epochs.{AreStarted, params_by}
+use Rattle.iss_node.specs.Internal.Shape.{IsNodeState}
 use Rattle.iss_node.specs.State.{RefinesCore, RefinesPastOver, StateView, led}
 use Rattle.iss_request.specs.Log.{has_id, log_ids}
-use Rattle.iss_request.specs.Setup.{AreRising}
+use Rattle.iss_request.specs.Setup.{AreAscendingBelow}
 use Rattle.iss_request.specs.declared.ids.NodeId.{NodeId}
 use Rattle.iss_request.specs.declared.ids.Slot.{Slot}
 use Rattle.iss_request.specs.declared.requests.Value.{Value}
@@ -47,14 +47,13 @@ good-params m s e plan l h lt good leading =
     let f = fair plan good in
     record {
       setup = h.good;
-      tag = h.tag;
       kind = h.kind;
       nodes = h.nodes;
       majority = h.majority;
       leader = lt;
       some = (f.segments l).some (leads_means l plan.leaders leading);
       few = (f.segments l).few;
-      rising = (f.segments l).ascending;
+      ascending = (f.segments l).ascending;
       slots_low = below-all (2 ^ 64) (segment plan l) (λ x i.
           let of_epoch = (((f.segments l).slots x).0 i).0.1 in
           let fits = good.fits in
@@ -73,6 +72,16 @@ good-copy m s t e l slots directory plan h lt good leading t_is slots_are keys_a
 pub copy-is : (s t : Setup) (e : ℕ) (l : NodeId) (slots : List Slot) (directory : DirectoryView) (plan : Plan) → t ≡ s → slots ≡ segment plan l.0 → directory ≡ keys_of s →
     record { setup = t; epoch = record { 0 = e }; leader = l; slots = slots; directory = directory } ≡ params_by s e plan l.0
 copy-is s t e l slots directory plan t_is slots_are keys_are = λ i. record { setup = t_is i; epoch = record { 0 = e }; leader = l; slots = slots_are i; directory = (keys_are) i }
+
+-- What holds of the parameters holds of an instance that was started with them.
+pub carried-over : {A B : Type 0} (f : A → B) (Q : B → Type 0) (o : Option A) (p : Option B) → option_map f o ≡ p → IfSome p Q → IfSome o (λ x. Q (f x))
+carried-over f Q None p is h = tt
+carried-over f Q (Some x) p is h = subst (λ (z : Option _). IfSome z Q) (sym is) h
+
+pub member-of : {Msg : Type 0} (m : Module Msg) (s : Setup) (me : NodeId) (e : ℕ) (plan : Plan) (l : ℕ) (o : Option Params) → IfSome o (λ p. p ≡ params_by s e plan l) → IfSome o (λ p. IsGoodParams m p) → me.0 < s.n →
+    IfSome o (λ p. IsGoodParams m p × (me.0 < p.setup.n))
+member-of m s me e plan l None is good lt = tt
+member-of m s me e plan l (Some p) is good lt = (good, subst (λ (z : Params). me.0 < z.setup.n) (sym is) lt)
 
 -- ---- lists of instances
 
@@ -151,9 +160,9 @@ module _ {M Msg : Type 0} (refines : M → Params → ℕ → List (Item Msg) �
             | inr ne ↦ let less : l < length gs = omega (arith, lt, ne, long) in old l g (sym (led-front gs (o ∷ []) l less) ∙ is)
           ]
 
-  rising-less : (from n : ℕ) (ls : List NodeId) (l : ℕ) → AreRising from n ls → list_any (λ (k : NodeId). k.0 == l) ls ≡ true → l < n
-  rising-less from n [] l h some = absurd (true≢false (sym some))
-  rising-less from n (k ∷ ls) l h some = go (rising-less (suc k.0) n ls l h.2) (k.0 == l) refl some
+  ascending-less : (from n : ℕ) (ls : List NodeId) (l : ℕ) → AreAscendingBelow from n ls → list_any (λ (k : NodeId). k.0 == l) ls ≡ true → l < n
+  ascending-less from n [] l h some = absurd (true≢false (sym some))
+  ascending-less from n (k ∷ ls) l h some = go (ascending-less (suc k.0) n ls l h.2) (k.0 == l) refl some
     where
       go : (list_any (λ (k : NodeId). k.0 == l) ls ≡ true → l < n) → (b : Bool) → (k.0 == l) ≡ b → (b || list_any (λ (k : NodeId). k.0 == l) ls) ≡ true → l < n
       go more true q x = let same : k.0 ≡ l = grind (arith, nat_tests) in omega (arith, same, h.1)
@@ -174,7 +183,7 @@ module _ {M Msg : Type 0} (refines : M → Params → ℕ → List (Item Msg) �
   }
     where
       none : (l : ℕ) → n ≤ l → (b : Bool) → leads plan l ≡ b → leads plan l ≡ false
-      none l le true q = let lt = rising-less 0 plan.nodes plan.leaders l good.rising q in absurd (omega (arith, lt, nodes, le))
+      none l le true q = let lt = ascending-less 0 plan.nodes plan.leaders l good.ascending q in absurd (omega (arith, lt, nodes, le))
       none l le false q = q
 
 -- ---- a node that has taken no event

@@ -7,12 +7,12 @@ use Rattle.iss_rules.specs.Formats.{formats_of}
 use Rattle.iss_model.specs.Node.{Turn, claims_in, ended, in_next_epoch, is_nil_at, or_unchanged, takes_early, try_step}
 use Rattle.iss_rules.specs.Past.{Past, is_complete}
 use Rattle.iss_node.proofs.EpochEnd.EpochEndRefines.{IsOver, complete-is, parts-opened}
-use Rattle.iss_node.specs.Epochs.{AreStarted, HasOpened, appended, notes}
-use Rattle.iss_node.specs.Shape.{IsNodeState}
+use Rattle.iss_node.specs.Internal.Epochs.{AreStarted, HasOpened, appended, notes}
+use Rattle.iss_node.specs.Internal.Shape.{IsNodeState}
 use Rattle.iss_node.specs.State.{RefinesBareCore, RefinesPast, StateView, core_of, seen_one}
 use Rattle.iss_node.proofs.Steps.OutcomesCompose.{early-made}
 use Rattle.iss_node.proofs.EpochEnd.StepCompletes.{early-not, early-on, ended-by}
-use Rattle.iss_node.specs.Casts.{IsCut}
+use Rattle.iss_node.specs.Internal.Casts.{IsCut}
 use Rattle.iss_node.specs.Steps.{IsEnded, IsLater, IsNextEpoch, IsTurnOf, IsTurned}
 use Rattle.iss_node.specs.declared.answers.Outcome.{Outcome}
 use Rattle.iss_sb.specs.declared.effects.Input.TheVariants.{Receive}
@@ -92,11 +92,6 @@ module _ {M Msg : Type 0} (m : Module Msg) (refines : M → Params → ℕ → L
 pub is-over : {M Msg : Type 0} (m : Module Msg) (refines : M → Params → ℕ → List (Item Msg) → Type 0) (v : StateView M Msg) (b c : Bool) → b ≡ nat_le (v.plan.start + v.setup.epoch) (length v.log.entries) → b ≡ c →
     (past : Past Msg) → RefinesPast m refines v past → is_complete (rules_of v.setup) m v.me.0 past ≡ c
 is-over m refines v b c h k past tied = sym (complete-is m refines v past tied) ∙ sym h ∙ k
-
--- A list of length 0 is empty.
-pub empty : {A : Type 0} (xs : List A) → length xs ≡ 0 → xs ≡ []
-empty [] h = refl
-empty (x ∷ xs) h = absurd (omega (arith, h))
 
 -- The state right after the start: no batch was accepted in the epoch.
 pub begun-so : {M Msg : Type 0} (v : StateView M Msg) (e : ℕ) (plan : Plan) (gs : List (Option (SegmentState M))) (accepted : List Accepted) (logged : List ReqId) → accepted ≡ [] → logged ≡ [] →

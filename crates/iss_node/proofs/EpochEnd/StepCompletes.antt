@@ -10,7 +10,7 @@ use Rattle.iss_model.specs.Node.{Core, Early as Kept_early, Stepped, Turn, advan
 use Rattle.iss_rules.specs.Past.{Past, is_complete}
 use Rattle.iss_rules.specs.Rules.{Rules}
 use Rattle.iss_node.proofs.Steps.OutcomesCompose.{both-made, nothing, nothing-made, nothing-sent}
-use Rattle.iss_node.specs.Epochs.{appended}
+use Rattle.iss_node.specs.Internal.Epochs.{appended}
 use Rattle.iss_node.specs.State.{RefinesBareCore, RefinesPast, StateView, core_of, seen_early, seen_one}
 use Rattle.iss_node.specs.Steps.{IsEnded, IsLater, IsMade, IsStep, IsTurnBehind, IsTurnOf, IsTurned}
 use Rattle.iss_node.specs.declared.answers.Early.{Early}

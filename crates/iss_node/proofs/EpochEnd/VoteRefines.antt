@@ -19,10 +19,10 @@ use Rattle.iss_node.proofs.Log.LogIsExtended.{bounded}
 use Rattle.iss_node.proofs.EpochEnd.EpochEndRefines.{over-tied}
 use Rattle.iss_node.proofs.EpochEnd.NextEpochStarts.{next-parts}
 use Rattle.iss_node.proofs.Log.LogIsDelivered.{has-slots, start-is}
-use Rattle.iss_node.specs.Shape.{IsNodeState}
+use Rattle.iss_node.specs.Internal.Shape.{IsNodeState}
 use Rattle.iss_node.specs.State.{RefinesBareCore, RefinesPast, StateView, core_of, seen_early}
 use Rattle.iss_node.specs.Steps.{IsEnded, IsLater, IsNextEpoch, IsTurned}
-use Rattle.iss_node.specs.Votes.{IsVoteHandedOut, IsVoted}
+use Rattle.iss_node.specs.Internal.Votes.{IsVoteHandedOut, IsVoted}
 use Rattle.iss_node.specs.declared.answers.Early.{Early}
 use Rattle.iss_node.specs.declared.answers.Outcome.{Outcome}
 use Rattle.iss_packet.specs.Packets.{spell_packet}
@@ -32,7 +32,7 @@ use Rattle.iss_sb.specs.Calls.{AreToNodes}
 use Rattle.iss_sb.specs.Evidence.{Item, Module}
 use Rattle.iss_sb.specs.declared.effects.Params.{Params}
 use Rattle.iss_sb.specs.declared.effects.To.{To}
-use Rattle.iss_sb.specs.declared.effects.To.TheVariants.{All}
+use Rattle.iss_sb.specs.declared.effects.To.TheVariants.{All as To_all}
 
 -- After the next leaf signed, the state still refines its history.
 pub signed-tied : {M Msg : Type 0} (m : Module Msg) (refines : M → Params → ℕ → List (Item Msg) → Type 0) (v : StateView M Msg) (past : Past Msg) → RefinesPast m refines v past →
@@ -77,7 +77,7 @@ signed-shape m v h = record {
 module _ {M Msg : Type 0} (m : Module Msg) (refines : M → Params → ℕ → List (Item Msg) → Type 0) (v : StateView M Msg) (shape : IsNodeState m v)
     (past : Past Msg) (tied : RefinesPast m refines v past) (complete : is_complete (rules_of v.setup) m v.me.0 past ≡ true) (u : StateView M Msg) (vote : Vote) (voted : IsVoted v u vote) where
   -- The log ends with the epoch.
-  whole : v.plan.start + v.setup.epoch ≡ length v.log.entries
+  pub whole : v.plan.start + v.setup.epoch ≡ length v.log.entries
   whole =
       let R = rules_of v.setup in
       let first = tied.start in
@@ -144,7 +144,7 @@ module _ {M Msg : Type 0} (m : Module Msg) (refines : M → Params → ℕ → L
     ended-so = record {
       refined = parts;
       made = record {
-        sends = there.sent ∙ ap (λ (z : Vote). (All, packet z) ∷ []) vote-is;
+        sends = there.sent ∙ ap (λ (z : Vote). (To_all, packet z) ∷ []) vote-is;
         own = there.own ∙ ap (λ (z : Vote). claim_by v.setup.tag z ∷ []) vote-is;
         early = there.early;
         hashed = there.hashed;

@@ -13,7 +13,7 @@ use Rattle.iss_rules.specs.Past.{Past}
 use Rattle.iss_rules.specs.Rules.{Rules}
 use Rattle.iss_rules.specs.declared.events.Why.TheVariants.{BadClaim, Known, OtherEpoch}
 use Rattle.iss_node.proofs.Steps.OutcomesCompose.{nothing, nothing-made, nothing-sent}
-use Rattle.iss_node.specs.Shape.{IsNodeState}
+use Rattle.iss_node.specs.Internal.Shape.{IsNodeState}
 use Rattle.iss_node.specs.State.{RefinesPast, StateRefinesCore, StateView}
 use Rattle.iss_node.specs.Steps.{IsHeldDropped, IsHeldTaken}
 use Rattle.iss_node.specs.declared.answers.Outcome.{Outcome}

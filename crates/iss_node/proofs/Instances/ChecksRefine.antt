@@ -12,8 +12,8 @@ use Rattle.iss_model.specs.Node.{Dropped, Turn, by_verdict, claims_of_input, has
 use Rattle.iss_rules.specs.Past.{Past, before_own, leads_in, params_of, taken_in}
 use Rattle.iss_rules.specs.declared.events.Refusal.{Refusal}
 use Rattle.iss_rules.specs.declared.events.Why.TheVariants.{BadClaim, NotLeader, NoKeys, Refused}
-use Rattle.iss_node.specs.Inputs.{HasAppliedEffects, IsChained, IsHandedOut, IsInputTaken, IsVerdictAt}
-use Rattle.iss_node.specs.Shape.{IsNodeState}
+use Rattle.iss_node.specs.Internal.Inputs.{HasAppliedEffects, IsChained, IsHandedOut, IsInputTaken, IsVerdictAt}
+use Rattle.iss_node.specs.Internal.Shape.{IsNodeState}
 use Rattle.iss_node.specs.State.{RefinesBareCore, RefinesPast, StateView, core_of, led}
 use Rattle.iss_node.specs.Steps.{IsLater, IsStepDropped, IsStepTaken, IsTurnOf, IsTurned}
 use Rattle.iss_node.specs.declared.answers.Outcome.{Outcome}

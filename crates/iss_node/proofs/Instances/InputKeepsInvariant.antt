@@ -1,9 +1,11 @@
 -- A node keeps its invariant when one of its instances takes an input.
-use Rattle.std.proofs.Common.{arith, inl, inr, ◌≡◌, ◌≢◌, ◌⊎◌, ℕ, zero, suc, ◌<◌, List, [], ◌∷◌, Option, Some, None, Result, Ok, Err, length, get_or, slice_set, refl, sym, ap, ◌∙◌, subst}
+use Rattle.std.proofs.Common.{arith, inl, inr, ◌≡◌, ◌≢◌, ◌⊎◌, ℕ, zero, suc, ◌<◌, List, [], ◌∷◌, Option, Some, None, Result, Ok, Err, length, get_or, slice_set, refl, sym, ap, ◌∙◌, subst, true, true≢false}
+use Rattle.std.specs.Prelude.{is_some}
 use Rattle.iss_base.proofs.Lists.{same_or_not}
 use Rattle.iss_keys.specs.KeyStates.{KeyState}
-use Rattle.iss_node.specs.Inputs.{IsInputTaken, IsJudgedInput}
-use Rattle.iss_node.specs.Shape.{IsAt, IsNodeState}
+use Rattle.iss_node.specs.Internal.Inputs.{IsInputTaken, IsJudgedInput}
+use Rattle.iss_node.specs.Internal.Ready.{HasLeaves}
+use Rattle.iss_node.specs.Internal.Shape.{IsAt, IsNodeState}
 use Rattle.iss_node.specs.State.{StateView, led}
 use Rattle.iss_node.specs.Steps.{IsNodeInput}
 use Rattle.iss_request.specs.declared.setups.Setup.{Setup}
@@ -13,10 +15,10 @@ use Rattle.iss_sb.specs.declared.effects.Effects.{Effects}
 use Rattle.iss_sb.specs.declared.effects.Input.{Input}
 use Rattle.iss_sb.specs.declared.effects.Input.TheVariants.{Cast, Receive, Timeout}
 use Rattle.iss_sb.specs.declared.effects.Params.{Params}
-use Rattle.iss_segment.specs.Answers.{IsInstanceTaken, IsJudgedStep, IsVerdict}
+use Rattle.iss_segment.specs.Answers.{IsInstanceSpent, IsInstanceTaken, IsJudgedStep, IsVerdict}
 use Rattle.iss_segment.specs.Instance.{SegmentState}
 use Rattle.iss_segment.specs.declared.segment.StepRefusal.{StepRefusal}
-use Rattle.iss_segment.specs.declared.segment.StepRefusal.TheVariants.{Spent, Refused, NoMemory}
+use Rattle.iss_segment.specs.declared.segment.StepRefusal.TheVariants.{Spent as Refusal_spent, Refused, NoMemory as Refusal_no_memory}
 
 module _ {M : Type 0} where
   pub led-of : (gs : List (Option (SegmentState M))) (l : ℕ) (o : Option (SegmentState M)) → l < length gs → o ≡ get_or gs l o → led gs l ≡ o
@@ -46,6 +48,13 @@ module _ {M : Type 0} where
   set-same [] l o lt is = refl
   set-same (g ∷ gs) zero o lt is = ap (λ (p : Option (SegmentState M)). p ∷ gs) (sym is)
   set-same (g ∷ gs) (suc l) o lt is = ap (λ (ps : List (Option (SegmentState M))). g ∷ ps) (set-same gs l o (omega (arith, lt)) is)
+
+-- An instance that leads is there.
+pub leads-there : {M Msg : Type 0} (m : Module Msg) (v : StateView M Msg) → IsNodeState m v → (l : ℕ) (o : Option (SegmentState M)) → l < v.setup.n → o ≡ get_or v.segments l o → o ≡ None →
+    is_some (led v.segments l) ≡ true → ⊥
+leads-there m v shape l o low is none leads =
+    let within : l < length v.segments = let n = shape.count in omega (arith, n, low) in
+    true≢false (sym leads ∙ ap (λ (x : Option (SegmentState _)). is_some x) (led-of v.segments l o within is ∙ none))
 
 -- The sender of a message is a node of the instance's set-up.
 pub good-input : {Msg : Type 0} (s : Setup) (p : Params) (input : Input Msg) → p.setup ≡ s → IsNodeInput s.n input → IsGoodInput p input
@@ -111,20 +120,24 @@ module _ {M Msg : Type 0} (m : Module Msg) (refines : M → Params → ℕ → L
       rest = refl;
     }
 
+    -- There are as many leaves as the step may use.
+    pub no-leaves : HasLeaves m v l → IsInstanceSpent m g h v.keys keys → ⊥
+    no-leaves has spent = let few = spent.too_few in let more = has.enough g place in omega (arith, few, more)
+
     -- If the instance and the keys do not change, nothing changes.
     untouched : h ≡ g → keys ≡ v.keys → written ≡ v
     untouched same same_keys =
         let gs : slice_set v.segments l (Some h) ≡ v.segments = set-same v.segments l (Some h) within (place ∙ ap (λ (z : SegmentState M). Some z) (sym same)) in
         λ i. record v { segments = gs i; keys = same_keys i }
 
-    pub judged-input : (input : Input Msg) (r : Result (Effects Msg) StepRefusal) → IsJudgedStep m refines v.plan v.windows g h input v.keys keys r → IsJudgedInput m refines v written l input r
-    judged-input input (Ok e) j = (input-taken input e j.taken, (λ x at. one x at (λ z. IsVerdict m refines v.plan v.windows z input None) j.accepted))
+    pub judged-input : HasLeaves m v l → (input : Input Msg) (r : Result (Effects Msg) StepRefusal) → IsJudgedStep m refines v.plan v.windows g h input v.keys keys r → IsJudgedInput m refines v written l input r
+    judged-input has input (Ok e) j = (input-taken input e j.taken, (λ x at. one x at (λ z. IsVerdict m refines v.plan v.windows z input None) j.accepted))
       where
         one : (x : SegmentState M) → led v.segments l ≡ Some x → (Q : SegmentState M → Type 0) → Q g → Q x
         one x at Q here = let two : Some g ≡ Some x = sym place ∙ at in let same : g ≡ x = cc in subst (λ (z : SegmentState M). Q z) same here
-    judged-input input (Err Spent) j = tt
-    judged-input input (Err (Refused why)) j = (untouched j.same j.same_keys, (λ x at. one x at (λ z. IsVerdict m refines v.plan v.windows z input (Some why)) j.refused))
+    judged-input has input (Err Refusal_spent) j = let few = j.too_few in let more = has.enough g place in omega (arith, few, more)
+    judged-input has input (Err (Refused why)) j = (untouched j.same j.same_keys, (λ x at. one x at (λ z. IsVerdict m refines v.plan v.windows z input (Some why)) j.refused))
       where
         one : (x : SegmentState M) → led v.segments l ≡ Some x → (Q : SegmentState M → Type 0) → Q g → Q x
         one x at Q here = let two : Some g ≡ Some x = sym place ∙ at in let same : g ≡ x = cc in subst (λ (z : SegmentState M). Q z) same here
-    judged-input input (Err NoMemory) j = tt
+    judged-input has input (Err Refusal_no_memory) j = tt

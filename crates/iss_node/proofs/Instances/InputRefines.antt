@@ -25,11 +25,11 @@ use Rattle.iss_rules.proofs.Layouts.{start-times}
 use Rattle.iss_node.proofs.Instances.DeliveredValues.{slot-in, slot-next}
 use Rattle.iss_node.proofs.Log.LogIsDelivered.{log-is}
 use Rattle.iss_node.proofs.Log.LogIsExtended.{AreRefiled, are-refiled, bf-long, bf-part, grown-is}
-use Rattle.iss_node.specs.Cells.{given}
+use Rattle.iss_node.specs.Internal.Cells.{given}
 use Rattle.iss_node.specs.Flights.{FlightState, IsCompleted}
-use Rattle.iss_node.specs.Growth.{IsGrown, and_values, waits_on}
-use Rattle.iss_node.specs.Inputs.{and_accepted}
-use Rattle.iss_node.specs.Shape.{IsNodeState}
+use Rattle.iss_node.specs.Internal.Growth.{IsGrown, and_values, waits_on}
+use Rattle.iss_node.specs.Internal.Inputs.{and_accepted}
+use Rattle.iss_node.specs.Internal.Shape.{IsNodeState}
 use Rattle.iss_node.specs.State.{RefinesBareCore, RefinesPast, RefinesPastOver, RefinesTaken, StateView, accepted_of, core_of, led, slot_value}
 use Rattle.iss_node.specs.Steps.{IsMade}
 use Rattle.iss_node.specs.declared.answers.Accepted.{Accepted}

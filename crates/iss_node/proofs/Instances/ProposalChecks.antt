@@ -5,10 +5,10 @@ use Rattle.iss_rules.specs.Formats.{formats_of}
 use Rattle.iss_model.specs.Node.{Turn, advance_epochs, has_leaves, next_slot, step}
 use Rattle.iss_rules.specs.Past.{Past, leads_in, params_of}
 use Rattle.iss_rules.specs.declared.events.NodeEvent.TheVariants.{Propose as On_propose}
-use Rattle.iss_rules.specs.declared.events.Why.TheVariants.{NothingToCast, NoKeys}
+use Rattle.iss_rules.specs.declared.events.Why.TheVariants.{NothingToCast, NoKeys, NotLeader}
 use Rattle.iss_node.proofs.Instances.ProposalRefines.{proposal-is}
-use Rattle.iss_node.specs.Casts.{casting}
-use Rattle.iss_node.specs.Shape.{IsNodeState}
+use Rattle.iss_node.specs.Internal.Casts.{casting}
+use Rattle.iss_node.specs.Internal.Shape.{IsNodeState}
 use Rattle.iss_node.specs.State.{RefinesPast, StateView, core_of}
 use Rattle.iss_node.specs.Steps.{IsLater, IsStepDropped, IsStepTaken, IsTurnBehind, IsTurned}
 use Rattle.iss_node.specs.declared.answers.Outcome.{Outcome}
@@ -17,6 +17,14 @@ use Rattle.iss_request.specs.declared.ids.Slot.{Slot}
 use Rattle.iss_request.specs.declared.setups.Setup.{Setup}
 use Rattle.iss_sb.specs.Evidence.{Item, Module}
 use Rattle.iss_sb.specs.declared.effects.Params.{Params}
+
+-- The node does not lead.
+pub no-leader : {M Msg : Type 0} (m : Module Msg) (refines : M → Params → ℕ → List (Item Msg) → Type 0) (v : StateView M Msg) (shape : IsNodeState m v) (past : Past Msg) (tied : RefinesPast m refines v past) →
+    leads_in (rules_of v.setup) m v.me.0 past v.me.0 ≡ false → IsStepDropped m refines (core_of v past) (step (formats_of v.setup m) (rules_of v.setup) m v.me.0 (core_of v past) On_propose) v NotLeader
+no-leader m refines v shape past tied leading = record {
+  step_is = proposal-is m refines v shape past tied (formats_of v.setup m) false (has_leaves m (params_of (rules_of v.setup) m v.me.0 past v.me.0) v.keys.used) (next_slot (rules_of v.setup) m v.me.0 (core_of v past)) leading refl refl;
+  refined = record { core = refl; tied = tied };
+}
 
 module _ {M Msg : Type 0} (m : Module Msg) (refines : M → Params → ℕ → List (Item Msg) → Type 0)
     (v : StateView M Msg) (shape : IsNodeState m v) (past : Past Msg) (tied : RefinesPast m refines v past) (leading : leads_in (rules_of v.setup) m v.me.0 past v.me.0 ≡ true) where

@@ -20,9 +20,9 @@ use Rattle.iss_model.specs.Sound.{IsSoundCore}
 use Rattle.iss_rules.specs.declared.events.NodeEvent.TheVariants.{Propose as On_propose}
 use Rattle.iss_rules.specs.declared.events.Why.TheVariants.{NotLeader, NothingToCast, NoKeys}
 use Rattle.iss_node.proofs.Instances.InputRefines.{own-fair, own-slot}
-use Rattle.iss_node.specs.Casts.{IsCut, casting, is_open}
+use Rattle.iss_node.specs.Internal.Casts.{IsCut, casting, is_open}
 use Rattle.iss_node.specs.Flights.{FlightState}
-use Rattle.iss_node.specs.Shape.{IsNodeState}
+use Rattle.iss_node.specs.Internal.Shape.{IsNodeState}
 use Rattle.iss_node.specs.State.{RefinesPast, StateView, core_of, led}
 use Rattle.iss_node.specs.Steps.{IsTurnOf, IsTurned}
 use Rattle.iss_node.specs.declared.answers.Outcome.{Outcome}

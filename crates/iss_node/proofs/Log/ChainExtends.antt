@@ -3,7 +3,7 @@ use Rattle.std.proofs.Common.{◌≡◌, ℕ, ◌+◌, ◌<◌, ◌≤◌, List,
 use Rattle.std.proofs.lemmas.List.{take_all}
 use Rattle.iss_log.proofs.ChainLemmas.{chain-append, strings-more}
 use Rattle.iss_log.specs.Chains.{ChainsState, IsChainOf, chain_of, strings_from, strings_of}
-use Rattle.iss_node.specs.Growth.{AreJoined}
+use Rattle.iss_node.specs.Internal.Growth.{AreJoined}
 use Rattle.iss_transfer.proofs.AdoptionLemmas.{take-next}
 use Rattle.iss_request.specs.Digest.{digest}
 use Rattle.iss_request.specs.declared.requests.Value.{Value}

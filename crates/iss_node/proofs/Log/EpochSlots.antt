@@ -4,9 +4,9 @@ use Rattle.std.proofs.lemmas.Bool.Decides.{nat_tests}
 use Rattle.iss_base.specs.Lists.{first_of, nth}
 use Rattle.iss_base.proofs.Lists.{none-some}
 use Rattle.iss_log.specs.LogState.{LogState, ahead_at, value_at}
-use Rattle.iss_node.specs.Cells.{given}
+use Rattle.iss_node.specs.Internal.Cells.{given}
 use Rattle.iss_node.specs.State.{StateView}
-use Rattle.iss_node.specs.Transfers.{at_slots, held_slots}
+use Rattle.iss_node.specs.Internal.Transfers.{at_slots, held_slots}
 use Rattle.iss_request.specs.declared.ids.Slot.{Slot}
 use Rattle.iss_request.specs.declared.requests.Value.{Value}
 

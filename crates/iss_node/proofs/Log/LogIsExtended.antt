@@ -21,8 +21,8 @@ use Rattle.iss_node.proofs.WaitingRequests.ProposalsComplete.{still-flown}
 use Rattle.iss_node.proofs.WaitingRequests.OrderedLeaveWaiting.{log_ids-append, note-all, waiting-is}
 use Rattle.iss_node.proofs.Log.LogIsDelivered.{start-is}
 use Rattle.iss_node.specs.Flights.{FlightState, IsCompleted, completed}
-use Rattle.iss_node.specs.Growth.{and_values, waits_on}
-use Rattle.iss_node.specs.Shape.{IsNodeState}
+use Rattle.iss_node.specs.Internal.Growth.{and_values, waits_on}
+use Rattle.iss_node.specs.Internal.Shape.{IsNodeState}
 use Rattle.iss_node.specs.State.{RefinesPast, StateView, core_of}
 use Rattle.iss_request.specs.Log.{has_id, ids, log_ids}
 use Rattle.iss_request.specs.declared.ids.ReqId.{ReqId}

@@ -5,7 +5,7 @@ use Rattle.iss_base.specs.Lists.{first_of}
 use Rattle.iss_log.specs.LogState.{LogState, IsFill, ahead_at, value_at}
 use Rattle.iss_log.specs.declared.log.Fill.{Fill}
 use Rattle.iss_log.specs.declared.log.Fill.TheVariants.{Filled, Already, Past}
-use Rattle.iss_node.specs.Cells.{AreFilled, given}
+use Rattle.iss_node.specs.Internal.Cells.{AreFilled, given}
 use Rattle.iss_request.specs.declared.ids.Slot.{Slot}
 use Rattle.iss_request.specs.declared.requests.Value.{Value}
 

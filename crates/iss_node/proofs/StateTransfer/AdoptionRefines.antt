@@ -1,5 +1,5 @@
 -- Adopting a piece refines the model's step.
-use Rattle.std.proofs.Common.{arith, inl, inr, ◌≡◌, ℕ, suc, ◌+◌, ◌-◌, ◌*◌, ◌<◌, ◌≤◌, Bool, true, false, ◌&&◌, ◌==◌, ◌||◌, cond, List, [], ◌∷◌, ◌++◌, Option, Some, None, length, length-append, reverse, refl, sym, ap, ◌∙◌, subst, le_antisymm}
+use Rattle.std.proofs.Common.{arith, inl, inr, ◌≡◌, ℕ, suc, ◌+◌, ◌-◌, ◌*◌, ◌^◌, ◌<◌, ◌≤◌, Bool, true, false, ◌&&◌, ◌==◌, ◌||◌, cond, List, [], ◌∷◌, ◌++◌, Option, Some, None, length, length-append, reverse, refl, sym, ap, ◌∙◌, subst, le_antisymm}
 use Rattle.std.specs.Prelude.{fold}
 use Rattle.std.proofs.lemmas.Bool.Decides.{leb_tells}
 use Rattle.std.proofs.lemmas.List.{append-nil, length-reverse, reverse-reverse}
@@ -31,17 +31,19 @@ use Rattle.iss_model.specs.Sound.{IsSoundCore}
 use Rattle.iss_node.proofs.EpochEnd.EpochEndRefines.{IsOver}
 use Rattle.iss_node.proofs.Steps.VotesDoNotMatter.{each-held, onward-held, with_turn}
 use Rattle.iss_node.proofs.Instances.ChecksRefine.{goes-trans}
+use Rattle.iss_node.proofs.EpochEnd.LeafIsKept.{lasts-at}
 use Rattle.iss_node.proofs.EpochEnd.NextEpochStarts.{next-parts}
 use Rattle.iss_node.proofs.Log.LogIsDelivered.{epoch-cell, goes-on, has-slots, log-is, nothing-adopted, start-is}
 use Rattle.iss_node.proofs.Log.EpochSlots.{given-at, not-empty}
 use Rattle.iss_node.proofs.Log.LogIsExtended.{AreRefiled, are-refiled, bf-long, bf-part, bounded, grown-is}
 use Rattle.iss_node.specs.Flights.{FlightState, IsCompleted}
-use Rattle.iss_node.specs.Growth.{IsGrown, and_values, waits_on}
-use Rattle.iss_node.specs.Inputs.{HasAppliedDeliveries, IsChained}
-use Rattle.iss_node.specs.Shape.{IsNodeState}
+use Rattle.iss_node.specs.Internal.Growth.{IsGrown, and_values, waits_on}
+use Rattle.iss_node.specs.Internal.Inputs.{HasAppliedDeliveries, IsChained}
+use Rattle.iss_node.specs.Internal.Ready.{IsOpen, MayAdopt}
+use Rattle.iss_node.specs.Internal.Shape.{IsNodeState}
 use Rattle.iss_node.specs.State.{RefinesBareCore, RefinesPast, StateView, bare, core_of, seen_early, slot_value}
 use Rattle.iss_node.specs.Steps.{IsHeldTurn, IsLater, IsNextEpoch, IsSameNode, IsTurnBehind, IsTurned}
-use Rattle.iss_node.specs.Transfers.{IsAdoptedBy, at_slots}
+use Rattle.iss_node.specs.Internal.Transfers.{IsAdoptedBy, at_slots}
 use Rattle.iss_node.specs.declared.answers.Early.{Early}
 use Rattle.iss_node.specs.declared.answers.Outcome.{Outcome}
 use Rattle.iss_request.specs.Log.{has_id, log_ids}
@@ -139,7 +141,7 @@ module _ {M Msg : Type 0} (m : Module Msg) (refines : M → Params → ℕ → L
       first-some (value_at v.log k) None (nth p.values (k - v.plan.start)) n.0 n.1 (sym (value-is k lo) ∙ none)
 
   -- The log ends with the epoch.
-  size : length log.entries ≡ v.plan.start + v.setup.epoch
+  pub size : length log.entries ≡ v.plan.start + v.setup.epoch
   size =
       let more = ap (λ (ys : List Value). length ys) grown.entries in
       let long = length-append v.log.entries grown.joined in
@@ -306,13 +308,12 @@ same-on v w x h g = record { setup = g.setup ∙ h.setup; me = g.me ∙ h.me; lo
 abbrev bare_turn : {Msg : Type 0} → Rules → Module Msg → ℕ → Core Msg → Sent_piece → Turn Msg
 bare_turn R m me c p = let t = adopts_piece R m me c p in record t { core = bare t.core }
 
+-- The next epoch starts behind the adopted one.
 module _ {M Msg : Type 0} (m : Module Msg) (refines : M → Params → ℕ → List (Item Msg) → Type 0)
-    (v u w new : StateView M Msg) (shape : IsNodeState m v) (p : Sent_piece) (hashed strings : List (List ℕ)) (ballots : BallotsState) (early : List (Early Msg)) (first o : Outcome)
+    (v u w : StateView M Msg) (shape : IsNodeState m v) (p : Sent_piece) (hashed strings : List (List ℕ)) (ballots : BallotsState) (early : List (Early Msg)) (first : Outcome)
     (grown : HasAppliedDeliveries v u (at_slots v.plan.start p.values)) (chained : IsChained v u hashed strings)
-    (keeps : (votes : List Vote) (certs : List Cert) → AreKept u.ballots votes certs → AreKept ballots votes (keeping certs p.cert (cert_on certs p.cert.epoch.0)))
     (begun : IsNextEpoch refines (record u { ballots = ballots }) w early) (later : IsLater (record u { ballots = ballots }) w)
-    (is_first : first ≡ record { sends = []; own = []; early = []; hashed = strings })
-    (each : IsTurnBehind m refines w (λ F R me t. then_turn t (takes_each F R m me w.epoch (seen_early early))) first new o) (last : IsLater w new) where
+    (is_first : first ≡ record { sends = []; own = []; early = []; hashed = strings }) where
   first-turn : (past : Past Msg) → RefinesPast m refines v past → IsAdoptable v.setup (voters_of v.setup v.directory) v.log.entries v.epoch p hashed →
       IsTurned m refines (bare_turn (rules_of v.setup) m v.me.0 (core_of v past) p) w first
   first-turn past tied told =
@@ -338,6 +339,41 @@ module _ {M Msg : Type 0} (m : Module Msg) (refines : M → Params → ℕ → L
         addressed = subst (λ (xs : List (To × List ℕ)). AreToNodes w.setup.n xs) (sym (ap (λ (z : Outcome). z.sends) is_first)) tt;
       }
 
+  -- It begins open.
+  pub adopted-open : MayAdopt m refines v p hashed → IsOpen m refines w
+  adopted-open may =
+      let past = may.refined.0 in
+      let tied = may.refined.1 in
+      let told = adoption-tells v.setup (voters_of v.setup v.directory) v.log.entries v.epoch p hashed may.found in
+      let there = (first-turn past tied told).refined.tied in
+      let setup : w.setup ≡ v.setup = later.setup ∙ ap (λ (z : StateView M Msg). z.setup) grown.rest in
+      let log : length w.log.entries ≡ length u.log.entries =
+      ap (λ (z : StateView M Msg). length z.log.entries) begun.new_is
+      ∙ ap (λ (z : StateView M Msg). length z.log.entries) begun.opened.rest
+      ∙ ap (λ (z : StateView M Msg). length z.log.entries) begun.rest in
+      let all = size m refines v shape past tied p hashed told u.log grown.held grown.grown in
+      let start : w.plan.start ≡ suc past.epoch * v.setup.epoch = there.start ∙ ap (λ (s : Setup). suc past.epoch * s.epoch) setup in
+      let first_slot = tied.start in
+      let some : 0 < v.setup.epoch = (has-slots v.setup shape.good.good).some [] 0 in
+      let more : 0 < w.setup.epoch = subst (λ (s : Setup). 0 < s.epoch) (sym setup) some in
+      record { refined = (_, there); lasts = lasts-at w (omega (arith, log, all, start, first_slot)) more }
+
+-- The values of a piece to be adopted fit behind the first slot.
+pub adopted-fits : {M Msg : Type 0} (m : Module Msg) (refines : M → Params → ℕ → List (Item Msg) → Type 0) (v : StateView M Msg) → IsNodeState m v → (p : Sent_piece) (hashed : List (List ℕ)) → MayAdopt m refines v p hashed →
+    v.plan.start + length p.values < 2 ^ 64
+adopted-fits m refines v shape p hashed may =
+    let told = adoption-tells v.setup (voters_of v.setup v.directory) v.log.entries v.epoch p hashed may.found in
+    let whole = told.whole in
+    let fits = shape.fits in
+    omega (arith, whole, fits)
+
+module _ {M Msg : Type 0} (m : Module Msg) (refines : M → Params → ℕ → List (Item Msg) → Type 0)
+    (v u w new : StateView M Msg) (shape : IsNodeState m v) (p : Sent_piece) (hashed strings : List (List ℕ)) (ballots : BallotsState) (early : List (Early Msg)) (first o : Outcome)
+    (grown : HasAppliedDeliveries v u (at_slots v.plan.start p.values)) (chained : IsChained v u hashed strings)
+    (keeps : (votes : List Vote) (certs : List Cert) → AreKept u.ballots votes certs → AreKept ballots votes (keeping certs p.cert (cert_on certs p.cert.epoch.0)))
+    (begun : IsNextEpoch refines (record u { ballots = ballots }) w early) (later : IsLater (record u { ballots = ballots }) w)
+    (is_first : first ≡ record { sends = []; own = []; early = []; hashed = strings })
+    (each : IsTurnBehind m refines w (λ F R me t. then_turn t (takes_each F R m me w.epoch (seen_early early))) first new o) (last : IsLater w new) where
   pub adopted-all : IsAdoptedBy m refines v p hashed new o
   adopted-all c h found =
       let F = formats_of v.setup m in
@@ -348,7 +384,7 @@ module _ {M Msg : Type 0} (m : Module Msg) (refines : M → Params → ℕ → L
       let e = suc c.past.epoch in
       let certs = keeping c.certs p.cert (cert_on c.certs c.past.epoch) in
       let start : Turn Msg = bare_turn R m me (bare c) p in
-      let turned : IsTurned m refines start w first = subst (λ (d : Core Msg). IsTurned m refines (bare_turn R m me d p) w first) (sym h.state.core) (first-turn c.past tied told) in
+      let turned : IsTurned m refines start w first = subst (λ (d : Core Msg). IsTurned m refines (bare_turn R m me d p) w first) (sym h.state.core) (first-turn m refines v u w shape p hashed strings ballots early first grown chained begun later is_first c.past tied told) in
       let setup : w.setup ≡ v.setup = later.setup ∙ ap (λ (z : StateView M Msg). z.setup) grown.rest in
       let node : w.me ≡ v.me = later.me ∙ ap (λ (z : StateView M Msg). z.me) grown.rest in
       let epoch : w.epoch ≡ e = turned.refined.tied.epoch in

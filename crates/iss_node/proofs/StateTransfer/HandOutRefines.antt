@@ -17,7 +17,7 @@ use Rattle.iss_rules.specs.declared.events.Why.TheVariants.{NoCert}
 use Rattle.iss_node.proofs.Log.LogIsDelivered.{start-is}
 use Rattle.iss_node.specs.State.{StateRefinesCore, StateView}
 use Rattle.iss_node.specs.Steps.{IsHeldDropped, IsHeldTaken}
-use Rattle.iss_node.specs.Transfers.{IsHandedPiece, held_values}
+use Rattle.iss_node.specs.Internal.Transfers.{IsHandedPiece, held_values}
 use Rattle.iss_node.specs.declared.answers.Outcome.{Outcome}
 use Rattle.iss_packet.specs.Packets.{spell_packet}
 use Rattle.iss_packet.specs.declared.packets.PacketKind.TheVariants.{Piece as Kind_piece}
@@ -28,7 +28,7 @@ use Rattle.iss_sb.specs.Calls.{AreToNodes}
 use Rattle.iss_sb.specs.Evidence.{Item, Module}
 use Rattle.iss_sb.specs.declared.effects.Params.{Params}
 use Rattle.iss_sb.specs.declared.effects.To.{To}
-use Rattle.iss_sb.specs.declared.effects.To.TheVariants.{One}
+use Rattle.iss_sb.specs.declared.effects.To.TheVariants.{One as To_one}
 use Rattle.iss_transfer.specs.Bodies.{spell_piece}
 use Rattle.iss_transfer.specs.declared.pieces.Piece.{Piece}
 
@@ -109,8 +109,8 @@ module _ {M Msg : Type 0} (m : Module Msg) (refines : M → Params → ℕ → L
       both.1 ∙ sym (values-are v.setup v.log.entries e (leb-true (suc e * v.setup.epoch) (length v.log.entries) both.0)) ∙ ap (λ (ys : List Value). values_of R ys e) (sym log-is) in
       let piece : p ≡ record { epoch = record { 0 = e }; values = values_of R (log_of R m v.me.0 c.past) e; cert = p.cert } = λ i. record { epoch = record { 0 = epoch i }; values = values i; cert = p.cert } in
       let packet : Piece → List ℕ = λ z. spell_packet v.setup.version (record { kind = Kind_piece; from = v.me.0; epoch = z.epoch; leader = 0; body = spell_piece v.setup.version z }) in
-      let sent : out.sends ≡ (One to, packet (record { epoch = record { 0 = e }; values = values_of R (log_of R m v.me.0 c.past) e; cert = p.cert })) ∷ [] =
-      handed.sent ∙ ap (λ (z : Piece). (One to, packet z) ∷ []) piece in
+      let sent : out.sends ≡ (To_one to, packet (record { epoch = record { 0 = e }; values = values_of R (log_of R m v.me.0 c.past) e; cert = p.cert })) ∷ [] =
+      handed.sent ∙ ap (λ (z : Piece). (To_one to, packet z) ∷ []) piece in
       record {
         turn = handing F R m v.me.0 c to.0 e p.cert;
         step_is = rw (is, full) refl;

@@ -15,12 +15,12 @@ use Rattle.iss_model.specs.Node.{Core, Dropped, Stepped, Taken, Turn, adopts_pie
 use Rattle.iss_rules.specs.Past.{before_own, log_of, start_of}
 use Rattle.iss_rules.specs.Rules.{Rules}
 use Rattle.iss_rules.specs.declared.events.Why.{Why}
-use Rattle.iss_rules.specs.declared.events.Why.TheVariants.{BadClaim, NotNeeded, OtherEpoch, WrongChain as Wrong_chain}
+use Rattle.iss_rules.specs.declared.events.Why.TheVariants.{BadClaim, NotNeeded, OtherEpoch, WrongChain as Why_wrong_chain}
 use Rattle.iss_node.proofs.Log.LogIsDelivered.{start-is}
-use Rattle.iss_node.specs.Shape.{IsNodeState}
+use Rattle.iss_node.specs.Internal.Shape.{IsNodeState}
 use Rattle.iss_node.specs.State.{StateRefinesCore, StateView}
 use Rattle.iss_node.specs.Steps.{IsHeldDropped, IsHeldTaken}
-use Rattle.iss_node.specs.Transfers.{IsAdoptedBy}
+use Rattle.iss_node.specs.Internal.Transfers.{IsAdoptedBy}
 use Rattle.iss_node.specs.declared.answers.Outcome.{Outcome}
 use Rattle.iss_request.specs.declared.requests.Value.{Value}
 use Rattle.iss_sb.specs.Evidence.{Item, Module}
@@ -40,15 +40,15 @@ abbrev pub step_by : {Msg : Type 0} → Stepped Msg → Adoption → Stepped Msg
 step_by t (Adopt hashed) = t
 step_by t WrongEpoch = Dropped OtherEpoch
 step_by t BadCert = Dropped BadClaim
-step_by t (WrongChain ours theirs) = Dropped Wrong_chain
+step_by t (WrongChain ours theirs) = Dropped Why_wrong_chain
 
 tests-meet : {Msg : Type 0} (late far same shape cert chain : Bool) (t : Stepped Msg) (ours theirs : End) (hashed : List (List ℕ)) → late ≡ false → far ≡ not same →
-    cond late (Dropped NotNeeded) (cond far (Dropped OtherEpoch) (cond (not shape) (Dropped OtherEpoch) (cond (not cert) (Dropped BadClaim) (cond (not chain) (Dropped Wrong_chain) t)))) ≡
+    cond late (Dropped NotNeeded) (cond far (Dropped OtherEpoch) (cond (not shape) (Dropped OtherEpoch) (cond (not cert) (Dropped BadClaim) (cond (not chain) (Dropped Why_wrong_chain) t)))) ≡
     step_by t (found_by (same && shape) cert chain ours theirs hashed)
 tests-meet {Msg} late far same shape cert chain t ours theirs hashed h k = rw (h, k) (go same shape cert chain)
   where
     go : (same shape cert chain : Bool) →
-        cond (not same) (Dropped OtherEpoch) (cond (not shape) (Dropped OtherEpoch) (cond (not cert) (Dropped BadClaim) (cond (not chain) (Dropped Wrong_chain) t))) ≡
+        cond (not same) (Dropped OtherEpoch) (cond (not shape) (Dropped OtherEpoch) (cond (not cert) (Dropped BadClaim) (cond (not chain) (Dropped Why_wrong_chain) t))) ≡
         step_by t (found_by (same && shape) cert chain ours theirs hashed)
     go false shape cert chain = refl
     go true false cert chain = refl

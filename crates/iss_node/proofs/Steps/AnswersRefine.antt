@@ -6,7 +6,7 @@ use Rattle.iss_rules.specs.Formats.{formats_of}
 use Rattle.iss_model.specs.Node.{Core, step}
 use Rattle.iss_rules.specs.declared.events.NodeEvent.{NodeEvent}
 use Rattle.iss_rules.specs.declared.events.Why.{Why}
-use Rattle.iss_node.specs.Shape.{IsNode}
+use Rattle.iss_node.specs.Internal.Shape.{IsNode}
 use Rattle.iss_node.specs.State.{RefinesCore, StateView}
 use Rattle.iss_node.specs.Steps.{IsAnswer, IsHeldStepOf, IsOfNodes}
 use Rattle.iss_node.specs.declared.answers.Answer.TheVariants.{Dropped as Node_dropped, Taken as Node_taken}

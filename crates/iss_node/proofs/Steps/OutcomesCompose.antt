@@ -2,7 +2,7 @@
 use Rattle.std.proofs.Common.{◌≡◌, ℕ, List, [], ◌++◌, Result, Ok, Err, ap, sym, ◌∙◌, subst}
 use Rattle.std.specs.Prelude.{OnOk}
 use Rattle.iss_model.specs.Node.{Core, Turn, then_turn, unchanged}
-use Rattle.iss_node.specs.Epochs.{appended}
+use Rattle.iss_node.specs.Internal.Epochs.{appended}
 use Rattle.iss_node.specs.Steps.{IsMade}
 use Rattle.iss_node.specs.declared.answers.Outcome.{Outcome}
 use Rattle.iss_sb.specs.Calls.{AreToNodes}

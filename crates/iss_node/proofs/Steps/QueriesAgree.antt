@@ -15,7 +15,7 @@ use Rattle.iss_rules.specs.declared.events.Why.TheVariants.{EarlyFull}
 use Rattle.iss_node.proofs.Instances.ProposalRefines.{value-is}
 use Rattle.iss_node.proofs.Instances.ChecksRefine.{leads-is}
 use Rattle.iss_node.proofs.WaitingRequests.RequestRefines.{moved}
-use Rattle.iss_node.specs.Shape.{AreFrom, IsNodeState}
+use Rattle.iss_node.specs.Internal.Shape.{AreFrom, IsNodeState}
 use Rattle.iss_node.specs.State.{RefinesBareCore, RefinesPast, StateView, core_of, led, seen_early, seen_one}
 use Rattle.iss_node.specs.declared.answers.Early.{Early}
 use Rattle.iss_request.specs.declared.ids.Slot.{Slot}

@@ -15,9 +15,9 @@ use Rattle.iss_rules.specs.Rules.{Rules}
 use Rattle.iss_rules.specs.declared.events.NodeEvent.TheVariants.{Propose as On_propose}
 use Rattle.iss_rules.specs.declared.events.Refusal.{Refusal}
 use Rattle.iss_rules.specs.declared.events.Why.{Why}
-use Rattle.iss_rules.specs.declared.events.Why.TheVariants.{BadClaim, BadRequest, EarlyFull, Known, NoKeys, NotLeader, OtherEpoch, OutOfWindow}
+use Rattle.iss_rules.specs.declared.events.Why.TheVariants.{BadClaim, BadRequest, EarlyFull, Known, NoKeys, NotLeader, OtherEpoch, OutOfWindow as Why_out_of_window}
 use Rattle.iss_node.proofs.EpochEnd.StepCompletes.{at-core}
-use Rattle.iss_node.specs.Casts.{casting}
+use Rattle.iss_node.specs.Internal.Casts.{casting}
 use Rattle.iss_node.specs.State.{RefinesBareCore, StateRefinesCore, StateView, bare, holding}
 use Rattle.iss_node.specs.Steps.{IsHeldStep, IsHeldStepOf, IsLater, IsStep, IsStepOf}
 use Rattle.iss_node.specs.declared.answers.StepResult.{StepResult}
@@ -117,7 +117,7 @@ module _ {Msg : Type 0} (F : Formats Msg) (R : Rules) (m : Module Msg) (me : ℕ
   request-held q c =
       drop-held (not (R.signed q)) BadRequest _ _
       (drop-held (is_known R m me c q.id) Known _ _
-      (drop-held (not (R.inside (before_own R m me c.past) c.past.epoch q.id)) OutOfWindow _ _ refl))
+      (drop-held (not (R.inside (before_own R m me c.past) c.past.epoch q.id)) Why_out_of_window _ _ refl))
 
   casts-held : (c : Core Msg) (o : Option Slot) → casts_at F R m me (holding votes certs c) o ≡ with_step (casts_at F R m me c o)
   casts-held c None = refl

@@ -7,13 +7,13 @@ use Rattle.iss_buckets.proofs.WaitingLemmas.{absent_none}
 use Rattle.iss_window.proofs.Members.{has_id-and_ids, has_id-append}
 use Rattle.iss_model.proofs.Casts.{joined-newer}
 use Rattle.iss_model.specs.Node.{joined}
-use Rattle.iss_node.specs.Growth.{and_values, waits_on}
+use Rattle.iss_node.specs.Internal.Growth.{and_values, waits_on}
 use Rattle.iss_segment.specs.Instance.{SameIds}
 use Rattle.iss_request.specs.Log.{has_id, ids, log_ids, value_ids}
 use Rattle.iss_request.specs.declared.ids.ReqId.{ReqId}
 use Rattle.iss_request.specs.declared.requests.Request.{Request}
 use Rattle.iss_request.specs.declared.requests.Value.{Value}
-use Rattle.iss_request.specs.declared.requests.Value.TheVariants.{Nil, Batch as Value_batch}
+use Rattle.iss_request.specs.declared.requests.Value.TheVariants.{Nil as Value_nil, Batch as Value_batch}
 use Rattle.iss_base.proofs.Lists.{or-flip}
 
 pub log_ids-append : (a b : List Value) → log_ids (a ++ b) ≡ log_ids a ++ log_ids b
@@ -32,7 +32,7 @@ absent-both a b (q ∷ qs) = go (has_id q.id b) refl (has_id q.id a) refl (absen
     go false hb false ha more both = rw (both, ha, hb, ha) (ap (λ xs. q ∷ xs) more)
 
 waits-absent : (v : Value) (g : List ReqId) (qs : List Request) → waits_on (absent g qs) v ≡ absent (value_ids v ++ g) qs
-waits-absent Nil g qs = refl
+waits-absent Value_nil g qs = refl
 waits-absent (Value_batch b) g qs = absent-both (ids b) g qs
 
 turned : (v : Value) (vs : List Value) (g : List ReqId) → log_ids (reverse vs) ++ (value_ids v ++ g) ≡ log_ids (reverse (v ∷ vs)) ++ g
@@ -48,7 +48,7 @@ wait-all (v ∷ vs) g qs =
     ∙ ap (λ (xs : List ReqId). absent xs qs) (turned v vs g)
 
 has_id-values : (x : ReqId) (xs : List ReqId) (v : Value) → has_id x (and_values xs v) ≡ (has_id x xs || has_id x (value_ids v))
-has_id-values x xs Nil = grown (has_id x xs)
+has_id-values x xs Value_nil = grown (has_id x xs)
   where
     grown : (b : Bool) → b ≡ (b || false)
     grown true = refl

@@ -10,15 +10,15 @@ use Rattle.iss_rules.specs.Formats.{formats_of}
 use Rattle.iss_model.specs.Node.{Dropped, Taken, Turn, is_known, is_nil_at, joined, returned, takes_request, unchanged}
 use Rattle.iss_rules.specs.Past.{Past, before_own, log_of}
 use Rattle.iss_model.specs.Sound.{IsSoundCore}
-use Rattle.iss_rules.specs.declared.events.Why.TheVariants.{BadRequest, Known, OutOfWindow}
+use Rattle.iss_rules.specs.declared.events.Why.TheVariants.{BadRequest, Known, OutOfWindow as Why_out_of_window}
 use Rattle.iss_node.proofs.WaitingRequests.OrderedLeaveWaiting.{log_ids-append}
 use Rattle.iss_node.proofs.Log.LogIsExtended.{bf-long, bf-part, split-log}
 use Rattle.iss_log.specs.Chains.{ChainsState, IsChainOf}
 use Rattle.iss_log.specs.LogState.{LogState, value_at}
 use Rattle.iss_node.proofs.WaitingRequests.ProposalsComplete.{returned-landed}
 use Rattle.iss_node.specs.Flights.{FlightState, IsCompleted, completed}
-use Rattle.iss_node.specs.Growth.{AreJoined, IsGrown, and_values, waits_on}
-use Rattle.iss_node.specs.Inputs.{AreLogged, HasAppliedDeliveries, HasAppliedEffects, HasCompletedCasts, IsChained, IsHandedOut, and_accepted}
+use Rattle.iss_node.specs.Internal.Growth.{AreJoined, IsGrown, and_values, waits_on}
+use Rattle.iss_node.specs.Internal.Inputs.{AreLogged, HasAppliedDeliveries, HasAppliedEffects, HasCompletedCasts, IsChained, IsHandedOut, and_accepted}
 use Rattle.iss_node.specs.declared.answers.Accepted.{Accepted}
 use Rattle.iss_node.specs.declared.answers.Outcome.{Outcome}
 use Rattle.iss_request.specs.declared.errors.NoMemory.{NoMemory}
@@ -27,7 +27,7 @@ use Rattle.iss_sb.specs.declared.effects.Effects.{Effects}
 use Rattle.iss_sb.specs.declared.effects.To.{To}
 use Rattle.iss_segment.specs.Ground.{noted_before}
 use Rattle.iss_window.specs.Kept.{Kept, RefinesNoted}
-use Rattle.iss_node.specs.Shape.{IsNodeState}
+use Rattle.iss_node.specs.Internal.Shape.{IsNodeState}
 use Rattle.iss_node.specs.State.{RefinesBareCore, RefinesPast, StateView, core_of}
 use Rattle.iss_request.specs.Log.{has_id, ids, log_ids}
 use Rattle.iss_request.specs.declared.ids.ReqId.{ReqId}
@@ -240,11 +240,11 @@ module _ {M Msg : Type 0} (m : Module Msg) (refines : M → Params → ℕ → L
 
   -- The model's step for a request, by the results of the node's checks.
   pub request-is : (q : Request) (a b c : Bool) → (rules_of v.setup).signed q ≡ a → is_known (rules_of v.setup) m v.me.0 (core_of v past) q.id ≡ b → (rules_of v.setup).inside (before_own (rules_of v.setup) m v.me.0 past) past.epoch q.id ≡ c →
-      takes_request (rules_of v.setup) m v.me.0 (core_of v past) q ≡ cond (not a) (Dropped BadRequest) (cond b (Dropped Known) (cond (not c) (Dropped OutOfWindow) (Taken (unchanged (record (core_of v past) { waiting = v.waiting ++ q ∷ [] })))))
+      takes_request (rules_of v.setup) m v.me.0 (core_of v past) q ≡ cond (not a) (Dropped BadRequest) (cond b (Dropped Known) (cond (not c) (Dropped Why_out_of_window) (Taken (unchanged (record (core_of v past) { waiting = v.waiting ++ q ∷ [] })))))
   request-is q a b c ha hb hc = tests _ a _ b _ c (unchanged (record (core_of v past) { waiting = v.waiting ++ q ∷ [] })) ha hb hc
     where
       tests : (a a' b b' c c' : Bool) (turn : Turn Msg) → a ≡ a' → b ≡ b' → c ≡ c' →
-          cond (not a) (Dropped BadRequest) (cond b (Dropped Known) (cond (not c) (Dropped OutOfWindow) (Taken turn))) ≡ cond (not a') (Dropped BadRequest) (cond b' (Dropped Known) (cond (not c') (Dropped OutOfWindow) (Taken turn)))
+          cond (not a) (Dropped BadRequest) (cond b (Dropped Known) (cond (not c) (Dropped Why_out_of_window) (Taken turn))) ≡ cond (not a') (Dropped BadRequest) (cond b' (Dropped Known) (cond (not c') (Dropped Why_out_of_window) (Taken turn)))
       tests a a' b b' c c' turn ha hb hc = rw (ha, hb, hc) refl
 
   -- If only requests and early messages change, and stay sound, the state still refines its history.

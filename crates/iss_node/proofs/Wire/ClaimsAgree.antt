@@ -14,8 +14,8 @@ use Rattle.iss_model.specs.Node.{claims_in, only_by, own_claims, packed}
 use Rattle.iss_rules.specs.Past.{Past, leads_in, params_of}
 use Rattle.iss_model.specs.Views.{claims_of_parcel}
 use Rattle.iss_node.proofs.Instances.ChecksRefine.{leads-is}
-use Rattle.iss_node.specs.Inputs.{IsHandedOut}
-use Rattle.iss_node.specs.Shape.{IsNodeState}
+use Rattle.iss_node.specs.Internal.Inputs.{IsHandedOut}
+use Rattle.iss_node.specs.Internal.Shape.{IsNodeState}
 use Rattle.iss_node.specs.State.{RefinesPast, StateView, core_of, led}
 use Rattle.iss_node.specs.declared.answers.Outcome.{Outcome}
 use Rattle.iss_packet.specs.declared.packets.Packet.{Packet}

@@ -1,9 +1,9 @@
 -- The sender of a packet.
 use Rattle.std.proofs.Common.{arith, ◌≡◌, ℕ, ◌<◌, Bool, true, false, ◌&&◌, nat_lt, Option, Some, None, Result, Ok, Err, IfOk, IfSome, refl, sym, subst}
 use Rattle.std.proofs.lemmas.Bool.Decides.{nat_tests}
-use Rattle.iss_node.specs.Parcels.{IsFromNode, carried}
+use Rattle.iss_node.specs.Internal.Parcels.{IsFromNode, carried}
 use Rattle.iss_node.specs.declared.parcels.Body.{Body}
-use Rattle.iss_node.specs.declared.parcels.Body.TheVariants.{Ask as OfAsk, Message as OfModule, Piece as OfPiece, Request as OfClient, Vote as OfVote}
+use Rattle.iss_node.specs.declared.parcels.Body.TheVariants.{Ask as Body_ask, Message as Body_message, Piece as Body_piece, Request as Body_request, Vote as Body_vote}
 use Rattle.iss_node.specs.declared.parcels.Parcel.{Parcel}
 use Rattle.iss_packet.specs.Packets.{is_routed, is_routed_as}
 use Rattle.iss_packet.specs.declared.packets.Packet.{Packet}
@@ -19,11 +19,11 @@ body-from : {Msg : Type 0} (n : ℕ) (k : Parcel Msg) → k.from.0 < n → IsFro
 body-from {Msg} n k lt = go k.body
   where
     go : (b : Body Msg) → IsFromNode n (record { from = k.from; epoch = k.epoch; body = b })
-    go (OfModule leader msg) = lt
-    go (OfVote v) = lt
-    go OfAsk = lt
-    go (OfPiece p) = lt
-    go (OfClient q) = tt
+    go (Body_message leader msg) = lt
+    go (Body_vote v) = lt
+    go Body_ask = lt
+    go (Body_piece p) = lt
+    go (Body_request q) = tt
 
 -- A kind of packet that only nodes send.
 pub sender-below : (n : ℕ) (p : Packet) (kind : PacketKind) → p.kind ≡ kind → is_routed n p ≡ true → (is_routed_as n kind p.from p.epoch.0 p.leader ≡ true → nat_lt p.from n ≡ true) → p.from < n
@@ -53,8 +53,8 @@ from-any {Msg} n (Ok None) h = tt
 from-any {Msg} n (Ok (Some k)) h = go k.body h
   where
     go : (b : Body Msg) → IsFromNode 0 (record { from = k.from; epoch = k.epoch; body = b }) → IsFromNode n (record { from = k.from; epoch = k.epoch; body = b })
-    go (OfModule leader msg) lt = absurd (omega (arith, lt))
-    go (OfVote v) lt = absurd (omega (arith, lt))
-    go OfAsk lt = absurd (omega (arith, lt))
-    go (OfPiece p) lt = absurd (omega (arith, lt))
-    go (OfClient q) lt = tt
+    go (Body_message leader msg) lt = absurd (omega (arith, lt))
+    go (Body_vote v) lt = absurd (omega (arith, lt))
+    go Body_ask lt = absurd (omega (arith, lt))
+    go (Body_piece p) lt = absurd (omega (arith, lt))
+    go (Body_request q) lt = tt

@@ -9,7 +9,7 @@ use Rattle.iss_request.specs.declared.setups.Setup.{Setup}
 use Rattle.iss_request.specs.declared.setups.Kind.TheVariants.{Byzantine}
 use Rattle.iss_schedule.specs.declared.names.Name.TheVariants as name
 use Rattle.iss_schedule.specs.declared.schedules.Event.{Event}
-use Rattle.iss_schedule.specs.declared.schedules.Event.TheVariants.{Request, Propose, Timeout, Ask, Deliver, Lose, Pump, Calm, Hold, Free, Drop, Restart, Crash, Bytes}
+use Rattle.iss_schedule.specs.declared.schedules.Event.TheVariants.{Request as Event_request, Propose, Timeout as Event_timeout, Ask, Deliver, Lose, Pump, Calm, Hold, Free, Drop as Event_drop, Restart, Crash, Bytes}
 use Rattle.iss_schedule.specs.declared.schedules.Schedule.{Schedule}
 use Rattle.iss_schedule.specs.Cores.{cores_of}
 use Rattle.iss_schedule.specs.Events.{event_words, spell_event, IsInRange, AreInRange}
@@ -34,7 +34,7 @@ abbrev pub AreWhole : List (List ℕ) → Type 0
 AreWhole [] = Unit {0}
 AreWhole (line ∷ lines) = Lacks 10 line × AreWhole lines
 
-whole_append : (xs ys : List (List ℕ)) → AreWhole xs → AreWhole ys → AreWhole (xs ++ ys)
+pub whole_append : (xs ys : List (List ℕ)) → AreWhole xs → AreWhole ys → AreWhole (xs ++ ys)
 whole_append [] ys h k = k
 whole_append (x ∷ xs) ys h k = (h.0, whole_append xs ys h.1 k)
 
@@ -50,7 +50,7 @@ whole_values (f ∷ fs) sound above [] ok = absurd ok
 whole_values (f ∷ fs) sound above (v ∷ vs) ok =
     (value_whole f sound.0 above v ok.0, whole_values fs sound.1 (above ++ v ∷ []) vs ok.1)
 
-whole_header : (s : Setup) → IsKnown s → AreWhole (header_lines s)
+pub whole_header : (s : Setup) → IsKnown s → AreWhole (header_lines s)
 whole_header s known =
     whole_append (lines_of header_fields (values_of s)) (faulty_line s.faulty ∷ [])
     (whole_values header_fields fields_sound [] (values_of s) (values_in_range s known))
@@ -103,12 +103,12 @@ core_number s core good ok = decimal_is_number core (omega (arith, cores_fit s g
 -- an event in range is encoded with the arguments that its name needs
 pub event_line : (s : Setup) (line : List ℕ) (e : Event) → IsGoodSetup s → IsInRange s e → line ≡ spell_event e →
     IsEventLine line
-event_line s line (Request core client number payload) good ok is =
-    let leaves : 2 ^ s.keys ≤ 2 ^ 12 = pow_mono good.keys_high in
+event_line s line (Event_request core client number payload) good ok is =
+    let leaves : 2 ^ s.keys ≤ 2 ^ 20 = pow_mono good.keys_height.1 in
     record {
       name = name.Request;
       arguments = _;
-      words = event_spelled s line (Request core client number payload) good ok is;
+      words = event_spelled s line (Event_request core client number payload) good ok is;
       spelled = (
         core_number s core good ok.0,
         (
@@ -124,10 +124,10 @@ event_line s line (Propose core) good ok is =
       words = event_spelled s line (Propose core) good ok is;
       spelled = (core_number s core good ok, refl);
     }
-event_line s line (Timeout core leader) good ok is = record {
+event_line s line (Event_timeout core leader) good ok is = record {
   name = name.Timeout;
   arguments = _;
-  words = event_spelled s line (Timeout core leader) good ok is;
+  words = event_spelled s line (Event_timeout core leader) good ok is;
   spelled = (core_number s core good ok.0, (decimal_is_number leader.0 (omega arith), refl));
 }
 event_line s line (Ask core peer) good ok is = record {
@@ -173,11 +173,11 @@ event_line s line (Free core) good ok is =
       words = event_spelled s line (Free core) good ok is;
       spelled = (core_number s core good ok, refl);
     }
-event_line s line (Drop core) good ok is =
+event_line s line (Event_drop core) good ok is =
     record {
       name = name.Drop;
       arguments = _;
-      words = event_spelled s line (Drop core) good ok is;
+      words = event_spelled s line (Event_drop core) good ok is;
       spelled = (core_number s core good ok, refl);
     }
 event_line s line (Restart core) good ok is =
@@ -248,12 +248,12 @@ other m words args is differs e = differs (sym is ∙ ap (λ (ws : List (List �
 
 injected_event : (s : Setup) (e : Event) (args : List (List ℕ)) → IsInRange s e →
     event_words e ≡ text_of_name name.Bytes ∷ args → s.kind ≡ Byzantine
-injected_event s (Request core client number payload) args ok is =
-    absurd (other 114 (event_words (Request core client number payload)) args refl (λ e. omega arith) is)
+injected_event s (Event_request core client number payload) args ok is =
+    absurd (other 114 (event_words (Event_request core client number payload)) args refl (λ e. omega arith) is)
 injected_event s (Propose core) args ok is =
     absurd (other 112 (event_words (Propose core)) args refl (λ e. omega arith) is)
-injected_event s (Timeout core leader) args ok is =
-    absurd (other 116 (event_words (Timeout core leader)) args refl (λ e. omega arith) is)
+injected_event s (Event_timeout core leader) args ok is =
+    absurd (other 116 (event_words (Event_timeout core leader)) args refl (λ e. omega arith) is)
 injected_event s (Ask core peer) args ok is =
     absurd (other 97 (event_words (Ask core peer)) args refl (λ e. omega arith) is)
 injected_event s (Deliver packet) args ok is =
@@ -264,7 +264,7 @@ injected_event s Pump args ok is = absurd (other 112 (event_words Pump) args ref
 injected_event s (Calm pumps) args ok is = absurd (other 99 (event_words (Calm pumps)) args refl (λ e. omega arith) is)
 injected_event s (Hold core) args ok is = absurd (other 104 (event_words (Hold core)) args refl (λ e. omega arith) is)
 injected_event s (Free core) args ok is = absurd (other 102 (event_words (Free core)) args refl (λ e. omega arith) is)
-injected_event s (Drop core) args ok is = absurd (other 100 (event_words (Drop core)) args refl (λ e. omega arith) is)
+injected_event s (Event_drop core) args ok is = absurd (other 100 (event_words (Event_drop core)) args refl (λ e. omega arith) is)
 injected_event s (Restart core) args ok is =
     absurd (other 114 (event_words (Restart core)) args refl (λ e. omega arith) is)
 injected_event s (Crash core calls) args ok is =

@@ -14,7 +14,7 @@ use Rattle.iss_request.specs.declared.setups.Setup.{Setup}
 use Rattle.iss_schedule.specs.declared.names.Name.{Name}
 use Rattle.iss_schedule.specs.declared.names.Name.TheVariants as name
 use Rattle.iss_schedule.specs.declared.schedules.Event.{Event}
-use Rattle.iss_schedule.specs.declared.schedules.Event.TheVariants.{Request, Propose, Timeout, Ask, Deliver, Lose, Pump, Calm, Hold, Free, Drop, Restart, Crash, Bytes}
+use Rattle.iss_schedule.specs.declared.schedules.Event.TheVariants.{Request as Event_request, Propose, Timeout as Event_timeout, Ask, Deliver, Lose, Pump, Calm, Hold, Free, Drop as Event_drop, Restart, Crash, Bytes}
 use Rattle.iss_schedule.specs.Cores.{cores_of}
 use Rattle.iss_schedule.specs.Events.{event_words, spell_event, IsInRange}
 use Rattle.iss_schedule.specs.Names.{text_of_name}
@@ -116,8 +116,8 @@ core_lacks c s core blank good ok =
 -- the words of an event in range contain no such byte
 pub event_lacks : (c : ℕ) (s : Setup) (e : Event) → IsBlank c → IsGoodSetup s → IsInRange s e →
     AllLack c (event_words e)
-event_lacks c s (Request core client number payload) blank good ok = let leaves : 2 ^ s.keys ≤ 2 ^ 12 =
-    pow_mono good.keys_high in (
+event_lacks c s (Event_request core client number payload) blank good ok = let leaves : 2 ^ s.keys ≤ 2 ^ 20 =
+    pow_mono good.keys_height.1 in (
       blank.names name.Request,
       (
         core_lacks c s core blank good ok.0,
@@ -128,7 +128,7 @@ event_lacks c s (Request core client number payload) blank good ok = let leaves 
       ),
     )
 event_lacks c s (Propose core) blank good ok = (blank.names name.Propose, core_lacks c s core blank good ok)
-event_lacks c s (Timeout core leader) blank good ok = (
+event_lacks c s (Event_timeout core leader) blank good ok = (
   blank.names name.Timeout,
   (core_lacks c s core blank good ok.0, lacks_decimal c leader.0 (omega (arith, blank.low)) (omega arith)),
 )
@@ -148,7 +148,7 @@ event_lacks c s (Calm pumps) blank good ok =
     (blank.names name.Calm, lacks_decimal c pumps (omega (arith, blank.low)) (omega arith))
 event_lacks c s (Hold core) blank good ok = (blank.names name.Hold, core_lacks c s core blank good ok)
 event_lacks c s (Free core) blank good ok = (blank.names name.Free, core_lacks c s core blank good ok)
-event_lacks c s (Drop core) blank good ok = (blank.names name.Drop, core_lacks c s core blank good ok)
+event_lacks c s (Event_drop core) blank good ok = (blank.names name.Drop, core_lacks c s core blank good ok)
 event_lacks c s (Restart core) blank good ok = (blank.names name.Restart, core_lacks c s core blank good ok)
 event_lacks c s (Crash core calls) blank good ok = (
   blank.names name.Crash,
@@ -162,9 +162,9 @@ event_lacks c s (Bytes core bytes) blank good ok =
 
 -- each event's line begins with a name
 pub name_first : (e : Event) → (n : Name) × ((ws : List (List ℕ)) × (event_words e ≡ text_of_name n ∷ ws))
-name_first (Request core client number payload) = (name.Request, (_, refl))
+name_first (Event_request core client number payload) = (name.Request, (_, refl))
 name_first (Propose core) = (name.Propose, (_, refl))
-name_first (Timeout core leader) = (name.Timeout, (_, refl))
+name_first (Event_timeout core leader) = (name.Timeout, (_, refl))
 name_first (Ask core peer) = (name.Ask, (_, refl))
 name_first (Deliver packet) = (name.Deliver, (_, refl))
 name_first (Lose packet) = (name.Lose, (_, refl))
@@ -172,7 +172,7 @@ name_first Pump = (name.Pump, (_, refl))
 name_first (Calm pumps) = (name.Calm, (_, refl))
 name_first (Hold core) = (name.Hold, (_, refl))
 name_first (Free core) = (name.Free, (_, refl))
-name_first (Drop core) = (name.Drop, (_, refl))
+name_first (Event_drop core) = (name.Drop, (_, refl))
 name_first (Restart core) = (name.Restart, (_, refl))
 name_first (Crash core calls) = (name.Crash, (_, refl))
 name_first (Bytes core bytes) = (name.Bytes, (_, refl))

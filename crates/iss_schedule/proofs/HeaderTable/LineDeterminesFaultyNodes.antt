@@ -3,7 +3,7 @@ use Rattle.std.proofs.Common.{◌≡◌, ◌≢◌, ◌∙◌, inl, inr, ℕ, su
 use Rattle.std.specs.Prelude.{IfOk}
 use Rattle.std.proofs.lemmas.Fmt.{decimal_injective}
 use Rattle.std.proofs.lemmas.List.Splits.{join_with_byte-slice_split}
-use Rattle.iss_request.specs.Setup.{AreRising, IsFewFaulty}
+use Rattle.iss_request.specs.Setup.{AreAscendingBelow, IsFewFaulty}
 use Rattle.iss_request.specs.declared.ids.NodeId.{NodeId}
 use Rattle.iss_request.specs.declared.setups.Kind.{Kind}
 use Rattle.iss_request.specs.declared.setups.Kind.TheVariants.{Byzantine, Stopping}
@@ -19,7 +19,7 @@ abbrev pub AreSmall : List NodeId → Type 0
 AreSmall [] = Unit {0}
 AreSmall (i ∷ is) = (i.0 < 2 ^ 64) × AreSmall is
 
-pub rising_small : (from n : ℕ) (is : List NodeId) → n ≤ 2 ^ 64 → AreRising from n is → AreSmall is
+pub rising_small : (from n : ℕ) (is : List NodeId) → n ≤ 2 ^ 64 → AreAscendingBelow from n is → AreSmall is
 rising_small from n [] le h = tt
 rising_small from n (i ∷ is) le h = (omega (arith, le, h.1), rising_small (suc i.0) n is le h.2)
 
@@ -129,8 +129,8 @@ pub after_push : (from : ℕ) (is : List NodeId) (x : NodeId) → after from (is
 after_push from [] x = refl
 after_push from (i ∷ is) x = after_push (suc i.0) is x
 
-pub rising_push : (from n : ℕ) (is : List NodeId) (x : NodeId) → AreRising from n is → after from is ≤ x.0 → x.0 < n →
-    AreRising from n (is ++ x ∷ [])
+pub rising_push : (from n : ℕ) (is : List NodeId) (x : NodeId) → AreAscendingBelow from n is → after from is ≤ x.0 → x.0 < n →
+    AreAscendingBelow from n (is ++ x ∷ [])
 rising_push from n [] x h le lt = (le, lt, tt)
 rising_push from n (i ∷ is) x h le lt = (h.0, h.1, rising_push (suc i.0) n is x h.2 le lt)
 
@@ -144,32 +144,32 @@ record IsLeft (start n : ℕ) (is js : List NodeId) (words : List (List ℕ)) : 
   pub left : List NodeId
   pub size : length js ≡ length is + length left
   pub same : node_words left ≡ words
-  pub rising : AreRising (after start is) n left
+  pub ascending : AreAscendingBelow (after start is) n left
 
 left_of : (start n : ℕ) (is js : List NodeId) (words : List (List ℕ)) → n ≤ 2 ^ 64 → AreSmall is →
-    AreRising start n js → node_words is ++ words ≡ node_words js → IsLeft start n is js words
-left_of start n [] js words le small rising e = record { left = js; size = omega arith; same = sym e; rising = rising }
-left_of start n (i ∷ is) [] words le small rising e = let two : decimal i.0 ∷ (node_words is ++ words) ≡ [] =
+    AreAscendingBelow start n js → node_words is ++ words ≡ node_words js → IsLeft start n is js words
+left_of start n [] js words le small ascending e = record { left = js; size = omega arith; same = sym e; ascending = ascending }
+left_of start n (i ∷ is) [] words le small ascending e = let two : decimal i.0 ∷ (node_words is ++ words) ≡ [] =
     e in absurd cc
-left_of start n (i ∷ is) (j ∷ js) words le small rising e =
+left_of start n (i ∷ is) (j ∷ js) words le small ascending e =
     let both : decimal i.0 ∷ (node_words is ++ words) ≡ decimal j.0 ∷ node_words js = e in
     let heads : decimal i.0 ≡ decimal j.0 = cc in
     let tails : node_words is ++ words ≡ node_words js = cc in
-    let same : j.0 ≡ i.0 = sym (decimal_injective i.0 j.0 small.0 (omega (arith, le, rising.1)) heads) in
-    let rest = left_of (suc i.0) n is js words le small.1 (subst (λ k. AreRising (suc k) n js) same rising.2) tails in
-    record { left = rest.left; size = omega (arith, rest.size); same = rest.same; rising = rest.rising }
+    let same : j.0 ≡ i.0 = sym (decimal_injective i.0 j.0 small.0 (omega (arith, le, ascending.1)) heads) in
+    let rest = left_of (suc i.0) n is js words le small.1 (subst (λ k. AreAscendingBelow (suc k) n js) same ascending.2) tails in
+    record { left = rest.left; size = omega (arith, rest.size); same = rest.same; ascending = rest.ascending }
 
 -- no list of nodes in range continues with this word
 pub goes_on_not : (most n : ℕ) (is : List NodeId) (all : List (List ℕ)) (word : List ℕ) (rest : List (List ℕ)) →
-    n ≤ 2 ^ 64 → AreRising 0 n is → all ≡ node_words is ++ word ∷ rest →
+    n ≤ 2 ^ 64 → AreAscendingBelow 0 n is → all ≡ node_words is ++ word ∷ rest →
     ((k : ℕ) → length is < most → IsWithin (after 0 is) n k → word ≢ decimal k) → (js : List NodeId) →
     AreFew most n js → all ≢ node_words js
-goes_on_not most n is all word rest le rising text none js few e =
-    let l = left_of 0 n is js (word ∷ rest) le (rising_small 0 n is le rising) few.1 (sym text ∙ e) in
-    go l.left l.size l.same l.rising
+goes_on_not most n is all word rest le ascending text none js few e =
+    let l = left_of 0 n is js (word ∷ rest) le (rising_small 0 n is le ascending) few.1 (sym text ∙ e) in
+    go l.left l.size l.same l.ascending
   where
     go : (left : List NodeId) → length js ≡ length is + length left → node_words left ≡ word ∷ rest →
-        AreRising (after 0 is) n left → ⊥
+        AreAscendingBelow (after 0 is) n left → ⊥
     go [] size words more = let two : [] ≡ word ∷ rest = words in cc
     go (k ∷ ks) size words more =
         let both : decimal k.0 ∷ node_words ks ≡ word ∷ rest = words in
@@ -179,15 +179,15 @@ goes_on_not most n is all word rest le rising text none js few e =
 -- one more node
 pub one_node : (n from x : ℕ) (is more : List NodeId) (all words rest : List (List ℕ)) (word : List ℕ) →
     more ≡ is ++ record { 0 = x } ∷ [] → words ≡ word ∷ rest → word ≡ decimal x → IsWithin from n x →
-    all ≡ node_words is ++ words → AreRising 0 n is → from ≡ after 0 is →
-    (all ≡ node_words more ++ rest) × AreRising 0 n more × (x + 1 ≡ after 0 more) × (length more ≡ length is + 1)
-one_node n from x is more all words rest word pushed cut spelled within text rising here =
+    all ≡ node_words is ++ words → AreAscendingBelow 0 n is → from ≡ after 0 is →
+    (all ≡ node_words more ++ rest) × AreAscendingBelow 0 n more × (x + 1 ≡ after 0 more) × (length more ≡ length is + 1)
+one_node n from x is more all words rest word pushed cut spelled within text ascending here =
     let i : NodeId = record { 0 = x } in
-    subst (λ (js : List NodeId). (all ≡ node_words js ++ rest) × AreRising 0 n js × (x + 1 ≡ after 0 js)
+    subst (λ (js : List NodeId). (all ≡ node_words js ++ rest) × AreAscendingBelow 0 n js × (x + 1 ≡ after 0 js)
     × (length js ≡ length is + 1)) (sym pushed) (
       text ∙ ap (λ (ws : List (List ℕ)). node_words is ++ ws) (cut ∙ ap (λ (w : List ℕ). w ∷ rest) spelled)
           ∙ sym (words_push is i rest),
-      rising_push 0 n is i rising (omega (arith, here, within.0)) within.1,
+      rising_push 0 n is i ascending (omega (arith, here, within.0)) within.1,
       omega (arith, after_push 0 is i),
       length-append is (i ∷ []),
     )

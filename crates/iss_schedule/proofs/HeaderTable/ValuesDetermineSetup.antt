@@ -1,7 +1,7 @@
 -- The table of a header. It is sound, values can be extended, and set-ups and values determine each other.
 use Rattle.std.proofs.Common.{◌≡◌, ◌∙◌, ℕ, zero, suc, ◌<◌, ◌≤◌, Bool, true, false, cond, eqb, List, [], ◌∷◌, ◌++◌, length, refl, sym, ap, subst, arith}
 use Rattle.sha2.specs.Sha256.{sha256}
-use Rattle.iss_request.specs.Setup.{AreRising, IsGoodSetup, nodes_of_kind, quorum_of_kind}
+use Rattle.iss_request.specs.Setup.{AreAscendingBelow, IsGoodSetup, nodes_of_kind, quorum_of_kind}
 use Rattle.iss_request.specs.declared.ids.NodeId.{NodeId}
 use Rattle.iss_request.specs.declared.setups.Kind.{Kind}
 use Rattle.iss_request.specs.declared.setups.Kind.TheVariants.{Byzantine, Stopping}
@@ -151,7 +151,7 @@ policy_low Blacklist = omega arith
 
 in_range : (m f e b ba w : ℕ) (p : Policy) (c k : ℕ) → m < length module_rows → f < suc (row_at m).most_faults →
     IsWithin (nodes_at m f) 65 e → IsWithin 1 257 b → IsWithin 1 33 ba → IsWithin 1 65 w → IsWithin 1 257 c →
-    IsWithin 2 13 k → AreValues header_fields [] (0 ∷ m ∷ f ∷ e ∷ b ∷ ba ∷ w ∷ place_of_policy p ∷ c ∷ k ∷ [])
+    IsWithin 2 21 k → AreValues header_fields [] (0 ∷ m ∷ f ∷ e ∷ b ∷ ba ∷ w ∷ place_of_policy p ∷ c ∷ k ∷ [])
 in_range m f e b ba w p c k low_place faults epoch buckets batch window clients keys = (
   omega arith,
   (
@@ -177,7 +177,7 @@ values_in_range s h =
       g.batch_low,
       omega (arith, g.batch_high),
     ) (g.window_low, omega (arith, g.window_high))
-    (g.clients_low, omega (arith, g.clients_high)) (g.keys_low, omega (arith, g.keys_high))
+    (g.clients_low, omega (arith, g.clients_high)) (g.keys_height.0, omega (arith, g.keys_height.1))
 
 -- ---- the set-up of values in range
 
@@ -200,7 +200,7 @@ pub record AreRead (vs : List ℕ) : Type 0 where
   pub window_in : IsWithin 1 65 window
   pub policy_in : policy < 3
   pub clients_in : IsWithin 1 257 clients
-  pub keys_in : IsWithin 2 13 keys
+  pub keys_in : IsWithin 2 21 keys
 
 -- each value is at the index that the table uses
 pub are_read : (vs : List ℕ) → AreValues header_fields [] vs → AreRead vs
@@ -247,15 +247,15 @@ MayFail vs is = AreFew (most_faulty (row_at (value vs 1)).kind (value vs 2)) (se
 pub known_faulty : (s : Setup) → IsKnown s → MayFail (values_of s) s.faulty
 known_faulty s h = (
   subst (λ (k : Kind). length s.faulty ≤ most_faulty k s.f) h.kind (faulty_few s.kind s.f s.faulty h.good.few_faulty),
-  subst (λ n. AreRising 0 n s.faulty) (known_nodes s h) h.good.rising_faulty,
+  subst (λ n. AreAscendingBelow 0 n s.faulty) (known_nodes s h) h.good.ascending_faulty,
 )
 
 pub small_faulty : (s : Setup) → IsGoodSetup s → AreSmall s.faulty
-small_faulty s g = rising_small 0 s.n s.faulty (omega (arith, g.epoch_low, g.epoch_high)) g.rising_faulty
+small_faulty s g = rising_small 0 s.n s.faulty (omega (arith, g.epoch_low, g.epoch_high)) g.ascending_faulty
 
 good_at : (m f : ℕ) (e b ba w p c k : ℕ) (is : List NodeId) (tag : List ℕ) → f < suc (row_at m).most_faults →
     IsWithin (nodes_at m f) 65 e → IsWithin 1 257 b → IsWithin 1 33 ba → IsWithin 1 65 w → IsWithin 1 257 c →
-    IsWithin 2 13 k →
+    IsWithin 2 21 k →
     MayFail (0 ∷ m ∷ f ∷ []) is → IsGoodSetup (setup_with (0 ∷ m ∷ f ∷ e ∷ b ∷ ba ∷ w ∷ p ∷ c ∷ k ∷ []) is tag)
 good_at m f e b ba w p c k is tag faults epoch buckets batch window clients keys few =
     let sound = rows_sound m in
@@ -276,10 +276,9 @@ good_at m f e b ba w p c k is tag faults epoch buckets batch window clients keys
       window_high = omega (arith, window.1);
       clients_low = clients.0;
       clients_high = omega (arith, clients.1);
-      keys_low = keys.0;
-      keys_high = omega (arith, keys.1);
+      keys_height = (keys.0, omega (arith, keys.1));
       few_faulty = few_faulty (row_at m).kind f is few.0;
-      rising_faulty = few.1;
+      ascending_faulty = few.1;
     }
 
 -- the set-up with these values and faulty nodes, and the tag of its own header

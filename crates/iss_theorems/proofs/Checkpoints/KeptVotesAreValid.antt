@@ -77,13 +77,13 @@ module _ (R : Rules) where
       let rest : mem k (signers (signs_of xs)) ≡ false = none-below statement (suc x.by.0) xs b.1 k (omega (arith, low, lt)) in
       rw (eqb-other k x.by.0 (λ q. omega (arith, q, low, lt))) rest
 
-  rising-distinct : (statement : List ℕ) (from : ℕ) (xs : List Signature) → are_true R statement from xs ≡ true → distinct (signers (signs_of xs)) ≡ true
-  rising-distinct statement from [] h = refl
-  rising-distinct statement from (x ∷ xs) h =
+  ascending-distinct : (statement : List ℕ) (from : ℕ) (xs : List Signature) → are_true R statement from xs ≡ true → distinct (signers (signs_of xs)) ≡ true
+  ascending-distinct statement from [] h = refl
+  ascending-distinct statement from (x ∷ xs) h =
       let a = and-true (nat_le from x.by.0) _ h in
       let b = and-true (R.verifies x.by.0 statement x.sig) _ a.1 in
       let fresh : mem x.by.0 (signers (signs_of xs)) ≡ false = none-below statement (suc x.by.0) xs b.1 x.by.0 (omega arith) in
-      rw fresh (rising-distinct statement (suc x.by.0) xs b.1)
+      rw fresh (ascending-distinct statement (suc x.by.0) xs b.1)
 
   -- one more signature
   true-more : (statement : List ℕ) (from k : ℕ) (xs : List Signature) (x : Signature) → are_true R statement from xs ≡ true →
@@ -284,7 +284,7 @@ quorum-is s M R sound voting c h =
     let r = in-signers c.signers k i in
     let v = (true-each R statement 0 c.signers a.1 r.0 r.1).1 in
     subst (λ (n : ℕ). n < s.n) r.2 (node-below s.n s.clients s.keys r.0.by.0 statement r.0.sig (sound.signers r.0.by.0 statement r.0.sig v))))
-    (both (distinct (signers (signs_of c.signers))) _ (rising-distinct R statement 0 c.signers a.1)
+    (both (distinct (signers (signs_of c.signers))) _ (ascending-distinct R statement 0 c.signers a.1)
     (le-leb s.quorum (length (signers (signs_of c.signers))) (omega (arith, size))))
   where
     below : (ks : List ℕ) → ((k : ℕ) → In k ks → k < s.n) → all_below s.n ks ≡ true

@@ -36,7 +36,7 @@ rules-voting M s h = record {
   hashes = λ log values. refl;
   quorum = refl;
   voted = λ e a q. refl;
-  spelled = signed-spelled s h.good.keys_low h.good.keys_high;
+  spelled = signed-spelled s h.good.keys_height;
 }
 
 module _ (s : Setup) (R : Rules) (voting : IsVoting s R) where

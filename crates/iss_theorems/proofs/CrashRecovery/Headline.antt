@@ -1,6 +1,5 @@
 -- The headline of a run with disk failures and recovery, carried over from the failure-free run.
-use Rattle.std.proofs.Common.{◌≡◌, inl, inr, ℕ, true, List, [], ◌++◌, Option, Some, None, refl, sym, ap, ◌∙◌, subst, append-nil}
-use Rattle.iss_base.proofs.Lists.{some-injective}
+use Rattle.std.proofs.Common.{◌≡◌, ℕ, true, List, [], ◌++◌, Option, Some, None, refl, sym, ap, ◌∙◌, subst, append-nil}
 use Rattle.iss_request.specs.declared.requests.Value.{Value}
 use Rattle.iss_request.specs.declared.setups.Setup.{Setup}
 use Rattle.iss_schedule.specs.declared.schedules.Event.{Event}
@@ -9,31 +8,37 @@ use Rattle.iss_rules.specs.Ends.{End}
 use Rattle.iss_rules.specs.Concrete.{rules_of}
 use Rattle.iss_rules.specs.Formats.{formats_of}
 use Rattle.iss_model.specs.Run.{Held, Progress, begin_held, begin_run}
-use Rattle.iss_model.specs.Runs.{AreAtCores, IsPrefix}
-use Rattle.iss_theorems.specs.Certified.{AreOfLogs, WereDelivered}
-use Rattle.iss_theorems.specs.Conserved.{AcceptsOnce, IsConserved, IsInOnePlace}
-use Rattle.iss_theorems.specs.Ends.{HasEvidence, IsEvidenced}
-use Rattle.iss_theorems.specs.OneLog.{IsClusterRun, IsOneLog, run_after}
+use Rattle.iss_model.specs.Runs.{AreAtCores, IsPrefix, pasts_of}
+use Rattle.iss_composition.specs.Ordered.{Ordered}
+use Rattle.iss_theorems.specs.Casts.{AreCastsAccepted}
+use Rattle.iss_theorems.specs.Certified.{AreCertified}
+use Rattle.iss_theorems.specs.Conserved.{IsConserved, IsInOnePlace}
+use Rattle.iss_theorems.specs.Ends.{AreWritten, HasEvidence}
+use Rattle.iss_theorems.specs.Leaves.{AreOfJournals}
+use Rattle.iss_theorems.specs.OneLog.{AreOfCluster, AreOneLog, ClaimsAreApart, free_after, run_after, shown}
 use Rattle.iss_theorems.proofs.Refinement.RunKeepsInvariant.{run-append}
 use Rattle.iss_model.specs.Courses.{Course, begin_course, begin_machines, course}
-use Rattle.iss_theorems.specs.Headline.{AreCertified, AreOfCluster, AreOneLog, AreWritten, IsWhole, WasAsked, course_after, held_after, shown, why_ended}
+use Rattle.iss_theorems.specs.Headline.{IsWhole}
+use Rattle.iss_theorems.specs.Recovery.{WasAsked, course_after, held_after, why_ended}
 use Rattle.iss_theorems.proofs.CrashRecovery.RunsInSequence.{Leads, course-append, course-over, going, going-is, leads-behind, over-is}
 use Rattle.iss_theorems.proofs.CrashRecovery.JournaledEventsEnter.{Follows, begin-own, follows}
-use Rattle.iss_theorems.proofs.CrashRecovery.SlotsHaveOneNumber.{same-numbers}
-
--- why a run stopped, and in which event
-ended-is : (o : Option (ℕ × End)) (end : End) → why_ended o ≡ Some end → (k : ℕ) × (o ≡ Some (k, end))
-ended-is None end q = absurd (cc)
-ended-is (Some at) end q = let there : End → Option (ℕ × End) = λ z. Some (at.0, z) in (at.0, ap there (some-injective at.1 end q))
 
 prefix-same : (a b : List Value) → b ≡ a → IsPrefix a b
 prefix-same a b q = ([], q ∙ sym (append-nil a))
 
 module _ {Msg : Type 0} (s : Setup) (M : Module Msg)
-    (runs : (es : List Event) → AreAtCores s es → IsClusterRun s M es) (logs : (es : List Event) → AreAtCores s es → IsOneLog s M es)
-    (of_logs : (es : List Event) → AreAtCores s es → AreOfLogs s M es) (delivered : (es : List Event) → AreAtCores s es → WereDelivered s M es)
-    (evidence : (es : List Event) → AreAtCores s es → HasEvidence s M es)
-    (conserved : AcceptsOnce M → (es : List Event) → AreAtCores s es → IsConserved s M es)
+    (runs : (es : List Event) → AreAtCores s es → AreOfCluster s M (free_after s M es))
+    (composed : (es : List Event) → AreAtCores s es → Ordered s (rules_of s) M (pasts_of (free_after s M es).net))
+    (apart : ClaimsAreApart s M)
+    (logs : (es : List Event) → AreAtCores s es → AreOneLog s M (free_after s M es))
+    (longer_logs : (es more : List Event) → AreAtCores s es → AreAtCores s more → (i : ℕ) → is_correct s i ≡ true →
+    IsPrefix (shown s M (free_after s M es) i) (shown s M (free_after s M (es ++ more)) i))
+    (casts : (es : List Event) → AreAtCores s es → AreCastsAccepted s M (free_after s M es))
+    (certified : (es : List Event) → AreAtCores s es → AreCertified s M (free_after s M es))
+    (written : (es : List Event) → AreAtCores s es → AreWritten s M (free_after s M es))
+    (journals : (es : List Event) → AreOfJournals s M (course_after s M es).machines)
+    (evidence : (es : List Event) → HasEvidence s M es)
+    (conserved : (es : List Event) → AreAtCores s es → IsConserved s M es)
     (events : List Event) (low : AreAtCores s events) where
   abbrev all : Follows s (formats_of s M) (rules_of s) M (WasAsked s (formats_of s M) (rules_of s) M (begin_course s) events) (begin_held s) (course_after s M events)
   all = follows s (formats_of s M) (rules_of s) M events (begin_machines s) 0 [] (begin-own s (formats_of s M) (rules_of s) M) low
@@ -42,52 +47,9 @@ module _ {Msg : Type 0} (s : Setup) (M : Module Msg)
       (held_after s M events) (why_ended (course_after s M events).ended)
   entering = all.leads 0 []
 
-  -- the same for the failure-free run of the events that entered
-  of-cluster : AreOfCluster s M (held_after s M events)
-  of-cluster =
-      let c = runs entering.events entering.at_cores in
-      subst (λ (h : Held Msg). AreOfCluster s M h) entering.held
-      (record {
-        cluster = c.cluster;
-        pasts = c.pasts;
-        book = c.book;
-        strings = c.strings;
-        reached = c.reached;
-        sound = c.sound;
-        exact = c.exact;
-        separate = c.separate;
-      })
-
-  one-log : AreOneLog s M (held_after s M events)
-  one-log =
-      let o = logs entering.events entering.at_cores in
-      let n = run_after s M entering.events in
-      subst (λ (h : Held Msg). AreOneLog s M h) entering.held
-      (record {
-        prefix = o.prefix;
-        once = o.once;
-        valid = o.valid;
-        numbers = λ i j slot k l oki okj ki lj. elim (o.prefix i j oki okj) [
-          | inl a ↦ same-numbers (shown s M n.held i) (shown s M n.held j) slot k l a ki lj
-          | inr b ↦ sym (same-numbers (shown s M n.held j) (shown s M n.held i) slot l k b lj ki)
-        ];
-      })
-
-  certified : AreCertified s M (held_after s M events)
-  certified =
-      subst (λ (h : Held Msg). AreCertified s M h) entering.held
-      (record { of_logs = of_logs entering.events entering.at_cores; delivered = delivered entering.events entering.at_cores })
-
-  written : AreWritten s M (held_after s M events)
-  written =
-      let e = evidence entering.events entering.at_cores in
-      subst (λ (h : Held Msg). AreWritten s M h) entering.held (record { claims = e.booked; votes = e.voted })
-
-  shows : (k : ℕ) (end : End) → (course_after s M events).ended ≡ Some (k, end) → IsEvidenced s (formats_of s M) (rules_of s) M (held_after s M events) end
-  shows k end q =
-      let e = evidence entering.events entering.at_cores in
-      let there = ended-is (run_after s M entering.events).ended end (entering.ended ∙ ap (λ (o : Option (ℕ × End)). why_ended o) q) in
-      subst (λ (h : Held Msg). IsEvidenced s (formats_of s M) (rules_of s) M h end) entering.held (e.shown there.0 end there.1)
+  -- what holds of the failure-free run of the events that entered holds here
+  here : (P : Held Msg → Type 0) → ((es : List Event) → AreAtCores s es → P (free_after s M es)) → P (held_after s M events)
+  here P each = subst P entering.held (each entering.events entering.at_cores)
 
   abbrev so_far : Course Msg
   so_far = course_after s M events
@@ -119,8 +81,8 @@ module _ {Msg : Type 0} (s : Setup) (M : Module Msg)
         ap (λ (z : Progress Msg). z.held) (run-append s F R M before.events behind.events (begin_run s)) ∙ behind.held
         ∙ ap (λ (c : Course Msg). c.machines.held) (sym (longer more ∙ ap (λ (z : Course Msg). course s F R M z more) (going-is s F R M so_far q))) in
         subst (λ (h : Held Msg). IsPrefix (shown s M (held_after s M events) i) (shown s M h i)) there
-        (subst (λ (h : Held Msg). IsPrefix (shown s M h i) (shown s M (run_after s M (before.events ++ behind.events)).held i)) before.held
-        ((logs before.events before.at_cores).grows behind.events behind.at_cores i ok))
+        (subst (λ (h : Held Msg). IsPrefix (shown s M h i) (shown s M (free_after s M (before.events ++ behind.events)) i)) before.held
+        (longer_logs before.events behind.events before.at_cores behind.at_cores i ok))
 
     grows-by : (o : Option (ℕ × End)) → so_far.ended ≡ o → IsPrefix (shown s M (held_after s M events) i) (shown s M (held_after s M (events ++ more)) i)
     grows-by None q = grows-on q
@@ -137,14 +99,16 @@ module _ {Msg : Type 0} (s : Setup) (M : Module Msg)
       held = entering.held;
       ended = entering.ended;
     };
-    disks = all.own;
-    of_cluster = of-cluster;
-    one_log = one-log;
+    journals = journals events;
+    of_cluster = here (AreOfCluster s M) runs;
+    ordered = here (λ h. Ordered s (rules_of s) M (pasts_of h.net)) composed;
+    apart = apart;
+    one_log = here (AreOneLog s M) logs;
     grows = λ more low_more i ok. grows-by more low_more i ok so_far.ended refl;
-    conserved = λ once i ok x asked. subst (λ (h : Held Msg). IsInOnePlace (rules_of s) M i (h.net.cores i) x) entering.held
-        (conserved once entering.events entering.at_cores i ok x (entering.asked i x asked));
-    certified = certified;
-    shows = shows;
-    stays = λ k end q more. stays (k, end) q more;
-    written = written;
+    conserved = λ i ok x asked. subst (λ (h : Held Msg). IsInOnePlace (rules_of s) M i (h.net.cores i) x) entering.held
+        (conserved entering.events entering.at_cores i ok x (entering.asked i x asked));
+    casts = here (AreCastsAccepted s M) casts;
+    certified = here (AreCertified s M) certified;
+    written = here (AreWritten s M) written;
+    evidence = evidence events;
   }

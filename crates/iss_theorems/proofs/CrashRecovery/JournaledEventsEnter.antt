@@ -9,7 +9,7 @@ use Rattle.iss_network.specs.declared.packets.Sent.{Sent}
 use Rattle.iss_request.specs.declared.ids.ReqId.{ReqId}
 use Rattle.iss_request.specs.declared.setups.Setup.{Setup}
 use Rattle.iss_schedule.specs.declared.schedules.Event.{Event}
-use Rattle.iss_schedule.specs.declared.schedules.Event.TheVariants.{Request as Event_request, Propose, Timeout as Event_timeout, Ask, Deliver, Lose, Pump, Calm, Hold, Free, Drop, Restart, Crash, Bytes}
+use Rattle.iss_schedule.specs.declared.schedules.Event.TheVariants.{Request as Event_request, Propose, Timeout as Event_timeout, Ask, Deliver, Lose, Pump, Calm, Hold, Free, Drop as Event_drop, Restart, Crash, Bytes}
 use Rattle.iss_sb.specs.declared.effects.Claim.{Claim}
 use Rattle.iss_sb.specs.Evidence.{Module}
 use Rattle.iss_rules.specs.Books.{Signed}
@@ -28,7 +28,11 @@ use Rattle.iss_model.specs.Runs.{AreAtCores, IsAtCore}
 use Rattle.iss_theorems.proofs.CrashRecovery.RunsInSequence.{Leads, course-over, going, leads-less, leads-none, leads-on, leads-one, leads-same, nobody, nobody-asked, over, standing}
 use Rattle.iss_model.specs.Courses.{Course, Machines, Upshot, after_step, apply_event, at_machine, begin_machines, by_step, calms, core_of, course, delivered_to, delivers, delivers_each, loses, machines_done, machines_lost, pumps, recover, stops, unless, with_disk, with_disks, with_packets}
 use Rattle.iss_model.specs.Disks.{Disk, fails, fused, keeps, may_keep, works_again}
-use Rattle.iss_theorems.specs.Headline.{AreOfTheirDisks, IsUndisturbed, WasAsked, asked_in, why_ended}
+use Rattle.iss_theorems.specs.Recovery.{IsUndisturbed, WasAsked, asked_in, why_ended}
+
+-- each core is the one that its journaled events lead to
+abbrev AreOfTheirDisks : {Msg : Type 0} → Setup → Formats Msg → Rules → Module Msg → Machines Msg → Type 0
+AreOfTheirDisks s F R M w = (c : ℕ) → w.held.net.cores c ≡ core_of F R M (node_of s c) (w.disks c).kept
 
 -- a forged claim that is the first in a list is the first in a longer one
 forged-else : (b : Bool) (c : Claim) (o p : Option Claim) (claim : Claim) → (o ≡ Some claim → p ≡ Some claim) → cond b (Some c) o ≡ Some claim → cond b (Some c) p ≡ Some claim
@@ -53,7 +57,7 @@ lost-asks-nothing i Pump why x m = m
 lost-asks-nothing i (Calm n) why x m = m
 lost-asks-nothing i (Hold c) why x m = m
 lost-asks-nothing i (Free c) why x m = m
-lost-asks-nothing i (Drop c) why x m = m
+lost-asks-nothing i (Event_drop c) why x m = m
 lost-asks-nothing i (Restart c) why x m = m
 lost-asks-nothing i (Crash c calls) why x m = m
 lost-asks-nothing i (Bytes c bytes) why x m = m
@@ -298,7 +302,7 @@ module _ {Msg : Type 0} (s : Setup) (F : Formats Msg) (R : Rules) (M : Module Ms
   happens-goes w own (Calm m) low = quiet (Calm m) (λ i o. refl) (calms-goes m w own)
   happens-goes w own (Hold c) low = quiet (Hold c) (λ i o. refl) (goes-network w own (held_to w.held.net.network c true) (Hold c) tt tt refl)
   happens-goes w own (Free c) low = quiet (Free c) (λ i o. refl) (goes-network w own (held_to w.held.net.network c false) (Free c) tt tt refl)
-  happens-goes w own (Drop c) low = quiet (Drop c) (λ i o. refl) (goes-network w own (cleared w.held.net.network c) (Drop c) tt tt refl)
+  happens-goes w own (Event_drop c) low = quiet (Event_drop c) (λ i o. refl) (goes-network w own (cleared w.held.net.network c) (Event_drop c) tt tt refl)
   happens-goes w own (Restart c) low = quiet (Restart c) (λ i o. refl) (restart-goes w own c)
   happens-goes w own (Crash c calls) low = quiet (Crash c calls) (λ i o. refl) (crash-goes w own c calls)
   happens-goes w own (Bytes c bytes) low = quiet (Bytes c bytes) (λ i o. refl) (inject-goes w own c bytes M.stopping refl)

@@ -23,7 +23,7 @@ use Rattle.iss_model.specs.Node.{Dropped, Stepped, Taken, step}
 use Rattle.iss_model.specs.Run.{Held, at_core, by_collision, by_forged, claims_at, collision_in, early_of, ended_at, first_forged, node_of, noted, turned_to, after_step as free_step}
 use Rattle.iss_model.specs.Courses.{Course, Machines, Upshot, apply_event, at_machine, begin_course, by_step, calms, course, delivered_to, delivers, delivers_each, loses, machines_done, machines_lost, pumps, run_event, run_event_if_open, stops, unless, with_disks, with_packets}
 use Rattle.iss_model.specs.Disks.{Disk, keeps, may_keep}
-use Rattle.iss_theorems.specs.Headline.{course_after}
+use Rattle.iss_theorems.specs.Recovery.{course_after}
 use Rattle.iss_theorems.proofs.CrashRecovery.RunsInSequence.{course-append}
 
 -- ---- numbers

@@ -14,7 +14,7 @@ use Rattle.iss_model.specs.Run.{Happening, Held, Progress, ended_at, run, run_ev
 use Rattle.iss_model.specs.Runs.{AreAtCores, IsAtCore}
 use Rattle.iss_theorems.proofs.Refinement.RunKeepsInvariant.{run-append}
 use Rattle.iss_model.specs.Courses.{Course, Machines, course, run_event_if_open}
-use Rattle.iss_theorems.specs.Headline.{AreUndisturbed, IsUndisturbed, WasAsked, why_ended}
+use Rattle.iss_theorems.specs.Recovery.{AreUndisturbed, IsUndisturbed, WasAsked, why_ended}
 
 module _ {Msg : Type 0} (s : Setup) (F : Formats Msg) (R : Rules) (M : Module Msg) where
   -- ---- lists of events

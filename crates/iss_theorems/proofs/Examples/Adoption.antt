@@ -10,7 +10,7 @@ use Rattle.iss_request.specs.Setup.{IsGoodSetup}
 use Rattle.iss_request.specs.declared.ids.Slot.{Slot}
 use Rattle.iss_request.specs.declared.requests.Batch.{Batch}
 use Rattle.iss_request.specs.declared.requests.Value.{Value}
-use Rattle.iss_request.specs.declared.requests.Value.TheVariants.{Nil, Batch as Value_batch}
+use Rattle.iss_request.specs.declared.requests.Value.TheVariants.{Nil as Value_nil, Batch as Value_batch}
 use Rattle.iss_request.specs.declared.setups.Kind.TheVariants.{Byzantine}
 use Rattle.iss_request.specs.declared.setups.Policy.TheVariants.{Simple}
 use Rattle.iss_request.specs.declared.setups.Setup.{Setup}
@@ -45,7 +45,7 @@ use Rattle.iss_theorems.proofs.Refinement.DeliveryChecks.{over-new, over-old, ow
 
 abbrev nil_if : List (Item Word) → Option Value
 nil_if [] = None
-nil_if (x ∷ xs) = Some Nil
+nil_if (x ∷ xs) = Some Value_nil
 
 abbrev nodding : Module Word
 nodding = record signing { decided = λ p me xs s. cond (is_slot s p.slots) (nil_if xs) None }
@@ -53,7 +53,6 @@ nodding = record signing { decided = λ p me xs s. cond (is_slot s p.slots) (nil
 as-signing : (p : Params) → IsGoodParams nodding p → IsGoodParams signing p
 as-signing p good = record {
   setup = good.setup;
-  tag = good.tag;
   kind = good.kind;
   nodes = good.nodes;
   majority = good.majority;
@@ -61,7 +60,7 @@ as-signing p good = record {
   some =
       good.some;
   few = good.few;
-  rising = good.rising;
+  ascending = good.ascending;
   slots_low = good.slots_low;
   directory = good.directory;
 }
@@ -85,18 +84,18 @@ nodding-lawful = record {
   uses = λ p me xs i leaf good. lawful.uses p me xs i leaf (as-signing p good);
 }
 
-is-nil : (xs : List (Item Word)) (v : Value) → nil_if xs ≡ Some v → v ≡ Nil
+is-nil : (xs : List (Item Word)) (v : Value) → nil_if xs ≡ Some v → v ≡ Value_nil
 is-nil [] v h = absurd (cc)
-is-nil (x ∷ xs) v h = sym (some-injective Nil v h)
+is-nil (x ∷ xs) v h = sym (some-injective Value_nil v h)
 
-delivers-nil : (p : Params) (me : ℕ) (xs : List (Item Word)) (s : ℕ) (v : Value) → delivered nodding p me xs s ≡ Some v → v ≡ Nil
+delivers-nil : (p : Params) (me : ℕ) (xs : List (Item Word)) (s : ℕ) (v : Value) → delivered nodding p me xs s ≡ Some v → v ≡ Value_nil
 delivers-nil p me [] s v h = absurd (cc)
 delivers-nil p me (x ∷ xs) s v h = elim (first-cases (delivered nodding p me xs s) (nodding.decided p me (x ∷ xs) s) v h) [
   | inl a ↦ delivers-nil p me xs s v a
   | inr a ↦ is-nil (x ∷ xs) v (passes (is_slot s p.slots) (nil_if (x ∷ xs)) v a.1).1
 ]
 
-no-batch : (b : Batch) → Value_batch b ≡ Nil → ⊥
+no-batch : (b : Batch) → Value_batch b ≡ Value_nil → ⊥
 no-batch b h = cc
 
 nodding-safe : IsSafe nodding
@@ -130,7 +129,7 @@ setup-good : IsGoodSetup four
 setup-good = good-by four refl
 
 setup-of : IsSetupOf nodding four
-setup-of = record { good = setup-good; tag = refl; kind = refl; nodes = refl; majority = refl }
+setup-of = record { good = setup-good; kind = refl; nodes = refl; majority = refl }
 
 abbrev R : Rules
 R = rules_of four
@@ -139,7 +138,7 @@ abbrev S : Scheme
 S = scheme_of four
 
 abbrev nils : List Value
-nils = Nil ∷ Nil ∷ Nil ∷ Nil ∷ []
+nils = Value_nil ∷ Value_nil ∷ Value_nil ∷ Value_nil ∷ []
 
 -- the strings hashed for an epoch of nils, and the empty string, are all strings
 abbrev strings : List (List ℕ)
@@ -152,7 +151,7 @@ IsPart log = Extends log nils
 nils-hashed : IsHashedLog S strings nils
 nils-hashed x h = over-new x (chain_strings S nils) ([] ∷ []) h
 
-nil-spelled : S.spells Nil ≡ true
+nil-spelled : S.spells Value_nil ≡ true
 unfolding parse_value parse_rest spell_value ◌>>=◌ such_that byte done
 nil-spelled = refl
 
@@ -293,13 +292,13 @@ r0 = record {
 }
 
 r1 : Reached w1
-r1 = moves w0 r0 0 0 casts refl refl (refl, batch-read 1 [] (omega arith) (λ q i. absurd i)) refl (Nil ∷ Nil ∷ Nil ∷ [], refl)
+r1 = moves w0 r0 0 0 casts refl refl (refl, batch-read 1 [] (omega arith) (λ q i. absurd i)) refl (Value_nil ∷ Value_nil ∷ Value_nil ∷ [], refl)
 
 r2 : Reached w2
-r2 = moves w1 r1 0 1 Timeout refl refl tt refl (Nil ∷ Nil ∷ [], refl)
+r2 = moves w1 r1 0 1 Timeout refl refl tt refl (Value_nil ∷ Value_nil ∷ [], refl)
 
 r3 : Reached w3
-r3 = moves w2 r2 0 2 Timeout refl refl tt refl (Nil ∷ [], refl)
+r3 = moves w2 r2 0 2 Timeout refl refl tt refl (Value_nil ∷ [], refl)
 
 r4 : Reached w4
 r4 = moves w3 r3 0 3 Timeout refl refl tt refl ([], refl)
@@ -320,13 +319,13 @@ heard = record {
 }
 
 r6 : Reached w6
-r6 = moves w5 r5 1 0 hears refl refl heard refl (Nil ∷ Nil ∷ Nil ∷ [], refl)
+r6 = moves w5 r5 1 0 hears refl refl heard refl (Value_nil ∷ Value_nil ∷ Value_nil ∷ [], refl)
 
 r7 : Reached w7
-r7 = moves w6 r6 1 1 Timeout refl refl tt refl (Nil ∷ Nil ∷ [], refl)
+r7 = moves w6 r6 1 1 Timeout refl refl tt refl (Value_nil ∷ Value_nil ∷ [], refl)
 
 r8 : Reached w8
-r8 = moves w7 r7 1 2 Timeout refl refl tt refl (Nil ∷ [], refl)
+r8 = moves w7 r7 1 2 Timeout refl refl tt refl (Value_nil ∷ [], refl)
 
 r9 : Reached w9
 r9 = moves w8 r8 1 3 Timeout refl refl tt refl ([], refl)

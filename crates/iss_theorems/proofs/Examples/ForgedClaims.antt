@@ -1,6 +1,7 @@
 -- Computed runs of four nodes, the last of them faulty: a forged claim stops a run; a signed one, or one of the faulty
 -- node, does not.
 use Rattle.std.proofs.Common.{◌≡◌, ℕ, ◌+◌, List, [], ◌∷◌, length, Some, None, refl}
+use Rattle.iss_base.specs.Heights.{digests_of_height}
 use Rattle.iss_request.specs.Formats.{spell_batch, spell_count, spell_request, spell_value}
 use Rattle.iss_request.specs.declared.requests.Batch.{Batch}
 use Rattle.iss_request.specs.declared.setups.Kind.TheVariants.{Byzantine}
@@ -57,31 +58,31 @@ claim leader = record { by = leader; statement = (claim_of ((rules_of four).para
 
 -- node 0 proposes, and all take its message
 honest : (after (Event_request 0 0 0 (170 ∷ []) ∷ Propose 0 ∷ Calm 5 ∷ [])).ended ≡ None
-unfolding wide_bytes spell_value spell_batch spell_count spell_request
+unfolding wide_bytes spell_value spell_batch spell_count spell_request digests_of_height
 honest = refl
 
 booked : (after (Event_request 0 0 0 (170 ∷ []) ∷ Propose 0 ∷ Calm 5 ∷ [])).held.signed ≡ claim 0 ∷ []
-unfolding wide_bytes spell_value spell_batch spell_count spell_request
+unfolding wide_bytes spell_value spell_batch spell_count spell_request digests_of_height
 booked = refl
 
 -- the message again, injected
 repeated : (after (Event_request 0 0 0 (170 ∷ []) ∷ Propose 0 ∷ Bytes 1 (told 0) ∷ [])).ended ≡ None
-unfolding wide_bytes spell_value spell_batch spell_count spell_request
+unfolding wide_bytes spell_value spell_batch spell_count spell_request digests_of_height
 repeated = refl
 
 -- before node 0 has signed it, it is forged, and the run stops: later events do nothing
 forged : (after (Bytes 1 (told 0) ∷ Event_request 0 0 0 (170 ∷ []) ∷ Propose 0 ∷ [])).ended ≡ Some
     (0, Forged (claim_of ((rules_of four).params [] 0 0) 0 (record { 0 = 0 }, batch)))
-unfolding wide_bytes spell_value spell_batch spell_count spell_request
+unfolding wide_bytes spell_value spell_batch spell_count spell_request digests_of_height
 forged = refl
 
 ended : (after (Bytes 1 (told 0) ∷ Event_request 0 0 0 (170 ∷ []) ∷ Propose 0 ∷ [])).event ≡ 1
-unfolding wide_bytes spell_value spell_batch spell_count spell_request
+unfolding wide_bytes spell_value spell_batch spell_count spell_request digests_of_height
 ended = refl
 
 -- the faulty node signs what it likes
 faulty : (after (Bytes 1 (told 3) ∷ [])).ended ≡ None
-unfolding wide_bytes spell_value spell_batch spell_count spell_request
+unfolding wide_bytes spell_value spell_batch spell_count spell_request digests_of_height
 faulty = refl
 
 -- Early messages are read as their epoch begins. Here each node delivers what a leader sends, so that epochs end.
@@ -100,23 +101,23 @@ whole_epoch = Propose 0 ∷ Propose 1 ∷ Propose 2 ∷ Propose 3 ∷ Calm 1 ∷
 
 -- a forged one stops the run when it is taken, not when it arrives
 waits : (heard (Bytes 1 (early 0 0) ∷ [])).ended ≡ None
-unfolding wide_bytes spell_value spell_batch spell_count spell_request
+unfolding wide_bytes spell_value spell_batch spell_count spell_request digests_of_height
 waits = refl
 
 early_forged : (heard (Bytes 1 (early 0 0) ∷ whole_epoch)).ended ≡ Some (5, Forged (claim_of ((rules_of four).params [] 1 0) 0 (record { 0 = 4 }, batch)))
-unfolding wide_bytes spell_value spell_batch spell_count spell_request
+unfolding wide_bytes spell_value spell_batch spell_count spell_request digests_of_height
 early_forged = refl
 
 -- the faulty node's is taken
 early_taken : length (((heard (Bytes 1 (early 3 3) ∷ whole_epoch)).held.net.cores 1).past.evidence 1 3) ≡ 1
-unfolding wide_bytes spell_value spell_batch spell_count spell_request
+unfolding wide_bytes spell_value spell_batch spell_count spell_request digests_of_height
 early_taken = refl
 
 -- one with an invalid claim is dropped
 early_gone : length (((heard (Bytes 1 (early 5 3) ∷ whole_epoch)).held.net.cores 1).past.evidence 1 3) ≡ 0
-unfolding wide_bytes spell_value spell_batch spell_count spell_request
+unfolding wide_bytes spell_value spell_batch spell_count spell_request digests_of_height
 early_gone = refl
 
 early_next : (((heard (Bytes 1 (early 5 3) ∷ whole_epoch)).held.net.cores 1).past.epoch) ≡ 1
-unfolding wide_bytes spell_value spell_batch spell_count spell_request
+unfolding wide_bytes spell_value spell_batch spell_count spell_request digests_of_height
 early_next = refl

@@ -1,5 +1,6 @@
 -- Votes, certificates, asks and pieces in computed runs and steps: three nodes, epochs of three slots.
 use Rattle.std.proofs.Common.{◌≡◌, ℕ, suc, ◌==◌, cond, List, [], ◌∷◌, length, Option, Some, None, reverse, refl}
+use Rattle.iss_base.specs.Heights.{digests_of_height}
 use Rattle.iss_base.specs.Lists.{first_of}
 use Rattle.iss_checkpoint.specs.declared.votes.Cert.{Cert}
 use Rattle.iss_sb.specs.declared.signers.Signed.{Signed}
@@ -8,21 +9,21 @@ use Rattle.iss_network.specs.declared.packets.Sent.{Sent}
 use Rattle.iss_request.specs.Formats.{spell_batch, spell_count, spell_request, spell_value}
 use Rattle.iss_request.specs.Log.{size_of}
 use Rattle.iss_request.specs.declared.requests.Value.{Value}
-use Rattle.iss_request.specs.declared.requests.Value.TheVariants.{Batch as Value_batch, Nil}
+use Rattle.iss_request.specs.declared.requests.Value.TheVariants.{Batch as Value_batch, Nil as Value_nil}
 use Rattle.iss_request.specs.declared.setups.Setup.{Setup}
 use Rattle.iss_schedule.specs.declared.schedules.Event.{Event}
-use Rattle.iss_schedule.specs.declared.schedules.Event.TheVariants.{Propose, Ask, Deliver, Calm, Hold, Free, Drop, Bytes}
+use Rattle.iss_schedule.specs.declared.schedules.Event.TheVariants.{Propose, Ask, Deliver, Calm, Hold, Free, Drop as Event_drop, Bytes}
 use Rattle.iss_sb.specs.declared.effects.Claim.{Claim}
 use Rattle.iss_sb.specs.declared.effects.Input.{Input}
 use Rattle.iss_sb.specs.declared.effects.Input.TheVariants.{Cast, Receive, Timeout}
 use Rattle.iss_sb.specs.declared.effects.To.{To}
-use Rattle.iss_sb.specs.declared.effects.To.TheVariants.{All}
+use Rattle.iss_sb.specs.declared.effects.To.TheVariants.{All as To_all}
 use Rattle.iss_sb.specs.Evidence.{Item, Module}
 use Rattle.iss_transfer.specs.declared.pieces.Piece.{Piece}
 use Rattle.sha2.specs.Sha256.{compress, digest_bytes, first_words, hash_after, rounds, schedule, sha256}
 use Rattle.iss_rules.specs.declared.events.NodeEvent.TheVariants.{Packet as On_packet, Propose as On_propose, Timeout as On_timeout}
 use Rattle.iss_rules.specs.declared.events.Why.{Why}
-use Rattle.iss_rules.specs.declared.events.Why.TheVariants.{BadClaim, Known, NoCert, NoKeys, NotNeeded, OtherEpoch, WrongChain}
+use Rattle.iss_rules.specs.declared.events.Why.TheVariants.{BadClaim, Known, NoCert, NoKeys, NotNeeded, OtherEpoch, WrongChain as Why_wrong_chain}
 use Rattle.iss_rules.specs.Concrete.{rules_of}
 use Rattle.iss_rules.specs.Parcels.{OfPiece, OfVote}
 use Rattle.iss_model.specs.Node.{Core, Dropped, Stepped, Taken, initial_core, step}
@@ -45,7 +46,7 @@ after events i = reverse (log_of easy telling i ((run_of events).held.net.cores 
 
 -- node 2 lags, and asks node 0
 abbrev behind : List Event
-behind = Hold 2 ∷ Propose 0 ∷ Propose 1 ∷ Propose 2 ∷ Calm 20 ∷ Drop 2 ∷ Free 2 ∷ Ask 2 (record { 0 = 0 }) ∷ Calm 20 ∷ []
+behind = Hold 2 ∷ Propose 0 ∷ Propose 1 ∷ Propose 2 ∷ Calm 20 ∷ Event_drop 2 ∷ Free 2 ∷ Ask 2 (record { 0 = 0 }) ∷ Calm 20 ∷ []
 
 abbrev empties : List Value
 empties = Value_batch [] ∷ Value_batch [] ∷ Value_batch [] ∷ []
@@ -188,10 +189,10 @@ next_piece : why_of (hears initial_core (piece 1 empties made)) ≡ Some OtherEp
 next_piece = refl
 
 -- the shape is tested first, then the certificate, then the chain
-short_piece : why_of (hears initial_core (piece 0 (Value_batch [] ∷ Nil ∷ []) (with_signers []))) ≡ Some OtherEpoch
+short_piece : why_of (hears initial_core (piece 0 (Value_batch [] ∷ Value_nil ∷ []) (with_signers []))) ≡ Some OtherEpoch
 short_piece = refl
 
-few_signers : why_of (hears initial_core (piece 0 (Value_batch [] ∷ Value_batch [] ∷ Nil ∷ []) (with_signers (signed 0 ∷ [])))) ≡ Some BadClaim
+few_signers : why_of (hears initial_core (piece 0 (Value_batch [] ∷ Value_batch [] ∷ Value_nil ∷ []) (with_signers (signed 0 ∷ [])))) ≡ Some BadClaim
 few_signers = refl
 
 many_signers : why_of (hears initial_core (piece 0 empties (with_signers (signed 0 ∷ signed 1 ∷ signed 2 ∷ [])))) ≡ Some BadClaim
@@ -203,10 +204,10 @@ twice_signed = refl
 no_node : why_of (hears initial_core (piece 0 empties (with_signers (signed 1 ∷ signed 7 ∷ [])))) ≡ Some BadClaim
 no_node = refl
 
-nil_for_batch : why_of (hears initial_core (piece 0 (Value_batch [] ∷ Nil ∷ Value_batch [] ∷ []) made)) ≡ Some WrongChain
+nil_for_batch : why_of (hears initial_core (piece 0 (Value_batch [] ∷ Value_nil ∷ Value_batch [] ∷ []) made)) ≡ Some Why_wrong_chain
 nil_for_batch = refl
 
-wrong_count : why_of (hears initial_core (piece 0 empties (record made { requests = 1 }))) ≡ Some WrongChain
+wrong_count : why_of (hears initial_core (piece 0 empties (record made { requests = 1 }))) ≡ Some Why_wrong_chain
 wrong_count = refl
 
 -- what is hashed: the values of the piece, then those that join the log, each named here by its slot and its size
@@ -236,7 +237,7 @@ last_leaf = refl
 chained : ((rules_of plain).end empties).chain ≡
     181 ∷ 191 ∷ 129 ∷ 2 ∷ 154 ∷ 140 ∷ 156 ∷ 142 ∷ 220 ∷ 220 ∷ 193 ∷ 197 ∷ 184 ∷ 124 ∷ 20 ∷ 15 ∷
     246 ∷ 188 ∷ 175 ∷ 62 ∷ 215 ∷ 219 ∷ 1 ∷ 67 ∷ 202 ∷ 57 ∷ 113 ∷ 19 ∷ 171 ∷ 42 ∷ 189 ∷ 203 ∷ []
-unfolding spell_value spell_batch spell_count spell_request sha256 digest_bytes hash_after compress rounds schedule first_words
+unfolding spell_value spell_batch spell_count spell_request sha256 digest_bytes hash_after compress rounds schedule first_words digests_of_height
 chained = refl
 
 -- for a module that delivers its proposal at once, the vote follows the step's sends, and claims are in their order
@@ -263,7 +264,7 @@ abbrev own_of : Stepped Word → List Claim
 own_of (Dropped why) = []
 own_of (Taken t) = t.own
 
-vote_behind : sends_of last ≡ (All, 0 ∷ 0 ∷ 0 ∷ 0 ∷ 0 ∷ []) ∷ (All, 2 ∷ 0 ∷ 0 ∷ 0 ∷ 3 ∷ 1 ∷ 1 ∷ 1 ∷ 0 ∷ 0 ∷ []) ∷ []
+vote_behind : sends_of last ≡ (To_all, 0 ∷ 0 ∷ 0 ∷ 0 ∷ 0 ∷ []) ∷ (To_all, 2 ∷ 0 ∷ 0 ∷ 0 ∷ 3 ∷ 1 ∷ 1 ∷ 1 ∷ 0 ∷ 0 ∷ []) ∷ []
 vote_behind = refl
 
 vote_claimed : own_of last ≡ record { by = record { 0 = 0 }; statement = 0 ∷ 0 ∷ 1 ∷ 1 ∷ 1 ∷ []; sig = 0 ∷ 0 ∷ [] } ∷ []
@@ -303,11 +304,11 @@ digesting = record (light (rules_of tiny) 3) { end = (rules_of tiny).end; hashes
 
 abbrev digested : Progress Word
 digested = run tiny short digesting telling (begin_run tiny)
-    (Hold 2 ∷ Propose 0 ∷ Calm 3 ∷ Drop 2 ∷ Free 2 ∷ Ask 2 (record { 0 = 0 }) ∷ Calm 3 ∷ [])
+    (Hold 2 ∷ Propose 0 ∷ Calm 3 ∷ Event_drop 2 ∷ Free 2 ∷ Ask 2 (record { 0 = 0 }) ∷ Calm 3 ∷ [])
 
 abbrev outcome : Progress Word → ℕ × ℕ × ℕ
 outcome p = (length p.held.hashed, (p.held.net.cores 2).past.epoch, length p.drops)
 
 collision_free : outcome digested ≡ (9, 1, 0)
-unfolding spell_value spell_batch spell_count spell_request sha256 digest_bytes hash_after compress rounds schedule first_words
+unfolding spell_value spell_batch spell_count spell_request sha256 digest_bytes hash_after compress rounds schedule first_words digests_of_height
 collision_free = refl

@@ -13,10 +13,10 @@ use Rattle.iss_request.specs.declared.requests.Value.{Value}
 use Rattle.iss_request.specs.declared.requests.Value.TheVariants.{Batch as Value_batch}
 use Rattle.iss_request.specs.declared.setups.Setup.{Setup}
 use Rattle.iss_sb.specs.Evidence.{IsReached, IsString, Module, Separate, accepts, is_correct}
-use Rattle.iss_sb.specs.Laws.{IsSafe}
+use Rattle.iss_sb.specs.Laws.{AcceptsOnce, IsSafe}
 use Rattle.iss_composition.specs.Cluster.{Backed, Cluster, IsTrueLog, Scheme, world_of}
 use Rattle.iss_rules.specs.Concrete.{number_of, plan_at, rules_of, slots_at, start_at}
-use Rattle.iss_theorems.specs.Conserved.{AcceptsOnce, One, first, second, third}
+use Rattle.iss_theorems.specs.Conserved.{One, first, second, third}
 use Rattle.iss_rules.specs.Judge.{marks}
 use Rattle.iss_rules.proofs.Judged.{Judged, Accepted, accepted, entry-judged, one-slot, owner-of, unordered-of}
 use Rattle.iss_model.specs.Node.{flown}

@@ -9,19 +9,19 @@ use Rattle.iss_request.specs.declared.ids.ReqId.{ReqId}
 use Rattle.iss_request.specs.declared.requests.Request.{Request}
 use Rattle.iss_request.specs.declared.setups.Setup.{Setup}
 use Rattle.iss_schedule.specs.declared.schedules.Event.{Event}
-use Rattle.iss_schedule.specs.declared.schedules.Event.TheVariants.{Request as Event_request, Propose, Timeout as Event_timeout, Ask, Deliver, Lose, Pump, Calm, Hold, Free, Drop, Restart, Crash, Bytes}
+use Rattle.iss_schedule.specs.declared.schedules.Event.TheVariants.{Request as Event_request, Propose, Timeout as Event_timeout, Ask, Deliver, Lose, Pump, Calm, Hold, Free, Drop as Event_drop, Restart, Crash, Bytes}
 use Rattle.iss_sb.specs.declared.effects.Claim.{Claim}
 use Rattle.iss_sb.specs.Evidence.{Module}
-use Rattle.iss_sb.specs.Laws.{IsLawful, IsSafe}
+use Rattle.iss_sb.specs.Laws.{AcceptsOnce, IsLawful, IsSafe}
 use Rattle.iss_rules.specs.declared.events.NodeEvent.{NodeEvent}
 use Rattle.iss_rules.specs.declared.events.NodeEvent.TheVariants.{Packet as On_packet, Propose as On_propose, Timeout as On_timeout, AskFrom as On_ask}
 use Rattle.iss_composition.specs.Checkpoints.{scheme_of}
 use Rattle.iss_rules.specs.Concrete.{rules_of, request_of}
-use Rattle.iss_theorems.specs.Conserved.{AcceptsOnce, IsConserved, One, WasAsked, asked_in, unless_ended}
+use Rattle.iss_theorems.specs.Conserved.{IsConserved, One, WasAsked, asked_in, unless_ended}
 use Rattle.iss_rules.specs.Formats.{formats_of}
 use Rattle.iss_rules.specs.Parcels.{Formats, OfRequest, Parcel}
 use Rattle.iss_model.specs.Node.{Core, Dropped, Stepped, Taken, Turn, flown, step, takes_bytes}
-use Rattle.iss_theorems.specs.OneLog.{IsClusterRun, run_after}
+use Rattle.iss_theorems.specs.OneLog.{AreOfCluster, free_after, run_after}
 use Rattle.iss_rules.specs.Past.{Past, log_of}
 use Rattle.iss_rules.specs.Rules.{Rules}
 use Rattle.iss_rules.specs.Ends.{End}
@@ -160,7 +160,7 @@ module _ {Msg : Type 0} (s : Setup) (F : Formats Msg) (R : Rules) (M : Module Ms
   happens-kept h f (Calm m) = calm-kept m h f
   happens-kept h f (Hold c) = stays h f
   happens-kept h f (Free c) = stays h f
-  happens-kept h f (Drop c) = stays h f
+  happens-kept h f (Event_drop c) = stays h f
   happens-kept h f (Restart c) = stays h f
   happens-kept h f (Crash c calls) = stays h f
   happens-kept h f (Bytes c bytes) = inject-kept h f c bytes M.stopping
@@ -215,7 +215,7 @@ module _ {Msg : Type 0} (s : Setup) (F : Formats Msg) (R : Rules) (M : Module Ms
   asked-now h (Calm n) i x m = absurd (none x (apply_event s F R M h (Calm n)).ended m)
   asked-now h (Hold c) i x m = absurd m
   asked-now h (Free c) i x m = absurd m
-  asked-now h (Drop c) i x m = absurd m
+  asked-now h (Event_drop c) i x m = absurd m
   asked-now h (Restart c) i x m = absurd m
   asked-now h (Crash c calls) i x m = absurd m
   asked-now h (Bytes c bytes) i x m = absurd (none x (apply_event s F R M h (Bytes c bytes)).ended m)
@@ -238,7 +238,7 @@ module _ {Msg : Type 0} (s : Setup) (F : Formats Msg) (R : Rules) (M : Module Ms
 
 -- in every run
 pub conserved : {Msg : Type 0} (s : Setup) (M : Module Msg) → IsSetupOf M s → IsFaithful s (formats_of s M) M → IsLawful M → IsSafe M → AcceptsOnce M →
-    (events : List Event) → IsClusterRun s M events → IsConserved s M events
+    (events : List Event) → AreOfCluster s M (free_after s M events) → IsConserved s M events
 conserved {Msg} s M h faithful law safe once events c i ok x asked =
     let F = formats_of s M in
     let R = rules_of s in

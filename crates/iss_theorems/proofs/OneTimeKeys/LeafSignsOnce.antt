@@ -10,12 +10,14 @@ use Rattle.iss_checkpoint.specs.declared.votes.Cert.{Cert}
 use Rattle.iss_sb.specs.declared.signers.Signed.{Signed as Signature}
 use Rattle.iss_checkpoint.specs.declared.votes.Vote.{Vote}
 use Rattle.iss_keys.specs.Directories.{node_secret}
+use Rattle.iss_layout.proofs.FairLemmas.{in_filter, of_filter}
 use Rattle.iss_keys.specs.Signatures.{signature_of}
+use Rattle.iss_keys.proofs.LevelLemmas.{each_signs_once}
 use Rattle.iss_request.specs.declared.requests.Value.{Value}
 use Rattle.iss_request.specs.declared.setups.Setup.{Setup}
 use Rattle.iss_sb.specs.declared.effects.Claim.{Claim}
 use Rattle.iss_sb.specs.declared.effects.Input.{Input}
-use Rattle.iss_sb.specs.declared.effects.Input.TheVariants.{Receive}
+use Rattle.iss_sb.specs.declared.effects.Input.TheVariants.{Cast, Receive, Timeout}
 use Rattle.iss_sb.specs.declared.effects.Params.{Params}
 use Rattle.iss_sb.specs.Evidence.{Item, Module}
 use Rattle.iss_sb.specs.Laws.{ComesWith, GoesWith, IsSignedBy, SignsEach, SignsOnce, WasSeen}
@@ -29,13 +31,14 @@ use Rattle.iss_rules.specs.Past.{Past, adopts, advanced, before_own, is_complete
 use Rattle.iss_rules.specs.Rules.{Rules}
 use Rattle.iss_rules.specs.Setups.{IsSetupOf}
 use Rattle.iss_rules.specs.SoundRules.{IsSoundRules}
-use Rattle.iss_rules.specs.Votes.{cert_on, claim_of_vote, claims_of_cert, keeping, stable, vote_by}
+use Rattle.iss_composition.specs.Cluster.{IsVerified}
+use Rattle.iss_rules.specs.Votes.{all_verify, is_true_cert, cert_on, claim_of_vote, claims_of_cert, keeping, stable, vote_by}
 use Rattle.iss_rules.proofs.Ending.{HasSlots}
 use Rattle.iss_rules.proofs.Layouts.{sound-rules}
 use Rattle.iss_rules.proofs.Logs.{before-later, takes-later}
 use Rattle.iss_rules.proofs.Windows.{AreWindows, are-windows}
 use Rattle.iss_model.specs.Frames.{Frame, frame_of}
-use Rattle.iss_model.specs.Node.{Core, Early, Turn, adopts_piece, advance_epochs, claims_in, counted, in_next_epoch, own_claims, step_unjudged, takes_each, then_turn, unchanged, vote_on}
+use Rattle.iss_model.specs.Node.{Core, Early, Turn, adopts_piece, advance_epochs, claims_in, claims_of_input, counted, in_next_epoch, own_claims, step_unjudged, takes_each, then_turn, unchanged, vote_on}
 use Rattle.iss_model.specs.Run.{claims_at}
 use Rattle.iss_model.specs.Sound.{IsSoundCore}
 use Rattle.iss_model.specs.Views.{claims_of_body, claims_of_parcel}
@@ -43,9 +46,17 @@ use Rattle.iss_model.proofs.Casts.{adopts-sound, casting-sound, early-sound, end
 use Rattle.iss_model.proofs.Rows.{each-holds, early_input, settles-holds, then_ends, then_reads, then_takes}
 use Rattle.iss_model.proofs.Steps.{IsAdopted, Took, adopted, asked, cast, casting, fired, handed, kept, received, sought, took, voted}
 use Rattle.iss_transfer.specs.declared.pieces.Piece.{Piece as Sent_piece}
-use Rattle.iss_theorems.specs.Leaves.{AreOfRow, Deed, IsLife, IsOfRow, SignsOnceEach, core_behind, told}
-use Rattle.iss_theorems.proofs.Checkpoints.KeptVotesAreValid.{IsVoteOf, cert-there, in-below, in-claims, vote-there}
-use Rattle.iss_theorems.proofs.Refinement.DeliveryChecks.{only-by, own-claim}
+use Rattle.iss_theorems.specs.Leaves.{AreOfRow, Deed, IsLife, IsOfRow, SignsOnceEach, core_behind, told, verified}
+use Rattle.iss_theorems.proofs.Checkpoints.KeptVotesAreValid.{IsVoteOf, cert-there, in-below, in-claims, true-each, vote-there}
+use Rattle.iss_theorems.proofs.Refinement.DeliveryChecks.{each-verifies, only-by, own-claim}
+
+-- ---- claims with valid signatures
+
+pub in_verified : (R : Rules) (claims : List Claim) (y : Claim) → In y claims → IsVerified R y → In y (verified R claims)
+in_verified R claims y i v = in_filter (λ (c : Claim). R.verifies c.by.0 c.statement c.sig) claims y i v
+
+pub of_verified : (R : Rules) (claims : List Claim) (y : Claim) → In y (verified R claims) → In y claims × IsVerified R y
+of_verified R claims y i = of_filter (λ (c : Claim). R.verifies c.by.0 c.statement c.sig) claims y i
 
 -- ---- places in a list
 
@@ -211,22 +222,35 @@ module _ {Msg : Type 0} (s : Setup) (F : Formats Msg) (R : Rules) (M : Module Ms
     rests-fair : (c : Core Msg) → Accounts first heard c → Accounted first heard (unchanged c)
     rests-fair c k = record { row = first; kept = λ y h. h; account = k; own = λ y i. absurd i }
 
-    abbrev Comes : Turn Msg → ℕ → Input Msg → Type 0
-    Comes t l input = leads_in R M me t.core.past l ≡ true → (y : Claim) → ComesWith M (params_of R M me t.core.past l) y input → In y heard
+    -- all that is read with a valid signature is heard
+    abbrev Hears : List Claim → Type 0
+    Hears claims = (y : Claim) → In y claims → IsVerified R y → In y heard
 
-    takes-fair : (t : Turn Msg) (l : ℕ) (input : Input Msg) → Accounted first heard t → leads_in R M me t.core.past l ≡ true → Comes t l input →
+    abbrev Comes : Turn Msg → ℕ → Input Msg → Type 0
+    Comes t l input = leads_in R M me t.core.past l ≡ true → Hears (claims_of_input M (params_of R M me t.core.past l) input)
+
+    -- so are the claims of an input that was taken
+    input-heard : (p : Params) (input : Input Msg) → Hears (claims_of_input M p input) → all_verify R (claims_of_input M p input) ≡ true →
+        (y : Claim) → ComesWith M p y input → In y heard
+    input-heard p (Cast slot batch) sub valid y h = absurd h
+    input-heard p (Receive from msg) sub valid y h = sub y h (each-verifies R (M.claims p from.0 msg) valid y h)
+    input-heard p Timeout sub valid y h = absurd h
+
+    takes-fair : (t : Turn Msg) (l : ℕ) (input : Input Msg) → Accounted first heard t → leads_in R M me t.core.past l ≡ true →
+        all_verify R (claims_of_input M (params_of R M me t.core.past l) input) ≡ true → Comes t l input →
         Accounted first heard (then_takes F R M me t l input)
-    takes-fair t l input k leads come =
+    takes-fair t l input k leads valid come =
         let p = params_of R M me t.core.past l in
         let sends = (made_in R M me t.core.past l input t.core.leaf).sends in
-        let signed = signed k.row heard t.core k.account l input leads (come leads) in
+        let comes = input-heard p input (come leads) valid in
+        let signed = signed k.row heard t.core k.account l input leads comes in
         record {
           row = k.row ++ signed.statements;
           kept = λ y h. row-more R me k.row signed.statements y (k.kept y h);
-          account = inputs-account k.row heard t.core k.account l input leads (come leads);
+          account = inputs-account k.row heard t.core k.account l input leads comes;
           own = λ y i. elim (in_append y t.own (own_claims M p me sends) i) [
             | inl a ↦ known-more R me k.row signed.statements heard y (k.own y a)
-            | inr b ↦ inputs-own k.row heard t.core k.account l input leads (come leads) y b
+            | inr b ↦ inputs-own k.row heard t.core k.account l input leads comes y b
           ];
         }
 
@@ -261,21 +285,21 @@ module _ {Msg : Type 0} (s : Setup) (F : Formats Msg) (R : Rules) (M : Module Ms
     reads-fair t claims k = record { row = k.row; kept = k.kept; account = k.account; own = k.own }
 
     -- an early message, read as it was taken
-    early-comes : (t : Turn Msg) (x : Early Msg) → ((y : Claim) → In y (claims_in R M me t.core.past x.from x.leader x.msg) → In y heard) →
+    early-comes : (t : Turn Msg) (x : Early Msg) → Hears (claims_in R M me t.core.past x.from x.leader x.msg) →
         Comes t x.leader (early_input F R M me x)
     early-comes t x sub leads y h =
         sub y (subst (λ (b : Bool). In y (cond b (M.claims (params_of R M me t.core.past x.leader) x.from x.msg) [])) (sym leads) h)
 
-    settles-fair : (t : Turn Msg) → Accounted first heard t → ((y : Claim) → In y (advance_epochs F R M me t).early → In y heard) →
+    settles-fair : (t : Turn Msg) → Accounted first heard t → Hears (advance_epochs F R M me t).early →
         Accounted first heard (advance_epochs F R M me t)
     settles-fair t k sub = settles-holds F R M me (Accounted first heard) Comes
-        (λ u l input h fit come. takes-fair u l input h fit.leads come) ends-fair reads-fair t k
+        (λ u l input h fit come. takes-fair u l input h fit.leads fit.claims come) ends-fair reads-fair t k
         (λ done u x i h q r. early-comes u x (λ y m. sub y (r y m)))
 
-    each-fair : (e : ℕ) (xs : List (Early Msg)) (t : Turn Msg) → Accounted first heard t → ((y : Claim) → In y (takes_each F R M me e xs t.core).early → In y heard) →
+    each-fair : (e : ℕ) (xs : List (Early Msg)) (t : Turn Msg) → Accounted first heard t → Hears (takes_each F R M me e xs t.core).early →
         Accounted first heard (then_turn t (takes_each F R M me e xs))
     each-fair e xs t k sub = each-holds F R M me (Accounted first heard) Comes
-        (λ u l input h fit come. takes-fair u l input h fit.leads come) ends-fair reads-fair e xs t k
+        (λ u l input h fit come. takes-fair u l input h fit.leads fit.claims come) ends-fair reads-fair e xs t k
         (λ u x i h q r. early-comes u x (λ y m. sub y (r y m)))
 
   -- ---- votes and certificates
@@ -373,12 +397,21 @@ module _ {Msg : Type 0} (s : Setup) (F : Formats Msg) (R : Rules) (M : Module Ms
     is-turn : (t u : Turn Msg) → t ≡ u → Accounted first heard u → Accounted first heard t
     is-turn t u e h = subst (λ (z : Turn Msg). Accounted first heard z) (sym e) h
 
-    took-fair : (event : NodeEvent) (t : Turn Msg) → Took F R M me c event t → ((y : Claim) → In y (claims_at F R M me c event) → In y heard) →
-        ((y : Claim) → In y t.early → In y heard) → Accounted first heard t
+    -- the claims of a valid certificate have valid signatures
+    cert-verifies : (x : Cert) → is_true_cert R x ≡ true → (y : Claim) → In y (claims_of_cert R x) → IsVerified R y
+    cert-verifies x valid y m =
+        let statement : List ℕ = R.voted x.epoch.0 x.chain x.requests in
+        let r = in-claims statement x.signers y m in
+        let a = and-true (eqb (length x.signers) R.quorum) _ valid in
+        subst (λ (z : Claim). IsVerified R z) (sym r.2) (true-each R statement 0 x.signers a.1 r.0 r.1).1
+
+    took-fair : (event : NodeEvent) (t : Turn Msg) → Took F R M me c event t → Hears first heard (claims_at F R M me c event) →
+        Hears first heard t.early → Accounted first heard t
     took-fair event t (received {bytes} q l msg u un b e i is) now early =
         let input : Input Msg = Receive (record { 0 = q.from }) msg in
         let first_move : Accounted first heard (step_unjudged F R M me c l input) =
-        takes-fair first heard (unchanged c) l input (rests-fair first heard c k) i.leads (λ leads y h. now y (message-read bytes q l msg un b e leads y h)) in
+        takes-fair first heard (unchanged c) l input (rests-fair first heard c k) i.leads i.claims
+        (λ leads y h v. now y (message-read bytes q l msg un b e leads y h) v) in
         is-turn t (advance_epochs F R M me u) is
         (settles-fair first heard u (is-turn u (step_unjudged F R M me c l input) i.is first_move)
         (λ y m. early y (subst (λ (z : Turn Msg). In y z.early) (sym is) m)))
@@ -390,13 +423,13 @@ module _ {Msg : Type 0} (s : Setup) (F : Formats Msg) (R : Rules) (M : Module Ms
         is-turn t (unchanged d) i.is (rests-fair first heard d (same-core d core refl refl refl refl))
     took-fair event t (cast slot u i is) now early =
         let d : Core Msg = casting F R M me c slot in
-        let first_move = takes-fair first heard (unchanged d) me _ (rests-fair first heard d (same-core d (casting-sound F R M me c slot k.core) refl refl refl refl)) i.leads
-        (λ leads y h. absurd h) in
+        let first_move = takes-fair first heard (unchanged d) me _ (rests-fair first heard d (same-core d (casting-sound F R M me c slot k.core) refl refl refl refl)) i.leads refl
+        (λ leads y h v. absurd h) in
         is-turn t (advance_epochs F R M me u) is
         (settles-fair first heard u (is-turn u _ i.is first_move) (λ y m. early y (subst (λ (z : Turn Msg). In y z.early) (sym is) m)))
     took-fair event t (voted {bytes} q v u b i) now early =
         let a = and-true (R.verifies v.by.0 (R.voted v.epoch.0 v.chain v.requests) v.sig) true i.signed in
-        let new : IsHeardVote heard v = record { verified = a.0; told = now (claim_of_vote R v) (read-of bytes q (OfVote v) u b (claim_of_vote R v) (inl refl)) } in
+        let new : IsHeardVote heard v = record { verified = a.0; told = now (claim_of_vote R v) (read-of bytes q (OfVote v) u b (claim_of_vote R v) (inl refl)) a.0 } in
         is-turn t (unchanged (counted R c v)) i.is (rests-fair first heard (counted R c v) (counted-account first heard c v k new))
     took-fair event t (handed q cert u b i) now early =
         is-turn t _ i.is (record {
@@ -410,7 +443,7 @@ module _ {Msg : Type 0} (s : Setup) (F : Formats Msg) (R : Rules) (M : Module Ms
         record {
           row = first;
           kept = λ y h. h;
-          account = adopts-account first heard c p t k a (λ y m. now y (read-of bytes q (OfPiece p) u b y m));
+          account = adopts-account first heard c p t k a (λ y m. now y (read-of bytes q (OfPiece p) u b y m) (cert-verifies p.cert a.certified y m));
           own = λ y m. absurd m;
         } in
         is-turn t _ a.is (each-fair first heard (suc c.past.epoch) c.early (adopts_piece R M me c p) start
@@ -418,7 +451,7 @@ module _ {Msg : Type 0} (s : Setup) (F : Formats Msg) (R : Rules) (M : Module Ms
     took-fair event t (sought peer is) now early =
         is-turn t _ is (record { row = first; kept = λ y h. h; account = k; own = λ y m. absurd m })
     took-fair event t (fired l u i is) now early =
-        let first_move = takes-fair first heard (unchanged c) l.0 _ (rests-fair first heard c k) i.leads (λ leads y h. absurd h) in
+        let first_move = takes-fair first heard (unchanged c) l.0 _ (rests-fair first heard c k) i.leads i.claims (λ leads y h v. absurd h) in
         is-turn t (advance_epochs F R M me u) is
         (settles-fair first heard u (is-turn u _ i.is first_move) (λ y m. early y (subst (λ (z : Turn Msg). In y z.early) (sym is) m)))
 
@@ -451,18 +484,22 @@ module _ {Msg : Type 0} (s : Setup) (F : Formats Msg) (R : Rules) (M : Module Ms
       let old = lived xs life.1 in
       let c = core_behind xs in
       let read = claims_at F R M me c x.event in
+      let now = verified R (read ++ x.turn.early) in
       let heard = told W me (x ∷ xs) in
-      let k : Accounts old.row heard c =
-      accounts-heard old.row (told W me xs) heard c
-      (λ y i. in_right y read (x.turn.early ++ told W me xs) (in_right y x.turn.early (told W me xs) i)) old.account in
+      let k : Accounts old.row heard c = accounts-heard old.row (told W me xs) heard c (λ y i. in_right y now (told W me xs) i) old.account in
       let done : Accounted old.row heard x.turn =
       took-fair old.row heard c k x.event x.turn (took F R M me c x.event x.turn life.0)
-      (λ y i. in_left y read (x.turn.early ++ told W me xs) i)
-      (λ y i. in_right y read (x.turn.early ++ told W me xs) (in_left y x.turn.early (told W me xs) i)) in
+      (λ y i v. in_left y now (told W me xs) (in_verified R (read ++ x.turn.early) y (in_left y read x.turn.early i) v))
+      (λ y i v. in_left y now (told W me xs) (in_verified R (read ++ x.turn.early) y (in_right y read x.turn.early i) v)) in
       record { row = done.row; account = done.account; own = (done.own, rows-kept old.row done.row done.kept xs old.own) }
 
   pub signs-each : (deeds : List (Deed Msg)) → IsLife W me deeds → SignsOnceEach W me deeds
-  signs-each deeds life = let h = lived deeds life in record { row = h.row; each = h.account.each; own = h.own }
+  signs-each deeds life = let h = lived deeds life in record {
+    row = h.row;
+    each = h.account.each;
+    trees = each_signs_once (node_secret me) W.setup.keys h.row;
+    own = h.own;
+  }
 
 -- so in a cluster of a good set-up
 pub signs-once-each : {Msg : Type 0} (s : Setup) (M : Module Msg) → IsSetupOf M s → SignsOnce M → (me : ℕ) (deeds : List (Deed Msg)) →

@@ -10,7 +10,7 @@ use Rattle.iss_request.specs.Formats.{parse_value, spell_value}
 use Rattle.iss_request.specs.declared.ids.Slot.{Slot}
 use Rattle.iss_request.specs.declared.requests.Batch.{Batch}
 use Rattle.iss_request.specs.declared.requests.Value.{Value}
-use Rattle.iss_request.specs.declared.requests.Value.TheVariants.{Batch as Value_batch, Nil}
+use Rattle.iss_request.specs.declared.requests.Value.TheVariants.{Batch as Value_batch, Nil as Value_nil}
 use Rattle.iss_request.specs.declared.setups.Setup.{Setup}
 use Rattle.iss_request.proofs.OneSpelling.{value_grammar, value_related}
 use Rattle.iss_sb.specs.Evidence.{Module, Separate, accepts, delivered, is_correct}
@@ -37,8 +37,8 @@ read-spelled s v h =
     let flat = append-nil (spell_value s.version v) in
     ap (λ (r : Parsed Value). is_good r) (ap (λ (t : List ℕ). parse_value s.version t) (sym flat) ∙ h [])
 
-nil-read : (s : Setup) → IsReadValue s Nil
-nil-read s = read-again (spell_value s.version) (parse_value s.version) (value_grammar s.version) (0 ∷ []) [] Nil ((value_related s.version Nil (0 ∷ [])).1 refl)
+nil-read : (s : Setup) → IsReadValue s Value_nil
+nil-read s = read-again (spell_value s.version) (parse_value s.version) (value_grammar s.version) (0 ∷ []) [] Value_nil ((value_related s.version Value_nil (0 ∷ [])).1 refl)
 
 -- the same chains, without regard to encodings
 abbrev pub loose : Scheme → Scheme
@@ -108,7 +108,7 @@ module _ {Msg : Type 0} (s : Setup) (S : Scheme) (R : Rules) (M : Module Msg) (s
 
   -- so has what one delivered
   backed-read : (older : List Value) (v : Value) → Backed s R M w.pasts older v → IsReadValue s v
-  backed-read older Nil b = nil-read s
+  backed-read older Value_nil b = nil-read s
   backed-read older (Value_batch x) b =
       let slot : Slot = record { 0 = length older } in
       let ok = right s S R M safe sound w sep g older b.node b.correct in

@@ -8,7 +8,7 @@ use Rattle.iss_request.specs.declared.requests.Request.{Request}
 use Rattle.iss_request.specs.declared.requests.Value.{Value}
 use Rattle.iss_request.specs.declared.setups.Setup.{Setup}
 use Rattle.iss_schedule.specs.declared.schedules.Event.{Event}
-use Rattle.iss_schedule.specs.declared.schedules.Event.TheVariants.{Request as Event_request, Propose, Timeout as Event_timeout, Ask, Deliver, Lose, Pump, Calm, Hold, Free, Drop, Restart, Crash, Bytes}
+use Rattle.iss_schedule.specs.declared.schedules.Event.TheVariants.{Request as Event_request, Propose, Timeout as Event_timeout, Ask, Deliver, Lose, Pump, Calm, Hold, Free, Drop as Event_drop, Restart, Crash, Bytes}
 use Rattle.iss_sb.specs.Evidence.{Module}
 use Rattle.iss_rules.specs.declared.events.NodeEvent.{NodeEvent}
 use Rattle.iss_rules.specs.declared.events.NodeEvent.TheVariants.{Packet as On_packet, Propose as On_propose, Timeout as On_timeout, AskFrom as On_ask}
@@ -158,7 +158,7 @@ module _ {Msg : Type 0} (s : Setup) (F : Formats Msg) (R : Rules) (M : Module Ms
   leads-happens h ok (Calm m) low = leads-calms m h ok
   leads-happens h ok (Hold i) low = leads-network h _ refl ok
   leads-happens h ok (Free i) low = leads-network h _ refl ok
-  leads-happens h ok (Drop i) low = leads-network h _ refl ok
+  leads-happens h ok (Event_drop i) low = leads-network h _ refl ok
   leads-happens h ok (Restart i) low = leads-same h ok
   leads-happens h ok (Crash i calls) low = leads-same h ok
   leads-happens h ok (Bytes i bytes) low = leads-injects h ok i bytes M.stopping refl
@@ -202,10 +202,3 @@ module _ {Msg : Type 0} (s : Setup) (F : Formats Msg) (R : Rules) (M : Module Ms
       let p : Progress Msg = run s F R M (begin_run s) events in
       subst (λ (q : Progress Msg). Grows s R M p.held.net q.held.net) (sym (run-append s F R M events more (begin_run s)))
       (leads-run more p (run-fits events low) low_more).grows
-
-  -- the logs of correct nodes are prefixes of one log
-  pub run-ordered : (events : List Event) → AreAtCores s events → Ordered s R M (pasts_of (run s F R M (begin_run s) events).held.net)
-  run-ordered events low =
-      let h : Held Msg = (run s F R M (begin_run s) events).held in
-      let ok = run-fits events low in
-      composition s (scheme_of s) R M o.safe o.law o.sound (seen h ok.messages) (exact-of s o.good (seen h ok.messages)) ok.separate ok.reach

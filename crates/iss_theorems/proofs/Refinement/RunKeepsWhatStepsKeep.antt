@@ -5,7 +5,7 @@ use Rattle.iss_network.specs.Network.{Network, due, settled}
 use Rattle.iss_network.specs.declared.packets.Sent.{Sent}
 use Rattle.iss_request.specs.declared.setups.Setup.{Setup}
 use Rattle.iss_schedule.specs.declared.schedules.Event.{Event}
-use Rattle.iss_schedule.specs.declared.schedules.Event.TheVariants.{Request as Event_request, Propose, Timeout as Event_timeout, Ask, Deliver, Lose, Pump, Calm, Hold, Free, Drop, Restart, Crash, Bytes}
+use Rattle.iss_schedule.specs.declared.schedules.Event.TheVariants.{Request as Event_request, Propose, Timeout as Event_timeout, Ask, Deliver, Lose, Pump, Calm, Hold, Free, Drop as Event_drop, Restart, Crash, Bytes}
 use Rattle.iss_sb.specs.declared.effects.Claim.{Claim}
 use Rattle.iss_sb.specs.Evidence.{Module}
 use Rattle.iss_rules.specs.Ends.{End}
@@ -79,7 +79,7 @@ module _ {Msg : Type 0} (s : Setup) (F : Formats Msg) (R : Rules) (M : Module Ms
   happens-holds h m (Calm n) = calms-holds n h m
   happens-holds h m (Hold c) = network h _ m
   happens-holds h m (Free c) = network h _ m
-  happens-holds h m (Drop c) = network h _ m
+  happens-holds h m (Event_drop c) = network h _ m
   happens-holds h m (Restart c) = m
   happens-holds h m (Crash c calls) = m
   happens-holds h m (Bytes c bytes) = injects-holds h m c bytes M.stopping

@@ -50,14 +50,13 @@ q = record { setup = setup; epoch = record { 0 = 2 }; leader = node 3; slots = s
 good : IsGoodParams hotstuff q
 good = record {
   setup = good-setup;
-  tag = refl;
   kind = refl;
   nodes = refl;
   majority = refl;
   leader = omega arith;
   some = omega arith;
   few = omega arith;
-  rising = (omega arith, (omega arith, tt));
+  ascending = (omega arith, (omega arith, tt));
   slots_low = (omega arith, (omega arith, tt));
   directory = refl;
 }

@@ -1,5 +1,5 @@
 -- The list of casts is append-only, and a cast that is taken is the next one.
-use Rattle.std.proofs.Common.{◌≡◌, ℕ, zero, suc, true, List, [], ◌∷◌, ◌++◌, length, Option, Some, None, refl, ap, ◌∙◌, subst, inl, inr}
+use Rattle.std.proofs.Common.{◌≡◌, ℕ, true, List, [], ◌∷◌, length, Option, Some, None, refl, ap, ◌∙◌, subst, inl, inr}
 use Rattle.iss_base.specs.Lists.{nth}
 use Rattle.iss_request.specs.declared.ids.Slot.{Slot}
 use Rattle.iss_request.specs.declared.requests.Batch.{Batch}
@@ -11,20 +11,12 @@ use Rattle.iss_sb.specs.Legal.{Front}
 use Rattle.hs_tree.specs.declared.messages.Message.{Message}
 use Rattle.hs_tree.specs.declared.messages.Message.TheVariants.{NewView, Prepare, PreCommit, Commit, Decide, Vote}
 use Rattle.sb_hotstuff.specs.HotStuff.{state}
-use Rattle.sb_hotstuff.specs.Rules.{State, Turn, heard, keeps_news, keeps_vote, kept, may_cast, may_end, may_prepare, may_second, may_third, proposed, with_cast, with_news, with_node, with_round, with_turn, with_vote}
-use Rattle.sb_hotstuff.proofs.Basics.{by-if}
+use Rattle.sb_hotstuff.specs.Rules.{State, heard, keeps_news, keeps_vote, kept, may_cast, may_end, may_prepare, may_second, may_third, proposed, with_cast, with_news, with_node, with_round, with_turn, with_vote}
+use Rattle.hs_views.specs.Views.{Turn}
+use Rattle.hs_views.proofs.Tests.{by-if, nth-first, nth-end}
 
 abbrev pub Same : State → State → Type 0
 Same s t = (t.turns ≡ s.turns) × (t.casts ≡ s.casts)
-
-nth-first : (cs : List Batch) (c b : Batch) (k : ℕ) → nth cs k ≡ Some b → nth (cs ++ c ∷ []) k ≡ Some b
-nth-first [] c b k h = absurd cc
-nth-first (a ∷ cs) c b zero h = h
-nth-first (a ∷ cs) c b (suc k) h = nth-first cs c b k h
-
-nth-end : (cs : List Batch) (c : Batch) → nth (cs ++ c ∷ []) (length cs) ≡ Some c
-nth-end [] c = refl
-nth-end (a ∷ cs) c = nth-end cs c
 
 turn-casts : (s : State) (o : Option Turn) → (with_turn s o).casts ≡ s.casts
 turn-casts s None = refl

@@ -1,9 +1,8 @@
 -- A correct leader accepts at most one batch at a slot: its cast at the slot's place. This also holds if it takes a
 -- proposal, which is its own.
-use Rattle.std.proofs.Common.{◌≡◌, ◌≤◌, ℕ, zero, suc, true, List, [], ◌∷◌, length, Option, Some, None, refl, sym, ap, ◌∙◌, subst, inl, inr, arith}
+use Rattle.std.proofs.Common.{◌≡◌, ℕ, true, List, [], ◌∷◌, length, Some, refl, sym, ap, ◌∙◌, subst, inl, inr}
 use Rattle.iss_base.specs.Lists.{In, nth}
-use Rattle.iss_base.proofs.Lists.{and-true, nth-in, some-injective}
-use Rattle.iss_request.specs.Slots.{AreAscending}
+use Rattle.iss_base.proofs.Lists.{and-true, some-injective}
 use Rattle.iss_request.specs.declared.ids.NodeId.{NodeId}
 use Rattle.iss_request.specs.declared.ids.Slot.{Slot}
 use Rattle.iss_request.specs.declared.requests.Batch.{Batch}
@@ -24,41 +23,16 @@ use Rattle.hs_tree.specs.Certificates.{digest_of}
 use Rattle.hs_tree.specs.Tree.{branch, root}
 use Rattle.hs_tree.proofs.Nodes.{branch-is}
 use Rattle.sb_hotstuff.specs.Facts.{AreOnce, Leads}
-use Rattle.sb_hotstuff.specs.HotStuff.{asks, hotstuff, offered, state, unless_accepted, was_accepted}
+use Rattle.sb_hotstuff.specs.HotStuff.{asks, hotstuff, offered, state}
 use Rattle.sb_hotstuff.specs.Rules.{may_cast, may_prepare, slots_below}
-use Rattle.sb_hotstuff.proofs.Basics.{if-in, if-not, if-some}
 use Rattle.sb_hotstuff.proofs.LeaderProposals.CastsAreAppendOnly.{cast-new, front-more}
-use Rattle.iss_sb.proofs.Slots.{ascending-above, slot-some}
+use Rattle.iss_sb.proofs.Slots.{one-place, slot-some}
 use Rattle.sb_hotstuff.proofs.Safety.WorldsAreBroadcasts.{leader-signed, proposed-cast, voted-reached}
 use Rattle.sb_hotstuff.proofs.Safety.VotesHaveCauses.{AreVoted, is-taken, parts, state-tree, taken-has}
-
--- ---- Slots are strictly ascending, so a slot has one place
-
-above : (low : ℕ) (ss : List Slot) (n : ℕ) (s : Slot) → AreAscending low ss → nth ss n ≡ Some s → low ≤ s.0
-above low ss n s a e = ascending-above low s ss a (nth-in ss n s e)
-
-same-slot : (t s : Slot) → Some t ≡ Some s → t.0 ≡ s.0
-same-slot t s e = ap (λ (z : Slot). z.0) (some-injective t s e)
-
-one-place : (low : ℕ) (ss : List Slot) (m n : ℕ) (s : Slot) → AreAscending low ss → nth ss m ≡ Some s → nth ss n ≡ Some s → m ≡ n
-one-place low [] m n s a e f = absurd cc
-one-place low (t ∷ ss) zero zero s a e f = refl
-one-place low (t ∷ ss) zero (suc n) s a e f = absurd (omega (arith, same-slot t s e, above (suc t.0) ss n s a.1 f))
-one-place low (t ∷ ss) (suc m) zero s a e f = absurd (omega (arith, same-slot t s f, above (suc t.0) ss m s a.1 e))
-one-place low (t ∷ ss) (suc m) (suc n) s a e f = ap suc (one-place (suc t.0) ss m n s a.1 e f)
+use Rattle.hs_views.proofs.BatchesOnce.{IsOffered, unless-is}
+use Rattle.hs_views.proofs.Tests.{if-in, if-some}
 
 -- ---- The batch of a proposal
-
-record IsOffered (o : Option Slot) (c : Batch) (s : Slot) (b : Batch) : Type 0 where
-  slot : o ≡ Some s
-  batch : c ≡ b
-
-unless-is : (old : List (Slot × Batch)) (c : Batch) (o : Option Slot) (s : Slot) (b : Batch) → unless_accepted old c o ≡ Some (s, b) → IsOffered o c s b
-unless-is old c None s b h = absurd cc
-unless-is old c (Some t) s b h =
-    let e = some-injective {A = Slot × Batch} (t, c) (s, b) (if-not (was_accepted t.0 c old) (Some (t, c)) (s, b) h) in
-    let slots : t ≡ s = ap (λ (z : Slot × Batch). z.0) e in
-    record { slot = ap (λ (z : Slot). Some z) slots; batch = ap (λ (z : Slot × Batch). z.1) e }
 
 module _ (p : Params) (w : World Message) (good : IsGoodParams hotstuff p) (reached : IsReached hotstuff p w) (sep : Separate (IsString w)) (correct : is_correct p.setup p.leader.0 ≡ true)
     (legal : IsLegal hotstuff p w) (voted : AreVoted p w) where
@@ -125,7 +99,7 @@ module _ (p : Params) (w : World Message) (good : IsGoodParams hotstuff p) (reac
 
   once : (s : Slot) (b c : Batch) → IsCastAt s b → IsCastAt s c → b ≡ c
   once s b c h g =
-      let at = one-place 0 p.slots h.place g.place s good.rising h.slot g.slot in
+      let at = one-place 0 p.slots h.place g.place s good.ascending h.slot g.slot in
       some-injective b c (sym h.cast ∙ ap (λ (n : ℕ). nth (state p l (w l)).casts n) at ∙ g.cast)
 
 pub accepted-once : (p : Params) (w : World Message) → IsGoodParams hotstuff p → IsReached hotstuff p w → Separate (IsString w) → AreOnce p w

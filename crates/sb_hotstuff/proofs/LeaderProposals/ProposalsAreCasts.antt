@@ -31,12 +31,13 @@ use Rattle.hs_tree.specs.Tree.{basic, filled, is_known, root, weight}
 use Rattle.iss_sb.proofs.Contents.{content-table}
 use Rattle.sb_hotstuff.specs.Facts.{Leads}
 use Rattle.sb_hotstuff.specs.HotStuff.{answers, asks, drafts, hotstuff, makes, proposals, shows, sign_all, state, strings_at, taken_of, turn_strings, voted}
-use Rattle.sb_hotstuff.specs.Rules.{State, Turn, all_news, best, cast_turn, certificate, first_turn, heard, is_reached, is_ready, keeps_news, keeps_vote, kept, may_cast, may_end, may_prepare, may_second, may_third, next_turn, nil_or_mark, node_digest, proposed, round_of, slots_below, turn, turn_after, turn_on, with_cast, with_round, with_turn}
+use Rattle.sb_hotstuff.specs.Rules.{State, cast_turn, certificate, first_turn, heard, is_reached, is_ready, keeps_news, keeps_vote, kept, may_cast, may_end, may_prepare, may_second, may_third, next_turn, nil_or_mark, node_digest, proposed, slots_below, turn, turn_after, turn_on, with_cast, with_round, with_turn}
+use Rattle.hs_views.specs.Views.{Turn, all_news, best, round_of}
 use Rattle.iss_sb.proofs.Cases.{by-both}
-use Rattle.sb_hotstuff.proofs.Basics.{by-if, by-test, is-same}
 use Rattle.sb_hotstuff.proofs.LeaderProposals.CastsAreAppendOnly.{Same, after-kept, heard-same, state-more}
 use Rattle.sb_hotstuff.proofs.ModuleLaws.SentMessagesDecode.{MayTurn, digest-length, heard-is, kept-fits, proposed-new, state-fits}
 use Rattle.sb_hotstuff.proofs.Safety.VotesHaveCauses.{AreVoted, acc, hashed-has}
+use Rattle.hs_views.proofs.Tests.{by-if, by-test, is-same}
 
 -- ---- Unsigned messages
 

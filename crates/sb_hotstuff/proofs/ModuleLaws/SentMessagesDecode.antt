@@ -34,8 +34,9 @@ use Rattle.hs_tree.specs.Tree.{basic, is_known}
 use Rattle.iss_sb.proofs.Contents.{batch-table}
 use Rattle.hs_tree.proofs.MessageGrammar.{read-spelled, spelled-read}
 use Rattle.sb_hotstuff.specs.HotStuff.{answers, answers_heard, drafts, hotstuff, makes, proposals, shows, sign_all, state, voted}
-use Rattle.sb_hotstuff.specs.Rules.{Kept, News, State, Turn, after, all_news, best, cast_turn, certificate, first_turn, heard, is_own_turn, is_reached, is_ready, keeps_news, keeps_vote, kept, may_cast, may_end, may_prepare, may_second, may_third, news_of, next_turn, nil_or_mark, node_digest, proposed, round_of, slots_below, turn, turn_after, turn_of, turn_on, vote_of, votes_of, with_cast, with_news, with_node, with_round, with_turn, with_vote}
-use Rattle.sb_hotstuff.proofs.Basics.{by-if, by-test, is-same}
+use Rattle.sb_hotstuff.specs.Rules.{State, after, cast_turn, certificate, first_turn, heard, is_reached, is_ready, keeps_news, keeps_vote, kept, may_cast, may_end, may_prepare, may_second, may_third, next_turn, nil_or_mark, node_digest, proposed, slots_below, turn, turn_after, turn_on, with_cast, with_news, with_node, with_round, with_turn, with_vote}
+use Rattle.hs_views.specs.Views.{Kept, News, Turn, all_news, best, is_own_turn, news_of, round_of, turn_of, vote_of, votes_of}
+use Rattle.hs_views.proofs.Tests.{by-if, by-test, is-same}
 
 digest-long : (p : Params) (view : ℕ) (what : Content) (just : Certificate) → length (node_digest p view what just) ≡ 32
 digest-long p view what just = length-sha256 _
@@ -126,13 +127,13 @@ module _ (p : Params) (good : IsGoodParams hotstuff p) where
   lower a b [] le h = tt
   lower a b (v ∷ vs) le h = let l = h.0 in (omega (arith, le, l), h.1, h.2)
 
-  rising-append : (from k : ℕ) (xs ys : List Signed) → from ≤ k → AreSigners from xs → NodesBelow k xs → AreSigners k ys → AreSigners from (xs ++ ys)
-  rising-append from k [] ys le h b g = lower from k ys le g
-  rising-append from k (x ∷ xs) ys le h b g = let l = b.0 in (h.0, h.1, rising-append (suc x.by.0) k xs ys (omega (arith, l)) h.2 b.1 g)
+  ascending-append : (from k : ℕ) (xs ys : List Signed) → from ≤ k → AreSigners from xs → NodesBelow k xs → AreSigners k ys → AreSigners from (xs ++ ys)
+  ascending-append from k [] ys le h b g = lower from k ys le g
+  ascending-append from k (x ∷ xs) ys le h b g = let l = b.0 in (h.0, h.1, ascending-append (suc x.by.0) k xs ys (omega (arith, l)) h.2 b.1 g)
 
   votes-rise : (n : ℕ) (vs : List Kept) (phase view : ℕ) (d : List ℕ) → SignedAll vs → AreSigners 0 (votes_of n vs phase view d)
   votes-rise zero vs phase view d h = tt
-  votes-rise (suc k) vs phase view d h = rising-append 0 k (votes_of k vs phase view d) _ (omega arith) (votes-rise k vs phase view d h) (votes-below k vs phase view d) (one-signed vs phase view d k h)
+  votes-rise (suc k) vs phase view d h = ascending-append 0 k (votes_of k vs phase view d) _ (omega arith) (votes-rise k vs phase view d h) (votes-below k vs phase view d) (one-signed vs phase view d k h)
 
   one-few : (o : Option Signed) → length (one_or_none o) ≤ 1
   one-few None = omega arith

@@ -2,7 +2,7 @@
 use Rattle.std.proofs.Common.{◌≡◌, ◌≤◌, ◌<◌, ℕ, suc, ◌+◌, ◌*◌, ◌%◌, Bool, true, false, ◌==◌, ◌&&◌, List, [], ◌∷◌, ◌++◌, length, Option, Some, None, refl, sym, ap, ◌∙◌, subst, inl, inr, arith, if◌then◌else◌}
 use Rattle.std.proofs.lemmas.List.{length-append}
 use Rattle.iss_base.specs.Lists.{In, nth}
-use Rattle.iss_base.proofs.Lists.{and-true, first-cases, in_append, nth-in}
+use Rattle.iss_base.proofs.Lists.{and-true, first-cases, in_append}
 use Rattle.iss_request.specs.declared.ids.NodeId.{NodeId}
 use Rattle.iss_request.specs.declared.ids.Slot.{Slot}
 use Rattle.iss_request.specs.declared.requests.Batch.{Batch}
@@ -28,10 +28,12 @@ use Rattle.hs_tree.specs.declared.messages.Message.TheVariants.{NewView, Prepare
 use Rattle.hs_tree.specs.Certificates.{digest_of}
 use Rattle.hs_tree.specs.Statements.{certificate_claims, claims, inside, own_statement, signature_of, vote_claims}
 use Rattle.hs_tree.specs.Tree.{basic, branch, is_known, value_at, value_at_slot}
-use Rattle.sb_hotstuff.specs.HotStuff.{answers, answers_heard, asked_by, asks, decided, decides, drafts, hotstuff, offered, proposals, sign_all, state, unless_accepted, voted, was_accepted}
-use Rattle.sb_hotstuff.specs.Rules.{State, Turn, is_good, is_reached, keeps_vote, kept, may_cast, may_end, may_prepare, may_second, may_third, node_digest, proposed, round_of, slots_below}
-use Rattle.sb_hotstuff.proofs.Basics.{IsIf, by-if, if-in, if-not, if-some, is-same}
+use Rattle.sb_hotstuff.specs.HotStuff.{answers, answers_heard, asked_by, asks, decided, decides, drafts, hotstuff, offered, proposals, sign_all, state, voted}
+use Rattle.sb_hotstuff.specs.Rules.{State, is_good, is_reached, keeps_vote, kept, may_cast, may_end, may_prepare, may_second, may_third, node_digest, proposed, slots_below}
+use Rattle.hs_views.specs.Views.{Turn, round_of}
 use Rattle.sb_hotstuff.proofs.ModuleLaws.SentMessagesDecode.{sent-again}
+use Rattle.hs_views.proofs.BatchesOnce.{unless-In}
+use Rattle.hs_views.proofs.Tests.{IsIf, by-if, if-in, if-some, is-same}
 
 -- ---- Each claim names its instance
 
@@ -73,16 +75,6 @@ module _ (p : Params) (me : ℕ) (xs : List (Item Message)) where
 
   castable : (s : Slot) (b c : Batch) → asks p me xs (Cast s b) ≡ Some (s, b) → asks p me xs (Cast s c) ≡ Some (s, c)
   castable s b c h = rw ((cast-is s b (s, b) h).passed) refl
-
-unless-In : (old : List (Slot × Batch)) (b : Batch) (slots : List Slot) (k : ℕ) (x : Slot × Batch) → unless_accepted old b (nth slots k) ≡ Some x → In x.0 slots
-unless-In old b slots k x h = go (nth slots k) refl h
-  where
-    go : (o : Option Slot) → nth slots k ≡ o → unless_accepted old b o ≡ Some x → In x.0 slots
-    go None q e = absurd cc
-    go (Some s) q e =
-        let same : Some (s, b) ≡ Some x = if-not (was_accepted s.0 b old) (Some (s, b)) x e in
-        let slot : s ≡ x.0 = cc in
-        subst (λ (z : Slot). In z slots) slot (nth-in slots k s q)
 
 offered-In : (p : Params) (s : State) (old : List (Slot × Batch)) (what : Content) (just : Certificate) (x : Slot × Batch) → offered p s old what just ≡ Some x → In x.0 p.slots
 offered-In p s old Nil just x h = absurd cc

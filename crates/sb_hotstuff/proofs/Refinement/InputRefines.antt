@@ -18,12 +18,13 @@ use Rattle.sb_hotstuff.specs.declared.signing.Draft.{Draft}
 use Rattle.sb_hotstuff.specs.declared.state.Node.{Node}
 use Rattle.sb_hotstuff.specs.Drafts.{AreDrafts}
 use Rattle.sb_hotstuff.specs.HotStuff.{answers, proposals, shows, strings_at, taken_of, turn_strings, voted}
-use Rattle.sb_hotstuff.specs.Rules.{Kept, State, Turn, certificate, first_turn, is_reached, keeps_news, keeps_vote, kept, may_cast, may_prepare, next_turn, node_digest, proposed, turn, with_cast, with_news, with_node, with_turn, with_vote}
+use Rattle.sb_hotstuff.specs.Rules.{State, certificate, first_turn, is_reached, keeps_news, keeps_vote, kept, may_cast, may_prepare, next_turn, node_digest, proposed, turn, with_cast, with_news, with_node, with_turn, with_vote}
+use Rattle.hs_views.specs.Views.{Kept, Turn}
 use Rattle.sb_hotstuff.specs.Refines.{RefinesState}
 use Rattle.sb_hotstuff.specs.Steps.{Does, IsAnswer, IsQuiet, Proposes}
-use Rattle.sb_hotstuff.specs.Tallies.{AreNews, AreVotes}
-use Rattle.sb_hotstuff.specs.declared.ballots.Ballots.{Ballots}
-use Rattle.sb_hotstuff.specs.declared.news.Words.{Words}
+use Rattle.hs_views.specs.Counts.{AreNews, AreVotes}
+use Rattle.hs_views.specs.declared.ballots.Ballots.{Ballots}
+use Rattle.hs_views.specs.declared.news.Words.{Words}
 use Rattle.hs_tree.specs.declared.signing.Hashed.{Hashed}
 use Rattle.hs_tree.specs.declared.tree.Tree.{Tree}
 use Rattle.hs_tree.specs.Certificates.{digest_of, view_of}
@@ -103,7 +104,7 @@ module _ (p : Params) (m : Node) (s : State) (h : RefinesState m s) where
         news = subst (λ (z : ℕ). AreNews words ((with_news s z round high).news)) (sym hw) more;
       }))
 
-  pub node-taken : (from : NodeId) (view : ℕ) (what : Content) (just : Certificate) (sig parent : List ℕ) (hash : Hashed) (tree : Tree) (draft : Draft) → may_prepare p s from.0 view what just ≡ true → parent ≡ digest_of just → IsHashed p.setup.version view parent what hash →
+  pub node-taken : (from : NodeId) (view : ℕ) (what : Content) (just : Certificate) (sig parent : List ℕ) (hash : Hashed) (tree : Tree) (draft : Draft) → may_prepare p s from.0 view what just ≡ true → parent ≡ digest_of just → IsHashed p.setup.version None parent what hash →
       ((k : Tree_node) (ks : List Tree_node) → k.digest ≡ hash.digest → k.parent ≡ parent → k.what ≡ what → Keeps m.tree ks → Keeps tree (k ∷ ks)) → AreDrafts p (Some draft) (voted p 1 view hash.digest) →
       Does p m (record m { view = view; tree = tree; second = false; third = false }) s (Receive from (Prepare view what just sig)) (record { answer = Some draft; proposal = None; hashed = hash.strings })
   node-taken from view what just sig parent hash tree draft may hp hashed add drafted =

@@ -9,7 +9,8 @@ use Rattle.hs_tree.specs.declared.certificates.Certificate.{Certificate}
 use Rattle.hs_tree.specs.Certificates.{digest_of, view_of}
 use Rattle.hs_tree.specs.Tree.{extends, is_known, plain_string}
 use Rattle.sb_hotstuff.specs.declared.state.Node.{Node}
-use Rattle.sb_hotstuff.specs.Rules.{State, is_allowed, is_just, is_safe, is_timely, may_prepare, node_digest, round_of, slots_below}
+use Rattle.sb_hotstuff.specs.Rules.{State, is_allowed, is_just, is_safe, is_timely, may_prepare, node_digest, slots_below}
+use Rattle.hs_views.specs.Views.{round_of}
 use Rattle.sb_hotstuff.specs.Refines.{RefinesState}
 
 module _ (p : Params) (m : Node) (s : State) (h : RefinesState m s) (view : ℕ) (what : Content) (just : Certificate) where

@@ -16,7 +16,7 @@ use Rattle.sb_hotstuff.specs.declared.outcomes.Outcome.{Outcome}
 use Rattle.sb_hotstuff.specs.declared.signing.Draft.{Draft}
 use Rattle.sb_hotstuff.specs.Drafts.{AreDrafts, count_of}
 use Rattle.sb_hotstuff.specs.HotStuff.{sign_all}
-use Rattle.sb_hotstuff.specs.Instances.{IsSigned}
+use Rattle.sb_hotstuff.specs.Internal.Instances.{IsSigned}
 
 -- ---- The number of messages
 

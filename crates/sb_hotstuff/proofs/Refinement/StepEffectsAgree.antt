@@ -27,20 +27,20 @@ use Rattle.hs_tree.specs.Certificates.{digest_of}
 use Rattle.hs_tree.specs.Known.{Keeps, values}
 use Rattle.hs_tree.specs.Tree.{Node as Tree_node, branch, filled, is_known, value_at_slot}
 use Rattle.hs_tree.proofs.Branches.{length-values}
-use Rattle.sb_hotstuff.specs.declared.accepted.Accepted.{Accepted}
+use Rattle.hs_views.specs.declared.accepted.Accepted.{Accepted}
 use Rattle.sb_hotstuff.specs.declared.hotstuff.HotStuff.{HotStuff}
 use Rattle.sb_hotstuff.specs.declared.state.Node.{Node}
 use Rattle.sb_hotstuff.specs.declared.outcomes.Outcome.{Outcome}
 use Rattle.iss_sb.specs.Paired.{paired, value_with}
 use Rattle.sb_hotstuff.specs.Drafts.{AreDrafts, count_of}
-use Rattle.sb_hotstuff.specs.Accepted.{AreAccepted}
+use Rattle.hs_views.specs.Accepted.{AreAccepted, Adds, at_slot, what_at}
 use Rattle.sb_hotstuff.specs.HotStuff.{answers, asks, decided, decides, drafts, hotstuff, offered, proposals, sign_all, state, strings, strings_at, voted}
-use Rattle.sb_hotstuff.specs.Instances.{Adds, IsSigned, Refines, at_slot, what_at}
+use Rattle.sb_hotstuff.specs.Internal.Instances.{IsSigned, Refines}
 use Rattle.sb_hotstuff.specs.Rules.{State, after, is_good, kept, may_cast, may_prepare, node_digest, proposed, with_node}
 use Rattle.sb_hotstuff.specs.Refines.{RefinesState}
 use Rattle.sb_hotstuff.specs.Steps.{Does}
 use Rattle.iss_sb.proofs.Paired.{fresh-ascending, fresh-within}
-use Rattle.sb_hotstuff.proofs.Refinement.DeliveredSlotsAgree.{branch-value, fresh-value, or-within, slots-more, value-fresh, value-some}
+use Rattle.hs_views.proofs.DeliveredSlotsAgree.{branch-value, fresh-value, or-within, slots-more, value-fresh, value-some}
 use Rattle.sb_hotstuff.proofs.Refinement.SignedMessagesAgree.{count-few, drafts-long}
 
 -- ---- Decisions are stable, so a slot is delivered if it is decided
@@ -217,13 +217,13 @@ module _ (p : Params) (good : IsGoodParams hotstuff p) (m : HotStuff) (i : Input
 
   pub branch-delivered : (leaf : ℕ) → Delivers hotstuff p me xs (and_then hotstuff p me xs i leaf) e.delivers
   branch-delivered leaf = subst (λ (z : List (Slot × Value)). Delivers hotstuff p me xs (and_then hotstuff p me xs i leaf) z) (sym ds)
-      (Delivers-from hotstuff p me xs i leaf (paired (drop m.delivered p.slots) (drop m.delivered (values cs))) (fresh-ascending 0 m.delivered p.slots (drop m.delivered (values cs)) good.rising)
+      (Delivers-from hotstuff p me xs i leaf (paired (drop m.delivered p.slots) (drop m.delivered (values cs))) (fresh-ascending 0 m.delivered p.slots (drop m.delivered (values cs)) good.ascending)
       (λ t x. (λ h. there t x h, λ h. fresh t x h.0 h.1)))
     where
       there : (t : Slot) (x : Value) → In {A = Slot × Value} (t, x) (paired (drop m.delivered p.slots) (drop m.delivered (values cs))) →
           (first_of (old t.0) (decides p (state p me xs) i t.0) ≡ Some x) × (delivered hotstuff p me xs t.0 ≡ None)
       there t x h =
-          let r = fresh-value 0 m.delivered t x p.slots (values cs) good.rising h in
+          let r = fresh-value 0 m.delivered t x p.slots (values cs) good.ascending h in
           let none = none-of (old t.0) (st.reached t.0 ∙ r.1) in
           (now-is t.0 ∙ first-none (old t.0) _ x none r.0, delivered-is p me xs t.0 ∙ none)
 

@@ -26,7 +26,8 @@ use Rattle.sb_hotstuff.specs.declared.turns.Last.{Last}
 use Rattle.sb_hotstuff.specs.declared.turns.Turns.{Turns}
 use Rattle.sb_hotstuff.specs.Drafts.{AreDrafts, IsDraft}
 use Rattle.sb_hotstuff.specs.HotStuff.{strings_at}
-use Rattle.sb_hotstuff.specs.Rules.{State, Turn, all_news, best, cast_turn, certificate, first_turn, is_ready, next_turn, nil_or_mark, node_digest, round_of, slots_below, turn, turn_after, turn_on}
+use Rattle.sb_hotstuff.specs.Rules.{State, cast_turn, certificate, first_turn, is_ready, next_turn, nil_or_mark, node_digest, slots_below, turn, turn_after, turn_on}
+use Rattle.hs_views.specs.Views.{Turn, all_news, best, round_of}
 use Rattle.sb_hotstuff.specs.Refines.{IsLow, RefinesState, is_last_ready}
 use Rattle.sb_hotstuff.specs.Steps.{IsQuiet, Proposes}
 use Rattle.sb_hotstuff.specs.Tallies.{AreTurns, last_of, own_of}
@@ -42,21 +43,21 @@ proposes-none p m k o h quiet = record {
 }
 
 module _ (p : Params) (m : Node) (k : State) (view slots : ℕ) (just : Certificate) (what : Content) (t : Turn) (is : t ≡ turn p view just what slots) where
-  pub node-is : (parent : List ℕ) (h : Hashed) → parent ≡ digest_of just → IsHashed p.setup.version view parent what h → h.digest ≡ node_digest p view what just
+  pub node-is : (parent : List ℕ) (h : Hashed) → parent ≡ digest_of just → IsHashed p.setup.version None parent what h → h.digest ≡ node_digest p view what just
   node-is parent h hp hashed = hashed.digest_is ∙ ap (λ (z : List ℕ). digest (0x41 ∷ z ++ what_bytes p.setup.version what)) hp
 
-  pub strings-are : (parent : List ℕ) (h : Hashed) → parent ≡ digest_of just → IsHashed p.setup.version view parent what h → h.strings ≡ strings_at p view what just
+  pub strings-are : (parent : List ℕ) (h : Hashed) → parent ≡ digest_of just → IsHashed p.setup.version None parent what h → h.strings ≡ strings_at p view what just
   strings-are parent h hp hashed = hashed.strings ∙ ap (λ (z : List ℕ). strings_of p.setup.version (value_of what) ++ (0x41 ∷ z ++ what_bytes p.setup.version what) ∷ []) hp
 
   -- what is kept of the turn
-  pub last-is : (parent d : List ℕ) (h : Hashed) (full : ℕ) → parent ≡ digest_of just → IsHashed p.setup.version view parent what h → d ≡ h.digest → slots < 2 ^ 63 → (w : ℕ) → w ≡ weight what → w ≤ 1 →
+  pub last-is : (parent d : List ℕ) (h : Hashed) (full : ℕ) → parent ≡ digest_of just → IsHashed p.setup.version None parent what h → d ≡ h.digest → slots < 2 ^ 63 → (w : ℕ) → w ≡ weight what → w ≤ 1 →
       full ≡ min (slots + w) 18446744073709551615 → own_of t ≡ (let z : Last = record { view = view; digest = d; slots = full } in z)
   last-is parent d h full hp hashed hd small w hw one hf =
       let exact : weight what + slots ≡ full = omega (arith, hf, small, hw, one) in
       let same : node_digest p view what just ≡ d = sym (hd ∙ node-is parent h hp hashed) in
       ap (λ (z : Turn). own_of z) is ∙ (λ i. record { view = view; digest = same i; slots = exact i })
 
-  pub proposes-one : (turns : Turns) (draft : Draft) (parent : List ℕ) (h : Hashed) → parent ≡ digest_of just → IsHashed p.setup.version view parent what h → IsLow (own_of t) → RefinesState m k → AreTurns turns (t ∷ k.turns) →
+  pub proposes-one : (turns : Turns) (draft : Draft) (parent : List ℕ) (h : Hashed) → parent ≡ digest_of just → IsHashed p.setup.version None parent what h → IsLow (own_of t) → RefinesState m k → AreTurns turns (t ∷ k.turns) →
       IsDraft p draft ((To_all, Prepare view what just []) ∷ []) → Proposes p m (record m { turns = turns }) k (Some t) (record { answer = None; proposal = Some draft; hashed = h.strings })
   proposes-one turns draft parent h hp hashed low f more drafted = record {
     node = refl;

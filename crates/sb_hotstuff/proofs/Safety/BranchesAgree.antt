@@ -1,7 +1,9 @@
 -- HotStuff's safety argument, from facts on single correct replicas: what certificates imply, and that two decided
 -- branches agree.
-use Rattle.std.proofs.Common.{◌≡◌, ◌≤◌, ◌<◌, ℕ, zero, suc, Bool, true, List, [], ◌∷◌, ◌++◌, Some, refl, sym, ap, ◌∙◌, subst, inl, inr, ◌⊎◌, arith}
-use Rattle.std.proofs.lemmas.Bool.{cases_eq, cases_lt}
+use Rattle.std.proofs.Common.{◌≡◌, ◌≤◌, ◌<◌, ℕ, zero, suc, Bool, true, List, [], ◌∷◌, ◌++◌, Some, refl, sym, ap, ◌∙◌, subst, inl, inr, ◌⊎◌, arith, true≢false}
+use Rattle.std.specs.Prelude.{nat_le}
+use Rattle.std.proofs.lemmas.Bool.{cases_eq, cases_lt, leb-true}
+use Rattle.iss_base.proofs.Lists.{and-true}
 use Rattle.iss_base.specs.Quorum.{count_below}
 use Rattle.iss_request.specs.declared.requests.Batch.{Batch}
 use Rattle.iss_request.specs.declared.requests.Value.{Value}
@@ -13,11 +15,12 @@ use Rattle.iss_sb.proofs.Quorums.{Meets, few-faulty, meets}
 use Rattle.iss_sb.specs.declared.content.Content.{Content}
 use Rattle.iss_sb.specs.declared.content.Content.TheVariants.{Holds}
 use Rattle.hs_tree.specs.declared.messages.Message.{Message}
+use Rattle.hs_tree.specs.Certificates.{is_phase}
 use Rattle.hs_tree.specs.Paths.{Has, hash}
 use Rattle.hs_tree.specs.Tree.{filled, root, value_at}
 use Rattle.hs_tree.proofs.Nodes.{branch-one, has-same, no-root, path-on}
 use Rattle.hs_tree.proofs.Places.{here-is, value-on}
-use Rattle.sb_hotstuff.specs.Facts.{IsCertified, IsSafeVote, IsVoted, Leads}
+use Rattle.sb_hotstuff.specs.Facts.{HaveOneNode, IsCertified, IsSafeVote, IsVoted, Leads}
 use Rattle.sb_hotstuff.specs.HotStuff.{hotstuff}
 
 pub quorums-meet : (p : Params) → IsGoodParams hotstuff p → (t u : ℕ → Bool) → p.setup.quorum ≤ count_below t p.setup.n → p.setup.quorum ≤ count_below u p.setup.n → Meets p t u
@@ -67,6 +70,17 @@ module _ (p : Params) (w : World Message) (acc : ℕ → ℕ → Batch → Type 
 
     pub third-first : (v : ℕ) (d : List ℕ) → IsCertified p w 3 v d → IsCertified p w 1 v d
     third-first v d c = let j = some 3 v d c in second-first v d (facts.third j.0 v d j.2)
+
+    -- a certificate of any phase implies a prepareQC
+    first-of : (q v : ℕ) (d : List ℕ) → is_phase 3 q ≡ true → IsCertified p w q v d → IsCertified p w 1 v d
+    first-of zero v d h c = absurd (true≢false (sym h))
+    first-of (suc zero) v d h c = c
+    first-of (suc (suc zero)) v d h c = second-first v d c
+    first-of (suc (suc (suc zero))) v d h c = third-first v d c
+    first-of (suc (suc (suc (suc q)))) v d h c = let l = leb-true (suc (suc (suc (suc q)))) 3 (and-true _ (nat_le (suc (suc (suc (suc q)))) 3) h).1 in absurd (omega (arith, l))
+
+    pub one-of-view : HaveOneNode p w
+    one-of-view q r v d e hq hr c g = one-node v d e (first-of q v d hq c) (first-of r v e hr g)
 
     above : (n u : ℕ) (d : List ℕ) (v : ℕ) (e : List ℕ) → v < n → u ≤ v → IsCertified p w 3 u d → IsCertified p w 1 v e → (cs : List Content) × Leads p w e d cs
     above zero u d v e l m c g = absurd (omega arith)

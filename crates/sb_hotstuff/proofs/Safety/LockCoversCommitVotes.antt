@@ -20,10 +20,12 @@ use Rattle.hs_tree.specs.Tree.{branch, extends, is_known, root, value_at_slot}
 use Rattle.hs_tree.proofs.Nodes.{branch-is, extends-is}
 use Rattle.sb_hotstuff.specs.Facts.{IsCertified, IsSafeVote, IsVoted, Leads, VotedIn}
 use Rattle.sb_hotstuff.specs.HotStuff.{decided, decides, hotstuff, state}
-use Rattle.sb_hotstuff.specs.Rules.{State, Turn, after, is_good, keeps_news, keeps_vote, kept, may_cast, may_end, may_prepare, may_second, may_third, node_digest, proposed, with_cast, with_news, with_node, with_round, with_turn, with_vote}
-use Rattle.sb_hotstuff.proofs.Basics.{by-test, good-is, if-in, third-is}
+use Rattle.sb_hotstuff.specs.Rules.{State, after, is_good, keeps_news, keeps_vote, kept, may_cast, may_end, may_prepare, may_second, may_third, node_digest, proposed, with_cast, with_news, with_node, with_round, with_turn, with_vote}
+use Rattle.hs_views.specs.Views.{Turn}
+use Rattle.sb_hotstuff.proofs.Basics.{good-is, third-is}
 use Rattle.sb_hotstuff.proofs.Safety.OneVoteAPhase.{Cause, IsFirst, IsThird, by_first, by_second, by_third, cause-new, prepare-above, voted-below}
 use Rattle.sb_hotstuff.proofs.Safety.VotesHaveCauses.{AllHere, AreVoted, came, came-certified, is-taken, just-why, parts, state-tree, taken-has}
+use Rattle.hs_views.proofs.Tests.{by-test, if-in}
 
 module _ (p : Params) (w : World Message) (good : IsGoodParams hotstuff p) (legal : IsLegal hotstuff p w) (voted : AreVoted p w) where
   abbrev Here : ℕ → List (Item Message) → Type 0

@@ -22,8 +22,10 @@ use Rattle.hs_tree.specs.Statements.{own_statement, with_signature}
 use Rattle.hs_tree.specs.Tree.{basic}
 use Rattle.sb_hotstuff.specs.Facts.{VotedIn}
 use Rattle.sb_hotstuff.specs.HotStuff.{answers, answers_heard, drafts, hotstuff, makes, proposals, shows, sign_all, state, voted}
-use Rattle.sb_hotstuff.specs.Rules.{State, Turn, after, certificate, heard, is_reached, keeps_news, keeps_vote, kept, may_cast, may_end, may_prepare, may_second, may_third, node_digest, proposed, with_cast, with_news, with_node, with_round, with_turn, with_vote}
-use Rattle.sb_hotstuff.proofs.Basics.{by-test, second-is, third-is}
+use Rattle.sb_hotstuff.specs.Rules.{State, after, certificate, heard, is_reached, keeps_news, keeps_vote, kept, may_cast, may_end, may_prepare, may_second, may_third, node_digest, proposed, with_cast, with_news, with_node, with_round, with_turn, with_vote}
+use Rattle.hs_views.specs.Views.{Turn}
+use Rattle.sb_hotstuff.proofs.Basics.{second-is, third-is}
+use Rattle.hs_views.proofs.Tests.{by-test}
 
 pub record IsFirst (p : Params) (s : State) (i : Input Message) (view : ℕ) (d : List ℕ) : Type 0 where
   pub from : NodeId

@@ -2,14 +2,13 @@
 use Rattle.std.proofs.Common.{◌≡◌, ◌<◌, ℕ, ◌==◌, ◌&&◌, ◌||◌, Bool, true, false, if◌then◌else◌, List, [], ◌∷◌, ◌++◌, length, Option, Some, None, refl, sym, ap, ◌∙◌, subst, inl, inr, ◌⊎◌, true≢false, arith}
 use Rattle.std.specs.Prelude.{nat_lt}
 use Rattle.std.proofs.lemmas.Bool.{lt-ltb, ltb-true}
-use Rattle.iss_base.specs.Lists.{In, nth, same_bytes}
+use Rattle.iss_base.specs.Lists.{In, nth}
 use Rattle.iss_base.specs.Quorum.{all_below, mem}
-use Rattle.iss_base.proofs.Lists.{and-true, both, in_left, in_right, nth-some, same_bytes-is}
+use Rattle.iss_base.proofs.Lists.{and-true, both, in_left, in_right, nth-some}
 use Rattle.iss_base.proofs.Quorum.{count-distinct}
 use Rattle.iss_request.specs.declared.ids.NodeId.{NodeId}
 use Rattle.iss_request.specs.declared.ids.Slot.{Slot}
 use Rattle.iss_request.specs.declared.requests.Batch.{Batch}
-use Rattle.iss_request.specs.declared.requests.Request.{Request}
 use Rattle.iss_request.specs.declared.requests.Value.{Value}
 use Rattle.iss_request.specs.Fields.{IsReadAgain}
 use Rattle.iss_request.specs.Formats.{value_string}
@@ -41,47 +40,16 @@ use Rattle.hs_tree.proofs.MessageGrammar.{read-spelled}
 use Rattle.hs_tree.proofs.Nodes.{branch-is, branch-one}
 use Rattle.hs_tree.proofs.Signers.{quorum-nodes}
 use Rattle.sb_hotstuff.specs.Facts.{IsCertified, IsVoted, Leads}
-use Rattle.sb_hotstuff.specs.HotStuff.{asks, hotstuff, offered, same_batch, same_request, state, strings, strings_at, unless_accepted, was_accepted}
-use Rattle.sb_hotstuff.specs.Rules.{State, Turn, is_allowed, is_good, is_just, is_safe, keeps_news, keeps_vote, kept, may_cast, may_end, may_prepare, may_second, may_third, proposed, round_of, slots_below, with_cast, with_news, with_node, with_round, with_turn, with_vote}
-use Rattle.sb_hotstuff.proofs.Basics.{by-test, good-is, is-same, second-is, third-is}
+use Rattle.sb_hotstuff.specs.HotStuff.{asks, hotstuff, offered, state, strings, strings_at}
+use Rattle.hs_views.specs.Batches.{unless_accepted, was_accepted}
+use Rattle.sb_hotstuff.specs.Rules.{State, is_allowed, is_good, is_just, is_safe, keeps_news, keeps_vote, kept, may_cast, may_end, may_prepare, may_second, may_third, proposed, slots_below, with_cast, with_news, with_node, with_round, with_turn, with_vote}
+use Rattle.hs_views.specs.Views.{Turn, round_of}
+use Rattle.sb_hotstuff.proofs.Basics.{good-is, second-is, third-is}
 use Rattle.sb_hotstuff.proofs.Safety.OneVoteAPhase.{Cause, IsFirst, by_first, by_second, by_third, cause-new, one-first}
 use Rattle.sb_hotstuff.proofs.Safety.BranchesAgree.{First}
 use Rattle.sb_hotstuff.proofs.ModuleLaws.SentMessagesDecode.{digest-length}
-
--- ---- Equal batches
-
-same_request-is : (a b : Request) → same_request a b ≡ true → a ≡ b
-same_request-is a b h =
-    let t = and-true ((a.id.client == b.id.client) && (a.id.number == b.id.number)) _ h in
-    let u = and-true (a.id.client == b.id.client) (a.id.number == b.id.number) t.0 in
-    let v = and-true (same_bytes a.payload b.payload) (same_bytes a.sig b.sig) t.1 in
-    let c = is-same a.id.client b.id.client u.0 in
-    let n = is-same a.id.number b.id.number u.1 in
-    let q = same_bytes-is a.payload b.payload v.0 in
-    let s = same_bytes-is a.sig b.sig v.1 in
-    λ t. record { id = record { client = c t; number = n t }; payload = q t; sig = s t }
-
-same_batch-is : (a b : List Request) → same_batch a b ≡ true → a ≡ b
-same_batch-is [] [] h = refl
-same_batch-is [] (y ∷ ys) h = absurd (true≢false (sym h))
-same_batch-is (x ∷ xs) [] h = absurd (true≢false (sym h))
-same_batch-is (x ∷ xs) (y ∷ ys) h =
-    let t = and-true (same_request x y) (same_batch xs ys) h in
-    let e = same_request-is x y t.0 in
-    let r = same_batch-is xs ys t.1 in
-    cc
-
-was-In : (s : Slot) (b : Batch) (old : List (Slot × Batch)) → was_accepted s.0 b old ≡ true → In {A = Slot × Batch} (s, b) old
-was-In s b [] h = absurd (true≢false (sym h))
-was-In s b (a ∷ old) h = go ((a.0.0 == s.0) && same_batch a.1 b) refl h (was-In s b old)
-  where
-    go : (t : Bool) → ((a.0.0 == s.0) && same_batch a.1 b) ≡ t → (t || was_accepted s.0 b old) ≡ true → (was_accepted s.0 b old ≡ true → In {A = Slot × Batch} (s, b) old) → In {A = Slot × Batch} (s, b) (a ∷ old)
-    go true q e more =
-        let t = and-true (a.0.0 == s.0) (same_batch a.1 b) q in
-        let n = is-same a.0.0 s.0 t.0 in
-        let c = same_batch-is a.1 b t.1 in
-        inl (λ i. (record { 0 = sym n i }, sym c i))
-    go false q e more = inr (more e)
+use Rattle.hs_views.proofs.BatchesOnce.{was-In}
+use Rattle.hs_views.proofs.Tests.{by-test, is-same}
 
 -- ---- An entry of a history
 

@@ -1,5 +1,5 @@
 -- Each reachable world is a broadcast, unless SHA-256 collides on its strings: the facts, and what follows from them.
-use Rattle.std.proofs.Common.{◌≡◌, ◌<◌, ℕ, suc, ◌+◌, ◌%◌, ◌==◌, Bool, true, false, if◌then◌else◌, List, [], ◌∷◌, Some, refl, sym, ap, ◌∙◌, subst, inl, inr, arith}
+use Rattle.std.proofs.Common.{◌≡◌, ◌<◌, ℕ, ◌+◌, ◌%◌, ◌==◌, true, List, [], ◌∷◌, Some, refl, sym, ap, ◌∙◌, subst, inl, inr, arith}
 use Rattle.std.proofs.Math.Nat.{mod-eq_of_lt}
 use Rattle.iss_base.specs.Lists.{In, nth}
 use Rattle.iss_base.proofs.Lists.{and-true, in_right}
@@ -28,56 +28,24 @@ use Rattle.hs_tree.specs.Certificates.{digest_of}
 use Rattle.hs_tree.specs.Paths.{Has, hash}
 use Rattle.iss_sb.specs.Statements.{claim}
 use Rattle.hs_tree.specs.Statements.{certificate_claims, own_statement, vote_statement}
-use Rattle.hs_tree.specs.Tree.{basic, filled, root, value_at, value_at_slot}
-use Rattle.sb_hotstuff.specs.Facts.{AreAgreed, AreBacked, AreExtending, AreFromLeader, AreRested, AreSafeVotes, HaveOneNode, HaveSharedAcceptor, IsVoted, Leads, VoteOnce}
+use Rattle.hs_tree.specs.Tree.{basic, filled, root, value_at}
+use Rattle.sb_hotstuff.specs.Facts.{AreAgreed, AreBacked, AreCertified, AreExtending, AreFromLeader, AreRested, AreSafeVotes, HaveOneNode, HaveSharedAcceptor, IsVoted, Leads, VoteOnce}
 use Rattle.sb_hotstuff.specs.HotStuff.{hotstuff, state}
-use Rattle.sb_hotstuff.specs.Rules.{State, is_timely, leader_of, may_prepare, node_digest, round_of, slots_below}
-use Rattle.sb_hotstuff.proofs.Basics.{is-same, own-proposal, own-vote}
+use Rattle.sb_hotstuff.specs.Rules.{State, is_timely, may_prepare, node_digest, slots_below}
+use Rattle.hs_views.specs.Views.{leader_of, round_of}
+use Rattle.sb_hotstuff.proofs.Basics.{own-proposal, own-vote}
 use Rattle.sb_hotstuff.proofs.LeaderProposals.CastsAreAppendOnly.{front-more}
 use Rattle.sb_hotstuff.proofs.Safety.OneVoteAPhase.{vote-one, votes-rise}
 use Rattle.sb_hotstuff.proofs.Safety.VotesSentWereReceived.{States, passes-on}
-use Rattle.sb_hotstuff.proofs.Safety.BranchesAgree.{Accepted, Facts, First, accepted-root, agree, extends-it, one-node, same-branch, same-node, share, some, third-first}
+use Rattle.sb_hotstuff.proofs.Safety.BranchesAgree.{Accepted, Facts, First, accepted-root, agree, extends-it, one-of-view, same-branch, same-node, share, some, third-first}
 use Rattle.sb_hotstuff.proofs.ModuleLaws.StepsAreLawful.{hotstuff-lawful}
 use Rattle.sb_hotstuff.proofs.LeaderProposals.ProposalsAreCasts.{IsCast, IsPart, proposal-why}
 use Rattle.sb_hotstuff.proofs.Safety.LockCoversCommitVotes.{Shown, delivered-shown, locked-why}
-use Rattle.sb_hotstuff.proofs.Safety.VotesHaveCauses.{AreVoted, acc, allowed-low, came, first-cause, first-why, is-taken, one-why, parts, second-why, spot, taken-has, third-why}
+use Rattle.sb_hotstuff.proofs.Safety.VotesHaveCauses.{AreVoted, acc, allowed-low, came, came-certified, first-cause, first-why, is-taken, one-why, parts, second-why, spot, taken-has, third-why}
+use Rattle.hs_views.proofs.SlotsOfBranches.{slot-agree, place, from-zero}
+use Rattle.hs_views.proofs.Tests.{is-same}
 
 -- ---- The value at a slot is that at its place
-
-slot-agree : (cs es : List Content) (slots : List Slot) (k s : ℕ) (x y : Value) → ((n : ℕ) → value_at cs n ≡ Some x → value_at es n ≡ Some y → x ≡ y) → value_at_slot cs k slots s ≡ Some x → value_at_slot es k slots s ≡ Some y → x ≡ y
-slot-agree cs es [] k s x y h a b = absurd cc
-slot-agree cs es (t ∷ slots) k s x y h a b = go (t.0 == s) a b (slot-agree cs es slots (suc k) s x y h)
-  where
-    go : (c : Bool) → (if c then value_at cs k else value_at_slot cs (suc k) slots s) ≡ Some x → (if c then value_at es k else value_at_slot es (suc k) slots s) ≡ Some y →
-        (value_at_slot cs (suc k) slots s ≡ Some x → value_at_slot es (suc k) slots s ≡ Some y → x ≡ y) → x ≡ y
-    go true a b more = h k a b
-    go false a b more = more a b
-
-record Place (cs : List Content) (slots : List Slot) (k s : ℕ) (x : Value) : Type 0 where
-  pub at : ℕ
-  pub slot : Slot
-  pub there : nth slots at ≡ Some slot
-  pub is : slot.0 ≡ s
-  pub value : value_at cs (k + at) ≡ Some x
-
-place : (cs : List Content) (slots : List Slot) (k s : ℕ) (x : Value) → value_at_slot cs k slots s ≡ Some x → Place cs slots k s x
-place cs [] k s x h = absurd cc
-place cs (t ∷ slots) k s x h = go (t.0 == s) refl h (place cs slots (suc k) s x)
-  where
-    plus : (k : ℕ) → k + 0 ≡ k
-    plus k = omega arith
-
-    more-plus : (k n : ℕ) → k + suc n ≡ suc k + n
-    more-plus k n = omega arith
-
-    go : (c : Bool) → (t.0 == s) ≡ c → (if c then value_at cs k else value_at_slot cs (suc k) slots s) ≡ Some x → (value_at_slot cs (suc k) slots s ≡ Some x → Place cs slots (suc k) s x) → Place cs (t ∷ slots) k s x
-    go true q a more = record { at = 0; slot = t; there = refl; is = is-same t.0 s q; value = subst (λ (n : ℕ). value_at cs n ≡ Some x) (sym (plus k)) a }
-    go false q a more =
-        let r = more a in
-        record { at = suc r.at; slot = r.slot; there = r.there; is = r.is; value = subst (λ (n : ℕ). value_at cs n ≡ Some x) (sym (more-plus k r.at)) r.value }
-
-from-zero : (n : ℕ) → 0 + n ≡ n
-from-zero n = omega arith
 
 plus-none : (n : ℕ) → n + 0 ≡ n
 plus-none n = omega arith
@@ -104,7 +72,7 @@ module _ (p : Params) (w : World Message) (good : IsGoodParams hotstuff p) (reac
     one = λ i x phase view q v d e k a b.
         let t = made-at hotstuff p i x (w i) (legal.made i) k in
         vote-one p i x t.before phase view q v d e (made-front hotstuff p i (x ∷ t.before) (w i) t.front (legal.made i)) a b;
-    rising = λ i x y before phase view q v d e f k a b. votes-rise p i x y before phase view q v d e (made-front hotstuff p i (x ∷ before) (w i) f (legal.made i)) k a b;
+    ascending = λ i x y before phase view q v d e f k a b. votes-rise p i x y before phase view q v d e (made-front hotstuff p i (x ∷ before) (w i) f (legal.made i)) k a b;
   }
 
   pub rested : AreRested p w
@@ -122,7 +90,10 @@ module _ (p : Params) (w : World Message) (good : IsGoodParams hotstuff p) (reac
   }
 
   pub one-node-view : HaveOneNode p w
-  one-node-view = one-node p w (acc p w) good facts
+  one-node-view = one-of-view p w (acc p w) good facts
+
+  pub are-votes : AreCertified p w
+  are-votes i phase view x from msg h e g = came-certified p w good legal voted phase view from.0 msg (came p w good legal voted i x from msg h e) g
 
   pub extending : AreExtending p w
   extending = λ u v d e l c g. extends-it p w (acc p w) good facts u d v e l c g

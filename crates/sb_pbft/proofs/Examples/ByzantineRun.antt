@@ -8,7 +8,7 @@ use Rattle.iss_base.specs.Lists.{In}
 use Rattle.iss_base.proofs.Lists.{both, eqb-other}
 use Rattle.iss_request.specs.Formats.{is_signature, spell_batch, spell_count, spell_value}
 use Rattle.iss_request.specs.Setup.{IsGoodSetup}
-use Rattle.iss_request.specs.declared.requests.Value.TheVariants.{Nil, Batch as Value_batch}
+use Rattle.iss_request.specs.declared.requests.Value.TheVariants.{Nil as Value_nil, Batch as Value_batch}
 use Rattle.iss_sb.specs.declared.effects.Claim.{Claim}
 use Rattle.iss_sb.specs.declared.effects.Input.{Input}
 use Rattle.iss_sb.specs.declared.effects.Input.TheVariants.{Cast, Timeout}
@@ -38,14 +38,13 @@ good-setup = good-by setup refl
 pub good : IsGoodParams pbft p
 good = record {
   setup = good-setup;
-  tag = refl;
   kind = refl;
   nodes = refl;
   majority = refl;
   leader = omega arith;
   some = omega arith;
   few = omega arith;
-  rising = (omega arith, (omega arith, tt));
+  ascending = (omega arith, (omega arith, tt));
   slots_low = (omega arith, (omega arith, tt));
   directory = refl;
 }
@@ -237,11 +236,11 @@ one-gives-up = refl
 pub two-gives-up : makes p 2 [] Timeout 3 ≡ said (give_up 2 3 1 [] ∷ []) [] 1
 two-gives-up = refl
 
-pub one-renews : makes p 1 o9 (from 3 (give_up 3 4 1 [])) 12 ≡ said (renewal ∷ []) (string_of p (Value_batch b) ∷ string_of p Nil ∷ []) 3
+pub one-renews : makes p 1 o9 (from 3 (give_up 3 4 1 [])) 12 ≡ said (renewal ∷ []) (string_of p (Value_batch b) ∷ string_of p Value_nil ∷ []) 3
 unfolding sha256 digest_bytes hash_after compress rounds schedule first_words spell_batch spell_count spell_value
 one-renews = refl
 
-pub two-prepares : makes p 2 t1 (from 1 renewal) 5 ≡ said (Prepare 1 (slot 0) d (sig 2 5 2 1 0 d) ∷ Prepare 1 (slot 4) nil (sig 2 6 2 1 4 nil) ∷ []) (string_of p (Value_batch b) ∷ string_of p (Value_batch b) ∷ string_of p Nil ∷ []) 2
+pub two-prepares : makes p 2 t1 (from 1 renewal) 5 ≡ said (Prepare 1 (slot 0) d (sig 2 5 2 1 0 d) ∷ Prepare 1 (slot 4) nil (sig 2 6 2 1 4 nil) ∷ []) (string_of p (Value_batch b) ∷ string_of p (Value_batch b) ∷ string_of p Value_nil ∷ []) 2
 unfolding sha256 digest_bytes hash_after compress rounds schedule first_words spell_batch spell_count spell_value
 two-prepares = refl
 

@@ -8,7 +8,7 @@ use Rattle.iss_request.specs.declared.ids.NodeId.{NodeId}
 use Rattle.iss_request.specs.declared.ids.Slot.{Slot}
 use Rattle.iss_request.specs.declared.requests.Batch.{Batch}
 use Rattle.iss_request.specs.declared.requests.Value.{Value}
-use Rattle.iss_request.specs.declared.requests.Value.TheVariants.{Nil, Batch as Value_batch}
+use Rattle.iss_request.specs.declared.requests.Value.TheVariants.{Nil as Value_nil, Batch as Value_batch}
 use Rattle.iss_request.specs.declared.setups.Kind.TheVariants.{Byzantine}
 use Rattle.iss_request.specs.declared.setups.Policy.TheVariants.{Simple}
 use Rattle.iss_request.specs.declared.setups.Setup.{Setup}
@@ -67,7 +67,7 @@ abbrev pub d : List ℕ
 d = digest_of p (Value_batch b)
 
 abbrev pub nil : List ℕ
-nil = digest_of p Nil
+nil = digest_of p Value_nil
 
 -- the signature of replica k with a leaf, on a PrePrepare (1), Prepare (2) or Commit (3) of the view at the slot
 abbrev pub sig : ℕ → ℕ → ℕ → ℕ → ℕ → List ℕ → List ℕ
@@ -115,7 +115,7 @@ not_of_another = refl
 not_in_another_view : asks p 1 [] (from 0 (PrePrepare 1 (slot 0) (Value_batch b) [])) ≡ None
 not_in_another_view = refl
 
-not_nil : asks p 1 [] (from 0 (PrePrepare 0 (slot 0) Nil [])) ≡ None
+not_nil : asks p 1 [] (from 0 (PrePrepare 0 (slot 0) Value_nil [])) ≡ None
 not_nil = refl
 
 -- its own Prepare is the first. A second one of replica 1 and one of the primary do not count; that of replica 3 is
@@ -183,13 +183,13 @@ changes = change 1 11 1 (certificate ∷ []) ∷ change 2 3 1 [] ∷ change 3 4 
 abbrev pub renewal : Message
 renewal = NewView 1 changes (sig 1 12 1 1 0 d ∷ sig 1 13 1 1 4 nil ∷ []) (signature p 1 14 (state_new p 1))
 
-renews : makes p 1 waiting (from 3 (give_up 3 4 1 [])) 12 ≡ said (renewal ∷ []) (string_of p (Value_batch b) ∷ string_of p Nil ∷ []) 3
+renews : makes p 1 waiting (from 3 (give_up 3 4 1 [])) 12 ≡ said (renewal ∷ []) (string_of p (Value_batch b) ∷ string_of p Value_nil ∷ []) 3
 unfolding sha256 digest_bytes hash_after compress rounds schedule first_words spell_batch spell_count spell_value
 renews = refl
 
 -- replica 2, which accepted nothing before, enters the view: it sends Prepares for the batch and for nil
 abbrev pub strings_of_it : List (List ℕ)
-strings_of_it = string_of p (Value_batch b) ∷ string_of p (Value_batch b) ∷ string_of p Nil ∷ []
+strings_of_it = string_of p (Value_batch b) ∷ string_of p (Value_batch b) ∷ string_of p Value_nil ∷ []
 
 enters : makes p 2 [] (from 1 renewal) 5 ≡ said (Prepare 1 (slot 0) d (sig 2 5 2 1 0 d) ∷ Prepare 1 (slot 4) nil (sig 2 6 2 1 4 nil) ∷ []) strings_of_it 2
 unfolding sha256 digest_bytes hash_after compress rounds schedule first_words spell_batch spell_count spell_value
@@ -230,7 +230,7 @@ delivers = refl
 abbrev pub empty_waiting : List (Item Message)
 empty_waiting = next 1 12 (from 2 (give_up 2 3 1 [])) (next 1 12 (from 1 (give_up 1 11 1 [])) [])
 
-empty_view : makes p 1 empty_waiting (from 3 (give_up 3 4 1 [])) 12 ≡ said (NewView 1 (change 1 11 1 [] ∷ change 2 3 1 [] ∷ change 3 4 1 [] ∷ []) (sig 1 12 1 1 0 nil ∷ sig 1 13 1 1 4 nil ∷ []) (signature p 1 14 (state_new p 1)) ∷ []) (string_of p Nil ∷ string_of p Nil ∷ []) 3
+empty_view : makes p 1 empty_waiting (from 3 (give_up 3 4 1 [])) 12 ≡ said (NewView 1 (change 1 11 1 [] ∷ change 2 3 1 [] ∷ change 3 4 1 [] ∷ []) (sig 1 12 1 1 0 nil ∷ sig 1 13 1 1 4 nil ∷ []) (signature p 1 14 (state_new p 1)) ∷ []) (string_of p Value_nil ∷ string_of p Value_nil ∷ []) 3
 empty_view = refl
 
 -- ---- of two certificates the one of the higher view is chosen, in a tie that of the lowest replica. Replica 2 is
@@ -245,20 +245,20 @@ of_view v x voters = record { slot = slot 0; view = v; value = x; sig = []; prep
 abbrev pub both_views : List (Item Message)
 both_views = next 2 1 (from 1 (give_up 1 3 2 (of_view 0 (Value_batch b) (votes 1 3) ∷ []))) (next 2 1 (from 0 (give_up 0 2 2 [])) [])
 
-higher_view : makes p 2 both_views (from 3 (give_up 3 4 2 (of_view 1 Nil (votes 0 2) ∷ []))) 1 ≡ said (
-    NewView 2 (change 0 2 2 [] ∷ change 1 3 2 (of_view 0 (Value_batch b) (votes 1 3) ∷ []) ∷ change 3 4 2 (of_view 1 Nil (votes 0 2) ∷ []) ∷ []) (sig 2 1 1 2 0 nil ∷ sig 2 2 1 2 4 nil ∷ []) (signature p 2 3 (state_new p 2)) ∷ [])
-    (string_of p Nil ∷ string_of p Nil ∷ string_of p Nil ∷ []) 3
+higher_view : makes p 2 both_views (from 3 (give_up 3 4 2 (of_view 1 Value_nil (votes 0 2) ∷ []))) 1 ≡ said (
+    NewView 2 (change 0 2 2 [] ∷ change 1 3 2 (of_view 0 (Value_batch b) (votes 1 3) ∷ []) ∷ change 3 4 2 (of_view 1 Value_nil (votes 0 2) ∷ []) ∷ []) (sig 2 1 1 2 0 nil ∷ sig 2 2 1 2 4 nil ∷ []) (signature p 2 3 (state_new p 2)) ∷ [])
+    (string_of p Value_nil ∷ string_of p Value_nil ∷ string_of p Value_nil ∷ []) 3
 higher_view = refl
 
-least_node : choice (change 0 2 2 (of_view 1 (Value_batch b) (votes 0 2) ∷ []) ∷ change 1 3 2 (of_view 1 Nil (votes 0 2) ∷ []) ∷ []) 0 ≡ Value_batch b
+least_node : choice (change 0 2 2 (of_view 1 (Value_batch b) (votes 0 2) ∷ []) ∷ change 1 3 2 (of_view 1 Value_nil (votes 0 2) ∷ []) ∷ []) 0 ≡ Value_batch b
 least_node = refl
 
 -- a certificate is not good with a Prepare of the primary, with two of one replica, or in view 0 with nil. A
 -- ViewChange with one is not stored
-not_good : (is_good p (of_view 0 (Value_batch b) (votes 0 1)) ≡ false) × (is_good p (of_view 0 (Value_batch b) (votes 1 1)) ≡ false) × (is_good p (of_view 0 Nil (votes 1 3)) ≡ false)
+not_good : (is_good p (of_view 0 (Value_batch b) (votes 0 1)) ≡ false) × (is_good p (of_view 0 (Value_batch b) (votes 1 1)) ≡ false) × (is_good p (of_view 0 Value_nil (votes 1 3)) ≡ false)
 not_good = (refl, refl, refl)
 
-not_kept : makes p 2 both_views (from 3 (give_up 3 4 2 (of_view 1 Nil (votes 1 2) ∷ []))) 1 ≡ said [] [] 0
+not_kept : makes p 2 both_views (from 3 (give_up 3 4 2 (of_view 1 Value_nil (votes 1 2) ∷ []))) 1 ≡ said [] [] 0
 not_kept = refl
 
 -- ---- one replica alone: a proposal is prepared at once, and delivered with its own Commit

@@ -4,7 +4,7 @@ use Rattle.sha2.specs.Sha256.{sha256, digest_bytes, hash_after, compress, rounds
 use Rattle.iss_base.specs.Lists.{In, same_bytes}
 use Rattle.iss_request.specs.Digest.{digest}
 use Rattle.iss_request.specs.Formats.{spell_batch, spell_count, spell_value}
-use Rattle.iss_request.specs.declared.requests.Value.TheVariants.{Nil, Batch as Value_batch}
+use Rattle.iss_request.specs.declared.requests.Value.TheVariants.{Nil as Value_nil, Batch as Value_batch}
 use Rattle.iss_sb.specs.declared.effects.To.{To}
 use Rattle.iss_sb.specs.declared.effects.To.TheVariants.{All as To_all}
 use Rattle.iss_sb.specs.Evidence.{Item, Made, IsHashed, IsSigned, IsString, Separate}
@@ -24,14 +24,14 @@ use Rattle.sb_pbft.proofs.Examples.ByzantineRun.{Items, again, cast, certificate
 
 -- ---- its strings have distinct digests: the empty one, that of the batch, that of nil
 
-abbrev OneOf : List ℕ → Type 0
-OneOf s = (s ≡ string_of p (Value_batch b)) ⊎ (s ≡ string_of p Nil)
+abbrev pub OneOf : List ℕ → Type 0
+OneOf s = (s ≡ string_of p (Value_batch b)) ⊎ (s ≡ string_of p Value_nil)
 
-abbrev AreOf : List (List ℕ) → Type 0
+abbrev pub AreOf : List (List ℕ) → Type 0
 AreOf [] = Unit {0}
 AreOf (s ∷ ss) = OneOf s × AreOf ss
 
-abbrev EachOf : Items → Type 0
+abbrev pub EachOf : Items → Type 0
 EachOf [] = Unit {0}
 EachOf (x ∷ xs) = AreOf x.made.strings × EachOf xs
 
@@ -40,7 +40,7 @@ one-of [] s o h = absurd h
 one-of (t ∷ ss) s o (inl e) = subst (λ (z : List ℕ). OneOf z) (sym e) o.0
 one-of (t ∷ ss) s o (inr h) = one-of ss s o.1 h
 
-each-of : (xs : Items) (x : Item Message) (s : List ℕ) → EachOf xs → In x xs → In s x.made.strings → OneOf s
+pub each-of : (xs : Items) (x : Item Message) (s : List ℕ) → EachOf xs → In x xs → In s x.made.strings → OneOf s
 each-of [] x s o h k = absurd h
 each-of (y ∷ xs) x s o (inl e) k = one-of y.made.strings s o.0 (subst (λ (z : Item Message). In s z.made.strings) e k)
 each-of (y ∷ xs) x s o (inr h) k = each-of xs x s o.1 h k
@@ -75,7 +75,7 @@ batch-nil : same_bytes d nil ≡ false
 unfolding sha256 digest_bytes hash_after compress rounds schedule first_words spell_batch spell_count spell_value
 batch-nil = refl
 
-abbrev IsOne : List ℕ → Type 0
+abbrev pub IsOne : List ℕ → Type 0
 IsOne s = (s ≡ []) ⊎ OneOf s
 
 is-one : (s : List ℕ) → IsString last s → IsOne s
@@ -85,15 +85,15 @@ is-one s (inr h) = inr (hashed-of s h)
 apart : (x y a c : List ℕ) → x ≡ a → y ≡ c → digest x ≡ digest y → digest a ≡ digest c
 apart x y a c e f h = ap digest (sym e) ∙ h ∙ ap digest f
 
-one-string : (x y : List ℕ) → IsOne x → IsOne y → digest x ≡ digest y → x ≡ y
+pub one-string : (x y : List ℕ) → IsOne x → IsOne y → digest x ≡ digest y → x ≡ y
 one-string x y (inl e) (inl f) h = e ∙ sym f
 one-string x y (inl e) (inr (inl f)) h = absurd (different (digest []) d empty-batch (apart x y [] (string_of p (Value_batch b)) e f h))
-one-string x y (inl e) (inr (inr f)) h = absurd (different (digest []) nil empty-nil (apart x y [] (string_of p Nil) e f h))
+one-string x y (inl e) (inr (inr f)) h = absurd (different (digest []) nil empty-nil (apart x y [] (string_of p Value_nil) e f h))
 one-string x y (inr (inl e)) (inl f) h = absurd (different (digest []) d empty-batch (sym (apart x y (string_of p (Value_batch b)) [] e f h)))
 one-string x y (inr (inl e)) (inr (inl f)) h = e ∙ sym f
-one-string x y (inr (inl e)) (inr (inr f)) h = absurd (different d nil batch-nil (apart x y (string_of p (Value_batch b)) (string_of p Nil) e f h))
-one-string x y (inr (inr e)) (inl f) h = absurd (different (digest []) nil empty-nil (sym (apart x y (string_of p Nil) [] e f h)))
-one-string x y (inr (inr e)) (inr (inl f)) h = absurd (different d nil batch-nil (sym (apart x y (string_of p Nil) (string_of p (Value_batch b)) e f h)))
+one-string x y (inr (inl e)) (inr (inr f)) h = absurd (different d nil batch-nil (apart x y (string_of p (Value_batch b)) (string_of p Value_nil) e f h))
+one-string x y (inr (inr e)) (inl f) h = absurd (different (digest []) nil empty-nil (sym (apart x y (string_of p Value_nil) [] e f h)))
+one-string x y (inr (inr e)) (inr (inl f)) h = absurd (different d nil batch-nil (sym (apart x y (string_of p Value_nil) (string_of p (Value_batch b)) e f h)))
 one-string x y (inr (inr e)) (inr (inr f)) h = e ∙ sym f
 
 separate : Separate (IsString last)
@@ -122,7 +122,6 @@ is-certificate : IsCertificate p last certificate
 is-certificate = record {
   good = refl;
   signed = λ c i. signed-all last (certificate_claims p certificate) (certificate-signed last (inr (inr (inl refl))) (inr (inr (inr (inr (inr (inr (inr (inr (inr (inl refl))))))))))) c i;
-  known = batch-known;
 }
 
 -- replica 2 left view 0 before it committed there
@@ -151,7 +150,7 @@ its-view : (v : ℕ) × IsDecidedView p last v 0 d
 its-view = decided-views p good last r17 1 0 (Value_batch b) refl delivers
 
 its-root : IsRooted p last 0 b
-its-root = roots p good last r17 separate certificate b is-certificate refl
+its-root = roots p good last r17 separate certificate b is-certificate batch-known refl
 
 its-broadcast : IsBroadcast pbft p last
 its-broadcast = pbft-safe p last good r17 separate

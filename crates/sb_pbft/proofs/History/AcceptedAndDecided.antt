@@ -7,7 +7,7 @@ use Rattle.iss_request.specs.declared.ids.NodeId.{NodeId}
 use Rattle.iss_request.specs.declared.ids.Slot.{Slot}
 use Rattle.iss_request.specs.declared.requests.Batch.{Batch}
 use Rattle.iss_request.specs.declared.requests.Value.{Value}
-use Rattle.iss_request.specs.declared.requests.Value.TheVariants.{Batch as Value_batch, Nil}
+use Rattle.iss_request.specs.declared.requests.Value.TheVariants.{Batch as Value_batch, Nil as Value_nil}
 use Rattle.iss_sb.specs.Calls.{has_slot}
 use Rattle.iss_sb.specs.declared.effects.Input.{Input}
 use Rattle.iss_sb.specs.declared.effects.Input.TheVariants.{Cast, Receive, Timeout}
@@ -60,7 +60,7 @@ pub offer-within : (p : Params) (me : ℕ) (m : Mode) (i : Input Message) (a : S
 offer-within p me m (Cast s b) a h =
     let w = cast-when p me m s b a h in
     subst (λ (z : Slot × Batch). has_slot z.0.0 p.slots ≡ true) w.is (open-slot p m s.0 (and-true (me == p.leader.0) (is_open p m s.0) w.test).1)
-offer-within p me m (Receive from (PrePrepare v s Nil sig)) a h = absurd (cc)
+offer-within p me m (Receive from (PrePrepare v s Value_nil sig)) a h = absurd (cc)
 offer-within p me m (Receive from (PrePrepare v s (Value_batch b) sig)) a h =
     let w = when-is {A = Slot × Batch} (word_test p me m from v s) (s, b) a h in
     let t = and-true (not (me == p.leader.0) && (from.0 == p.leader.0)) ((v == 0) && is_open p m s.0) w.test in

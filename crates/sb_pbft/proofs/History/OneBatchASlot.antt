@@ -10,8 +10,9 @@ use Rattle.iss_request.specs.declared.requests.Value.TheVariants.{Batch as Value
 use Rattle.iss_sb.specs.declared.effects.Params.{Params}
 use Rattle.iss_sb.specs.Calls.{IsGoodParams}
 use Rattle.iss_sb.specs.Evidence.{IsReached, Item, Made, World, accepts}
+use Rattle.iss_sb.specs.Laws.{AcceptsOnce}
 use Rattle.iss_sb.specs.Legal.{AreMade}
-use Rattle.iss_sb.proofs.Legal.{legal-reached}
+use Rattle.iss_sb.proofs.Legal.{legal-reached, once-made}
 use Rattle.iss_sb.proofs.Worlds.{accepts-cases}
 use Rattle.pbft_wire.specs.declared.messages.Message.{Message}
 use Rattle.sb_pbft.specs.Facts.{AreOnce}
@@ -21,17 +22,17 @@ use Rattle.sb_pbft.specs.Rules.{asked, chosen, mode, offer, offered, proposal, w
 use Rattle.sb_pbft.proofs.History.AcceptedAndDecided.{IsAsked, asked-is}
 use Rattle.sb_pbft.proofs.Basics.{is-same}
 
-abbrev RefinesOrShowsCore : Option Value → Type 0
-RefinesOrShowsCore o = (x : Value) × (o ≡ Some x)
+abbrev IsThere : Option Value → Type 0
+IsThere o = (x : Value) × (o ≡ Some x)
 
-first-there : (a b : Option Value) → RefinesOrShowsCore b → RefinesOrShowsCore (first_of a b)
+first-there : (a b : Option Value) → IsThere b → IsThere (first_of a b)
 first-there None b h = h
 first-there (Some x) b h = (x, refl)
 
-there-first : (a b : Option Value) → RefinesOrShowsCore a → RefinesOrShowsCore (first_of a b)
+there-first : (a b : Option Value) → IsThere a → IsThere (first_of a b)
 there-first a b h = (h.0, ap (λ (o : Option Value). first_of o b) h.1)
 
-offered-there : (s : Slot) (b : Batch) → RefinesOrShowsCore (offered (Some (s, b)) 0 s.0)
+offered-there : (s : Slot) (b : Batch) → IsThere (offered (Some (s, b)) 0 s.0)
 offered-there s b = (Value_batch b, ap (λ (t : Bool). when ((0 == 0) && t) (Value_batch b)) (is-same s.0 s.0 refl))
 
 asked-by : (p : Params) (me : ℕ) (y : Item Message) (l : List (Item Message)) (s : Slot) (b : Batch) →
@@ -40,14 +41,14 @@ asked-by p me y l s b m e = asked-is p me (inputs l) y.input (s, b) (sym (ap (λ
 
 -- an accepted batch is the proposal
 proposed : (p : Params) (me : ℕ) (l : List (Item Message)) → AreMade pbft p me l → (s : Slot) (b : Batch) →
-    In {A = Slot × Batch} (s, b) (accepts l) → RefinesOrShowsCore (proposal p me (inputs l) 0 s.0)
+    In {A = Slot × Batch} (s, b) (accepts l) → IsThere (proposal p me (inputs l) 0 s.0)
 proposed p me [] m s b i = absurd i
 proposed p me (y ∷ l) m s b i =
     first-there (chosen p (mode p (inputs l)) y.input 0 s.0) (first_of (proposal p me (inputs l) 0 s.0) (offered (offer p me (mode p (inputs l)) y.input) 0 s.0))
     (elim (accepts-cases y l (s, b) i) [
       | inl now ↦
           first-there (proposal p me (inputs l) 0 s.0) (offered (offer p me (mode p (inputs l)) y.input) 0 s.0)
-          (subst (λ (o : Option (Slot × Batch)). RefinesOrShowsCore (offered o 0 s.0)) (sym (asked-by p me y l s b m now).offered) (offered-there s b))
+          (subst (λ (o : Option (Slot × Batch)). IsThere (offered o 0 s.0)) (sym (asked-by p me y l s b m now).offered) (offered-there s b))
       | inr old ↦
           there-first (proposal p me (inputs l) 0 s.0) (offered (offer p me (mode p (inputs l)) y.input) 0 s.0) (proposed p me l m.1 s b old)
     ])
@@ -57,7 +58,7 @@ fresh : (p : Params) (me : ℕ) (y : Item Message) (l : List (Item Message)) (s 
     AreMade pbft p me (y ∷ l) → y.made.accepted ≡ Some (s, b) → In {A = Slot × Batch} (s, c) (accepts l) → ⊥
 fresh p me y l s b c m e i = none-there (proposal p me (inputs l) 0 s.0) (asked-by p me y l s b m e).fresh (proposed p me l m.1 s c i)
   where
-    none-there : (o : Option Value) → o ≡ None → RefinesOrShowsCore o → ⊥
+    none-there : (o : Option Value) → o ≡ None → IsThere o → ⊥
     none-there None h t = absurd (let wrong = t.1 in cc)
     none-there (Some x) h t = absurd (cc)
 
@@ -77,3 +78,6 @@ once p me (y ∷ l) m s b c h k = elim (accepts-cases y l (s, b) h) [
 
 pub accepted-once : (p : Params) (w : World Message) → IsGoodParams pbft p → IsReached pbft p w → AreOnce p w
 accepted-once p w good reached i s b c h k = once p i (w i) ((legal-reached pbft p w reached).made i) s b c h k
+
+pub pbft-accepts-once : AcceptsOnce pbft
+pbft-accepts-once = once-made pbft (λ p me xs good made. once p me xs made)

@@ -8,7 +8,7 @@ use Rattle.iss_request.specs.declared.ids.NodeId.{NodeId}
 use Rattle.iss_request.specs.declared.ids.Slot.{Slot}
 use Rattle.iss_request.specs.declared.requests.Batch.{Batch}
 use Rattle.iss_request.specs.declared.requests.Value.{Value}
-use Rattle.iss_request.specs.declared.requests.Value.TheVariants.{Batch as Value_batch, Nil}
+use Rattle.iss_request.specs.declared.requests.Value.TheVariants.{Batch as Value_batch, Nil as Value_nil}
 use Rattle.iss_sb.specs.Calls.{has_slot}
 use Rattle.iss_sb.specs.declared.effects.Input.{Input}
 use Rattle.iss_sb.specs.declared.effects.Input.TheVariants.{Cast, Receive, Timeout}
@@ -164,7 +164,7 @@ offer-is p me m (Cast s b) a h =
     let t = and-true (me == p.leader.0) (is_open p m s.0) w.test in
     let o = open-is p m s.0 t.1 in
     subst (λ (z : Slot × Batch). Offers p me m (Cast s b) z) w.is (record { view = o.0; active = o.1; within = o.2; cause = inl (record { leads = eqb-true me p.leader.0 t.0; input = refl }) })
-offer-is p me m (Receive from (PrePrepare v s Nil sig)) a h = absurd (cc)
+offer-is p me m (Receive from (PrePrepare v s Value_nil sig)) a h = absurd (cc)
 offer-is p me m (Receive from (PrePrepare v s (Value_batch b) sig)) a h =
     let w = when-is {A = Slot × Batch} ((not (me == p.leader.0) && (from.0 == p.leader.0)) && ((v == 0) && is_open p m s.0)) (s, b) a h in
     let t = and-true (not (me == p.leader.0) && (from.0 == p.leader.0)) ((v == 0) && is_open p m s.0) w.test in

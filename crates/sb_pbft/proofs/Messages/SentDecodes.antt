@@ -281,7 +281,7 @@ module _ (p : Params) (good : IsGoodParams pbft p) (me : ℕ) where
         let cs = tops (kept p me xs) p.slots in
         subst (λ (z : Draft). Fits leaf z) (sym e)
         (both _ _ (lt-ltb (m.view + 1) 65536 (omega (arith, low)))
-        (both _ _ (both _ _ (few-slots (length cs) (tops-length (kept p me xs) p.slots)) (tops-fit p.setup.version 0 (kept p me xs) p.slots good.rising (λ c k. kept-fits xs c f k))) (shape leaf (state_change p (m.view + 1) cs))))
+        (both _ _ (both _ _ (few-slots (length cs) (tops-length (kept p me xs) p.slots)) (tops-fit p.setup.version 0 (kept p me xs) p.slots good.ascending (λ c k. kept-fits xs c f k))) (shape leaf (state_change p (m.view + 1) cs))))
     rule-fits d (by_changes from v cs sig q b e) =
         let h : FitsInput p (Receive from (ViewChange v cs sig)) = subst (λ (z : Said). FitsInput p z) q g in
         let all = changes-fit p.setup.version 0 (change_of p (i ∷ inputs xs) v) 0 p.setup.n (omega arith) (λ j x k. change-fits p (i ∷ inputs xs) v j x (g, f) k) in

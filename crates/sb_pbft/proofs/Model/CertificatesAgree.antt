@@ -11,7 +11,7 @@ use Rattle.pbft_wire.specs.declared.messages.Message.{Message}
 use Rattle.pbft_views.specs.Choice.{best}
 use Rattle.sb_pbft.specs.Makes.{has, inputs, or_empty, proposal_sig, ready}
 use Rattle.sb_pbft.specs.Rules.{Ballot, commit_of, committed, committed_with, cons_vote, mode, prepare_of, prepared, prepared_with, proposal, voters, when}
-use Rattle.sb_pbft.specs.Turns.{bare, committed_at, is_of, model, only_if, placed, prepared_at, voted}
+use Rattle.sb_pbft.specs.Internal.Turns.{bare, committed_at, is_of, model, only_if, placed, prepared_at, voted}
 use Rattle.sb_pbft.specs.declared.proposals.Proposal.{Proposal}
 use Rattle.sb_pbft.proofs.ViewChange.HighestCertificates.{AreLow, has-top}
 

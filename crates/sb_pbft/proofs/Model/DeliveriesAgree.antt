@@ -14,7 +14,7 @@ use Rattle.pbft_wire.specs.declared.messages.Message.{Message}
 use Rattle.sb_pbft.specs.Makes.{inputs, or_empty, proposal_sig}
 use Rattle.sb_pbft.specs.Pbft.{pbft}
 use Rattle.sb_pbft.specs.Rules.{committed}
-use Rattle.sb_pbft.specs.Turns.{Held, deliveries, delivery, model, newly_at, placed, settled_all}
+use Rattle.sb_pbft.specs.Internal.Turns.{Held, deliveries, delivery, model, newly_at, placed, settled_all}
 use Rattle.sb_pbft.specs.declared.proposals.Proposal.{Proposal}
 use Rattle.sb_pbft.proofs.Model.DeliveredInOneView.{newly-delivered, nothing-delivered}
 use Rattle.sb_pbft.proofs.Model.SlotsAreIndependent.{deliveries-each, deliveries_each}
@@ -92,9 +92,9 @@ module _ (p : Params) (me : ℕ) (x : Item Message) (xs : List (Item Message)) w
 
   pub delivers-is : (v : ℕ) (ss : List Slot) → Touches p me x xs v ss →
       Delivers pbft p me xs (x ∷ xs) (deliveries p (mid p me x xs) v ss)
-  delivers-is v ss touches = subst (λ (z : List Delivery). Delivers pbft p me xs (x ∷ xs) z) (sym (deliveries-each p (mid p me x xs) v 0 ss touches.rising)) (record {
+  delivers-is v ss touches = subst (λ (z : List Delivery). Delivers pbft p me xs (x ∷ xs) z) (sym (deliveries-each p (mid p me x xs) v 0 ss touches.ascending)) (record {
     exactly = λ s y. (λ i. to s y i, λ k. back s y k.0 k.1 (where-is s.0 ss));
-    ascending = each-ascends p (mid p me x xs) v 0 ss touches.rising;
+    ascending = each-ascends p (mid p me x xs) v 0 ss touches.ascending;
   })
     where
       to : (s : Slot) (y : Value) → In {A = Delivery} (s, y) (deliveries_each p (mid p me x xs) v ss) →
@@ -124,7 +124,7 @@ module _ (p : Params) (me : ℕ) (x : Item Message) (xs : List (Item Message)) w
   pub settles : (v : ℕ) (ss : List Slot) (h : Held) → AreAscending 0 p.slots → Touches p me x xs v ss →
       h ≡ mid p me x xs →
       (settled_all p h v ss ≡ model p me (x ∷ xs)) × Delivers pbft p me xs (x ∷ xs) (deliveries p h v ss)
-  settles v ss h rising t e = (
-    ap (λ (z : Held). settled_all p z v ss) e ∙ held-is p me x xs v ss rising t,
+  settles v ss h ascending t e = (
+    ap (λ (z : Held). settled_all p z v ss) e ∙ held-is p me x xs v ss ascending t,
     subst (λ (z : Held). Delivers pbft p me xs (x ∷ xs) (deliveries p z v ss)) (sym e) (delivers-is v ss t),
   )

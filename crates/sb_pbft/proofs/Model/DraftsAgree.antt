@@ -9,7 +9,7 @@ use Rattle.iss_sb.specs.declared.effects.Params.{Params}
 use Rattle.pbft_wire.specs.declared.messages.Message.{Message}
 use Rattle.sb_pbft.specs.Makes.{Draft, answer, by_slot, commit_draft, inputs, kept, proposal_sig, ready}
 use Rattle.sb_pbft.specs.Rules.{mode}
-use Rattle.sb_pbft.specs.Turns.{commits_to, drafts_all, placed, prepares_to, ready_at}
+use Rattle.sb_pbft.specs.Internal.Turns.{commits_to, drafts_all, placed, prepares_to, ready_at}
 use Rattle.sb_pbft.proofs.Model.SlotsAreIndependent.{drafts-each, drafts_each}
 use Rattle.sb_pbft.proofs.Model.SettledAgrees.{mid, ready-mid}
 use Rattle.sb_pbft.proofs.ViewChange.HighestCertificates.{above, nothing-left}
@@ -50,7 +50,7 @@ module _ (p : Params) (me : ℕ) (x : Item Message) (xs : List (Item Message)) w
   pub all-said : (answers : Bool) (v from : ℕ) (ss : List Slot) → AreAscending from ss →
       ((t : Slot) → In t ss → cond answers (prepares_to v t ((mid p me x xs).proposal v t.0)) [] ≡ answer p me (mode p (inputs xs)) x.input t) →
       drafts_all p (mid p me x xs) answers v ss ≡ by_slot p me xs x.input ss
-  all-said answers v from ss rising same = drafts-each p (mid p me x xs) answers v from ss rising ∙ each-said answers v ss same
+  all-said answers v from ss ascending same = drafts-each p (mid p me x xs) answers v from ss ascending ∙ each-said answers v ss same
 
   -- ---- at one of them, if the replica does not answer
 
@@ -65,23 +65,23 @@ module _ (p : Params) (me : ℕ) (x : Item Message) (xs : List (Item Message)) w
   one-said : (from : ℕ) (ss : List Slot) (t : Slot) → AreAscending from ss → In t ss →
       ((u : Slot) → In u ss → answer p me (mode p (inputs xs)) x.input u ≡ []) →
       ((u : Slot) → In u ss → u.0 ≢ t.0 → is-ready u ≡ None) → by_slot p me xs x.input ss ≡ committing t
-  one-said from [] t rising i silent quiet = absurd i
-  one-said from (u ∷ us) t rising (inl e) silent quiet =
+  one-said from [] t ascending i silent quiet = absurd i
+  one-said from (u ∷ us) t ascending (inl e) silent quiet =
       ap (λ (z : List Draft). z ++ (committing u ++ by_slot p me xs x.input us)) (silent u (inl refl)) ∙
       (ap (λ (z : List Draft). committing u ++ z) (none-said us (λ w i. silent w (inr i)) (λ w i. quiet w (inr i) (off w i))) ∙
       (append-nil (committing u) ∙ ap committing (sym e)))
     where
       off : (w : Slot) → In w us → w.0 ≢ t.0
-      off w i q = let l = above (suc u.0) us w rising.1 i in let k = ap (λ (z : Slot). z.0) e in absurd (omega (arith, l, q, k))
-  one-said from (u ∷ us) t rising (inr i) silent quiet =
+      off w i q = let l = above (suc u.0) us w ascending.1 i in let k = ap (λ (z : Slot). z.0) e in absurd (omega (arith, l, q, k))
+  one-said from (u ∷ us) t ascending (inr i) silent quiet =
       ap (λ (z : List Draft). z ++ (committing u ++ by_slot p me xs x.input us)) (silent u (inl refl)) ∙
       (ap (λ (o : Option Value). commit_draft p (mode p (inputs (x ∷ xs))).view u o ++ by_slot p me xs x.input us) (quiet u (inl refl) off) ∙
-      one-said (suc u.0) us t rising.1 i (λ w j. silent w (inr j)) (λ w j. quiet w (inr j)))
+      one-said (suc u.0) us t ascending.1 i (λ w j. silent w (inr j)) (λ w j. quiet w (inr j)))
     where
       off : u.0 ≢ t.0
-      off q = let l = above (suc u.0) us t rising.1 i in absurd (omega (arith, l, q))
+      off q = let l = above (suc u.0) us t ascending.1 i in absurd (omega (arith, l, q))
 
   pub slot-said : (v : ℕ) (t : Slot) → AreAscending 0 p.slots → In t p.slots →
       ((u : Slot) → In u p.slots → answer p me (mode p (inputs xs)) x.input u ≡ []) →
       ((u : Slot) → In u p.slots → u.0 ≢ t.0 → is-ready u ≡ None) → drafts_all p (mid p me x xs) false v (t ∷ []) ≡ by_slot p me xs x.input p.slots
-  slot-said v t rising i silent quiet = append-nil (commits_to (mode p (inputs (x ∷ xs))).view t (ready_at p (mid p me x xs) t.0)) ∙ (commit-same t ∙ sym (one-said 0 p.slots t rising i silent quiet))
+  slot-said v t ascending i silent quiet = append-nil (commits_to (mode p (inputs (x ∷ xs))).view t (ready_at p (mid p me x xs) t.0)) ∙ (commit-same t ∙ sym (one-said 0 p.slots t ascending i silent quiet))

@@ -20,7 +20,7 @@ use Rattle.pbft_views.specs.Good.{primary}
 use Rattle.sb_pbft.specs.Makes.{Draft, DraftPrepare, DraftViewChange, answer, by_slot, choice_strings, inputs, kept, lead, proposal_sig, ready, sig_for, strings, tops, value_strings}
 use Rattle.sb_pbft.specs.Pbft.{pbft}
 use Rattle.sb_pbft.specs.Rules.{Ballot, asked, change_of, commit_of, enters, is_at, mode, passes, prepare_of, proposal, when}
-use Rattle.sb_pbft.specs.Turns.{TurnsTo, bare, idle, model, placed}
+use Rattle.sb_pbft.specs.Internal.Turns.{TurnsTo, bare, idle, model, placed}
 use Rattle.sb_pbft.proofs.Model.DraftsAgree.{none-said}
 use Rattle.sb_pbft.proofs.Model.DeliveriesAgree.{delivers-is}
 use Rattle.sb_pbft.proofs.Model.SettledAgrees.{Touches, held-is, mid}
@@ -44,10 +44,10 @@ module _ (p : Params) (me leaf : ℕ) (xs : List (Item Message)) where
     pub hashes : strings p me (inputs xs) i ≡ []
     pub unasked : asked p me (inputs xs) i ≡ None
 
-  module _ (rising : AreAscending 0 p.slots) where
+  module _ (ascending : AreAscending 0 p.slots) where
     pub still-turns : (i : Said) → ChangesNothing i → TurnsTo p me xs i leaf (idle (model p me xs))
     still-turns i c = record {
-      held = same ∙ held-is p me (item i) xs 0 [] rising touches;
+      held = same ∙ held-is p me (item i) xs 0 [] ascending touches;
       drafts = sym (ap (λ (z : List Draft). z ++ by_slot p me xs i p.slots) c.leads ∙ none-said p me (item i) xs p.slots (λ t j. c.silent t) quiet);
       strings = sym c.hashes;
       accepted = sym c.unasked;

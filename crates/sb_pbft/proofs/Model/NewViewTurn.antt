@@ -22,7 +22,7 @@ use Rattle.pbft_views.specs.Choice.{certificates_of, choice}
 use Rattle.pbft_views.specs.Good.{primary}
 use Rattle.sb_pbft.specs.Makes.{DraftPrepare, answer, choice_strings, inputs, proposal_sig, sig_for, value_strings}
 use Rattle.sb_pbft.specs.Rules.{Mode, change_of, commit_of, committed, enters, mode, prepare_of, proposal, when}
-use Rattle.sb_pbft.specs.Turns.{Held, TurnsTo, bare, begins, drafts_all, entered, model, placed, prepares_to}
+use Rattle.sb_pbft.specs.Internal.Turns.{Held, TurnsTo, bare, begins, drafts_all, entered, model, placed, prepares_to}
 use Rattle.sb_pbft.proofs.Model.DraftsAgree.{all-said}
 use Rattle.sb_pbft.proofs.Basics.{In-has, none-from}
 use Rattle.sb_pbft.proofs.Model.DeliveriesAgree.{settles}
@@ -34,7 +34,7 @@ use Rattle.sb_pbft.proofs.Model.VotesTouchOneSlot.{committed-same, prepared-same
 use Rattle.sb_pbft.proofs.History.ViewsGrow.{Said, not-newer, proposed-choice, seen}
 use Rattle.sb_pbft.proofs.History.ViewsGrow as views
 
-module _ (p : Params) (me leaf : ℕ) (xs : List (Item Message)) (rising : AreAscending 0 p.slots) (from : NodeId) (v : ℕ) (vs : List Change) (sigs : List (List ℕ)) (sig : List ℕ)
+module _ (p : Params) (me leaf : ℕ) (xs : List (Item Message)) (ascending : AreAscending 0 p.slots) (from : NodeId) (v : ℕ) (vs : List Change) (sigs : List (List ℕ)) (sig : List ℕ)
     (yes : enters p (mode p (inputs xs)) from.0 v vs sigs ≡ true) where
   abbrev said : Said
   said = Receive from (NewView v vs sigs sig)
@@ -100,7 +100,7 @@ module _ (p : Params) (me leaf : ℕ) (xs : List (Item Message)) (rising : AreAs
   touches : Touches p me new xs v p.slots
   touches = record {
     within = λ t j. j;
-    rising = rising;
+    ascending = ascending;
     quiet = λ t j off. absurd (off t j refl);
     still = λ s off w. committed-apart w s (and_right (w == v) (has_slot s p.slots) (outside s off));
     one = λ t j w off. committed-apart w t.0 (and_left (w == v) (has_slot t.0 p.slots) (ne_eqb w v off));
@@ -120,10 +120,10 @@ module _ (p : Params) (me leaf : ℕ) (xs : List (Item Message)) (rising : AreAs
 
   pub new-view-turns : TurnsTo p me xs said leaf (begins p me (model p me xs) v vs sigs)
   new-view-turns =
-      let s = settles p me new xs v p.slots (entered p (model p me xs) v vs sigs) rising touches with-view in
+      let s = settles p me new xs v p.slots (entered p (model p me xs) v vs sigs) ascending touches with-view in
       record {
         held = s.0;
-        drafts = ap (λ (z : Held). drafts_all p z answers v p.slots) with-view ∙ all-said p me new xs answers v 0 p.slots rising answered;
+        drafts = ap (λ (z : Held). drafts_all p z answers v p.slots) with-view ∙ all-said p me new xs answers v 0 p.slots ascending answered;
         strings = sym (ap (λ (b : Bool). cond b (value_strings p (certificates_of vs) ++ choice_strings p vs p.slots) []) yes);
         accepted = refl;
         delivers = s.1;

@@ -20,7 +20,7 @@ use Rattle.pbft_wire.specs.declared.messages.Message.{Message}
 use Rattle.pbft_wire.specs.declared.messages.Message.TheVariants.{PrePrepare}
 use Rattle.sb_pbft.specs.Makes.{Draft, answer, asked_strings, by_slot, chosen_sig, first_draft, first_sig, inputs, kept, lead, offered_sig, proposal_sig, strings}
 use Rattle.sb_pbft.specs.Rules.{Mode, asked, asked_of, change_in, change_of, chosen, commit_in, commit_of, committed, mode, mode_after, offer, offered, prepare_in, prepare_of, prepared, proposal, unless, when}
-use Rattle.sb_pbft.specs.Turns.{Held, TurnsTo, accepts_of, and_said, asked_at, at_slots, bare, drafts_all, first_proposal, free, model, placed, with_proposal}
+use Rattle.sb_pbft.specs.Internal.Turns.{Held, TurnsTo, accepts_of, and_said, asked_at, at_slots, bare, drafts_all, first_proposal, free, model, placed, with_proposal}
 use Rattle.sb_pbft.specs.declared.proposals.Proposal.{Proposal}
 use Rattle.sb_pbft.proofs.Model.DraftsAgree.{calm, slot-said}
 use Rattle.sb_pbft.proofs.History.AcceptedAndDecided.{IsAsked, asked-is, offer-within}
@@ -86,7 +86,7 @@ module _ (p : Params) (me leaf : ℕ) (xs : List (Item Message)) where
       go None = refl
       go (Some y) = refl
 
-  module _ (rising : AreAscending 0 p.slots) (i : Said) (alone : OffersAlone i) where
+  module _ (ascending : AreAscending 0 p.slots) (i : Said) (alone : OffersAlone i) where
     proposal-on : (v s : ℕ) → proposal p me (i ∷ inputs xs) v s ≡ first_of (proposal p me (inputs xs) v s) (offered (offer p me (mode p (inputs xs)) i) v s)
     proposal-on v s = first-none (chosen p (mode p (inputs xs)) i v s) _ (alone.chooses (mode p (inputs xs)) v s)
 
@@ -196,7 +196,7 @@ module _ (p : Params) (me leaf : ℕ) (xs : List (Item Message)) where
       touches : Touches p me (item p me leaf xs i) xs 0 (a.0 ∷ [])
       touches = record {
         within = in-slots p a.0 within;
-        rising = (omega arith, tt);
+        ascending = (omega arith, tt);
         quiet = λ t j off. ready-same p me i (inputs xs) (kept p me xs) t.0 (alone.stays (mode p (inputs xs)))
             (prepared-apart (mode p (inputs xs)).view t.0 (inr (at-slot p a.0 t.0 off))) ∙ calm p me xs t j;
         still = λ s off w. committed-apart w s (inr (at-slot p a.0 s off));
@@ -231,13 +231,13 @@ module _ (p : Params) (me leaf : ℕ) (xs : List (Item Message)) where
 
       accepted-turns : TurnsTo p me xs i leaf (and_said p me a (at_slots p (with_proposal (model p me xs) 0 a.0.0 first) false 0 (a.0 ∷ [])))
       accepted-turns =
-          let s = settles p me (item p me leaf xs i) xs 0 (a.0 ∷ []) (with_proposal (model p me xs) 0 a.0.0 first) rising touches with-first in
+          let s = settles p me (item p me leaf xs i) xs 0 (a.0 ∷ []) (with_proposal (model p me xs) 0 a.0.0 first) ascending touches with-first in
           record {
             held = s.0;
             drafts =
                 ap (λ (z : Held). first_draft p me (Some a) ++ drafts_all p z false 0 (a.0 ∷ [])) with-first ∙
                 (ap (λ (z : List Draft). first_draft p me (Some a) ++ z)
-                (slot-said p me (item p me leaf xs i) xs 0 a.0 rising (has_slot-In a.0 p.slots within) (λ u j. alone.silent (mode p (inputs xs)) u) (λ u j off. touches.quiet u j (not-other a.0 u off))) ∙
+                (slot-said p me (item p me leaf xs i) xs 0 a.0 ascending (has_slot-In a.0 p.slots within) (λ u j. alone.silent (mode p (inputs xs)) u) (λ u j off. touches.quiet u j (not-other a.0 u off))) ∙
                 ap (λ (z : List Draft). z ++ by_slot p me xs i p.slots) (ap (first_draft p me) (sym h) ∙ sym alone.leads));
             strings = ap (asked_strings p) (sym h) ∙ sym alone.hashes;
             accepted = sym h;
@@ -251,5 +251,5 @@ module _ (p : Params) (me leaf : ℕ) (xs : List (Item Message)) where
       where
         go : (o : Option (Slot × Batch)) → ◌≡◌ {A = Option (Slot × Batch)} (asked p me (inputs xs) i) o →
             TurnsTo p me xs i leaf (accepts_of p me leaf (model p me xs) i o)
-        go None h = still-turns p me leaf xs rising i (nothing-offered h)
+        go None h = still-turns p me leaf xs ascending i (nothing-offered h)
         go (Some a) h = accepted-turns a h

@@ -15,7 +15,7 @@ use Rattle.pbft_views.specs.Choice.{best}
 use Rattle.sb_pbft.specs.Makes.{inputs, kept, proposal_sig, ready}
 use Rattle.sb_pbft.specs.Pbft.{pbft}
 use Rattle.sb_pbft.specs.Rules.{committed, mode}
-use Rattle.sb_pbft.specs.Turns.{Held, certificate_of, committed_at, model, placed, ready_at, settled, settled_all}
+use Rattle.sb_pbft.specs.Internal.Turns.{Held, certificate_of, committed_at, model, placed, ready_at, settled, settled_all}
 use Rattle.sb_pbft.specs.declared.proposals.Proposal.{Proposal}
 use Rattle.sb_pbft.proofs.Model.CertificatesAgree.{committed-model, ready-model}
 use Rattle.sb_pbft.proofs.Model.DeliveredInOneView.{newly-delivered, nothing-delivered}
@@ -46,7 +46,7 @@ module _ (p : Params) (me : ℕ) (x : Item Message) (xs : List (Item Message)) w
   -- what the input touches: these slots, in this view
   pub record Touches (v : ℕ) (ss : List Slot) : Type 0 where
     pub within : (t : Slot) → In t ss → In t p.slots
-    pub rising : AreAscending 0 ss
+    pub ascending : AreAscending 0 ss
     pub quiet : (t : Slot) → In t p.slots → NotAt t.0 ss → ready p me (inputs (x ∷ xs)) (kept p me xs) t.0 ≡ None
     pub still : (s : ℕ) → NotAt s ss → (w : ℕ) → committed p me (inputs (x ∷ xs)) w s ≡ committed p me (inputs xs) w s
     pub one : (t : Slot) → In t ss → (w : ℕ) → w ≢ v →
@@ -75,14 +75,14 @@ module _ (p : Params) (me : ℕ) (x : Item Message) (xs : List (Item Message)) w
   or-first None None q = refl
   or-first None (Some y) q = refl
 
-  module _ (v : ℕ) (ss : List Slot) (rising : AreAscending 0 p.slots) (touches : Touches v ss) where
+  module _ (v : ℕ) (ss : List Slot) (ascending : AreAscending 0 p.slots) (touches : Touches v ss) where
     top-kept : (t : Slot) → In t p.slots → best t.0 (kept p me (x ∷ xs)) ≡ first_of (made p me (x ∷ xs) t (ready p me (inputs (x ∷ xs)) (kept p me xs) t.0)) (best t.0 (kept p me xs))
-    top-kept t i = certified-at p me (x ∷ xs) (kept p me xs) 0 p.slots t (kept p me xs) rising i low
+    top-kept t i = certified-at p me (x ∷ xs) (kept p me xs) 0 p.slots t (kept p me xs) ascending i low
 
     top-is : (s : ℕ) → (settled_all p mid v ss).top s ≡ best s (kept p me (x ∷ xs))
     top-is s = elim (where-is s ss) [
       | inl r ↦ subst (λ (z : ℕ). (settled_all p mid v ss).top z ≡ best z (kept p me (x ∷ xs))) r.2
-          (top-inside p mid v 0 ss r.0 touches.rising r.1 ∙
+          (top-inside p mid v 0 ss r.0 touches.ascending r.1 ∙
           (ap (λ (o : Option Certificate). first_of o (best r.0.0 (kept p me xs))) (certificate-mid r.0) ∙ sym (top-kept r.0 (touches.within r.0 r.1))))
       | inr off ↦ top-outside p mid v ss s off ∙ past s off (where-is s p.slots)
     ]
@@ -97,7 +97,7 @@ module _ (p : Params) (me : ℕ) (x : Item Message) (xs : List (Item Message)) w
     done-is : (s : ℕ) → (settled_all p mid v ss).done s ≡ is_some (delivered pbft p me (x ∷ xs) s)
     done-is s = elim (where-is s ss) [
       | inl r ↦ subst (λ (z : ℕ). (settled_all p mid v ss).done z ≡ is_some (delivered pbft p me (x ∷ xs) z)) r.2
-          (done-inside p mid v 0 ss r.0 touches.rising r.1 ∙
+          (done-inside p mid v 0 ss r.0 touches.ascending r.1 ∙
           (ap (λ (o : Option Proposal). is_some (delivered pbft p me xs r.0.0) || is_some (cond (is_some (delivered pbft p me xs r.0.0)) None o)) (committed-mid v r.0.0) ∙
           (or-first (delivered pbft p me xs r.0.0) (committed p me (inputs (x ∷ xs)) v r.0.0) (proposal_sig p me (x ∷ xs) v r.0.0) ∙
           ap is_some (sym (newly-delivered p me x xs v r.0.0 (touches.one r.0 r.1))))))

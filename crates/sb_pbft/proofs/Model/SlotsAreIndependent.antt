@@ -9,7 +9,7 @@ use Rattle.iss_request.specs.declared.requests.Value.{Value}
 use Rattle.iss_sb.specs.declared.effects.Params.{Params}
 use Rattle.pbft_wire.specs.declared.messages.Certificate.{Certificate}
 use Rattle.sb_pbft.specs.Makes.{Draft}
-use Rattle.sb_pbft.specs.Turns.{Held, certificate_of, commits_to, committed_at, deliveries, delivery, drafts_all, drafts_at, is_of, newly_at, prepared_at, prepares_to, ready_at, settled, settled_all}
+use Rattle.sb_pbft.specs.Internal.Turns.{Held, certificate_of, commits_to, committed_at, deliveries, delivery, drafts_all, drafts_at, is_of, newly_at, prepared_at, prepares_to, ready_at, settled, settled_all}
 use Rattle.sb_pbft.specs.declared.proposals.Proposal.{Proposal}
 use Rattle.sb_pbft.proofs.ViewChange.HighestCertificates.{NotAt, above}
 

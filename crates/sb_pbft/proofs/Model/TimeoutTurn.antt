@@ -11,7 +11,7 @@ use Rattle.pbft_wire.specs.declared.messages.Message.{Message}
 use Rattle.sb_pbft.specs.Makes.{Draft, DraftViewChange, has, inputs, kept, proposal_sig, ready, tops}
 use Rattle.sb_pbft.specs.Pbft.{pbft}
 use Rattle.sb_pbft.specs.Rules.{Mode, change_of, commit_of, cons_some, mode, passes, prepare_of, prepared, proposal}
-use Rattle.sb_pbft.specs.Turns.{TurnsTo, bare, gives_up, model, placed, tops_of}
+use Rattle.sb_pbft.specs.Internal.Turns.{TurnsTo, bare, gives_up, model, placed, tops_of}
 use Rattle.sb_pbft.proofs.Model.DraftsAgree.{none-said}
 use Rattle.sb_pbft.proofs.Model.DeliveriesAgree.{delivers-is}
 use Rattle.sb_pbft.proofs.Model.SettledAgrees.{Touches, held-is, mid}
@@ -23,7 +23,7 @@ pub tops-same : (p : Params) (me : ℕ) (xs : List (Item Message)) (ss : List Sl
 tops-same p me xs [] = refl
 tops-same p me xs (s ∷ ss) = ap (λ (z : List Certificate). cons_some ((model p me xs).top s.0) z) (tops-same p me xs ss)
 
-module _ (p : Params) (me leaf : ℕ) (xs : List (Item Message)) (rising : AreAscending 0 p.slots) (may : passes (mode p (inputs xs)) ≡ true) where
+module _ (p : Params) (me leaf : ℕ) (xs : List (Item Message)) (ascending : AreAscending 0 p.slots) (may : passes (mode p (inputs xs)) ≡ true) where
   abbrev next : Mode
   next = record { view = (mode p (inputs xs)).view + 1; active = false }
 
@@ -58,7 +58,7 @@ module _ (p : Params) (me leaf : ℕ) (xs : List (Item Message)) (rising : AreAs
 
   pub timeout-turns : TurnsTo p me xs Timeout leaf (gives_up p (model p me xs))
   timeout-turns = record {
-    held = given-up ∙ held-is p me item xs 0 [] rising touches;
+    held = given-up ∙ held-is p me item xs 0 [] ascending touches;
     drafts =
         ap (λ (z : List Certificate). DraftViewChange ((mode p (inputs xs)).view + 1) z ∷ []) (tops-same p me xs p.slots) ∙
         (sym (ap (λ (b : Bool). cond b (DraftViewChange ((mode p (inputs xs)).view + 1) (tops (kept p me xs) p.slots) ∷ []) []) may) ∙

@@ -14,7 +14,7 @@ use Rattle.pbft_views.specs.Good.{primary}
 use Rattle.sb_pbft.specs.Makes.{inputs}
 use Rattle.sb_pbft.specs.Pbft.{pbft}
 use Rattle.sb_pbft.specs.Rules.{enters, mode, passes}
-use Rattle.sb_pbft.specs.Turns.{Turn, TurnsTo, and_commit, and_prepare, at_slots, begins, gives_up, idle, model, turn}
+use Rattle.sb_pbft.specs.Internal.Turns.{Turn, TurnsTo, and_commit, and_prepare, at_slots, begins, gives_up, idle, model, turn}
 use Rattle.sb_pbft.proofs.Model.ViewChangeTurn.{change-turns}
 use Rattle.sb_pbft.proofs.Model.NewViewTurn.{new-view-turns}
 use Rattle.sb_pbft.proofs.Model.ProposalTurn.{cast-offers, offer-turns, told-offers}
@@ -24,26 +24,26 @@ use Rattle.sb_pbft.proofs.Model.VoteTurn.{commit-turns, prepare-turns}
 
 pub turn-is : (p : Params) (me : ℕ) (xs : List (Item Message)) (i : Input Message) (leaf : ℕ) → IsGoodParams pbft p →
     TurnsTo p me xs i leaf (turn p me leaf (model p me xs) i)
-turn-is p me xs (Cast slot batch) leaf good = offer-turns p me leaf xs good.rising (Cast slot batch) (cast-offers p me leaf xs slot batch)
+turn-is p me xs (Cast slot batch) leaf good = offer-turns p me leaf xs good.ascending (Cast slot batch) (cast-offers p me leaf xs slot batch)
 turn-is p me xs (Receive from (PrePrepare v slot x sig)) leaf good =
-    offer-turns p me leaf xs good.rising (Receive from (PrePrepare v slot x sig)) (told-offers p me leaf xs from v slot x sig)
+    offer-turns p me leaf xs good.ascending (Receive from (PrePrepare v slot x sig)) (told-offers p me leaf xs from v slot x sig)
 turn-is p me xs (Receive from (Prepare v slot d sig)) leaf good =
     let i : Input Message = Receive from (Prepare v slot d sig) in
     cond_both {A = Turn} (has_slot slot.0 p.slots && not (from.0 == primary p v)) (at_slots p (and_prepare p (model p me xs) i) false v (slot ∷ [])) (idle (model p me xs)) (λ t. TurnsTo p me xs i leaf t)
-    (λ h. prepare-turns p me from v slot d sig leaf xs good.rising (and-true (has_slot slot.0 p.slots) (not (from.0 == primary p v)) h).0)
-    (λ h. still-turns p me leaf xs good.rising i (prepare-nothing p me leaf xs from v slot d sig h))
+    (λ h. prepare-turns p me from v slot d sig leaf xs good.ascending (and-true (has_slot slot.0 p.slots) (not (from.0 == primary p v)) h).0)
+    (λ h. still-turns p me leaf xs good.ascending i (prepare-nothing p me leaf xs from v slot d sig h))
 turn-is p me xs (Receive from (Commit v slot d sig)) leaf good =
     let i : Input Message = Receive from (Commit v slot d sig) in
     cond_both {A = Turn} (has_slot slot.0 p.slots) (at_slots p (and_commit p (model p me xs) i) false v (slot ∷ [])) (idle (model p me xs)) (λ t. TurnsTo p me xs i leaf t)
-    (λ h. commit-turns p me from v slot d sig leaf xs good.rising h)
-    (λ h. still-turns p me leaf xs good.rising i (commit-nothing p me leaf xs from v slot d sig h))
-turn-is p me xs (Receive from (ViewChange v cs sig)) leaf good = change-turns p me from v cs sig leaf xs good.rising
+    (λ h. commit-turns p me from v slot d sig leaf xs good.ascending h)
+    (λ h. still-turns p me leaf xs good.ascending i (commit-nothing p me leaf xs from v slot d sig h))
+turn-is p me xs (Receive from (ViewChange v cs sig)) leaf good = change-turns p me from v cs sig leaf xs good.ascending
 turn-is p me xs (Receive from (NewView v vs sigs sig)) leaf good =
     let i : Input Message = Receive from (NewView v vs sigs sig) in
     cond_both {A = Turn} (enters p (mode p (inputs xs)) from.0 v vs sigs) (begins p me (model p me xs) v vs sigs) (idle (model p me xs)) (λ t. TurnsTo p me xs i leaf t)
-    (λ h. new-view-turns p me leaf xs good.rising from v vs sigs sig h)
-    (λ h. still-turns p me leaf xs good.rising i (new-view-nothing p me leaf xs from v vs sigs sig h))
+    (λ h. new-view-turns p me leaf xs good.ascending from v vs sigs sig h)
+    (λ h. still-turns p me leaf xs good.ascending i (new-view-nothing p me leaf xs from v vs sigs sig h))
 turn-is p me xs Timeout leaf good =
     cond_both {A = Turn} (passes (mode p (inputs xs))) (gives_up p (model p me xs)) (idle (model p me xs)) (λ t. TurnsTo p me xs Timeout leaf t)
-    (λ h. timeout-turns p me leaf xs good.rising h)
-    (λ h. still-turns p me leaf xs good.rising Timeout (timeout-nothing p me leaf xs h))
+    (λ h. timeout-turns p me leaf xs good.ascending h)
+    (λ h. still-turns p me leaf xs good.ascending Timeout (timeout-nothing p me leaf xs h))

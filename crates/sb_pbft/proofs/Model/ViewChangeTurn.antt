@@ -14,14 +14,14 @@ use Rattle.pbft_wire.specs.declared.messages.Message.TheVariants.{ViewChange}
 use Rattle.sb_pbft.specs.Makes.{Draft, DraftNewView, inputs, kept, proposal_sig, ready}
 use Rattle.sb_pbft.specs.Pbft.{pbft}
 use Rattle.sb_pbft.specs.Rules.{change_in, change_of, changes, commit_of, completes, prepare_of, proposal}
-use Rattle.sb_pbft.specs.Turns.{TurnsTo, and_change, bare, changed, model, placed}
+use Rattle.sb_pbft.specs.Internal.Turns.{TurnsTo, and_change, bare, changed, model, placed}
 use Rattle.sb_pbft.proofs.Model.DraftsAgree.{none-said}
 use Rattle.sb_pbft.proofs.Model.DeliveriesAgree.{delivers-is}
 use Rattle.sb_pbft.proofs.Model.SettledAgrees.{Touches, held-is, mid}
 use Rattle.sb_pbft.proofs.Model.VotesTouchOneSlot.{BringsNone, quiet-still, touches-none}
 use Rattle.sb_pbft.proofs.History.ViewsGrow.{Said}
 
-module _ (p : Params) (me : ℕ) (from : NodeId) (v : ℕ) (cs : List Certificate) (sig : List ℕ) (leaf : ℕ) (xs : List (Item Message)) (rising : AreAscending 0 p.slots) where
+module _ (p : Params) (me : ℕ) (from : NodeId) (v : ℕ) (cs : List Certificate) (sig : List ℕ) (leaf : ℕ) (xs : List (Item Message)) (ascending : AreAscending 0 p.slots) where
   abbrev said : Said
   said = Receive from (ViewChange v cs sig)
 
@@ -54,7 +54,7 @@ module _ (p : Params) (me : ℕ) (from : NodeId) (v : ℕ) (cs : List Certificat
 
   pub change-turns : TurnsTo p me xs said leaf (changed p me (model p me xs) (and_change p (model p me xs) said) from v cs)
   change-turns = record {
-    held = with-change ∙ held-is p me item xs 0 [] rising touches;
+    held = with-change ∙ held-is p me item xs 0 [] ascending touches;
     drafts = sym (append-nil starts) ∙ ap (λ (z : List Draft). starts ++ z) (sym (none-said p me item xs p.slots (λ t i. refl) quiet));
     strings = refl;
     accepted = refl;

@@ -15,7 +15,7 @@ use Rattle.pbft_wire.specs.declared.messages.Message.TheVariants.{Commit, Prepar
 use Rattle.sb_pbft.specs.Makes.{inputs, proposal_sig}
 use Rattle.sb_pbft.specs.Pbft.{pbft}
 use Rattle.sb_pbft.specs.Rules.{Ballot, change_of, commit_in, commit_of, prepare_in, prepare_of, proposal}
-use Rattle.sb_pbft.specs.Turns.{Held, TurnsTo, and_commit, and_prepare, at_slots, bare, drafts_all, model, placed}
+use Rattle.sb_pbft.specs.Internal.Turns.{Held, TurnsTo, and_commit, and_prepare, at_slots, bare, drafts_all, model, placed}
 use Rattle.sb_pbft.proofs.Model.DraftsAgree.{slot-said}
 use Rattle.sb_pbft.proofs.Model.DeliveriesAgree.{settles}
 use Rattle.sb_pbft.proofs.Model.SettledAgrees.{mid}
@@ -30,7 +30,7 @@ pub not-other : (slot u : Slot) → u.0 ≢ slot.0 → (w : Slot) → In w (slot
 not-other slot u off w (inl q) e = off (sym e ∙ ap (λ (z : Slot). z.0) q)
 not-other slot u off w (inr j) e = absurd j
 
-module _ (p : Params) (me : ℕ) (from : NodeId) (v : ℕ) (slot : Slot) (d sig : List ℕ) (leaf : ℕ) (xs : List (Item Message)) (rising : AreAscending 0 p.slots) (inside : has_slot slot.0 p.slots ≡ true) where
+module _ (p : Params) (me : ℕ) (from : NodeId) (v : ℕ) (slot : Slot) (d sig : List ℕ) (leaf : ℕ) (xs : List (Item Message)) (ascending : AreAscending 0 p.slots) (inside : has_slot slot.0 p.slots ≡ true) where
   commit-mid : (made : Made Message) → and_commit p (model p me xs) (Receive from (Commit v slot d sig)) ≡ mid p me (record { input = Receive from (Commit v slot d sig); leaf = leaf; made = made }) xs
   commit-mid made = λ j. record (model p me xs) {
     proposal = λ w s. placed p (sym (first_of-none (proposal p me (inputs xs) w s)) j) (sym (first_of-none (proposal_sig p me xs w s)) j);
@@ -53,11 +53,11 @@ module _ (p : Params) (me : ℕ) (from : NodeId) (v : ℕ) (slot : Slot) (d sig 
       let made = pbft.makes p me xs (Receive from (Commit v slot d sig)) leaf in
       let x : Item Message = record { input = Receive from (Commit v slot d sig); leaf = leaf; made = made } in
       let t = commit-touches p me from v slot d sig leaf made xs inside in
-      let s = settles p me x xs v (slot ∷ []) (and_commit p (model p me xs) (Receive from (Commit v slot d sig))) rising t (commit-mid made) in
+      let s = settles p me x xs v (slot ∷ []) (and_commit p (model p me xs) (Receive from (Commit v slot d sig))) ascending t (commit-mid made) in
       record {
         held = s.0;
         drafts = ap (λ (z : Held). drafts_all p z false v (slot ∷ [])) (commit-mid made) ∙
-            slot-said p me x xs v slot rising (has_slot-In slot p.slots inside) (λ u i. refl) (λ u i off. t.quiet u i (not-other slot u off));
+            slot-said p me x xs v slot ascending (has_slot-In slot p.slots inside) (λ u i. refl) (λ u i off. t.quiet u i (not-other slot u off));
         strings = refl;
         accepted = refl;
         delivers = s.1;
@@ -68,11 +68,11 @@ module _ (p : Params) (me : ℕ) (from : NodeId) (v : ℕ) (slot : Slot) (d sig 
       let made = pbft.makes p me xs (Receive from (Prepare v slot d sig)) leaf in
       let x : Item Message = record { input = Receive from (Prepare v slot d sig); leaf = leaf; made = made } in
       let t = prepare-touches p me from v slot d sig leaf made xs inside in
-      let s = settles p me x xs v (slot ∷ []) (and_prepare p (model p me xs) (Receive from (Prepare v slot d sig))) rising t (prepare-mid made) in
+      let s = settles p me x xs v (slot ∷ []) (and_prepare p (model p me xs) (Receive from (Prepare v slot d sig))) ascending t (prepare-mid made) in
       record {
         held = s.0;
         drafts = ap (λ (z : Held). drafts_all p z false v (slot ∷ [])) (prepare-mid made) ∙
-            slot-said p me x xs v slot rising (has_slot-In slot p.slots inside) (λ u i. refl) (λ u i off. t.quiet u i (not-other slot u off));
+            slot-said p me x xs v slot ascending (has_slot-In slot p.slots inside) (λ u i. refl) (λ u i off. t.quiet u i (not-other slot u off));
         strings = refl;
         accepted = refl;
         delivers = s.1;

@@ -110,7 +110,7 @@ module _ (p : Params) where
           Touches p me x xs 0 []
       touches-none quiet = record {
         within = λ t i. absurd i;
-        rising = tt;
+        ascending = tt;
         quiet = λ t i off. quiet t i;
         still = λ s off w. committed-same me x.input (inputs xs) w s (prepared-still w s) (λ k. none.commits w s k);
         one = λ t i w off. absurd i;
@@ -130,7 +130,7 @@ module _ (p : Params) where
     pub commit-touches : has_slot slot.0 p.slots ≡ true → Touches p me (record { input = Receive from (Commit v slot d sig); leaf = leaf; made = made }) xs v (slot ∷ [])
     commit-touches has = record {
       within = in-slots slot has;
-      rising = (omega arith, tt);
+      ascending = (omega arith, tt);
       quiet = λ t i off. ready-same me (Receive from (Commit v slot d sig)) (inputs xs) (kept p me xs) t.0 refl (commit-prepared (mode p (inputs xs)).view t.0) ∙ calm p me xs t i;
       still = λ s off w. committed-same me (Receive from (Commit v slot d sig)) (inputs xs) w s (commit-prepared w s) (λ k. commit-apart from v slot d sig (inputs xs) w s k (inr (at-slot slot s off)));
       one = λ t i w off. committed-same me (Receive from (Commit v slot d sig)) (inputs xs) w t.0 (commit-prepared w t.0) (λ k. commit-apart from v slot d sig (inputs xs) w t.0 k (inl off));
@@ -147,7 +147,7 @@ module _ (p : Params) where
     pub prepare-touches : has_slot slot.0 p.slots ≡ true → Touches p me (record { input = Receive from (Prepare v slot d sig); leaf = leaf; made = made }) xs v (slot ∷ [])
     prepare-touches has = record {
       within = in-slots slot has;
-      rising = (omega arith, tt);
+      ascending = (omega arith, tt);
       quiet = λ t i off. ready-same me (Receive from (Prepare v slot d sig)) (inputs xs) (kept p me xs) t.0 refl (prepare-prepared (mode p (inputs xs)).view t.0 (inr (at-slot slot t.0 off))) ∙ calm p me xs t i;
       still = λ s off w. prepare-committed w s (inr (at-slot slot s off));
       one = λ t i w off. prepare-committed w t.0 (inl off);

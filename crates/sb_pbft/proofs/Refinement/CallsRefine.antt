@@ -9,7 +9,7 @@ use Rattle.iss_request.specs.declared.ids.NodeId.{NodeId}
 use Rattle.iss_request.specs.declared.ids.Slot.{Slot}
 use Rattle.iss_request.specs.declared.requests.Batch.{Batch}
 use Rattle.iss_request.specs.declared.requests.Value.{Value}
-use Rattle.iss_request.specs.declared.requests.Value.TheVariants.{Batch as Value_batch, Nil}
+use Rattle.iss_request.specs.declared.requests.Value.TheVariants.{Batch as Value_batch, Nil as Value_nil}
 use Rattle.iss_sb.specs.declared.effects.Effects.{Effects}
 use Rattle.iss_sb.specs.declared.effects.Input.{Input}
 use Rattle.iss_sb.specs.declared.effects.Input.TheVariants.{Cast, Receive}
@@ -23,8 +23,8 @@ use Rattle.sb_pbft.specs.Makes.{Draft, sign_all, uses_all}
 use Rattle.sb_pbft.specs.Pbft.{asks, pbft}
 use Rattle.sb_pbft.specs.Places.{change_at, proposal_at, top_at, vote_at}
 use Rattle.sb_pbft.specs.Rules.{when}
-use Rattle.sb_pbft.specs.Refines.{Does, IsTurn, Refines, held, may_cast, may_take}
-use Rattle.sb_pbft.specs.Turns.{Held, accepts_of, asked_at, idle, model, turn}
+use Rattle.sb_pbft.specs.Internal.Refines.{Does, IsTurn, Refines, held, may_cast, may_take}
+use Rattle.sb_pbft.specs.Internal.Turns.{Held, accepts_of, asked_at, idle, model, turn}
 use Rattle.sb_pbft.proofs.Refinement.ProposalRefines.{cast-asked, told-asked}
 use Rattle.sb_pbft.proofs.Model.TurnsAreAsDefined.{turn-is}
 
@@ -147,6 +147,6 @@ module _ (p : Params) (good : IsGoodParams pbft p) (m : Pbft) (me : ℕ) (xs : L
 
 -- a PrePrepare for nil offers no batch
 pub nil-idle : (p : Params) (m : Pbft) (from : NodeId) (v : ℕ) (slot : Slot) (x : Value) (sig : List ℕ) (leaf : ℕ) →
-    x ≡ Nil →
+    x ≡ Value_nil →
     turn p m.me.0 leaf (held m) (Receive from (PrePrepare v slot x sig)) ≡ idle (held m)
 nil-idle p m from v slot x sig leaf is = ap (λ (z : Value). turn p m.me.0 leaf (held m) (Receive from (PrePrepare v slot z sig))) is

@@ -8,7 +8,7 @@ use Rattle.pbft_wire.specs.declared.messages.Certificate.{Certificate}
 use Rattle.pbft_wire.specs.declared.messages.Change.{Change}
 use Rattle.iss_sb.specs.declared.signers.Signed.{Signed}
 use Rattle.sb_pbft.specs.Places.{has_voted, signature_in}
-use Rattle.sb_pbft.specs.Turns.{tops_of}
+use Rattle.sb_pbft.specs.Internal.Turns.{tops_of}
 use Rattle.sb_pbft.specs.Rules.{Ballot, changes_from, cons_some, cons_vote, voters}
 
 -- ---- one replica more

@@ -25,8 +25,8 @@ use Rattle.sb_pbft.specs.declared.proposals.Proposals.{Proposals}
 use Rattle.sb_pbft.specs.Makes.{Draft, DraftPrePrepare, DraftPrepare, first_draft, first_sig, uses_all}
 use Rattle.sb_pbft.specs.Places.{proposal_at}
 use Rattle.sb_pbft.specs.Rules.{is_open, when}
-use Rattle.sb_pbft.specs.Refines.{Sent, held, is_free, may_cast, may_take}
-use Rattle.sb_pbft.specs.Turns.{Held, accepts_of, asked_at, first_proposal, free, idle, turn, with_proposal}
+use Rattle.sb_pbft.specs.Internal.Refines.{Sent, held, is_free, may_cast, may_take}
+use Rattle.sb_pbft.specs.Internal.Turns.{Held, accepts_of, asked_at, first_proposal, free, idle, turn, with_proposal}
 use Rattle.iss_sb.specs.Calls.{has_slot}
 use Rattle.sb_pbft.proofs.Refinement.RulesCompose.{turned}
 use Rattle.sb_pbft.proofs.Refinement.SettleRefines.{sent-one}

@@ -15,8 +15,8 @@ use Rattle.sb_pbft.specs.declared.pbft.Pbft.{Pbft}
 use Rattle.sb_pbft.specs.declared.proposals.Proposal.{Proposal}
 use Rattle.sb_pbft.specs.Makes.{Draft, uses_all}
 use Rattle.sb_pbft.specs.Pbft.{pbft}
-use Rattle.sb_pbft.specs.Refines.{Does, IsTurn, Sent, Settles, held}
-use Rattle.sb_pbft.specs.Turns.{Held, Turn, deliveries, delivery, drafts_all, drafts_at, idle, newly_at, settled, settled_all, turn}
+use Rattle.sb_pbft.specs.Internal.Refines.{Does, IsTurn, Sent, Settles, held}
+use Rattle.sb_pbft.specs.Internal.Turns.{Held, Turn, deliveries, delivery, drafts_all, drafts_at, idle, newly_at, settled, settled_all, turn}
 use Rattle.sb_pbft.proofs.Refinement.SettleRefines.{sent-both, settles-none, slot-few, uses-both}
 
 -- ---- nothing

@@ -15,8 +15,8 @@ use Rattle.pbft_wire.specs.declared.messages.Message.{Message}
 use Rattle.sb_pbft.specs.declared.pbft.Pbft.{Pbft}
 use Rattle.sb_pbft.specs.declared.proposals.Proposal.{Proposal}
 use Rattle.sb_pbft.specs.Makes.{Draft, sign, sign_all, uses, uses_all}
-use Rattle.sb_pbft.specs.Refines.{Answers, Commits, HandsOver, Sent, Settles, held}
-use Rattle.sb_pbft.specs.Turns.{Held, commits_to, delivery, deliveries, drafts_all, drafts_at, handed, newly_at, prepares_to, ready_at, settled, settled_all}
+use Rattle.sb_pbft.specs.Internal.Refines.{Answers, Commits, HandsOver, Sent, Settles, held}
+use Rattle.sb_pbft.specs.Internal.Turns.{Held, commits_to, delivery, deliveries, drafts_all, drafts_at, handed, newly_at, prepares_to, ready_at, settled, settled_all}
 
 pub grouped : {A : Type 0} (xs ys zs : List A) → (xs ++ ys) ++ zs ≡ xs ++ (ys ++ zs)
 grouped [] ys zs = refl

@@ -12,8 +12,8 @@ use Rattle.sb_pbft.specs.declared.pbft.Pbft.{Pbft}
 use Rattle.sb_pbft.specs.declared.tallies.Votes.{Votes}
 use Rattle.sb_pbft.specs.Places.{vote_at}
 use Rattle.sb_pbft.specs.Rules.{Ballot, is_at, when}
-use Rattle.sb_pbft.specs.Refines.{held}
-use Rattle.sb_pbft.specs.Turns.{and_commit, and_prepare, bare, idle, turn}
+use Rattle.sb_pbft.specs.Internal.Refines.{held}
+use Rattle.sb_pbft.specs.Internal.Turns.{and_commit, and_prepare, bare, idle, turn}
 use Rattle.sb_pbft.proofs.Refinement.RulesCompose.{turned}
 
 right-true : (t : Bool) → (t && true) ≡ t

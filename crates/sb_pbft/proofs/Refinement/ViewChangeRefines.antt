@@ -26,8 +26,8 @@ use Rattle.sb_pbft.specs.declared.proposals.Proposals.{Proposals}
 use Rattle.sb_pbft.specs.Makes.{Draft, DraftNewView, DraftViewChange, choice_strings, uses_all, value_strings}
 use Rattle.sb_pbft.specs.Places.{change_at, proposal_at}
 use Rattle.sb_pbft.specs.Rules.{cons_some, enters, passes, when}
-use Rattle.sb_pbft.specs.Refines.{Does, HasHashed, Renews, Sent, Settles, chosen_among, held, is_due}
-use Rattle.sb_pbft.specs.Turns.{Held, Turn, and_change, changed, changes_at, completes_at, entered, gives_up, idle, tops_of, turn}
+use Rattle.sb_pbft.specs.Internal.Refines.{Does, HasHashed, Renews, Sent, Settles, chosen_among, held, is_due}
+use Rattle.sb_pbft.specs.Internal.Turns.{Held, Turn, and_change, changed, changes_at, completes_at, entered, gives_up, idle, tops_of, turn}
 use Rattle.sb_pbft.proofs.Refinement.RulesCompose.{does-nothing, does-sent, does-settled, turned}
 use Rattle.sb_pbft.proofs.Refinement.SettleRefines.{grouped, sent-none}
 

@@ -49,6 +49,10 @@ module _ (p : Params) (w : World Message) where
     pub below : all_below p.setup.n makers ≡ true
     pub first : Granted (primary p v) (state_at p 1 v s (digest_of p x))
     pub rest : (j : ℕ) → mem j makers ≡ true → Granted j (state_at p 2 v s (digest_of p x))
+
+  -- and the value is known, so that its digest names it
+  pub record Traced (v s : ℕ) (x : Value) : Type 0 where
+    pub votes : Certified v s x
     pub known : IsKnown p w x
 
   -- 2f+1 good ViewChanges for view v
@@ -56,7 +60,7 @@ module _ (p : Params) (w : World Message) where
     pub enough : are_enough p v xs ≡ true
     pub signed : AreTrue p w (changes_claims p xs)
     pub each : (x : Change) → In x xs → Granted x.node.0 (state_change p v x.certificates)
-    pub certs : (c : Certificate) → In c (certificates_of xs) → (c.view < v) × Certified c.view c.slot.0 c.value
+    pub certs : (c : Certificate) → In c (certificates_of xs) → (c.view < v) × Traced c.view c.slot.0 c.value
 
   -- the reason of a vote: in view 0 an accepted batch, above it the choice of ViewChanges
   pub record Accepts (j s : ℕ) (d : List ℕ) : Type 0 where
@@ -181,11 +185,11 @@ module _ (p : Params) (w : World Message) where
 
       -- the best certificate of good ViewChanges is valid and of a lower view
       lower : (v s : ℕ) (xs : List Change) (e : Certificate) → Backed v xs → Is (best s (certificates_of xs)) e →
-          (e.view < v) × Certified e.view s e.value
+          (e.view < v) × Traced e.view s e.value
       lower v s xs e b h =
           let i = best-in s (certificates_of xs) e h in
           let c = b.certs e i.0 in
-          (c.0, subst (λ (z : ℕ). Certified e.view z e.value) i.1 c.1)
+          (c.0, subst (λ (z : ℕ). Traced e.view z e.value) i.1 c.1)
 
       -- once a view decided a slot, valid certificates of the slot in that view or a higher one have its digest
       later : (n u v s : ℕ) (d : List ℕ) (x : Value) → v < n → u ≤ v → IsDecidedView p w u s d → Certified v s x →
@@ -202,7 +206,7 @@ module _ (p : Params) (w : World Message) where
             let g = lower v s b.changes r.0 b.backed r.1 in
             let h : u ≤ r.0.view = r.2 in
             let i = g.0 in
-            let a = later n u r.0.view s d r.0.value (omega (arith, i, l)) h k g.1 in
+            let a = later n u r.0.view s d r.0.value (omega (arith, i, l)) h k g.1.votes in
             sym b.digest ∙ (ap (λ (z : Option Certificate). digest_of p (value_or_nil z)) r.1 ∙ a)
       ]
 
@@ -225,8 +229,9 @@ module _ (p : Params) (w : World Message) where
             let same = one-known (Value_batch a.batch) (Value_batch b) a.known i a.digest in
             subst (λ (z : Batch). Accepted j s z) (holds-same a.batch b same) a.accepted
 
-        ground-floor : (s : ℕ) (b : Batch) → Certified 0 s (Value_batch b) → IsRooted p w s b
-        ground-floor s b c =
+        ground-floor : (s : ℕ) (b : Batch) → Traced 0 s (Value_batch b) → IsRooted p w s b
+        ground-floor s b t =
+            let c = t.votes in
             let n = c.count in
             let zero-is = primary-zero p (p.leader.0) good.leader in
             record {
@@ -236,7 +241,7 @@ module _ (p : Params) (w : World Message) where
                 apart = c.apart;
                 below = voters-below 0 c.makers c.below;
                 each = λ j m h. elim (why 0 s j (digest_of p (Value_batch b)) h (voted 0 s j (Value_batch b) c m h)) [
-                  | inl a ↦ accepts-it j s b c.known a.1
+                  | inl a ↦ accepts-it j s b t.known a.1
                   | inr a ↦ let z = a.0 in absurd (omega (arith, z))
                 ];
               };
@@ -248,29 +253,29 @@ module _ (p : Params) (w : World Message) where
         best-value None b h = absurd (cc)
         best-value (Some e) b h = (e, refl, h)
 
-        down : (n v s : ℕ) (b : Batch) → v < n → Certified v s (Value_batch b) → IsRooted p w s b
+        down : (n v s : ℕ) (b : Batch) → v < n → Traced v s (Value_batch b) → IsRooted p w s b
         down zero v s b l c = absurd (omega (arith, l))
         down (suc n) v s b l c = elim (cases_eq v 0) [
-          | inl e ↦ ground-floor s b (subst (λ (z : ℕ). Certified z s (Value_batch b)) e c)
+          | inl e ↦ ground-floor s b (subst (λ (z : ℕ). Traced z s (Value_batch b)) e c)
           | inr ne ↦
-              let k = backing v s (Value_batch b) (omega (arith, ne)) c in
+              let k = backing v s (Value_batch b) (omega (arith, ne)) c.votes in
               let same = one-known (choice k.changes s) (Value_batch b) k.known c.known k.digest in
               let o = best-value (best s (certificates_of k.changes)) b same in
               let g = lower v s k.changes o.0 k.backed o.1 in
               let i = g.0 in
-              down n o.0.view s b (omega (arith, i, l)) (subst (λ (z : Value). Certified o.0.view s z) o.2 g.1)
+              down n o.0.view s b (omega (arith, i, l)) (subst (λ (z : Value). Traced o.0.view s z) o.2 g.1)
         ]
 
-        pub rooted : (v s : ℕ) (b : Batch) → Certified v s (Value_batch b) → IsRooted p w s b
+        pub rooted : (v s : ℕ) (b : Batch) → Traced v s (Value_batch b) → IsRooted p w s b
         rooted v s b c = down (suc v) v s b (omega arith) c
 
         -- what deliveries imply
 
-        pub agree : (u v s : ℕ) (x y : Value) → IsDecidedView p w u s (digest_of p x) → Certified u s x →
-            IsDecidedView p w v s (digest_of p y) → Certified v s y → x ≡ y
+        pub agree : (u v s : ℕ) (x y : Value) → IsDecidedView p w u s (digest_of p x) → Traced u s x →
+            IsDecidedView p w v s (digest_of p y) → Traced v s y → x ≡ y
         agree u v s x y k c m d = elim (cases_lt v u) [
-          | inl l ↦ one-known x y c.known d.known (later-same v u s (digest_of p y) x (omega (arith, l)) m c)
-          | inr l ↦ one-known x y c.known d.known (sym (later-same u v s (digest_of p x) y l k d))
+          | inl l ↦ one-known x y c.known d.known (later-same v u s (digest_of p y) x (omega (arith, l)) m c.votes)
+          | inr l ↦ one-known x y c.known d.known (sym (later-same u v s (digest_of p x) y l k d.votes))
         ]
 
         pub share : (s t : Slot) (b c : Batch) → IsRooted p w s.0 b → IsRooted p w t.0 c → SharedAcceptor p w s b t c

@@ -21,7 +21,7 @@ use Rattle.sb_pbft.specs.Pbft.{pbft}
 use Rattle.sb_pbft.specs.Rules.{mode}
 use Rattle.sb_pbft.proofs.ViewChange.NewViewsHaveAQuorum.{certificate-shown}
 use Rattle.sb_pbft.proofs.Safety.SignaturesAreJustified.{node-facts, one-commit-signed}
-use Rattle.sb_pbft.proofs.Safety.DecidedValuesStay.{Certified, NodeFacts, Reason, agree, later-same, rooted, same-view, share}
+use Rattle.sb_pbft.proofs.Safety.DecidedValuesStay.{Certified, NodeFacts, Reason, Traced, agree, later-same, rooted, same-view, share}
 use Rattle.sb_pbft.proofs.Messages.SignedWasDrafted.{drafted-in}
 use Rattle.sb_pbft.proofs.ViewChange.CommitsAreShown.{change-view, commit-rule}
 use Rattle.sb_pbft.proofs.History.OnePrepareAView.{SameDraft, rule-of, signed-draft}
@@ -123,7 +123,7 @@ module _ (p : Params) (good : IsGoodParams pbft p) (w : World Message) (reached 
 
   module _ (sep : Separate (IsString w)) where
     pub roots : AreRooted p w
-    roots c b h e = rooted p w good facts sep c.view c.slot.0 b (subst (λ (z : Value). Certified p w c.view c.slot.0 z) e (certified c h))
+    roots c b h known e = rooted p w good facts sep c.view c.slot.0 b (subst (λ (z : Value). Traced p w c.view c.slot.0 z) e (record { votes = certified c h; known = known }))
 
     delivered-root : (i s : ℕ) (b : Batch) → delivered pbft p i (w i) s ≡ Some (Value_batch b) → IsRooted p w s b
     delivered-root i s b h = let r = seen i s (Value_batch b) h in rooted p w good facts sep r.view s b r.shown

@@ -36,7 +36,7 @@ use Rattle.sb_pbft.specs.Makes.{asked_strings, choice_strings, inputs, makes, st
 use Rattle.sb_pbft.specs.Pbft.{pbft}
 use Rattle.sb_pbft.specs.Rules.{asked, chosen, commit_of, commits, enters, mode, offer, offered, prepare_of, prepares, proposal}
 use Rattle.sb_pbft.proofs.History.AcceptedAndDecided.{asked-is, decided-is}
-use Rattle.sb_pbft.proofs.Safety.DecidedValuesStay.{Certified, Granted}
+use Rattle.sb_pbft.proofs.Safety.DecidedValuesStay.{Certified, Granted, Traced}
 use Rattle.sb_pbft.proofs.Messages.ReceivedIsWellFormed.{AreFit, FitsInput, FitsNew, asked-fits, batch-fits, choice-fits, new-fits}
 use Rattle.sb_pbft.proofs.Messages.OwnClaimsWereSent.{Source, came, commit-source, offer-asked, prepare-source, proposal-source, sent}
 use Rattle.sb_pbft.proofs.History.ViewsGrow.{Offers, Said, SameInput, chosen-is, offer-is, offered-is}
@@ -202,14 +202,14 @@ module _ (p : Params) (good : IsGoodParams pbft p) (w : World Message) (legal : 
 
     pub certified-from : (xs : List (Item Message)) (v s : ℕ) (x : Value) → Part xs → AreMade pbft p i xs →
         proposal p i (inputs xs) v s ≡ Some x →
-        nat_le (2 * p.setup.f) (length (prepares p (inputs xs) v s (digest_of p x))) ≡ true → Certified p w v s x
+        nat_le (2 * p.setup.f) (length (prepares p (inputs xs) v s (digest_of p x))) ≡ true → Traced p w v s x
     certified-from xs v s x sub made h enough =
         let d = digest_of p x in
         let votes = prepares p (inputs xs) v s d in
         let g = prepare_of p (inputs xs) v s in
         let but = primary p v in
         let vote : (j : ℕ) → mem j (nodes_of (take (2 * p.setup.f) votes)) ≡ true → (y : Signed) × In y votes × (y.by.0 ≡ j) = λ j m. node-vote j votes (mem-take (2 * p.setup.f) j votes m) in
-        record {
+        let votes_of : Certified p w v s x = record {
           makers = nodes_of (take (2 * p.setup.f) votes);
           count = take-count (2 * p.setup.f) votes (leb-true (2 * p.setup.f) (length votes) enough);
           apart = apart-cons but (nodes_of (take (2 * p.setup.f) votes))
@@ -222,8 +222,8 @@ module _ (p : Params) (good : IsGoodParams pbft p) (w : World Message) (legal : 
           below = below-from p.setup.n (nodes_of (take (2 * p.setup.f) votes)) (λ j m. let y = vote j m in let u = (in-voters g d 0 p.setup.n y.0 y.1).high in let e = y.2 in omega (arith, u, e));
           first = source-granted i but (state_at p 1 v s d) (source-part xs but _ sub (proposal-source p i good.leader xs v s x made h));
           rest = λ j m. let y = vote j m in subst (λ (z : ℕ). Granted p w z (state_at p 2 v s d)) y.2 (source-granted i y.0.by.0 (state_at p 2 v s d) (source-part xs y.0.by.0 _ sub (prepare-source p i xs v s d y.0 y.1)));
-          known = proposal-known xs v s x sub made h;
-        }
+        } in
+        record { votes = votes_of; known = proposal-known xs v s x sub made h }
 
     pub decided-view : (xs : List (Item Message)) (v s : ℕ) (d : List ℕ) → Part xs →
         nat_le (2 * p.setup.f + 1) (length (commits p (inputs xs) v s d)) ≡ true → IsDecidedView p w v s d
@@ -243,7 +243,7 @@ module _ (p : Params) (good : IsGoodParams pbft p) (w : World Message) (legal : 
     -- delivered values
     pub record IsDelivered (s : ℕ) (x : Value) : Type 0 where
       pub view : ℕ
-      pub shown : Certified p w view s x
+      pub shown : Traced p w view s x
       pub decided : IsDecidedView p w view s (digest_of p x)
 
     pub delivered-shown : (xs : List (Item Message)) (s : ℕ) (x : Value) → Part xs → AreMade pbft p i xs →

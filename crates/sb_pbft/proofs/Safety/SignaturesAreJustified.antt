@@ -63,9 +63,9 @@ module _ (p : Params) (good : IsGoodParams pbft p) (w : World Message) (reached 
         let y = draft-of (state_at p 2 v s e) b in
         one-prepare p i (w i) v (record { 0 = s }) d e (among p good w reached i _ x _ (prepare-draft v s d x)) (among p good w reached i _ y _ (prepare-draft v s e y))
 
-    commit-refines : (v s : ℕ) (d : List ℕ) → IsSigned pbft p w i (state_at p 3 v s d) →
+    commit-stands : (v s : ℕ) (d : List ℕ) → IsSigned pbft p w i (state_at p 3 v s d) →
         Proposed p i (inputs (w i)) v s d
-    commit-refines v s d a = let x = draft-of (state_at p 3 v s d) a in commit-proposed p i (w i) v (record { 0 = s }) d (among p good w reached i _ x _ (commit-draft v s d x))
+    commit-stands v s d a = let x = draft-of (state_at p 3 v s d) a in commit-proposed p i (w i) v (record { 0 = s }) d (among p good w reached i _ x _ (commit-draft v s d x))
 
     same-proposed : (v s : ℕ) (d e : List ℕ) → Proposed p i (inputs (w i)) v s d → Proposed p i (inputs (w i)) v s e →
         d ≡ e
@@ -73,7 +73,7 @@ module _ (p : Params) (good : IsGoodParams pbft p) (w : World Message) (reached 
 
     pub one-commit-signed : (v s : ℕ) (d e : List ℕ) → IsSigned pbft p w i (state_at p 3 v s d) →
         IsSigned pbft p w i (state_at p 3 v s e) → d ≡ e
-    one-commit-signed v s d e a b = same-proposed v s d e (commit-refines v s d a) (commit-refines v s e b)
+    one-commit-signed v s d e a b = same-proposed v s d e (commit-stands v s d a) (commit-stands v s e b)
 
     -- ---- the ViewChanges of a NewView
 
@@ -120,9 +120,9 @@ module _ (p : Params) (good : IsGoodParams pbft p) (w : World Message) (reached 
     proposal-draft : (v s : ℕ) (d : List ℕ) (b : By i (state_at p 1 v s d)) → MakesProposal p i b.leaf b.draft v s d
     proposal-draft v s d b = makes-proposal p i b.leaf b.draft v s d b.states
 
-    first-refines : (t : List ℕ) (b : By i t) (s : ℕ) (d : List ℕ) (slot : Slot) (x : Value) →
+    first-stands : (t : List ℕ) (b : By i t) (s : ℕ) (d : List ℕ) (slot : Slot) (x : Value) →
         SameDraft b.draft (DraftPrePrepare slot x) → slot.0 ≡ s → digest_of p x ≡ d → Proposed p i (inputs (w i)) 0 s d
-    first-refines t b s d slot x same at_slot e =
+    first-stands t b s d slot x same at_slot e =
         let r = first-proposed p i (w i) slot x (among p good w reached i t b _ same) in
         subst (λ (z : ℕ). Proposed p i (inputs (w i)) 0 z d) at_slot (subst (λ (z : List ℕ). Proposed p i (inputs (w i)) 0 slot.0 z) e r)
 
@@ -136,7 +136,7 @@ module _ (p : Params) (good : IsGoodParams pbft p) (w : World Message) (reached 
 
         by : (x : By i (state_at p 1 v s d)) (y : By i (state_at p 1 v s e)) → MakesProposal p i x.leaf x.draft v s d →
             MakesProposal p i y.leaf y.draft v s e → d ≡ e
-        by x y (at_first t c q z n k) (at_first u g r o m l) = same-proposed i correct 0 s d e (first-refines _ x s d t c q n k) (first-refines _ y s e u g r m l)
+        by x y (at_first t c q z n k) (at_first u g r o m l) = same-proposed i correct 0 s d e (first-stands _ x s d t c q n k) (first-stands _ y s e u g r m l)
         by x y (at_first t c q z n k) (at_new ys u r o m l) = absurd (mixed _ _ x y ys z r)
         by x y (at_new zs t q o n k) (at_first u g r z m l) = absurd (mixed _ _ y x zs z q)
         by x y (at_new zs t q o n k) (at_new ys u r j m l) =
@@ -209,7 +209,7 @@ module _ (p : Params) (good : IsGoodParams pbft p) (w : World Message) (reached 
             let r = commit-rule p i b.before b.item.input v slot d (by-rule p good w reached i _ b _ (commit-draft i correct v s d b)) in
             let a = (ready-is p i (inputs xs) (kept p i b.before) s r.value r.ready).prepared in
             let c = certified-from p good w legal i xs (mode p (inputs xs)).view s r.value (front-part i xs b.front) (made-front pbft p i xs (w i) b.front (legal.made i)) a.proposed a.voted in
-            record { value = r.value; digest = sym r.digest; good = subst (λ (z : ℕ). Certified p w z s r.value) (sym r.view) c }
+            record { value = r.value; digest = sym r.digest; good = subst (λ (z : ℕ). Certified p w z s r.value) (sym r.view) c.votes }
 
     pub change-covers : (v s : ℕ) (d : List ℕ) (u : ℕ) (cs : List Certificate) →
         IsSigned pbft p w i (state_at p 3 v s d) → IsSigned pbft p w i (state_change p u cs) → v < u → Shows cs s v

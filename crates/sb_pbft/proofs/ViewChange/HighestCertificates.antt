@@ -17,7 +17,7 @@ use Rattle.pbft_views.specs.Choice.{best, higher}
 use Rattle.pbft_views.proofs.Choices.{best-in}
 use Rattle.sb_pbft.specs.Makes.{certificate, certified, certify, has, inputs, kept, ready}
 use Rattle.sb_pbft.specs.Rules.{mode, prepared}
-use Rattle.sb_pbft.specs.Turns.{is_of}
+use Rattle.sb_pbft.specs.Internal.Turns.{is_of}
 use Rattle.sb_pbft.proofs.ViewChange.CommitsAreShown.{certified-in}
 use Rattle.sb_pbft.proofs.History.ViewsGrow.{Said, grows}
 

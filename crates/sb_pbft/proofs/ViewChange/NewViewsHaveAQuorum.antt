@@ -71,7 +71,6 @@ module _ (p : Params) (good : IsGoodParams pbft p) (w : World Message) (legal : 
         below = v.below;
         first = h.signed (claim (primary p c.view) (state_at p 1 c.view c.slot.0 d) c.sig) (inl refl);
         rest = λ j m. let x = node-vote j c.prepares m in subst (λ (z : ℕ). Granted p w z (state_at p 2 c.view c.slot.0 d)) x.2 (h.signed (claim x.0.by.0 (state_at p 2 c.view c.slot.0 d) x.0.sig) (inr (vote-in p c.view c.slot.0 d x.0 c.prepares x.1)));
-        known = h.known;
       }
 
   -- ---- 2f+1 ViewChanges
@@ -94,11 +93,13 @@ module _ (p : Params) (good : IsGoodParams pbft p) (w : World Message) (legal : 
             let a = change-at p v 0 xs x all r.1 in
             let g = all_good-at p v x.certificates c a.good r.2 in (
               g.0,
-              certificate-shown c (record {
-                good = g.1;
-                signed = λ t k. signed t (change-claim p t x xs r.1 (in_left t (certificates_claims p x.certificates) (claim x.node.0 (state_change p x.view x.certificates) x.sig ∷ []) (certificate-claim p t c x.certificates r.2 k)));
+              record {
+                votes = certificate-shown c (record {
+                  good = g.1;
+                  signed = λ t k. signed t (change-claim p t x xs r.1 (in_left t (certificates_claims p x.certificates) (claim x.node.0 (state_change p x.view x.certificates) x.sig ∷ []) (certificate-claim p t c x.certificates r.2 k)));
+                });
                 known = known c i;
-              }),
+              },
             );
       }
 

@@ -13,7 +13,8 @@ use Rattle.iss_sb.specs.declared.effects.Params.{Params}
 use Rattle.iss_sb.specs.Calls.{IsGoodParams, is_slot}
 use Rattle.iss_sb.specs.Evidence.{Item, Made, World, IsReached, accepts}
 use Rattle.iss_sb.specs.Legal.{AreMade}
-use Rattle.iss_sb.proofs.Legal.{legal-reached}
+use Rattle.iss_sb.specs.Laws.{AcceptsOnce}
+use Rattle.iss_sb.proofs.Legal.{legal-reached, once-made}
 use Rattle.iss_sb.proofs.Worlds.{accepts-cases}
 use Rattle.raft_wire.specs.declared.entries.Entry.{Entry}
 use Rattle.iss_sb.specs.declared.content.Content.TheVariants.{Holds}
@@ -120,24 +121,27 @@ filled-so-far p me (y ∷ l) m s b i r t = elim (accepts-cases y l (s, b) i) [
 
 -- no batch is accepted at a slot that is filled
 fresh : (p : Params) (me : ℕ) (y : Item Message) (l : List (Item Message)) (s : Slot) (b c : Batch) → AreAscending 0 p.slots → AreMade raft p me (y ∷ l) → y.made.accepted ≡ Some (s, b) → In {A = Slot × Batch} (s, c) (accepts l) → ⊥
-fresh p me y l s b c rising m e i =
+fresh p me y l s b c ascending m e i =
     let a = accepted-of p me y l s b m e in
     let parts = cast-parts p (state p me l) s.0 a.1 in
     let was = filled-so-far p me l m.1 s c i parts.leads parts.first in
-    absurd (omega (arith, was.1.0, one-place 0 s.0 p.slots was.0 (filled (state p me l).log) rising was.1.1 parts.next))
+    absurd (omega (arith, was.1.0, one-place 0 s.0 p.slots was.0 (filled (state p me l).log) ascending was.1.1 parts.next))
 
 once : (p : Params) (me : ℕ) (l : List (Item Message)) → AreAscending 0 p.slots → AreMade raft p me l → (s : Slot) (b c : Batch) → In {A = Slot × Batch} (s, b) (accepts l) → In {A = Slot × Batch} (s, c) (accepts l) → b ≡ c
-once p me [] rising m s b c h k = absurd h
-once p me (y ∷ l) rising m s b c h k = elim (accepts-cases y l (s, b) h) [
+once p me [] ascending m s b c h k = absurd h
+once p me (y ∷ l) ascending m s b c h k = elim (accepts-cases y l (s, b) h) [
   | inl q ↦ elim (accepts-cases y l (s, c) k) [
     | inl r ↦ ap (λ (z : Slot × Batch). z.1) (some-injective {A = Slot × Batch} (s, b) (s, c) (sym q ∙ r))
-    | inr z ↦ absurd (fresh p me y l s b c rising m q z)
+    | inr z ↦ absurd (fresh p me y l s b c ascending m q z)
   ]
   | inr x ↦ elim (accepts-cases y l (s, c) k) [
-    | inl r ↦ absurd (fresh p me y l s c b rising m r x)
-    | inr z ↦ once p me l rising m.1 s b c x z
+    | inl r ↦ absurd (fresh p me y l s c b ascending m r x)
+    | inr z ↦ once p me l ascending m.1 s b c x z
   ]
 ]
 
 pub accepted-once : (p : Params) (w : World Message) → IsGoodParams raft p → IsReached raft p w → AreOnce p w
-accepted-once p w good reached i s b c h k = once p i (w i) good.rising ((legal-reached raft p w reached).made i) s b c h k
+accepted-once p w good reached i s b c h k = once p i (w i) good.ascending ((legal-reached raft p w reached).made i) s b c h k
+
+pub raft-accepts-once : AcceptsOnce raft
+raft-accepts-once = once-made raft (λ p me xs good made. once p me xs good.ascending made)

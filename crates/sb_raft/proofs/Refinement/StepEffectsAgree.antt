@@ -53,11 +53,11 @@ module _ (p : Params) (good : IsGoodParams raft p) (me : ℕ) (xs : List (Item M
       ap contents r.1 ∙ contents-both before r.0 ∙ ap (λ (z : List Entry). contents before ++ contents z) (sym rest)
 
   pub newly-delivered : Delivers raft p me xs (x ∷ xs) (newly p s v)
-  newly-delivered = record { exactly = λ t y. (λ i. now t y i, λ h. fresh t y h.0 h.1); ascending = fresh-ascending 0 (filled before) p.slots _ good.rising }
+  newly-delivered = record { exactly = λ t y. (λ i. now t y i, λ h. fresh t y h.0 h.1); ascending = fresh-ascending 0 (filled before) p.slots _ good.ascending }
     where
       now : (t : Slot) (y : Value) → In {A = Slot × Value} (t, y) (newly p s v) → (delivered raft p me (x ∷ xs) t.0 ≡ Some y) × (delivered raft p me xs t.0 ≡ None)
       now t y i =
-          let f = fresh-decided 0 t y p.slots (contents before) (contents (drop s.commit (take v.commit v.log))) good.rising i in
+          let f = fresh-decided 0 t y p.slots (contents before) (contents (drop s.commit (take v.commit v.log))) good.ascending i in
           (delivered-is p me (x ∷ xs) t.0 ∙ subst (λ (z : List Value). value_with t.0 p.slots z ≡ Some y) (sym contents-now) f.0, delivered-is p me xs t.0 ∙ f.1)
 
       fresh : (t : Slot) (y : Value) → delivered raft p me (x ∷ xs) t.0 ≡ Some y → delivered raft p me xs t.0 ≡ None → In {A = Slot × Value} (t, y) (newly p s v)

@@ -281,7 +281,13 @@ fn digest_on(
 ) -> Result<[u8; 32], Fail> {
     let string = held_string(alloc, p.setup.version, what)?;
     let held = held_digest(p, what, &string);
-    let node = node_string(alloc, p.setup.version, parent, what, &held)?;
+    let node = node_string(
+        Writer::new(alloc, p.setup.version),
+        None,
+        parent,
+        what,
+        &held,
+    )?;
     Ok(Sha256::digest(node.as_slice()))
 }
 

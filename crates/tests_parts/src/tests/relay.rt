@@ -1,5 +1,6 @@
 //! The relay through the calls of the trait, and its message in bytes.
 ghost use Rattle.std.specs.Prelude.{◌≡◌, ◌≤◌, [], ◌∷◌, IfOk};
+ghost use Rattle.iss_base.specs.Heights.{IsHeight};
 ghost use Rattle.iss_sb.specs.Calls.{IsGoodParams};
 ghost use Rattle.sb_relay.specs.Relay.{relay};
 
@@ -71,8 +72,7 @@ fn three(alloc: Global) -> Result<Params, NoMemory>
 
 // A key with no leaf used.
 fn key(alloc: Global, height: u8) -> Result<Keys, Fail>
-    requires low { 2 ≤ height }
-    requires high { height ≤ 12 }
+    requires height { IsHeight height }
 {
     Ok(Keys::make(alloc, [0; 32], height)?)
 }

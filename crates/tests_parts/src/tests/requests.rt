@@ -130,11 +130,11 @@ fn faults_are_named(rt: HostRuntime) -> Result<(), Fail> {
     assert_eq!(rt; fault(alloc, 1, &[1, 1, 7, 0, 0]), Some(3));
     assert_eq!(rt; fault(alloc, 1, &[1, 1, 7, 0, 0, 0, 1, 1, 1]), Some(7));
     assert_eq!(rt; fault(alloc, 1, &[1, 1, 7, 0, 0, 0, 1, 0, 2, 170]), Some(9));
-    assert_eq!(rt; fault(alloc, 1, &[1, 1, 7, 0, 0, 0, 1, 0, 0, 13]), Some(9));
-    assert_eq!(rt;
-        fault(alloc, 1, &[1, 1, 7, 0, 0, 0, 1, 0, 0, 2, 5]),
-        Some(10)
-    );
+    assert_eq!(rt; fault(alloc, 1, &[1, 1, 7, 0, 0, 0, 1, 0, 0, 21]), Some(9));
+    for height in [2, 12, 13, 20] {
+        let cut = [1, 1, 7, 0, 0, 0, 1, 0, 0, height, 5];
+        assert_eq!(rt; fault(alloc, 1, &cut), Some(10));
+    }
     assert_eq!(rt; fault(alloc, 2, &[2]), Some(1));
     assert_eq!(rt; fault(alloc, 2, &[2, 0]), Some(1));
     assert_eq!(rt; fault(alloc, 2, &[2, 1, 1]), Some(1));

@@ -14,7 +14,7 @@ const BAD_LINES: &str =
 5 Range buckets 0\n5 Range buckets 257\n5 Form bucket 1\n6 Range batch 33\n6 Range batch 0
 7 Range window 65\n7 Range window 99999999999999999999999999\n8 Form policy back
 8 Form policy Simple\n9 Range clients 257\n9 Range clients 0\n9 Form clients \n10 Range keys 1
-10 Range keys 13\n10 Form keys 4 4\n11 Faulty faulty 0\n11 Faulty faulty 1 0 7
+10 Range keys 21\n10 Form keys 4 4\n11 Faulty faulty 0\n11 Faulty faulty 1 0 7
 11 Form faulty\n11 Form faulty 01\n11 Form faulty none none\n11 Form faulty 0 none
 12 Form \n12 Form jump 0\n12 Form restart\n12 Form restart 0 1\n12 Form restart 00\n12 Form restart -
 12 Range restart 3

@@ -1,5 +1,6 @@
 //! What the nodes sign and send, encoded field by field here, independently of the code under test.
 ghost use Rattle.std.specs.Prelude.{◌≤◌};
+ghost use Rattle.iss_base.specs.Heights.{IsHeight};
 
 use iss_keys::Keys;
 use iss_request::{Bytes, NoMemory, Writer};
@@ -17,8 +18,7 @@ pub const ECHO: u8 = 2;
 
 // A key with no leaf used.
 fn fresh(alloc: Global, secret: [u8; 32], height: u8) -> Result<Keys, Fail>
-    requires low { 2 ≤ height }
-    requires high { height ≤ 12 }
+    requires height { IsHeight height }
 {
     Ok(Keys::make(alloc, secret, height)?)
 }
@@ -29,7 +29,7 @@ fn key(alloc: Global, owner: u8, number: u8) -> Result<Keys, Fail> {
 }
 
 // A key's signature with this leaf; empty if there is no such leaf.
-fn sign(alloc: Global, keys: &Keys, leaf: u32, statement: &[u8]) -> Result<Bytes, Fail> {
+fn sign(alloc: Global, keys: &mut Keys, leaf: u32, statement: &[u8]) -> Result<Bytes, Fail> {
     if leaf >= keys.left() {
         return Ok(Bytes::new(alloc));
     }
@@ -59,8 +59,8 @@ fn statement(alloc: Global, leader: u8, kind: u8, value: &[u8]) -> Result<Bytes,
 // A node's signature about a value, with this leaf.
 fn signature(alloc: Global, node: u8, kind: u8, leaf: u32, value: &[u8]) -> Result<Bytes, Fail> {
     let statement = statement(alloc, node, kind, value)?;
-    let keys = key(alloc, 0x20, node)?;
-    sign(alloc, &keys, leaf, statement.as_slice())
+    let mut keys = key(alloc, 0x20, node)?;
+    sign(alloc, &mut keys, leaf, statement.as_slice())
 }
 
 // A packet of this kind in the first epoch.
@@ -101,8 +101,8 @@ pub(crate) fn word_signed_as(
     value: &[u8],
 ) -> Result<Bytes, Fail> {
     let statement = statement(alloc, leader, kind, value)?;
-    let keys = key(alloc, 0x20, node)?;
-    let sig = sign(alloc, &keys, 0, statement.as_slice())?;
+    let mut keys = key(alloc, 0x20, node)?;
+    let sig = sign(alloc, &mut keys, 0, statement.as_slice())?;
     Ok(message(alloc, node, SAY, value, sig.as_slice())?)
 }
 
@@ -123,8 +123,8 @@ fn asked(alloc: Global, client: u8, number: u32) -> Result<Bytes, NoMemory> {
 
 // The client's signature of it, with the leaf of the request's number.
 fn signed(alloc: Global, client: u8, number: u32, statement: &[u8]) -> Result<Bytes, Fail> {
-    let keys = key(alloc, 0x21, client)?;
-    sign(alloc, &keys, number, statement)
+    let mut keys = key(alloc, 0x21, client)?;
+    sign(alloc, &mut keys, number, statement)
 }
 
 // The fields of a request, then the signature.

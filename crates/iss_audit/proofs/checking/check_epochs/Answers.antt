@@ -1,7 +1,9 @@
-use Rattle.std.proofs.Common.{◌+◌, arith, sym, take}
+use Rattle.std.proofs.Common.{◌+◌, ◌++◌, ◌∷◌, [], ◌∙◌, ap, arith, sym, take}
+use Rattle.std.proofs.lemmas.List.{take_more}
 use Rattle.std.proofs.lemmas.Result.{err_from_is_err_and}
 use Rattle.iss_checkpoint.specs.Votes.{voters_of}
-use Rattle.iss_audit.proofs.EpochLemmas.{first-refused, length-take, next-certified, next-end-is, take-next}
+use Rattle.iss_audit.specs.declared.exports.CertifiedEpoch.{CertifiedEpoch}
+use Rattle.iss_audit.proofs.EpochLemmas.{first-refused, length-take, next-certified, next-end-is}
 use Rattle.iss_audit.proofs.checking.check_epochs.Goals as goal
 
 pub returns-in_err-end-clause-bad : goal.returns-in_err-end-clause-bad
@@ -21,7 +23,7 @@ loop-number-preserved c =
     let xs = c.args.epochs.now in
     let i = c.loop-number.number in
     let x = c.index-epochs-number.result in
-    let more = take-next xs i x (omega (arith, c.loop-number-test.true)) c.index-epochs-number.is in
+    let more = take_more xs i x (omega (arith, c.loop-number-test.true)) ∙ ap (λ (y : CertifiedEpoch). take i xs ++ y ∷ []) (sym c.index-epochs-number.is) in
     let same = c.in_ok-end.ensures.end (take i xs) c.loop-number.invariant.end in
     record {
       end = next-end-is s.version xs (take (i + 1) xs) i x c.in_ok-end.end more same;

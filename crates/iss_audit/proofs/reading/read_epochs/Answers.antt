@@ -1,8 +1,9 @@
 use Rattle.std.proofs.Common.{◌≡◌, ◌∙◌, length, ℕ, subst, arith}
+use Rattle.std.proofs.lemmas.List.{nil_from_length}
 use Rattle.std.proofs.lemmas.Result.{err_from_is_err_and}
 use Rattle.iss_audit.specs.Exports.{IsCertOf, IsValue, cert_line, value_line}
 use Rattle.iss_audit.proofs.LineLemmas.{read-some}
-use Rattle.iss_audit.proofs.ReadLemmas.{at-cert, at-end, at-value, no-length, no-next}
+use Rattle.iss_audit.proofs.ReadLemmas.{at-cert, at-end, at-value, no-next}
 use Rattle.iss_audit.proofs.reading.read_epochs.Goals as goal
 
 pub returns-in_err-line-clause-bad : goal.returns-in_err-line-clause-bad
@@ -14,7 +15,7 @@ returns-in_err-line-clause-bad c =
 pub returns-then-is_last-clause-text : goal.returns-then-is_last-clause-text
 returns-then-is_last-clause-text c =
     let empty : length c.lines.values ≡ 0 = omega (arith, c.len.ensures, c.if-len-eq0.true) in
-    (at-end c.args.setup.now c.args.lines.now.rest c.lines.epochs c.lines.values c.in_ok-line.line.now c.lines.lines c.next_line.new.lines c.lines.invariant (no-length c.lines.values empty) (c.is_last.ensures.0 c.if-is_last.true) c.in_ok-line.ensures.ok c.in_ok-line.ensures.count c.in_ok-line.ensures.room).text
+    (at-end c.args.setup.now c.args.lines.now.rest c.lines.epochs c.lines.values c.in_ok-line.line.now c.lines.lines c.next_line.new.lines c.lines.invariant (nil_from_length c.lines.values empty) (c.is_last.ensures.0 c.if-is_last.true) c.in_ok-line.ensures.ok c.in_ok-line.ensures.count c.in_ok-line.ensures.room).text
 
 pub lines-preserved-in-Continue-branch-4 : goal.lines-preserved-in-Continue-branch-4
 lines-preserved-in-Continue-branch-4 c =

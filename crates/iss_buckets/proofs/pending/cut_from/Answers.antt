@@ -2,7 +2,7 @@ use Rattle.std.proofs.Common.{◌≡◌, ◌<◌, ◌++◌, ◌∷◌, [], ◌�
 use Rattle.std.specs.Result.{is_ok}
 use Rattle.std.specs.Map.{values_of}
 use Rattle.iss_request.specs.declared.requests.Request.{Request}
-use Rattle.iss_buckets.specs.Filed.{kept_at}
+use Rattle.iss_buckets.specs.Internal.Filed.{kept_at}
 use Rattle.iss_buckets.specs.Waiting.{may_cast}
 use Rattle.iss_buckets.proofs.NextLemmas.{Cutting, cutting_none, cutting_more, cutting_full, cutting_end}
 use Rattle.iss_buckets.proofs.pending.cut_from.Goals as goal

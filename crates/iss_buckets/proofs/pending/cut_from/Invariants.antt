@@ -1,7 +1,7 @@
 use Rattle.std.proofs.Common.{◌≡◌, ◌≤◌, length}
 use Rattle.std.specs.Map.{values_of}
 use Rattle.std.specs.Vec.{vec_capacity}
-use Rattle.iss_buckets.specs.Filed.{AreFiled, AreQueued}
+use Rattle.iss_buckets.specs.Internal.Filed.{AreFiled, AreQueued}
 use Rattle.iss_buckets.specs.Waiting.{may_cast}
 use Rattle.iss_buckets.proofs.NextLemmas.{Cutting}
 use Rattle.iss_buckets.proofs.pending.cut_from.Given as goal

@@ -1,7 +1,7 @@
 use Rattle.std.proofs.Common.{◌≡◌, take}
 use Rattle.std.specs.Map.{values_of}
 use Rattle.iss_request.specs.Log.{ids}
-use Rattle.iss_buckets.specs.Filed.{AreFiled, AreQueued}
+use Rattle.iss_buckets.specs.Internal.Filed.{AreFiled, AreQueued}
 use Rattle.iss_buckets.specs.Waiting.{absent}
 use Rattle.iss_buckets.proofs.pending.drop_all.Given as goal
 

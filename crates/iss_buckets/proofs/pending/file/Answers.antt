@@ -1,6 +1,6 @@
 use Rattle.std.proofs.Common.{◌≡◌, ⊎_elim, sym, subst, List, [], None, ℕ, length, true}
 use Rattle.iss_request.specs.declared.requests.Request.{Request}
-use Rattle.iss_buckets.specs.Filed.{AreFiled, AreQueued, IsSetAt, bucket_of_id, kept_at}
+use Rattle.iss_buckets.specs.Internal.Filed.{AreFiled, AreQueued, IsSetAt, bucket_of_id, kept_at}
 use Rattle.iss_buckets.proofs.FiledLemmas.{unknown}
 use Rattle.iss_buckets.proofs.QueueLemmas.{queued_more, queued_none}
 use Rattle.iss_buckets.proofs.ShelfLemmas.{not_done}

@@ -1,6 +1,6 @@
 use Rattle.std.proofs.Common.{◌≡◌, ◌++◌, drop}
 use Rattle.std.specs.Map.{values_of}
-use Rattle.iss_buckets.specs.Filed.{AreFiled, AreQueued}
+use Rattle.iss_buckets.specs.Internal.Filed.{AreFiled, AreQueued}
 use Rattle.iss_buckets.specs.Waiting.{AreNew}
 use Rattle.iss_buckets.proofs.pending.file_all.Given as goal
 

@@ -1,5 +1,5 @@
 use Rattle.std.proofs.Common.{◌≡◌, ◌≤◌, ◌+◌, ◌∙◌, sym, subst, arith, ℕ, Option}
-use Rattle.iss_buckets.specs.Filed.{IsNext, is_unmarked_in}
+use Rattle.iss_buckets.specs.Internal.Filed.{IsNext, is_unmarked_in}
 use Rattle.iss_buckets.proofs.NextLemmas.{all_below, castable_below, none_below, other_bucket, own_bucket}
 use Rattle.iss_buckets.proofs.pending.next_castable.Goals.{then-eq, else-eq}
 use Rattle.iss_buckets.proofs.pending.next_castable.Goals as goal

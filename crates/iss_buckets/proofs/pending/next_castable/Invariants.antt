@@ -1,4 +1,4 @@
-use Rattle.iss_buckets.specs.Filed.{IsNext}
+use Rattle.iss_buckets.specs.Internal.Filed.{IsNext}
 use Rattle.iss_buckets.proofs.NextLemmas.{castable_below}
 use Rattle.iss_buckets.proofs.pending.next_castable.Given as goal
 

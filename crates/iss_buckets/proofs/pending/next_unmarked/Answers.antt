@@ -1,7 +1,7 @@
 use Rattle.std.proofs.Common.{◌≡◌, ◌∙◌, sym, arith, Some, true, false}
 use Rattle.iss_request.specs.Log.{has_id}
 use Rattle.iss_request.proofs.Identities.{any-has_id}
-use Rattle.iss_buckets.specs.Filed.{kept_at}
+use Rattle.iss_buckets.specs.Internal.Filed.{kept_at}
 use Rattle.iss_buckets.proofs.QueueLemmas.{NextNumber, found-next, marked-on, none-next}
 use Rattle.iss_buckets.proofs.pending.next_unmarked.Goals as goal
 

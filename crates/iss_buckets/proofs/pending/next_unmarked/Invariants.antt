@@ -1,5 +1,5 @@
 use Rattle.std.proofs.Common.{◌≤◌, ◌-◌, ◌^◌, length}
-use Rattle.iss_buckets.specs.Filed.{FailBetween, is_unmarked_in}
+use Rattle.iss_buckets.specs.Internal.Filed.{FailBetween, is_unmarked_in}
 use Rattle.iss_buckets.proofs.pending.next_unmarked.Given as goal
 
 abbrev pub invariant-run : goal.invariant-run

@@ -1,6 +1,6 @@
 use Rattle.std.proofs.Common.{sym, subst, List, ℕ, ◌∙◌}
 use Rattle.iss_request.specs.declared.requests.Request.{Request}
-use Rattle.iss_buckets.specs.Filed.{AreQueued}
+use Rattle.iss_buckets.specs.Internal.Filed.{AreQueued}
 use Rattle.iss_buckets.proofs.QueueLemmas.{queued-absent, queued-forgotten}
 use Rattle.iss_buckets.proofs.pending.take_out.Goals as goal
 

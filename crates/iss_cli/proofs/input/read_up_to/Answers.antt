@@ -1,6 +1,6 @@
 use Rattle.std.proofs.Common.{◌≡◌, ◌∙◌, ◌≤◌, ap, List, ℕ, length, take, sym, subst, arith, rules}
 use Rattle.std.proofs.lemmas.List.{length-take}
-use Rattle.iss_cli.proofs.EndLemmas.{IsRead, read_piece, longer, refilled, no_error}
+use Rattle.iss_cli.proofs.EndLemmas.{IsRead, gave_some, read_piece, longer, refilled, no_error}
 use Rattle.iss_cli.proofs.input.read_up_to.Goals as goal
 
 pub loop-bytes-preserved : goal.loop-bytes-preserved
@@ -18,5 +18,6 @@ loop-bytes-preserved g c =
       within = omega (arith, more, bound, held, c.min-room.ensures);
       piece = refilled c.loop-bytes.buffer.len _ c.loop-bytes.buffer.items size ∙ size ∙ c.loop-bytes.invariant.piece;
       read = subst P (sym c.in_ok-take_more.ensures.bytes) read;
+      gave = c.in_ok-take_more.ensures.empty ∙ gave_some n _ c.if-branch-eq0.false ∙ c.loop-bytes.invariant.gave;
       still = c.in_ok-take_more.ensures.cause.still (no_error _ _) ∙ c.loop-bytes.invariant.still;
     }

@@ -7,6 +7,7 @@ invariant-loop-bytes g l = record {
   within : length l.bytes.items ≤ l.most;
   piece : length l.buffer.items ≡ l.piece;
   read : IsRead (g.I.Source.left l.initial.input) (g.I.Source.left l.input) l.bytes.items;
+  gave : g.I.Source.empties l.input ≡ g.I.Source.empties l.initial.input;
   still : g.I.Source.faults l.input ≡ g.I.Source.faults l.initial.input;
 }
 

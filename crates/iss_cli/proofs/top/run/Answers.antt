@@ -1,5 +1,8 @@
-use Rattle.iss_cli.proofs.ReportLemmas.{told_whole}
+use Rattle.std.proofs.Common.{map, string_bytes}
+use Rattle.iss_cli.proofs.TopLemmas.{ends}
 use Rattle.iss_cli.proofs.top.run.Goals as goal
 
-pub print-requires : goal.print-requires
-print-requires g c = told_whole _ _ c.in-Ok.answer c.in-Ok.ensures.ok
+pub returns-in-Ok-clause-printed : goal.returns-in-Ok-clause-printed
+returns-in-Ok-clause-printed g c =
+    ends (map string_bytes c.args.words.now) (g.I.Source.left c.args.input.now) (g.I.Source.left c.answer.new.input) (g.O.Sink.held c.args.out.now)
+    (g.O.Sink.held c.print.new.out) c.in-Ok.answer c.print.result c.in-Ok.ensures.ok c.print.ensures.printed

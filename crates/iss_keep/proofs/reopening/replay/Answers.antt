@@ -4,7 +4,7 @@ use Rattle.iss_model.specs.Node.{Core}
 use Rattle.iss_node.specs.State.{RefinesCore}
 use Rattle.iss_request.specs.declared.setups.Setup.{Setup}
 use Rattle.iss_keep.proofs.ReplayLemmas.{replay-end, replay-on, replay-start, replay-stops, same-gate, still-of, went}
-use Rattle.iss_keep.specs.Replays.{GoesTo}
+use Rattle.iss_keep.specs.Internal.Replays.{GoesTo}
 use Rattle.iss_keep.proofs.reopening.replay.Goals as goal
 
 pub loop-k-init : goal.loop-k-init

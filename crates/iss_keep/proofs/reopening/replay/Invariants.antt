@@ -1,6 +1,6 @@
 use Rattle.std.proofs.Common.{take}
 use Rattle.iss_journal.specs.Sound.{entries_of}
-use Rattle.iss_keep.specs.Replays.{IsOf, IsReplayed}
+use Rattle.iss_keep.specs.Internal.Replays.{IsOf, IsReplayed}
 use Rattle.iss_keep.proofs.reopening.replay.Given as goal
 
 abbrev pub invariant-loop-k : goal.invariant-loop-k

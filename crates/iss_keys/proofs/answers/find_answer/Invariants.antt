@@ -1,6 +1,6 @@
 use Rattle.std.proofs.Common.{◌≡◌, ℕ, ◌<◌, slice_get}
 use Rattle.std.specs.Prelude.{Some}
-use Rattle.iss_keys.specs.Questions.{Question}
+use Rattle.iss_keys.specs.Internal.Questions.{Question}
 use Rattle.iss_keys.proofs.answers.find_answer.Given as goal
 
 -- the question is not among the places visited so far

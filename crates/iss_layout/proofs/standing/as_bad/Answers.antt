@@ -3,7 +3,7 @@ use Rattle.std.proofs.lemmas.List.Sums.{length-filter}
 use Rattle.std.specs.List.{count_by}
 use Rattle.iss_request.specs.declared.ids.NodeId.{NodeId}
 use Rattle.iss_layout.specs.Layout.{carried, nodes_below}
-use Rattle.iss_layout.specs.Standings.{shown}
+use Rattle.iss_layout.specs.Internal.Standings.{shown}
 use Rattle.iss_layout.proofs.standing.as_bad.Goals as goal
 
 pub returns : goal.returns

@@ -1,7 +1,7 @@
 use Rattle.std.proofs.Common.{◌≡◌, ◌≤◌, suc, length, map, nat_le}
 use Rattle.std.specs.List.{filter}
 use Rattle.iss_layout.specs.Layout.{carried, nodes_below}
-use Rattle.iss_layout.specs.Standings.{shown}
+use Rattle.iss_layout.specs.Internal.Standings.{shown}
 use Rattle.iss_layout.proofs.standing.as_bad.Given as goal
 
 abbrev pub invariant-loop-i : goal.invariant-loop-i

@@ -2,7 +2,7 @@ use Rattle.std.proofs.Common.{rules, ◌≡◌, ◌<◌, ◌≤◌, ◌∙◌, �
 use Rattle.std.proofs.lemmas.Bool.{cases_lt}
 use Rattle.std.specs.List.{filter}
 use Rattle.iss_layout.specs.Layout.{Conduct, carried, is_slot_of_leader, leads, past_all}
-use Rattle.iss_layout.specs.Standings.{behind, changed, shown}
+use Rattle.iss_layout.specs.Internal.Standings.{behind, changed, shown}
 use Rattle.iss_layout.proofs.StandingLemmas.{carried_at, carried_set, carried_other}
 use Rattle.iss_layout.proofs.standing.change_all.Goals as goal
 

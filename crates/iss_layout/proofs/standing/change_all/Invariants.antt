@@ -1,7 +1,7 @@
 use Rattle.std.proofs.Common.{◌≡◌, ◌<◌, ◌≤◌, ℕ, length, map}
 use Rattle.std.specs.List.{filter}
 use Rattle.iss_layout.specs.Layout.{carried, is_slot_of_leader, leads, past_all}
-use Rattle.iss_layout.specs.Standings.{changed, shown}
+use Rattle.iss_layout.specs.Internal.Standings.{changed, shown}
 use Rattle.iss_layout.proofs.standing.change_all.Given as goal
 
 abbrev pub invariant-loop-i : goal.invariant-loop-i

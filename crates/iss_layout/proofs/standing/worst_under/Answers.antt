@@ -1,5 +1,5 @@
 use Rattle.std.proofs.Common.{◌∙◌, sym, ap}
-use Rattle.iss_layout.specs.Standings.{behind}
+use Rattle.iss_layout.specs.Internal.Standings.{behind}
 use Rattle.iss_layout.proofs.StandingLemmas.{worst_hit, worst_miss}
 use Rattle.iss_layout.proofs.standing.worst_under.Goals.{then-eq, else-eq}
 use Rattle.iss_layout.proofs.standing.worst_under.Goals as goal

@@ -1,7 +1,7 @@
 use Rattle.std.proofs.Common.{◌≡◌, take}
 use Rattle.std.specs.List.{filter}
 use Rattle.iss_layout.specs.Layout.{is_slot_of_leader, past_all}
-use Rattle.iss_layout.specs.Standings.{behind}
+use Rattle.iss_layout.specs.Internal.Standings.{behind}
 use Rattle.iss_layout.proofs.standing.worst_under.Given as goal
 
 abbrev pub invariant-loop-slot : goal.invariant-loop-slot

@@ -1,6 +1,6 @@
 use Rattle.std.proofs.Common.{◌≡◌, List, drop}
 use Rattle.iss_model.specs.Node.{first_slot}
-use Rattle.iss_node.specs.Casts.{is_open}
+use Rattle.iss_node.specs.Internal.Casts.{is_open}
 use Rattle.iss_segment.specs.Instance.{RefinesItems}
 use Rattle.iss_sb.specs.Evidence.{Item}
 use Rattle.iss_node.proofs.casting.first_castable.Given as goal

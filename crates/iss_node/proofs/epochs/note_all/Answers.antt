@@ -1,6 +1,6 @@
 use Rattle.std.proofs.Common.{◌∙◌, ◌<◌, length, sym, subst, take, arith}
 use Rattle.iss_node.proofs.EpochEnd.EpochEndRefines.{notes-next}
-use Rattle.iss_node.specs.Epochs.{notes}
+use Rattle.iss_node.specs.Internal.Epochs.{notes}
 use Rattle.iss_window.specs.Kept.{RefinesNoted}
 use Rattle.iss_window.specs.Window.{Noted}
 use Rattle.iss_node.proofs.epochs.note_all.Goals as goal

@@ -1,5 +1,5 @@
 use Rattle.std.proofs.Common.{◌≡◌, take}
-use Rattle.iss_node.specs.Epochs.{notes}
+use Rattle.iss_node.specs.Internal.Epochs.{notes}
 use Rattle.iss_window.specs.Kept.{RefinesNoted}
 use Rattle.iss_window.specs.Window.{Noted}
 use Rattle.iss_node.proofs.epochs.note_all.Given as goal

@@ -1,4 +1,4 @@
-use Rattle.iss_node.specs.Cells.{AreFilled}
+use Rattle.iss_node.specs.Internal.Cells.{AreFilled}
 use Rattle.iss_node.proofs.growth.fill_all.Given as goal
 
 abbrev pub invariant-loop-slot : goal.invariant-loop-slot

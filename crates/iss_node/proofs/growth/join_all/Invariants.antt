@@ -1,6 +1,6 @@
 use Rattle.std.proofs.Common.{◌≡◌, List, take}
 use Rattle.iss_log.specs.Chains.{IsChainOf}
-use Rattle.iss_node.specs.Growth.{AreJoined}
+use Rattle.iss_node.specs.Internal.Growth.{AreJoined}
 use Rattle.iss_request.specs.declared.requests.Value.{Value}
 use Rattle.iss_node.proofs.growth.join_all.Given as goal
 

@@ -1,6 +1,6 @@
 use Rattle.std.proofs.Common.{◌≡◌, take}
 use Rattle.std.specs.Prelude.{fold}
-use Rattle.iss_node.specs.Growth.{and_values, waits_on}
+use Rattle.iss_node.specs.Internal.Growth.{and_values, waits_on}
 use Rattle.iss_node.proofs.growth.retire_ordered.Given as goal
 
 abbrev pub invariant-loop-value : goal.invariant-loop-value

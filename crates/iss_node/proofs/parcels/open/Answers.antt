@@ -1,5 +1,5 @@
 use Rattle.iss_node.proofs.Wire.SendersExist.{carried-from, from-any, from-node, from-of, sender-below}
-use Rattle.iss_packet.specs.declared.packets.PacketKind.TheVariants.{Ask, Piece, Vote}
+use Rattle.iss_packet.specs.declared.packets.PacketKind.TheVariants.{Ask, Piece as Kind_piece, Vote as Kind_vote}
 use Rattle.iss_node.proofs.parcels.open.Goals as goal
 
 pub returns-in-Message-clause-from : goal.returns-in-Message-clause-from
@@ -10,7 +10,7 @@ returns-in-Request-clause-from g c = from-any c.args.n c.open_request.result c.o
 
 pub returns-in_ok-vote-in-Vote-clause-from : goal.returns-in_ok-vote-in-Vote-clause-from
 returns-in_ok-vote-in-Vote-clause-from g c =
-    carried-from c.args.n c.args.packet c.body_of_vote.result c.with_body.result c.with_body.ensures (sender-below c.args.n c.args.packet Vote c.in-Vote.is c.requires (λ first. from-of _ _ first))
+    carried-from c.args.n c.args.packet c.body_of_vote.result c.with_body.result c.with_body.ensures (sender-below c.args.n c.args.packet Kind_vote c.in-Vote.is c.requires (λ first. from-of _ _ first))
 
 pub returns-in-Ask-clause-from : goal.returns-in-Ask-clause-from
 returns-in-Ask-clause-from g c =
@@ -18,4 +18,4 @@ returns-in-Ask-clause-from g c =
 
 pub returns-in_ok-piece-in-Piece-clause-from : goal.returns-in_ok-piece-in-Piece-clause-from
 returns-in_ok-piece-in-Piece-clause-from g c =
-    carried-from c.args.n c.args.packet c.body_of_piece.result c.with_body-in-Piece.result c.with_body-in-Piece.ensures (sender-below c.args.n c.args.packet Piece c.in-Piece.is c.requires (λ first. from-of _ _ first))
+    carried-from c.args.n c.args.packet c.body_of_piece.result c.with_body-in-Piece.result c.with_body-in-Piece.ensures (sender-below c.args.n c.args.packet Kind_piece c.in-Piece.is c.requires (λ first. from-of _ _ first))

@@ -1,11 +1,17 @@
-use Rattle.std.proofs.Common.{◌≡◌, subst, sym, ◌+◌, arith}
-use Rattle.iss_node.proofs.EpochEnd.InstancesStart.{AreBegun, begun-all, begun-next}
+use Rattle.std.proofs.Common.{◌≡◌, ◌∙◌, subst, sym, ◌+◌, arith}
+use Rattle.iss_node.proofs.EpochEnd.InstancesStart.{AreBegun, begun-all, begun-next, carried-over, member-of}
+use Rattle.iss_node.specs.Internal.Epochs.{params_by}
+use Rattle.iss_segment.specs.Instance.{SegmentState}
 use Rattle.iss_node.proofs.starting.start_segments.Goals as goal
 
 pub loop-node-preserved : goal.loop-node-preserved
 loop-node-preserved g c =
     subst (λ xs. AreBegun g.M.Sequenced.refines c.args.setup.now c.args.me c.args.epoch.0 c.args.layout.now (c.loop-node.node + 1) xs) (sym c.in_ok-push.ensures.items)
-    (begun-next g.M.Sequenced.refines c.args.setup.now c.args.me c.args.epoch.0 c.args.layout.now c.loop-node.node c.loop-node.segments.items c.in_ok-segment.segment c.loop-node.invariant c.in_ok-segment.ensures.leads c.in_ok-segment.ensures.refines c.in_ok-segment.ensures.params c.in_ok-segment.ensures.node)
+    (begun-next g.M.Sequenced.refines c.args.setup.now c.args.me c.args.epoch.0 c.args.layout.now c.loop-node.node c.loop-node.segments.items c.in_ok-segment.segment c.loop-node.invariant (c.in_ok-segment.ensures.started ∙ c.in_ok-params.ensures.leads) c.in_ok-segment.ensures.refines
+    (carried-over (λ (x : SegmentState g.row.M.Denot). x.params) (λ p. p ≡ params_by c.args.setup.now c.args.epoch.0 c.args.layout.now c.loop-node.node) c.in_ok-segment.segment c.in_ok-params.params c.in_ok-segment.ensures.params c.in_ok-params.ensures.params) c.in_ok-segment.ensures.node)
+
+pub start_with-requires : goal.start_with-requires
+start_with-requires g c = member-of g.M.Sequenced.spec c.args.setup.now c.args.me c.args.epoch.0 c.args.layout.now c.loop-node.node c.in_ok-params.params c.in_ok-params.ensures.params c.in_ok-params.ensures.good c.requires.me
 
 pub returns-clause-started : goal.returns-clause-started
 returns-clause-started g c =

@@ -1,7 +1,7 @@
 use Rattle.std.proofs.Common.{arith, refl}
 use Rattle.iss_request.proofs.Readings.{exit, named, unread_first, unread_failed, unread_tested}
 use Rattle.iss_packet.specs.Packets.{parse_kind}
-use Rattle.iss_packet.specs.declared.packets.PacketKind.TheVariants.{Message, Vote, Ask, Piece, Request}
+use Rattle.iss_packet.specs.declared.packets.PacketKind.TheVariants.{Message, Vote as Kind_vote, Ask, Piece as Kind_piece, Request as Kind_request}
 use Rattle.iss_packet.proofs.PacketLemmas.{kind_read, other_kind}
 use Rattle.iss_packet.proofs.packets.read_kind.Goals as goal
 
@@ -15,16 +15,16 @@ pub returns-in-1-clause-ok : goal.returns-in-1-clause-ok
 returns-in-1-clause-ok c = kind_read 1 _ _ _ Message c.in-1.is c.in_ok-kind.ensures.ok refl refl
 
 pub returns-in-2-clause-ok : goal.returns-in-2-clause-ok
-returns-in-2-clause-ok c = kind_read 2 _ _ _ Vote c.in-2.is c.in_ok-kind.ensures.ok refl refl
+returns-in-2-clause-ok c = kind_read 2 _ _ _ Kind_vote c.in-2.is c.in_ok-kind.ensures.ok refl refl
 
 pub returns-in-3-clause-ok : goal.returns-in-3-clause-ok
 returns-in-3-clause-ok c = kind_read 3 _ _ _ Ask c.in-3.is c.in_ok-kind.ensures.ok refl refl
 
 pub returns-in-4-clause-ok : goal.returns-in-4-clause-ok
-returns-in-4-clause-ok c = kind_read 4 _ _ _ Piece c.in-4.is c.in_ok-kind.ensures.ok refl refl
+returns-in-4-clause-ok c = kind_read 4 _ _ _ Kind_piece c.in-4.is c.in_ok-kind.ensures.ok refl refl
 
 pub returns-in-5-clause-ok : goal.returns-in-5-clause-ok
-returns-in-5-clause-ok c = kind_read 5 _ _ _ Request c.in-5.is c.in_ok-kind.ensures.ok refl refl
+returns-in-5-clause-ok c = kind_read 5 _ _ _ Kind_request c.in-5.is c.in_ok-kind.ensures.ok refl refl
 
 pub returns-in_default-clause-bad : goal.returns-in_default-clause-bad
 unfolding parse_kind

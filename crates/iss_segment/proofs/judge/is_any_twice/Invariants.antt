@@ -1,5 +1,5 @@
 use Rattle.std.proofs.Common.{◌≡◌, drop}
-use Rattle.iss_segment.specs.Marks.{twice}
+use Rattle.iss_segment.specs.Internal.Marks.{twice}
 use Rattle.iss_request.specs.Log.{ids}
 use Rattle.iss_segment.proofs.judge.is_any_twice.Given as goal
 

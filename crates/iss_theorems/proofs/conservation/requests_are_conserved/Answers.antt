@@ -7,6 +7,6 @@ pub returns : goal.returns
 returns g c =
     let M = g.M.Sequenced.spec in
     let laws = c.laws.ensures in
-    λ s h once events low.
+    λ s h events low.
     let written = faithful s M laws.grammar in
-    conserved s M h written laws.lawful laws.safe once events (cluster-run s M h written laws.lawful laws.safe events low)
+    conserved s M h written laws.lawful laws.safe laws.accepts_once events (cluster-run s M h written laws.lawful laws.safe events low)

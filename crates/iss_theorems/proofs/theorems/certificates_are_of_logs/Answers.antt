@@ -1,4 +1,4 @@
-use Rattle.iss_theorems.proofs.Checkpoints.CertificatesDescribeLogs.{are-of-logs}
+use Rattle.iss_theorems.proofs.Checkpoints.CertificatesDescribeLogs.{are-certified}
 use Rattle.iss_rules.proofs.Written.{faithful}
 use Rattle.iss_theorems.proofs.theorems.certificates_are_of_logs.Goals as goal
 
@@ -6,4 +6,4 @@ pub returns : goal.returns
 returns g c =
     let M = g.M.Sequenced.spec in
     let laws = c.laws.ensures in
-    λ s h. are-of-logs s M h (faithful s M laws.grammar) laws.lawful laws.safe
+    λ s h. are-certified s M h (faithful s M laws.grammar) laws.lawful laws.safe

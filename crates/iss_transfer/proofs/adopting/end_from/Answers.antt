@@ -1,5 +1,6 @@
 use Rattle.std.proofs.Common.{arith}
-use Rattle.iss_transfer.proofs.AdoptionLemmas.{end-next, strings-next, take-next}
+use Rattle.iss_log.proofs.ChainLemmas.{end-next}
+use Rattle.iss_transfer.proofs.AdoptionLemmas.{strings-next, take-next}
 use Rattle.iss_transfer.proofs.adopting.end_from.Goals as goal
 
 pub loop-value-preserved : goal.loop-value-preserved

@@ -1,6 +1,6 @@
 use Rattle.std.proofs.Common.{◌≡◌, take}
 use Rattle.iss_model.specs.Run.{cores_of, posted_all}
-use Rattle.iss_world.specs.Shape.{IsNetworkOf}
+use Rattle.iss_world.specs.Internal.Shape.{IsNetworkOf}
 use Rattle.iss_world.proofs.posting.post_all.Given as goal
 
 abbrev pub invariant-loop-send : goal.invariant-loop-send

@@ -1,6 +1,6 @@
 use Rattle.std.proofs.Common.{sym, subst, is_ok}
 use Rattle.iss_network.specs.Network.{Network}
-use Rattle.iss_world.specs.Shape.{IsNetworkOf}
+use Rattle.iss_world.specs.Internal.Shape.{IsNetworkOf}
 use Rattle.iss_world.proofs.PostLemmas.{between-posted}
 use Rattle.iss_world.proofs.posting.post_to.Goals as goal
 

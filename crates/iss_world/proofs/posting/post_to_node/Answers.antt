@@ -1,6 +1,6 @@
 use Rattle.std.proofs.Common.{ℕ, subst}
 use Rattle.iss_world.proofs.PostLemmas.{core-next, own-posted}
-use Rattle.iss_world.specs.Shape.{IsNetworkOf}
+use Rattle.iss_world.specs.Internal.Shape.{IsNetworkOf}
 use Rattle.iss_world.proofs.posting.post_to_node.Goals as goal
 
 pub loop-core-init : goal.loop-core-init

@@ -2,7 +2,7 @@ use Rattle.std.proofs.Common.{◌≡◌, ◌==◌}
 use Rattle.std.specs.List.{filter}
 use Rattle.iss_base.specs.Lists.{below}
 use Rattle.iss_model.specs.Run.{cores_of, node_of, posted_to}
-use Rattle.iss_world.specs.Shape.{IsNetworkOf}
+use Rattle.iss_world.specs.Internal.Shape.{IsNetworkOf}
 use Rattle.iss_world.proofs.posting.post_to_node.Given as goal
 
 abbrev pub invariant-loop-core : goal.invariant-loop-core

@@ -19,4 +19,4 @@ returns g c =
     let wrapped : Request → List ℕ = λ q. (formats_of c.args.setup.now g.M.Sequenced.spec).wrap (record { from = 255; epoch = 0; body = OfRequest q }) in
     let mine = client-keys c.args.setup.now c.args.id.client c.args.directory.now c.keys_of_client-keys.result c.requires.directory c.keys_of_client-keys.ensures.made in
     c.in_ok-wrapped.ensures c.args.setup.now refl
-    ∙ ap wrapped (signed-request c.args.setup.now c.args.id c.args.payload.now c.in_ok-copy.field-0 c.as_slice.result.now c.in_ok-sign_request.field-0 c.keys_of_client-keys.result mine c.in_ok-copy.ensures c.as_slice.ensures c.in_ok-sign_request.ensures)
+    ∙ ap wrapped (signed-request c.args.setup.now c.args.id c.args.payload.now c.in_ok-copy.field-0 c.as_slice.result.now c.in_ok-sign_request.field-0 c.keys_of_client-keys.result mine c.in_ok-copy.ensures c.as_slice.ensures c.in_ok-sign_request.ensures.signed)

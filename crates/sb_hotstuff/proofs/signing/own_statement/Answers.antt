@@ -13,7 +13,7 @@ returns-in-NewView c =
 
 pub returns-in_ok-node-in-Prepare : goal.returns-in_ok-node-in-Prepare
 returns-in_ok-node-in-Prepare c =
-    let hashed = c.in_ok-node-in-Prepare.ensures c.in-Prepare.view in
+    let hashed = c.in_ok-node-in-Prepare.ensures in
     rw c.in-Prepare.is (IfOk-weaker c.node_statement.result _ _
     (λ s h. h basic refl ∙ ap (λ (d : List ℕ). statement basic c.args.p.now 2 (four_bytes c.in-Prepare.view ++ d))
     (hashed.digest_is ∙ ap (λ (d : List ℕ). digest (plain_string c.args.p.now.setup.version c.in-Prepare.view d c.in-Prepare.what)) c.digest.ensures)) c.node_statement.ensures)

@@ -4,7 +4,7 @@ use Rattle.std.specs.Ordering.{is_eq, nat_cmp}
 use Rattle.std.proofs.lemmas.List.{get_or-map, length-map, map-set}
 use Rattle.std.proofs.Math.Seq.{map-set_same}
 use Rattle.std.specs.BTreeSet.{BTreeSet}
-use Rattle.iss_buckets.specs.Filed.{IsSetAt}
+use Rattle.iss_buckets.specs.Internal.Filed.{IsSetAt}
 use Rattle.iss_buckets.proofs.QueueLemmas.{set-number}
 use Rattle.iss_buckets.proofs.ShelfLemmas.{on_err}
 use Rattle.iss_buckets.proofs.queues.Queues.add.Goals as goal

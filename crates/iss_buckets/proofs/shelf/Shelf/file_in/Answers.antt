@@ -1,6 +1,6 @@
 use Rattle.std.proofs.Common.{◌≡◌, ◌∙◌, ap, sym, subst, List, ℕ, length, true}
 use Rattle.iss_request.specs.declared.requests.Request.{Request}
-use Rattle.iss_buckets.specs.Filed.{AreFiled, IsSetAt, bucket_of_id}
+use Rattle.iss_buckets.specs.Internal.Filed.{AreFiled, IsSetAt, bucket_of_id}
 use Rattle.iss_buckets.proofs.ShelfLemmas.{Filing, filing_more}
 use Rattle.iss_buckets.proofs.shelf.Shelf.file_in.Goals as goal
 

@@ -3,8 +3,8 @@ use Rattle.std.specs.Result.{is_ok}
 use Rattle.iss_request.specs.Log.{same_id}
 use Rattle.iss_request.specs.declared.ids.ReqId.{ReqId}
 use Rattle.iss_request.specs.declared.requests.Request.{Request}
-use Rattle.iss_buckets.specs.Filed.{AreFiled, number_of}
-use Rattle.iss_buckets.specs.Shelves.{IsShelf}
+use Rattle.iss_buckets.specs.Internal.Filed.{AreFiled, number_of}
+use Rattle.iss_buckets.specs.Internal.Shelves.{IsShelf}
 use Rattle.iss_buckets.proofs.FiledLemmas.{filed_more, insert_last}
 use Rattle.iss_buckets.proofs.ShelfLemmas.{from_ok, shelf_same, shelf_more}
 use Rattle.iss_buckets.proofs.shelf.Shelf.push.Goals as goal

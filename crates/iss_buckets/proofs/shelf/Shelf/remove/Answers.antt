@@ -1,7 +1,7 @@
 use Rattle.std.proofs.Common.{sym, subst, List, ℕ}
 use Rattle.iss_request.specs.declared.requests.Request.{Request}
-use Rattle.iss_buckets.specs.Filed.{AreFiled}
-use Rattle.iss_buckets.specs.Shelves.{IsShelf}
+use Rattle.iss_buckets.specs.Internal.Filed.{AreFiled}
+use Rattle.iss_buckets.specs.Internal.Shelves.{IsShelf}
 use Rattle.iss_buckets.proofs.FiledLemmas.{filed_less}
 use Rattle.iss_buckets.proofs.ShelfLemmas.{shelf_less}
 use Rattle.iss_buckets.proofs.shelf.Shelf.remove.Goals as goal

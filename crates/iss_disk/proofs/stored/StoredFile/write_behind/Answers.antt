@@ -3,7 +3,7 @@ use Rattle.std.proofs.lemmas.List.{take_all}
 use Rattle.iss_disk.specs.File.{overwritten, wrote}
 use Rattle.iss_disk.specs.NoteViews.{calls_in}
 use Rattle.iss_disk.specs.States.{states, after, calls_of}
-use Rattle.iss_disk.specs.declared.call.Recent.TheVariants.{Wrote}
+use Rattle.iss_disk.specs.declared.call.Recent.TheVariants.{Wrote as Just_wrote}
 use Rattle.iss_disk.specs.EachState.{states_some}
 use Rattle.iss_disk.proofs.StoredLemmas.{write_keeps, written_behind, to-end-overwritten, nothing_behind}
 use Rattle.iss_disk.proofs.stored.StoredFile.write_behind.Goals as goal
@@ -22,7 +22,7 @@ invariant_of-self-clause-stored c =
     let at = length content in
     let all : same ≡ at = c.requires.all_synced in
     let extended : longer ≡ content ++ bytes = search rules in
-    let one_more : states (calls_of (Wrote same) ++ listed) lost longer
+    let one_more : states (calls_of (Just_wrote same) ++ listed) lost longer
     ≡ after (wrote at bytes) (states calls lost content) =
     written_behind c.args.self.now.recent listed same bytes content lost longer c.requires.all_noted all extended in
     let over : longer ≡ overwritten at bytes content =
@@ -34,7 +34,7 @@ invariant_of-self-clause-stored c =
     let grows : length content ≤ length longer = omega (arith, ap length extended, length-append content bytes) in
     let ends : c.len-self.result ≡ length longer = search rules in
     write_keeps (states calls lost content)
-    (states (calls_of (Wrote same) ++ listed) lost longer) at bytes content longer behind behind same resumes same
+    (states (calls_of (Just_wrote same) ++ listed) lost longer) at bytes content longer behind behind same resumes same
     c.len-self.result
     (states_some calls lost content) c.args.self.now.stored (omega arith) (omega arith)
     (omega (arith, all)) parted one_more over grows ends

@@ -1,5 +1,5 @@
 use Rattle.std.proofs.Common.{rules, ◌≡◌, false}
-use Rattle.iss_keep.specs.Keeping.{released}
+use Rattle.iss_keep.specs.Internal.Keeping.{released}
 use Rattle.iss_keep.proofs.KeptLemmas.{take-answers, take-kept}
 use Rattle.iss_keep.proofs.kept.Kept.take.Goals as goal
 

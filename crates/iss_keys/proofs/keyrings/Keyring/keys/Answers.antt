@@ -10,4 +10,4 @@ returns-in-Own c =
     (keys_listed (λ i. sha256 (keys.kind ∷ i ∷ [])) keys.height keys.count c.args.number
     (sha256 (c.args.kind ∷ c.args.number ∷ [])) c.of-in-Own.result
     (rw (← c.self.view_is, c.in-Own.is) at c.requires)
-    (c.of-in-Own.ensures ∙ ap (λ t. record { secret = t.secret; height = t.height; used = 0 }) c.tree_of_kind.ensures))
+    (c.of-in-Own.ensures ∙ ap (λ t. record { secret = t.secret; height = t.height; used = 0 }) c.trees_of_kind.ensures))

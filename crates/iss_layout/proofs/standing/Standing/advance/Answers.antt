@@ -1,6 +1,6 @@
 use Rattle.std.proofs.Common.{◌∙◌, ap, map}
 use Rattle.iss_layout.specs.Layout.{carried}
-use Rattle.iss_layout.specs.Standings.{shown}
+use Rattle.iss_layout.specs.Internal.Standings.{shown}
 use Rattle.iss_layout.proofs.StandingLemmas.{changed_is}
 use Rattle.iss_layout.proofs.standing.Standing.advance.Goals as goal
 

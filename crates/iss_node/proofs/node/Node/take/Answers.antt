@@ -3,10 +3,12 @@ use Rattle.iss_rules.specs.Concrete.{rules_of}
 use Rattle.iss_rules.specs.Formats.{formats_of}
 use Rattle.iss_model.specs.Node.{step}
 use Rattle.iss_node.proofs.Steps.AnswersRefine.{answer-taken, node-taken}
-use Rattle.iss_node.specs.Shape.{IsNode}
+use Rattle.iss_node.specs.Internal.Ready.{RefinesSome}
+use Rattle.iss_node.specs.Internal.Shape.{IsNode}
 use Rattle.iss_node.specs.State.{NodeView, RefinesCore, StateView}
 use Rattle.iss_node.specs.Steps.{IsHeldStepOf, IsOfNodes, IsTurn}
 use Rattle.iss_node.specs.declared.answers.StepResult.TheVariants.{Taken as Result_taken}
+use Rattle.iss_node.proofs.EpochEnd.LeafIsKept.{refines-some}
 use Rattle.iss_node.proofs.node.Node.take.Goals as goal
 
 pub invariant_of-self : goal.invariant_of-self
@@ -34,3 +36,11 @@ returns-in-Ok-Taken-clause-answer g c = rw c.in-Ok-Taken.field-0-is (λ d st.
     (subst (λ (n : NodeView g.row.M.Denot g.row.M-Msg.Denot). IsTurn m g.M.Sequenced.refines (IsOfNodes n.state.setup.n c.args.event) (step (formats_of n.state.setup m) (rules_of n.state.setup) m n.state.me.0 d c.args.event) (record { state = c.turn.new.self; stale = false }) c.in-Ok-Taken.outcome)
     c.self.view_is
     (answer-taken m g.M.Sequenced.refines v c.turn.new.self false c.args.event c.in-Ok-Taken.outcome taken d there)))
+
+pub turn-requires : goal.turn-requires
+turn-requires g c =
+    let m = g.M.Sequenced.spec in
+    let v = c.self.inside.state in
+    let fresh : c.self.inside.stale ≡ false = search rules in
+    subst (λ (z : StateView g.row.M.Denot g.row.M-Msg.Denot). RefinesSome m g.M.Sequenced.refines z) (sym (ap (λ z. z.state) c.self-inside.view_is))
+    (refines-some m g.M.Sequenced.refines (record { state = v; stale = c.self.inside.stale }) c.self.invariant fresh)

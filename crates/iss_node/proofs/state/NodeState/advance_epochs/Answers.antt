@@ -1,12 +1,13 @@
-use Rattle.std.proofs.Common.{true, false, subst}
+use Rattle.std.proofs.Common.{◌∙◌, true, false, subst, sym}
 use Rattle.std.proofs.lemmas.Result.{IfOk-weaker}
 use Rattle.iss_model.specs.Node.{advance_epochs, takes_each, then_turn}
 use Rattle.iss_node.proofs.EpochEnd.NextEpochStarts.{is-over}
 use Rattle.iss_node.proofs.EpochEnd.StepCompletes.{settles-not, settles-on}
-use Rattle.iss_node.specs.Epochs.{appended}
+use Rattle.iss_node.specs.Internal.Epochs.{appended}
 use Rattle.iss_node.specs.State.{seen_early}
 use Rattle.iss_node.specs.Steps.{IsTurnBehind}
 use Rattle.iss_node.specs.declared.answers.Outcome.{Outcome}
+use Rattle.iss_node.proofs.EpochEnd.LeafIsKept.{may-vote}
 use Rattle.iss_node.proofs.state.NodeState.advance_epochs.Goals as goal
 
 pub returns-clause-turn : goal.returns-clause-turn
@@ -28,3 +29,6 @@ pub returns-then-not-is_complete-clause-turn : goal.returns-then-not-is_complete
 returns-then-not-is_complete-clause-turn g c =
     let m = g.M.Sequenced.spec in
     settles-not m g.M.Sequenced.refines c.args.self.now c.args.outcome (is-over m g.M.Sequenced.refines c.args.self.now c.is_complete.result false c.is_complete.ensures c.if-not-is_complete.true)
+
+pub end_epoch-requires : goal.end_epoch-requires
+end_epoch-requires g c = may-vote g.M.Sequenced.spec g.M.Sequenced.refines c.args.self.now c.requires (sym c.is_complete.ensures ∙ c.if-not-is_complete.false)

@@ -3,7 +3,7 @@ use Rattle.std.proofs.lemmas.Result.{IfOk-weaker}
 use Rattle.iss_node.proofs.Wire.ClaimsAgree.{handed-same}
 use Rattle.iss_node.proofs.Steps.OutcomesCompose.{on-ok}
 use Rattle.iss_node.proofs.WaitingRequests.RequestRefines.{absorbed-all, chained-after, now-its-own}
-use Rattle.iss_node.specs.Inputs.{HasAppliedEffects, IsChained, IsHandedOut}
+use Rattle.iss_node.specs.Internal.Inputs.{HasAppliedEffects, IsChained, IsHandedOut}
 use Rattle.iss_sb.specs.declared.effects.To.{To}
 use Rattle.iss_node.proofs.state.NodeState.apply_effects.Goals as goal
 

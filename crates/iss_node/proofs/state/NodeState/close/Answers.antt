@@ -3,7 +3,7 @@ use Rattle.std.specs.List.{All, filter}
 use Rattle.iss_layout.specs.Layout.{IsSlotOf, IsStanding, slots_from}
 use Rattle.iss_model.specs.Node.{is_nil_at}
 use Rattle.iss_node.proofs.Log.NilSlotsOfEpoch.{are-of}
-use Rattle.iss_node.specs.Epochs.{notes}
+use Rattle.iss_node.specs.Internal.Epochs.{notes}
 use Rattle.iss_request.specs.declared.ids.ReqId.{ReqId}
 use Rattle.iss_request.specs.declared.ids.Slot.{Slot}
 use Rattle.iss_window.specs.Kept.{RefinesNoted}

@@ -6,3 +6,6 @@ returns-in_ok-advance_epochs-in-Taken-clause-answer g c = rw c.in-Taken.is (sett
 
 pub returns-in-Dropped-clause-answer : goal.returns-in-Dropped-clause-answer
 returns-in-Dropped-clause-answer g c = rw c.in-Dropped.is (settled-dropped g.M.Sequenced.spec g.M.Sequenced.refines c.args.self.now c.in-Dropped.why)
+
+pub advance_epochs-requires : goal.advance_epochs-requires
+advance_epochs-requires g c = rw c.in-Taken.is at c.requires

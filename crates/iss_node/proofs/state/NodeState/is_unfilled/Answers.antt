@@ -1,6 +1,6 @@
 use Rattle.std.proofs.Common.{◌∙◌, sym, ap, subst}
 use Rattle.iss_node.proofs.Steps.QueriesAgree.{unfilled-of}
-use Rattle.iss_node.specs.Shape.{IsNodeState}
+use Rattle.iss_node.specs.Internal.Shape.{IsNodeState}
 use Rattle.iss_node.specs.State.{StateView}
 use Rattle.iss_node.proofs.state.NodeState.is_unfilled.Goals as goal
 

@@ -3,7 +3,7 @@ use Rattle.iss_model.specs.Node.{unchanged}
 use Rattle.iss_node.proofs.Instances.ChecksRefine.{same-parts}
 use Rattle.iss_node.proofs.Steps.OutcomesCompose.{nothing-made, nothing-sent}
 use Rattle.iss_node.proofs.Steps.QueriesAgree.{early-full, early-kept, early-parts, with-early}
-use Rattle.iss_node.specs.Shape.{IsNodeState}
+use Rattle.iss_node.specs.Internal.Shape.{IsNodeState}
 use Rattle.iss_node.specs.State.{RefinesBareCore, StateView, core_of, seen_early, seen_one}
 use Rattle.iss_node.proofs.state.NodeState.keep_early.Goals as goal
 

@@ -1,5 +1,5 @@
 use Rattle.std.proofs.Common.{arith, ◌≡◌, ◌∙◌, ℕ, ◌+◌, List, [], ap, subst}
-use Rattle.iss_node.specs.Epochs.{HasOpened}
+use Rattle.iss_node.specs.Internal.Epochs.{HasOpened}
 use Rattle.iss_node.specs.State.{StateView}
 use Rattle.iss_node.specs.declared.answers.Early.{Early}
 use Rattle.iss_node.proofs.state.NodeState.next_epoch.Goals as goal

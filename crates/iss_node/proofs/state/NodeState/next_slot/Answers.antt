@@ -1,8 +1,8 @@
 use Rattle.std.proofs.Common.{◌≡◌, ◌∙◌, ap, sym, subst, Some}
 use Rattle.iss_model.specs.Node.{first_slot}
 use Rattle.iss_node.proofs.Instances.ProposalRefines.{next-is}
-use Rattle.iss_node.specs.Casts.{is_open}
-use Rattle.iss_node.specs.Shape.{IsNodeState}
+use Rattle.iss_node.specs.Internal.Casts.{is_open}
+use Rattle.iss_node.specs.Internal.Shape.{IsNodeState}
 use Rattle.iss_node.specs.State.{StateView, led}
 use Rattle.iss_node.proofs.state.NodeState.next_slot.Goals as goal
 

@@ -1,7 +1,7 @@
 use Rattle.std.proofs.Common.{◌≡◌, ◌∙◌, List, ap, subst}
 use Rattle.iss_layout.specs.Layout.{Ended, IsStanding, conduct_of, plan_by}
 use Rattle.iss_node.proofs.EpochEnd.NextEpochStarts.{begun-so, opened-shape}
-use Rattle.iss_node.specs.Epochs.{AreStarted}
+use Rattle.iss_node.specs.Internal.Epochs.{AreStarted}
 use Rattle.iss_node.specs.State.{StateView}
 use Rattle.iss_node.proofs.state.NodeState.open.Goals as goal
 

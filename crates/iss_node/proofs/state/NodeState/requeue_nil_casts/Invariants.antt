@@ -1,7 +1,7 @@
 use Rattle.std.proofs.Common.{◌≡◌, ◌++◌, List, reverse}
 use Rattle.iss_buckets.specs.Waiting.{AreNew, absent}
 use Rattle.iss_model.specs.Node.{returned}
-use Rattle.iss_node.specs.Inputs.{AreLogged}
+use Rattle.iss_node.specs.Internal.Inputs.{AreLogged}
 use Rattle.iss_request.specs.declared.ids.ReqId.{ReqId}
 use Rattle.iss_node.proofs.state.NodeState.requeue_nil_casts.Given as goal
 

@@ -1,10 +1,9 @@
 use Rattle.std.proofs.Common.{arith, rules, ◌≡◌, ◌∙◌, ◌++◌, ◌∷◌, [], ◌<◌, List, ap, sym, subst}
-use Rattle.std.proofs.lemmas.List.{append-nil}
+use Rattle.std.proofs.lemmas.List.{append-nil, nil_from_length}
 use Rattle.iss_node.proofs.Instances.ChecksRefine.{later-refl, later-trans}
-use Rattle.iss_node.proofs.EpochEnd.NextEpochStarts.{empty}
 use Rattle.iss_node.proofs.WaitingRequests.RequestRefines.{whole-next}
 use Rattle.iss_node.proofs.EpochEnd.StepCompletes.{Owes, owes-first, owes-last, owes-next, owes-none}
-use Rattle.iss_node.specs.Shape.{AreFrom}
+use Rattle.iss_node.specs.Internal.Shape.{AreFrom}
 use Rattle.iss_node.specs.declared.answers.Early.{Early}
 use Rattle.iss_request.specs.declared.setups.Setup.{Setup}
 use Rattle.iss_node.proofs.state.NodeState.take_each.Goals as goal
@@ -16,12 +15,13 @@ loop-message-init g c =
     record {
       owes = λ t h. owes-first g.M.Sequenced.spec g.M.Sequenced.refines c.args.self.now c.args.outcome t h;
       later = later-refl c.args.self.now;
-      from = subst (λ (xs : List (Early g.row.M-Msg.Denot)). AreFrom c.args.self.now.setup.n xs) whole c.requires;
+      from = subst (λ (xs : List (Early g.row.M-Msg.Denot)). AreFrom c.args.self.now.setup.n xs) whole c.requires.from;
       whole = whole;
+      lasts = c.requires.lasts;
     }
 
-pub take_early-requires : goal.take_early-requires
-take_early-requires g c =
+pub take_early-requires-clause-from : goal.take_early-requires-clause-from
+take_early-requires-clause-from g c =
     let h = c.loop-message.invariant in
     let from = subst (λ (xs : List (Early g.row.M-Msg.Denot)). AreFrom c.args.self.now.setup.n xs) c.in-Some.ensures.steps.0 h.from in
     subst (λ (s : Setup). c.in-Some.message.from.0 < s.n) (sym h.later.setup) from.0
@@ -40,6 +40,7 @@ loop-message-preserved-in-Continue-branch-2 g c =
           (owes-next m g.M.Sequenced.refines c.args.self.now c.loop-message.self c.take_early.new.self c.loop-message.all c.in_ok-more.more c.loop-message.yielded c.in-Some.message t h.later c.take_early.ensures.later lasts c.in_ok-more.ensures.turn (h.owes t k));
       later = later-trans c.args.self.now c.loop-message.self c.take_early.new.self h.later c.take_early.ensures.later;
       from = from.1;
+      lasts = c.in_ok-more.ensures.goes_on;
       whole = whole-next c.args.early.items c.loop-message.yielded c.in-Some.message _ _ h.whole c.in-Some.ensures.steps.0;
     }
 
@@ -56,6 +57,7 @@ loop-message-preserved g c =
       owes = λ t k. owes-none m g.M.Sequenced.refines c.args.self.now c.loop-message.self c.loop-message.all c.loop-message.yielded c.in-Some.message t over (h.owes t k);
       later = h.later;
       from = from.1;
+      lasts = h.lasts;
       whole = whole-next c.args.early.items c.loop-message.yielded c.in-Some.message _ _ h.whole c.in-Some.ensures.steps.0;
     }
 
@@ -63,7 +65,7 @@ pub returns-clause-turn : goal.returns-clause-turn
 returns-clause-turn g c = λ t k.
     let h = c.loop-message.invariant in
     let left = c.loop-message.message-iterator.rest in
-    let none : left.items ≡ [] = empty left.items (omega (arith, left.ok.0, c.in-None.ensures.steps.0)) in
+    let none : left.items ≡ [] = nil_from_length left.items (omega (arith, left.ok.0, c.in-None.ensures.steps.0)) in
     let all : c.loop-message.yielded ≡ c.args.early.items = sym (h.whole ∙ ap (λ xs. c.loop-message.yielded ++ xs) none ∙ append-nil c.loop-message.yielded) in
     owes-last g.M.Sequenced.spec g.M.Sequenced.refines c.args.self.now c.loop-message.self c.loop-message.all c.args.early.items c.loop-message.yielded all t (h.owes t k)
 

@@ -3,7 +3,7 @@ use Rattle.std.proofs.lemmas.Result.{IfOk-weaker}
 use Rattle.iss_base.proofs.Lists.{eqb-other, is-eq}
 use Rattle.iss_model.specs.Node.{finish_step, keeps_early, takes_message, try_step}
 use Rattle.iss_node.proofs.EpochEnd.EarlyMessagesAreKept.{next-step, now-is, other-is}
-use Rattle.iss_node.specs.Shape.{IsNodeState}
+use Rattle.iss_node.specs.Internal.Shape.{IsNodeState}
 use Rattle.iss_node.specs.State.{StateView, seen_one}
 use Rattle.iss_node.specs.Steps.{IsStepOf}
 use Rattle.iss_sb.specs.declared.effects.Input.TheVariants.{Receive}

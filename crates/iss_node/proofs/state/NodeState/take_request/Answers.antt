@@ -5,7 +5,7 @@ use Rattle.iss_rules.specs.Past.{before_own, log_of}
 use Rattle.iss_node.proofs.Instances.ChecksRefine.{same-parts}
 use Rattle.iss_node.proofs.Steps.OutcomesCompose.{nothing-made, nothing-sent}
 use Rattle.iss_node.proofs.WaitingRequests.RequestRefines.{inside-found, known-is, known-waits, logged-all, request-is, waits-parts}
-use Rattle.iss_node.specs.Shape.{IsNodeState}
+use Rattle.iss_node.specs.Internal.Shape.{IsNodeState}
 use Rattle.iss_node.specs.State.{StateView, core_of}
 use Rattle.iss_request.specs.Log.{log_ids}
 use Rattle.iss_node.proofs.state.NodeState.take_request.Goals as goal

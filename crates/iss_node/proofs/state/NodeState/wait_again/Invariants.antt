@@ -1,6 +1,6 @@
 use Rattle.std.proofs.Common.{◌≡◌, ◌++◌, List}
 use Rattle.iss_buckets.specs.Waiting.{AreNew, absent}
-use Rattle.iss_node.specs.Inputs.{AreLogged}
+use Rattle.iss_node.specs.Internal.Inputs.{AreLogged}
 use Rattle.iss_request.specs.declared.ids.ReqId.{ReqId}
 use Rattle.iss_node.proofs.state.NodeState.wait_again.Given as goal
 

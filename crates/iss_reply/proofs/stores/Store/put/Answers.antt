@@ -1,6 +1,6 @@
 use Rattle.std.proofs.Common.{rules, ◌≡◌, ◌∙◌, ap, cond, List, ℕ, Some}
 use Rattle.std.specs.Str.{bytes_eq}
-use Rattle.iss_reply.specs.Held.{held_in}
+use Rattle.iss_reply.specs.Internal.Held.{held_in}
 use Rattle.iss_reply.proofs.StoreLemmas.{held-changed}
 use Rattle.iss_reply.proofs.stores.Store.put.Goals as goal
 

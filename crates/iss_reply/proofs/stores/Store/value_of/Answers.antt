@@ -1,5 +1,5 @@
 use Rattle.std.proofs.Common.{◌∙◌, ap}
-use Rattle.iss_reply.specs.Held.{held_in}
+use Rattle.iss_reply.specs.Internal.Held.{held_in}
 use Rattle.iss_reply.proofs.StoreLemmas.{held-found}
 use Rattle.iss_reply.proofs.stores.Store.value_of.Goals as goal
 

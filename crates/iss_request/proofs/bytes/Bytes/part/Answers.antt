@@ -1,5 +1,5 @@
 use Rattle.std.proofs.Common.{◌∙◌, ℕ, Vec, Global, ap, sym, drop, take, ◌+◌}
-use Rattle.iss_request.specs.Bytes.{held_bytes}
+use Rattle.iss_request.specs.Internal.Bytes.{held_bytes}
 use Rattle.iss_request.proofs.Parts.{part_again}
 use Rattle.iss_request.proofs.bytes.Bytes.part.Goals as goal
 

@@ -9,11 +9,11 @@ use Rattle.iss_model.specs.Courses.{Machines, Upshot}
 use Rattle.iss_sb.specs.declared.effects.Claim.{Claim}
 use Rattle.iss_world.specs.Refines.{HasChanged, RefinesMachines}
 use Rattle.iss_world.specs.State.{SimulationState}
-use Rattle.iss_world.specs.Steps.{kept_to}
+use Rattle.iss_world.specs.Internal.Steps.{kept_to}
 use Rattle.iss_world.specs.declared.ends.EventOutcome.TheVariants.{Ended, Lost}
-use Rattle.iss_world.specs.declared.ends.Evidence.TheVariants.{Forged}
+use Rattle.iss_world.specs.declared.ends.Evidence.TheVariants.{Forged as Evidence_forged}
 use Rattle.iss_world.proofs.BookLemmas.{if-ok}
-use Rattle.iss_world.proofs.StepLemmas.{claims-here, machine-forged, machine-kept, machine-stopped, runs-show, stale-here}
+use Rattle.iss_world.proofs.StepLemmas.{claims-here, machine-forged, machine-kept, machine-stopped, runs-left, stale-here}
 use Rattle.iss_world.proofs.simulation.Simulation.take.Goals as goal
 
 pub returns-then-stale-clause-happened : goal.returns-then-stale-clause-happened
@@ -50,9 +50,9 @@ returns-in-Some-clause-happened g c =
     sym (stale-here g.M.Sequenced.spec g.M.Sequenced.refines v c.args.core c.index-node.result.now c.args.event c.self.invariant.0 at w st) ∙ (sym c.stale.ensures ∙ c.if-stale.false) in
     let are = claims-here g.M.Sequenced.spec g.M.Sequenced.refines v c.args.core c.index-node.result.now c.args.event c.self.invariant.0 at c.in_ok-claims.claims c.in_ok-claims.ensures w st working in
     let first = sym c.in-Some.is ∙ c.in_ok-forged.ensures w.held.signed st.signed ∙ ap (λ (cs : List Claim). first_forged s (rules_of s) w.held.signed cs) c.as_slice.ensures in
-    subst (λ (u : Upshot g.row.M-Msg.Denot). HasChanged m g.M.Sequenced.refines v u (Ended (Forged c.in-Some.claim)))
+    subst (λ (u : Upshot g.row.M-Msg.Denot). HasChanged m g.M.Sequenced.refines v u (Ended (Evidence_forged c.in-Some.claim)))
     (sym (machine-forged m s (formats_of s m) w c.args.core c.args.event c.in_ok-claims.claims are working c.in-Some.claim first))
-    (runs-show g.M.Sequenced.spec g.M.Sequenced.refines v w c.self.invariant.0 st, refl, refl))
+    (runs-left g.M.Sequenced.spec g.M.Sequenced.refines v w st, refl, refl))
 
 pub returns-in-None-clause-happened : goal.returns-in-None-clause-happened
 returns-in-None-clause-happened g c =

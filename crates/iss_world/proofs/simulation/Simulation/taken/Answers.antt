@@ -5,7 +5,7 @@ use Rattle.iss_sb.specs.declared.effects.Claim.{Claim}
 use Rattle.iss_sb.specs.declared.effects.To.{To}
 use Rattle.iss_world.specs.Books.{AreSigned}
 use Rattle.iss_world.specs.State.{SimulationState}
-use Rattle.iss_world.specs.Steps.{ends_by}
+use Rattle.iss_world.specs.Internal.Steps.{ends_by}
 use Rattle.iss_world.proofs.StepLemmas.{kept-end, no-end, same-network, still-running, turn-ended, turn-refines, with-network}
 use Rattle.iss_world.proofs.simulation.Simulation.taken.Goals as goal
 
@@ -31,9 +31,10 @@ returns-in-Some-clause-happened g c =
     let v : SimulationState g.row.M.Denot g.row.M-Msg.Denot = record { setup = c.self.inside.setup; nodes = c.self.inside.nodes.items; network = c.self.inside.network; signed = c.self.inside.signed; hashed = c.self.inside.hashed } in
     let lt : c.args.core < length c.self.inside.nodes.items = omega (arith, ap (λ (z : SimulationState _ _). cores_of z.setup) c.self.view_is, c.self.invariant.0.count) in
     let at = slice_get_read c.self.inside.nodes.items _ c.args.core c.index_mut.result.now refl lt c.index_mut.ensures.value in
-    rw (← c.self.view_is) (λ w behind t b made.
-    turn-ended g.M.Sequenced.spec g.M.Sequenced.refines v c.args.core c.self.invariant.0 lt w behind t c.args.slots c.args.epoch.0 b c.index_mut.result.now c.retreat.new.self at
-    c.retreat.ensures.log c.retreat.ensures.epoch c.self.inside.network c.self.inside.signed c.ends.new.hashed c.args.outcome.now c.in-Some.end made
+    rw (← c.self.view_is) (λ w event t b made.
+    turn-ended g.M.Sequenced.spec g.M.Sequenced.refines v c.args.core c.self.invariant.0 lt w event t c.args.slots c.args.epoch.0 b c.index_mut.result.now c.retreat.new.self at
+    c.retreat.ensures.log c.retreat.ensures.epoch c.retreat.ensures.stale c.retreat.ensures.journal.1 c.self.inside.network c.self.inside.signed c.ends.new.hashed refl refl
+    c.args.outcome.now c.in-Some.end made
     (kept-end c.in_ok-ended.ended c.in-Some.end (ends_by c.self.inside.setup w.held.signed w.held.hashed c.args.outcome.now.early c.args.outcome.now.hashed)
     c.in-Some.is (c.in_ok-ended.ensures.told w.held.signed w.held.hashed b.signed b.hashed)))
 
@@ -41,8 +42,8 @@ pub returns-in_ok-post_all-in-None-clause-happened : goal.returns-in_ok-post_all
 returns-in_ok-post_all-in-None-clause-happened g c =
     let v : SimulationState g.row.M.Denot g.row.M-Msg.Denot = record { setup = c.self.inside.setup; nodes = c.self.inside.nodes.items; network = c.self.inside.network; signed = c.self.inside.signed; hashed = c.self.inside.hashed } in
     let lt : c.args.core < length c.self.inside.nodes.items = omega (arith, ap (λ (z : SimulationState _ _). cores_of z.setup) c.self.view_is, c.self.invariant.0.count) in
-    rw (← c.self.view_is) (λ w behind t b made.
-    turn-refines g.M.Sequenced.spec g.M.Sequenced.refines v c.args.core c.self.invariant.0 lt w behind t c.args.slots c.args.epoch.0 b c.args.outcome.now c.post_all.new.network c.book_own.new.signed c.ends.new.hashed made
+    rw (← c.self.view_is) (λ w event t b made.
+    turn-refines g.M.Sequenced.spec g.M.Sequenced.refines v c.args.core c.self.invariant.0 lt w event t c.args.slots c.args.epoch.0 b c.args.outcome.now c.post_all.new.network c.book_own.new.signed c.ends.new.hashed made
     (no-end c.in_ok-ended.ended (ends_by c.self.inside.setup w.held.signed w.held.hashed c.args.outcome.now.early c.args.outcome.now.hashed)
     c.in-None.is (c.in_ok-ended.ensures.told w.held.signed w.held.hashed b.signed b.hashed))
     (c.in_ok-post_all-in-None.ensures.posted ∙ ap (λ (xs : List (To × List ℕ)). posted_all c.self.inside.setup c.self.inside.network c.args.core xs) c.as_slice.ensures)

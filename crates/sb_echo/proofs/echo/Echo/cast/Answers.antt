@@ -1,6 +1,6 @@
 use Rattle.std.proofs.Common.{◌==◌, ◌∙◌, refl, sym, arith}
 use Rattle.iss_base.proofs.Lists.{and-true}
-use Rattle.sb_echo.specs.Refines.{is_free}
+use Rattle.sb_echo.specs.Internal.Refines.{is_free}
 use Rattle.sb_echo.proofs.Steps.{cast-refines, cast-taken, cast-used, idle_cast-refines, idle_cast-taken, said-words}
 use Rattle.sb_echo.proofs.Within.{none-used, nothing-within, same-owner, some-used, taken-within, twice-used}
 use Rattle.sb_echo.proofs.echo.Echo.cast.Goals as goal

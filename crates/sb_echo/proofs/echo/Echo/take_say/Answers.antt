@@ -1,6 +1,6 @@
 use Rattle.std.proofs.Common.{◌==◌, ◌∙◌, refl, sym, arith}
 use Rattle.iss_base.proofs.Lists.{and-true}
-use Rattle.sb_echo.specs.Refines.{is_free}
+use Rattle.sb_echo.specs.Internal.Refines.{is_free}
 use Rattle.sb_echo.proofs.Steps.{echoed-words, idle_say-refines, idle_say-taken, say-refines, say-taken, say-used}
 use Rattle.sb_echo.proofs.Within.{none-used, nothing-within, some-used, taken-within}
 use Rattle.sb_echo.proofs.echo.Echo.take_say.Goals as goal

@@ -1,6 +1,6 @@
 use Rattle.sb_echo.proofs.Lawful.{echo-lawful}
 use Rattle.sb_echo.proofs.Once.{echo-once}
-use Rattle.sb_echo.proofs.Safe.{echo-safe}
+use Rattle.sb_echo.proofs.Safe.{echo-accepts-once, echo-safe}
 use Rattle.sb_echo.proofs.Spelling.{word-grammar}
 use Rattle.sb_echo.proofs.echo.EchoSequenced.laws.Goals as goal
 
@@ -12,6 +12,9 @@ returns-clause-lawful c = echo-lawful
 
 pub returns-clause-safe : goal.returns-clause-safe
 returns-clause-safe c = echo-safe
+
+pub returns-clause-accepts_once : goal.returns-clause-accepts_once
+returns-clause-accepts_once c = echo-accepts-once
 
 pub returns-clause-signs_once : goal.returns-clause-signs_once
 returns-clause-signs_once c = echo-once

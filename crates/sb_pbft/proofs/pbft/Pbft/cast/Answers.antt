@@ -5,8 +5,8 @@ use Rattle.iss_sb.specs.Statements.{signature}
 use Rattle.iss_sb.specs.declared.effects.Input.TheVariants.{Cast}
 use Rattle.pbft_wire.specs.Statements.{state_at, string_of}
 use Rattle.sb_pbft.specs.Makes.{first_draft, first_sig}
-use Rattle.sb_pbft.specs.Refines.{held, is_free}
-use Rattle.sb_pbft.specs.Turns.{first_proposal, with_proposal}
+use Rattle.sb_pbft.specs.Internal.Refines.{held, is_free}
+use Rattle.sb_pbft.specs.Internal.Turns.{first_proposal, with_proposal}
 use Rattle.sb_pbft.proofs.Refinement.RulesCompose.{does-nothing, does-settled}
 use Rattle.sb_pbft.proofs.Refinement.ProposalRefines.{cast-idle, cast-sent, cast-turn, first-few, free-slot, proposal-held, same-proposal}
 use Rattle.sb_pbft.proofs.pbft.Pbft.cast.Goals as goal

@@ -17,14 +17,14 @@ loop-slot-preserved c =
     let slots = c.args.slots.now in
     let i = c.loop-slot.slot-index in
     let done = c.in_ok-settle_at.ensures in (
-      left-more p c.args.answers c.args.view (get_or slots i (record { 0 = 0 })) c.loop-slot.self c.settle_at.new.self c.loop-slot.keys c.settle_at.new.keys c.loop-slot.effects c.settle_at.new.effects
+      left-more p c.args.touched.answers c.args.touched.view (get_or slots i (record { 0 = 0 })) c.loop-slot.self c.settle_at.new.self c.loop-slot.keys c.settle_at.new.keys c.loop-slot.effects c.settle_at.new.effects
           (length slots) i c.loop-slot.invariant.0 c.loop-slot-test.true done,
-      owes-more p c.args.answers c.args.view slots i c.args.self.now c.loop-slot.self c.settle_at.new.self c.args.keys.now c.loop-slot.keys c.settle_at.new.keys c.args.effects.now c.loop-slot.effects
+      owes-more p c.args.touched.answers c.args.touched.view slots i c.args.self.now c.loop-slot.self c.settle_at.new.self c.args.keys.now c.loop-slot.keys c.settle_at.new.keys c.args.effects.now c.loop-slot.effects
           c.settle_at.new.effects c.loop-slot-test.true c.loop-slot.invariant.1 done,
     )
 
 pub returns : goal.returns
 returns c =
     let past = c.loop-slot-test.false in
-    owes-none c.args.p.now c.args.answers c.args.view c.args.slots.now c.loop-slot.slot-index c.args.self.now c.loop-slot.self c.args.keys.now c.loop-slot.keys c.args.effects.now c.loop-slot.effects
+    owes-none c.args.p.now c.args.touched.answers c.args.touched.view c.args.slots.now c.loop-slot.slot-index c.args.self.now c.loop-slot.self c.args.keys.now c.loop-slot.keys c.args.effects.now c.loop-slot.effects
     (omega (arith, past)) c.loop-slot.invariant.1

@@ -2,31 +2,33 @@ use Rattle.std.proofs.Common.{arith, refl, sym, [], ◌∷◌, false, None}
 use Rattle.iss_sb.proofs.Slots.{has_slot-In}
 use Rattle.iss_sb.specs.declared.effects.Input.TheVariants.{Receive}
 use Rattle.pbft_wire.specs.declared.messages.Message.TheVariants.{Commit}
-use Rattle.sb_pbft.specs.Refines.{held}
-use Rattle.sb_pbft.specs.Turns.{and_commit}
+use Rattle.sb_pbft.specs.Internal.Refines.{held}
+use Rattle.sb_pbft.specs.Internal.Turns.{and_commit}
 use Rattle.sb_pbft.proofs.Refinement.RulesCompose.{does-nothing, does-settled}
 use Rattle.sb_pbft.proofs.Refinement.SettleRefines.{sent-none}
 use Rattle.sb_pbft.proofs.Refinement.TablesRefine.{commit-held, commit-idle, commit-turn}
 use Rattle.sb_pbft.proofs.pbft.Pbft.take_commit.Goals as goal
 
 pub returns-then-not-has_slot : goal.returns-then-not-has_slot
-returns-then-not-has_slot c sig =
-    let input = Receive c.args.from (Commit c.args.view c.args.slot c.args.digest sig) in
+returns-then-not-has_slot c =
+    let x = c.args.vote in
+    let input = Receive x.from (Commit x.view x.slot c.args.digest x.sig) in
     does-nothing c.args.p.now input c.args.self.now c.args.keys.now _
-    (commit-idle c.args.p.now c.args.self.now c.args.self.now.commits c.args.from c.args.view c.args.slot c.args.digest sig c.args.self.now.me.0 c.args.keys.now.used (sym c.if-not-has_slot.ensures)) c.nothing.ensures
+    (commit-idle c.args.p.now c.args.self.now c.args.self.now.commits x.from x.view x.slot c.args.digest x.sig c.args.self.now.me.0 c.args.keys.now.used (sym c.if-not-has_slot.ensures)) c.nothing.ensures
 
 pub returns : goal.returns
-returns c sig =
+returns c =
+    let x = c.args.vote in
     let p = c.args.p.now in
     let old = c.args.self.now in
-    let slot = c.args.slot in
-    let input = Receive c.args.from (Commit c.args.view slot c.args.digest sig) in
+    let slot = x.slot in
+    let input = Receive x.from (Commit x.view slot c.args.digest x.sig) in
     let inside = sym c.if-not-has_slot.ensures in
     let nothing = c.nothing-effects.ensures in
     let some = c.requires.good.some in
     does-settled p input old (record old { commits = c.keep.new.self }) c.settle_at.new.self c.args.keys.now c.args.keys.now c.settle_at.new.keys c.nothing-effects.result c.settle_at.new.effects
-    [] false c.args.view (slot ∷ []) (and_commit p (held old) input) [] None
-    refl (λ own. commit-held p old c.keep.new.self c.args.from c.args.view slot c.args.digest sig _ c.new-none.ensures c.in_ok-keep.ensures inside)
+    [] false x.view (slot ∷ []) (and_commit p (held old) input) [] None
+    refl (λ own. commit-held p old c.keep.new.self x.from x.view slot c.args.digest x.sig _ c.new.ensures c.in_ok-keep.ensures inside)
     (sent-none p c.args.keys.now [] c.nothing-effects.result.sends nothing.sends) nothing.delivers nothing.accepted nothing.hashed tt
-    (commit-turn p old c.keep.new.self c.args.from c.args.view slot c.args.digest sig old.me.0 c.args.keys.now.used inside) c.in_ok-settle_at.ensures
+    (commit-turn p old c.keep.new.self x.from x.view slot c.args.digest x.sig old.me.0 c.args.keys.now.used inside) c.in_ok-settle_at.ensures
     (has_slot-In slot p.slots inside, tt) (omega (arith, some))

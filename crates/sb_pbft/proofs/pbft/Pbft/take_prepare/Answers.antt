@@ -5,8 +5,8 @@ use Rattle.iss_sb.proofs.Slots.{has_slot-In}
 use Rattle.iss_sb.specs.declared.effects.Input.TheVariants.{Receive}
 use Rattle.pbft_wire.specs.declared.messages.Message.TheVariants.{Prepare}
 use Rattle.pbft_views.specs.Good.{primary}
-use Rattle.sb_pbft.specs.Refines.{held}
-use Rattle.sb_pbft.specs.Turns.{and_prepare}
+use Rattle.sb_pbft.specs.Internal.Refines.{held}
+use Rattle.sb_pbft.specs.Internal.Turns.{and_prepare}
 use Rattle.sb_pbft.proofs.Refinement.RulesCompose.{does-nothing, does-settled}
 use Rattle.sb_pbft.proofs.Refinement.SettleRefines.{sent-none}
 use Rattle.sb_pbft.proofs.Refinement.TablesRefine.{prepare-held, prepare-idle, prepare-turn}
@@ -14,22 +14,24 @@ use Rattle.sb_pbft.proofs.pbft.Pbft.take_prepare.Goals as goal
 
 pub returns-then-not-counts : goal.returns-then-not-counts
 returns-then-not-counts c =
-    let input = Receive c.args.from (Prepare c.args.view c.args.slot c.args.digest c.args.sig) in
+    let x = c.args.vote in
+    let input = Receive x.from (Prepare x.view x.slot c.args.digest x.sig) in
     does-nothing c.args.p.now input c.args.self.now c.args.keys.now _
-    (prepare-idle c.args.p.now c.args.self.now c.args.self.now.prepares c.args.from c.args.view c.args.slot c.args.digest c.args.sig c.args.self.now.me.0 c.args.keys.now.used (sym c.if-not-counts.ensures)) c.nothing.ensures
+    (prepare-idle c.args.p.now c.args.self.now c.args.self.now.prepares x.from x.view x.slot c.args.digest x.sig c.args.self.now.me.0 c.args.keys.now.used (sym c.if-not-counts.ensures)) c.nothing.ensures
 
 pub returns : goal.returns
 returns c =
+    let x = c.args.vote in
     let p = c.args.p.now in
     let old = c.args.self.now in
-    let slot = c.args.slot in
-    let input = Receive c.args.from (Prepare c.args.view slot c.args.digest c.args.sig) in
+    let slot = x.slot in
+    let input = Receive x.from (Prepare x.view slot c.args.digest x.sig) in
     let counts = sym c.if-not-counts.ensures in
     let nothing = c.nothing-effects.ensures in
     let some = c.requires.good.some in
     does-settled p input old (record old { prepares = c.keep.new.self }) c.settle_at.new.self c.args.keys.now c.args.keys.now c.settle_at.new.keys c.nothing-effects.result c.settle_at.new.effects
-    [] false c.args.view (slot ∷ []) (and_prepare p (held old) input) [] None
-    refl (λ own. prepare-held p old c.keep.new.self c.args.from c.args.view slot c.args.digest c.args.sig c.in_ok-keep.ensures counts)
+    [] false x.view (slot ∷ []) (and_prepare p (held old) input) [] None
+    refl (λ own. prepare-held p old c.keep.new.self x.from x.view slot c.args.digest x.sig c.in_ok-keep.ensures counts)
     (sent-none p c.args.keys.now [] c.nothing-effects.result.sends nothing.sends) nothing.delivers nothing.accepted nothing.hashed tt
-    (prepare-turn p old c.keep.new.self c.args.from c.args.view slot c.args.digest c.args.sig old.me.0 c.args.keys.now.used counts) c.in_ok-settle_at.ensures
-    (has_slot-In slot p.slots (and-true (has_slot slot.0 p.slots) (not (c.args.from.0 == primary p c.args.view)) counts).0, tt) (omega (arith, some))
+    (prepare-turn p old c.keep.new.self x.from x.view slot c.args.digest x.sig old.me.0 c.args.keys.now.used counts) c.in_ok-settle_at.ensures
+    (has_slot-In slot p.slots (and-true (has_slot slot.0 p.slots) (not (x.from.0 == primary p x.view)) counts).0, tt) (omega (arith, some))

@@ -2,8 +2,8 @@ use Rattle.std.proofs.Common.{◌+◌, ◌∙◌, List, [], ◌∷◌, arith, le
 use Rattle.iss_request.specs.declared.ids.Slot.{Slot}
 use Rattle.iss_sb.specs.declared.effects.Input.TheVariants.{Timeout}
 use Rattle.sb_pbft.specs.Makes.{DraftViewChange}
-use Rattle.sb_pbft.specs.Refines.{held}
-use Rattle.sb_pbft.specs.Turns.{tops_of}
+use Rattle.sb_pbft.specs.Internal.Refines.{held}
+use Rattle.sb_pbft.specs.Internal.Turns.{tops_of}
 use Rattle.sb_pbft.proofs.Refinement.ViewChangeRefines.{passed, timed-sent, tops-few}
 use Rattle.sb_pbft.proofs.Refinement.RulesCompose.{does-sent}
 use Rattle.sb_pbft.proofs.pbft.Pbft.time_out.Goals as goal

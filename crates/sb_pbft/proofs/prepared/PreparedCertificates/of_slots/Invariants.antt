@@ -1,6 +1,6 @@
 use Rattle.std.proofs.Common.{◌≡◌, ◌++◌, drop}
 use Rattle.sb_pbft.specs.Places.{top_at}
-use Rattle.sb_pbft.specs.Turns.{tops_of}
+use Rattle.sb_pbft.specs.Internal.Turns.{tops_of}
 use Rattle.sb_pbft.proofs.prepared.PreparedCertificates.of_slots.Given as goal
 
 abbrev pub invariant-loop-slot : goal.invariant-loop-slot

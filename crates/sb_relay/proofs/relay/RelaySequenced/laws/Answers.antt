@@ -1,4 +1,4 @@
-use Rattle.sb_relay.proofs.Safe.{relay-lawful, relay-once, relay-safe}
+use Rattle.sb_relay.proofs.Safe.{relay-accepts-once, relay-lawful, relay-once, relay-safe}
 use Rattle.sb_relay.proofs.Spelling.{say-grammar}
 use Rattle.sb_relay.proofs.relay.RelaySequenced.laws.Goals as goal
 
@@ -10,6 +10,9 @@ returns-clause-lawful c = relay-lawful
 
 pub returns-clause-safe : goal.returns-clause-safe
 returns-clause-safe c = relay-safe
+
+pub returns-clause-accepts_once : goal.returns-clause-accepts_once
+returns-clause-accepts_once c = relay-accepts-once
 
 pub returns-clause-signs_once : goal.returns-clause-signs_once
 returns-clause-signs_once c = relay-once

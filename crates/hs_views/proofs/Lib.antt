@@ -1,0 +1,5 @@
+pub mod BatchesOnce
+pub mod CountsAgree
+pub mod DeliveredSlotsAgree
+pub mod SlotsOfBranches
+pub mod Tests

@@ -1,0 +1,56 @@
+-- Tests as records, and lists that grow.
+use Rattle.std.proofs.Common.{◌≡◌, ℕ, zero, suc, ◌+◌, ◌==◌, ◌&&◌, Bool, true, false, if◌then◌else◌, List, [], ◌∷◌, ◌++◌, length, Option, Some, None, refl, sym, true≢false}
+use Rattle.iss_base.specs.Lists.{nth}
+use Rattle.iss_base.proofs.Lists.{and-true}
+use Rattle.std.proofs.lemmas.Bool.Decides.{Decides-eqb}
+use Rattle.iss_request.specs.declared.requests.Batch.{Batch}
+use Rattle.hs_tree.specs.declared.certificates.Certificate.{Certificate}
+use Rattle.hs_tree.specs.declared.certificates.Certificate.TheVariants.{Root, Votes}
+use Rattle.hs_tree.specs.Certificates.{is_quorum, view_of}
+
+pub by-if : {A : Type 0} (P : A → Type 0) (t : Bool) (a b : A) → P a → P b → P (if t then a else b)
+by-if P true a b h g = h
+by-if P false a b h g = g
+
+pub by-test : {A : Type 0} (P : A → Type 0) (t : Bool) (a b : A) → (t ≡ true → P a) → P b → P (if t then a else b)
+by-test P true a b h g = h refl
+by-test P false a b h g = g
+
+pub record IsIf {A : Type 0} (t : Bool) (a x : A) : Type 0 where
+  pub passed : t ≡ true
+  pub is : a ≡ x
+
+pub if-some : {A : Type 0} (t : Bool) (a x : A) → (if t then Some a else None) ≡ Some x → IsIf t a x
+if-some true a x h = record { passed = refl; is = cc }
+if-some false a x h = absurd cc
+
+pub record IsIn {A : Type 0} (t : Bool) (o : Option A) (x : A) : Type 0 where
+  pub passed : t ≡ true
+  pub is : o ≡ Some x
+
+pub if-in : {A : Type 0} (t : Bool) (o : Option A) (x : A) → (if t then o else None) ≡ Some x → IsIn t o x
+if-in true o x h = record { passed = refl; is = h }
+if-in false o x h = absurd cc
+
+pub if-not : {A : Type 0} (t : Bool) (o : Option A) (x : A) → (if t then None else o) ≡ Some x → o ≡ Some x
+if-not true o x h = absurd cc
+if-not false o x h = h
+
+pub is-same : (a b : ℕ) → (a == b) ≡ true → a ≡ b
+is-same a b h = (Decides-eqb a b).0 h
+
+pub same-is : (a b : ℕ) → a ≡ b → (a == b) ≡ true
+same-is a b h = (Decides-eqb a b).1 h
+
+pub quorum-view : (quorum phase view : ℕ) (c : Certificate) → is_quorum quorum phase view c ≡ true → view_of c ≡ view
+quorum-view quorum phase view Root h = absurd (true≢false (sym h))
+quorum-view quorum phase view (Votes w q d votes) h = let a = and-true ((w == view) && (q == phase)) _ h in is-same w view (and-true (w == view) (q == phase) a.0).0
+
+pub nth-first : (cs : List Batch) (c b : Batch) (k : ℕ) → nth cs k ≡ Some b → nth (cs ++ c ∷ []) k ≡ Some b
+nth-first [] c b k h = absurd cc
+nth-first (a ∷ cs) c b zero h = h
+nth-first (a ∷ cs) c b (suc k) h = nth-first cs c b k h
+
+pub nth-end : (cs : List Batch) (c : Batch) → nth (cs ++ c ∷ []) (length cs) ≡ Some c
+nth-end [] c = refl
+nth-end (a ∷ cs) c = nth-end cs c

@@ -1,0 +1,6 @@
+use Rattle.std.proofs.Common.{◌≡◌, ◌≤◌}
+use Rattle.hs_views.specs.Counts.{count_at}
+use Rattle.hs_views.proofs.ballots.Ballots.count.Given as goal
+
+abbrev pub invariant-loop-by : goal.invariant-loop-by
+invariant-loop-by l = (l.count ≡ count_at l.self l.by l.phase l.view l.digest) × (l.count ≤ l.by)

@@ -1,0 +1,4 @@
+pub mod Accepted
+pub mod Batches
+pub mod Counts
+pub mod Views

@@ -1,0 +1,4 @@
+pub mod CertifiedLemmas
+pub mod PrefixLemmas
+pub mod RunLemmas
+pub mod ShortLemmas

@@ -1,0 +1,4 @@
+-- Relations that only private contracts of this crate use: nobody above it reads them.
+pub mod Keeping
+pub mod Makings
+pub mod Replays

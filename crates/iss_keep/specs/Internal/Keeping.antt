@@ -1,0 +1,63 @@
+-- What the two halves of a journaled event leave: the step of the node, and the append of its entry. The step's
+-- outcome is handed out only with its entry; else the node retreats to the log and epoch from before.
+use Rattle.std.specs.Prelude.{◌≡◌, ℕ, Result, Ok, Err}
+use Rattle.iss_disk.specs.declared.errors.EndError.{EndError}
+use Rattle.iss_disk.specs.declared.errors.EndError.TheVariants.{Failed as Disk_failed, NoMemory as Disk_no_memory}
+use Rattle.iss_rules.specs.Concrete.{rules_of}
+use Rattle.iss_rules.specs.Formats.{formats_of}
+use Rattle.iss_model.specs.Node.{Core, step}
+use Rattle.iss_rules.specs.declared.events.NodeEvent.{NodeEvent}
+use Rattle.iss_node.specs.State.{NodeView, RefinesCore}
+use Rattle.iss_node.specs.Steps.{HasRetreated, IsAnswer, IsOfNodes}
+use Rattle.iss_node.specs.declared.answers.Answer.{Answer as NodeAnswer}
+use Rattle.iss_node.specs.declared.answers.Answer.TheVariants.{Dropped as Node_dropped, NoMemory as Node_no_memory, Stale as Node_stale, Taken as Node_taken}
+use Rattle.iss_node.specs.declared.answers.Outcome.{Outcome}
+use Rattle.iss_sb.specs.Calls.{Relation}
+use Rattle.iss_sb.specs.Evidence.{Module}
+use Rattle.iss_keep.specs.Steps.{IsTaken}
+use Rattle.iss_keep.specs.declared.answers.Answer.{Answer}
+use Rattle.iss_keep.specs.declared.answers.Answer.TheVariants.{Dropped as Kept_dropped, Failed, NoMemory, Stale, Taken as Kept_taken}
+
+-- This answer is right for the step of each core that the node refines.
+abbrev pub Answers : {M Msg : Type 0} → Module Msg → Relation M Msg → NodeEvent → NodeView M Msg → NodeView M Msg →
+    NodeAnswer → Type 0
+Answers {Msg = Msg} m refines event old new answer = (c : Core Msg) → RefinesCore m refines old c →
+    IsAnswer m refines (IsOfNodes old.state.setup.n event) c
+    (step (formats_of old.state.setup m) (rules_of old.state.setup) m old.state.me.0 c event) new answer
+
+-- The node reports the same log and epoch as before.
+pub record ShowsSame {M Msg : Type 0} (old new : NodeView M Msg) : Type 0 where
+  pub log : new.state.log.entries ≡ old.state.log.entries
+  pub epoch : new.state.epoch ≡ old.state.epoch
+
+-- Each core that the node refines accepts the event.
+abbrev pub Takes : {M Msg : Type 0} → Module Msg → Relation M Msg → NodeEvent → NodeView M Msg → Type 0
+Takes {Msg = Msg} m refines event old = (c : Core Msg) → RefinesCore m refines old c →
+    IsTaken (step (formats_of old.state.setup m) (rules_of old.state.setup) m old.state.me.0 c event)
+
+-- The state of the node after an event, by answer.
+abbrev pub HasStepped : {M Msg : Type 0} → Module Msg → Relation M Msg → NodeEvent → NodeView M Msg → NodeView M Msg →
+    Answer → Type 0
+HasStepped m refines event old new (Kept_taken outcome) = Answers m refines event old new (Node_taken outcome)
+HasStepped m refines event old new (Kept_dropped why) = Answers m refines event old new (Node_dropped why)
+HasStepped m refines event old new Failed = ShowsSame old new × Takes m refines event old
+HasStepped m refines event old new Stale = ⊥
+HasStepped m refines event old new NoMemory = ShowsSame old new
+
+-- If the entry was appended, the outcome is released and the node stays as it is. Otherwise the node retreats.
+abbrev pub HasEnded : {M Msg : Type 0} → Outcome → ℕ → ℕ → NodeView M Msg → NodeView M Msg → Answer → Type 0
+HasEnded outcome slots epoch old new (Kept_taken given) = (given ≡ outcome) × (new ≡ old)
+HasEnded outcome slots epoch old new (Kept_dropped why) = ⊥
+HasEnded outcome slots epoch old new Failed = HasRetreated old new slots epoch
+HasEnded outcome slots epoch old new Stale = ⊥
+HasEnded outcome slots epoch old new NoMemory = HasRetreated old new slots epoch
+
+-- What the caller receives, given the node's answer and the result of the append. An event that was not accepted is not
+-- appended.
+abbrev pub released : {A : Type 0} → NodeAnswer → Result A EndError → Answer
+released (Node_taken outcome) (Ok x) = Kept_taken outcome
+released (Node_dropped why) (Ok x) = Kept_dropped why
+released Node_no_memory (Ok x) = NoMemory
+released Node_stale (Ok x) = NoMemory
+released made (Err Disk_failed) = Failed
+released made (Err Disk_no_memory) = NoMemory

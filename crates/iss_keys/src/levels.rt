@@ -1,0 +1,286 @@
+//! The trees of a key: one tree, or a top tree and a bottom tree at a time. Each is computed when it is first needed.
+//! The bottom tree is kept until another is needed, which is then computed in its memory. With it the part of a signature
+//! by the top tree is kept, which is the same for all leaves of the bottom tree.
+
+ghost use Rattle.std.specs.Prelude.{◌≡◌, ◌+◌, ◌*◌, ◌^◌, ◌/◌, ◌%◌, ◌<◌, ◌≤◌, ◌++◌, IfOk, IsTrue, OnOk, Some};
+ghost use Rattle.iss_base.specs.Heights.{IsHeight};
+ghost use Rattle.iss_keys.specs.Trees.{tree_root};
+ghost use Rattle.iss_keys.specs.Levels.{top_secret, bottom_secret, bottom_tree, top_tree, by_top, root_in, root_of};
+ghost use Rattle.iss_keys.specs.Signatures.{part_by, part_of, parts_of, signature_of};
+
+use crate::digits::{digest_of_root, digest_of_statement};
+use crate::late::LateTree;
+use crate::made::MadeTree;
+use crate::marks::{BOTTOM_SECRET, TOP_SECRET};
+use crate::signing::NoMemory;
+use crate::tree::root_of_secret;
+use iss_base::heights::{digests_of_height, has_two_levels};
+use sha2::{Digest, Sha256};
+use std::alloc::{AllocError, Global};
+use std::cell::RefCell;
+use std::marker::Model;
+
+/// The height of a bottom tree.
+pub const BOTTOM: u8 = 10;
+
+/// How many leaves a bottom tree has.
+pub const BOTTOM_LEAVES: u32 = 1024;
+
+// The secret of the top tree.
+fn top_secret(secret: &[u8; 32]) -> [u8; 32]
+    ensures { result ≡ top_secret secret.now }
+{
+    let mut hasher = Sha256::new();
+    hasher.update([TOP_SECRET]);
+    hasher.update(secret);
+    hasher.finalize()
+}
+
+// The secret of a bottom tree.
+fn bottom_secret(secret: &[u8; 32], bottom: u32) -> [u8; 32]
+    ensures { result ≡ bottom_secret secret.now bottom }
+{
+    let mut hasher = Sha256::new();
+    hasher.update([BOTTOM_SECRET]);
+    hasher.update(secret);
+    hasher.update(bottom.to_be_bytes());
+    hasher.finalize()
+}
+
+// The tree whose root is public.
+// rule: Signatures: A key above height 12 has a top tree, and a bottom tree of height 10 under each of its leaves
+#[tactic(auto, unfolding(crate::specs::Levels::top_tree))]
+fn top_tree(alloc: Global, secret: &[u8; 32], height: u8) -> LateTree
+    requires { IsHeight height }
+    ensures { result ≡ top_tree secret.now height }
+{
+    if has_two_levels(height) {
+        LateTree::new(alloc, top_secret(secret), height - BOTTOM)
+    } else {
+        LateTree::new(alloc, *secret, height)
+    }
+}
+
+/// The public root of a secret, computed without a tree: by the same hashes, and without allocating.
+#[tactic(auto, unfolding(crate::specs::Levels::top_tree))]
+pub fn root_of_key(secret: &[u8; 32], height: u8) -> [u8; 32]
+    requires { IsHeight height }
+    ensures { result ≡ root_of secret.now height }
+{
+    if has_two_levels(height) {
+        root_of_secret(&top_secret(secret), height - BOTTOM)
+    } else {
+        root_of_secret(secret, height)
+    }
+}
+
+// A bottom tree of a key, and the part of a signature by the leaf of the top tree that signs its root.
+#[derive(Drop)]
+struct Bottom {
+    secret: [u8; 32],
+    height: u8,
+    number: u32,
+    tree: MadeTree,
+    above: Vec<u8>,
+}
+
+impl Model for Bottom {
+    ghost use Rattle.std.specs.Prelude.{◌≡◌};
+    ghost use Rattle.iss_keys.specs.Internal.Bottoms.{BottomView, IsBottom};
+
+    ghost Value = { BottomView };
+
+    ghost view = { λ b. record { secret = b.secret; height = b.height; number = b.number } };
+
+    ghost invariant = { λ b. IsBottom b.secret b.height b.number b.tree b.above.items };
+}
+
+impl Bottom {
+    // Whether it is this bottom tree of this key.
+    fn is(&self, secret: &[u8; 32], height: u8, number: u32) -> bool
+        ensures { IsTrue result → self.now ≡ record { secret = secret.now; height = height; number = number } }
+    {
+        self.number == number && self.secret == *secret && self.height == height
+    }
+
+    // Appends both parts of a signature by a leaf of it over a digest.
+    fn write_parts(&self, leaf: u32, digest: &[u8; 32], out: &mut Vec<u8>) -> Result<(), AllocError>
+        requires { leaf < 1024 }
+        ensures { OnOk result (out.new.items ≡ out.old.items
+            ++ part_of (bottom_secret self.now.secret self.now.number) 10 leaf digest.now
+            ++ part_by self.now.secret self.now.height (by_top self.now.secret self.now.number)) }
+    {
+        self.tree.write_part(leaf, digest, out)?;
+        out.extend_from_slice(&self.above)?;
+        Ok(())
+    }
+}
+
+// The bottom tree over a secret, computed in the memory of an old one if there is one.
+fn tree_over(alloc: Global, old: Option<Bottom>, secret: &[u8; 32]) -> Result<MadeTree, NoMemory>
+    ensures { IfOk result (λ t. t ≡ record { secret = secret.now; height = 10 }) }
+{
+    let Some(bottom) = old else {
+        return Ok(MadeTree::make(alloc, secret, BOTTOM)?);
+    };
+    let mut tree = bottom.tree;
+    tree.replace(secret);
+    Ok(tree)
+}
+
+/// The trees of a key, by its secret and height.
+#[derive(Drop)]
+pub struct KeyTrees {
+    secret: [u8; 32],
+    height: u8,
+    top: LateTree,
+    bottom: RefCell<Option<Bottom>>,
+}
+
+impl Model for KeyTrees {
+    ghost use Rattle.std.specs.Prelude.{◌≡◌};
+    ghost use Rattle.iss_base.specs.Heights.{IsHeight};
+    ghost use Rattle.iss_keys.specs.Levels.{KeySeed, top_tree};
+
+    ghost Value = { KeySeed };
+
+    ghost view = { λ t. record { secret = t.secret; height = t.height } };
+
+    ghost invariant = { λ t. IsHeight t.height × (t.top ≡ top_tree t.secret t.height) };
+}
+
+impl KeyTrees {
+    /// The trees of a key, of which nothing is computed yet.
+    pub fn new(alloc: Global, secret: [u8; 32], height: u8) -> KeyTrees
+        requires { IsHeight height }
+        ensures { result ≡ record { secret = secret; height = height } }
+    {
+        let top = top_tree(alloc, &secret, height);
+        KeyTrees {
+            secret,
+            height,
+            top,
+            bottom: RefCell::new(None),
+        }
+    }
+
+    /// The height of the key.
+    pub fn height(&self) -> u8
+        ensures value { result ≡ self.now.height }
+        ensures height { IsHeight result }
+    {
+        self.height
+    }
+
+    /// The public root. It needs no bottom tree.
+    pub fn root(&self) -> [u8; 32]
+        ensures { result ≡ root_of self.now.secret self.now.height }
+    {
+        self.top.root()
+    }
+
+    // Appends the part of a signature by the only tree.
+    fn write_one(&self, leaf: u32, statement: &[u8], out: &mut Vec<u8>) -> Result<(), NoMemory>
+        requires one { self.now.height ≤ 12 }
+        requires leaf { leaf < 2 ^ self.now.height }
+        ensures { OnOk result
+            (out.new.items ≡ out.old.items ++ parts_of self.now.secret self.now.height leaf statement.now) }
+    {
+        let tree = self.top.tree()?;
+        tree.write_part(leaf, &digest_of_statement(statement), out)?;
+        Ok(())
+    }
+
+    // The part of a signature by the leaf of the top tree that signs the root of this bottom tree.
+    // rule: Signatures: Leaf b of a top tree signs the root of bottom tree b, and nothing else
+    fn part_above(&self, number: u32, root: &[u8; 32]) -> Result<Vec<u8>, NoMemory>
+        requires two { 12 < self.now.height }
+        requires leaf { number * 1024 < 2 ^ self.now.height }
+        requires root { root.now ≡ root_in (bottom_tree self.now.secret number) }
+        ensures { IfOk result
+            (λ part. part.items ≡ part_by self.now.secret self.now.height (by_top self.now.secret number)) }
+    {
+        let tree = self.top.tree()?;
+        let mut part = Vec::with_capacity(self.top.alloc(), 2144 + 32 * tree.height() as usize)?;
+        tree.write_part(number, &digest_of_root(number, root), &mut part)?;
+        Ok(part)
+    }
+
+    // Puts a bottom tree into a place, unless it is there.
+    fn put_bottom(&self, place: &mut Option<Bottom>, number: u32) -> Result<(), NoMemory>
+        requires two { 12 < self.now.height }
+        requires leaf { number * 1024 < 2 ^ self.now.height }
+        ensures { OnOk result (place.new
+            ≡ Some (record { secret = self.now.secret; height = self.now.height; number = number })) }
+    {
+        if let Some(bottom) = place
+            && bottom.is(&self.secret, self.height, number)
+        {
+            return Ok(());
+        }
+        let secret = bottom_secret(&self.secret, number);
+        let tree = tree_over(self.top.alloc(), place.take(), &secret)?;
+        let above = self.part_above(number, &tree.root())?;
+        *place = Some(Bottom {
+            secret: self.secret,
+            height: self.height,
+            number,
+            tree,
+            above,
+        });
+        Ok(())
+    }
+
+    // Appends the parts of a signature, with a place for the leaf's bottom tree.
+    fn write_with(
+        &self,
+        place: &mut Option<Bottom>,
+        leaf: u32,
+        statement: &[u8],
+        out: &mut Vec<u8>,
+    ) -> Result<(), NoMemory>
+        requires two { 12 < self.now.height }
+        requires leaf { leaf < 2 ^ self.now.height }
+        ensures { OnOk result
+            (out.new.items ≡ out.old.items ++ parts_of self.now.secret self.now.height leaf statement.now) }
+    {
+        self.put_bottom(place, leaf / BOTTOM_LEAVES)?;
+        let Some(bottom) = place else {
+            unreachable!();
+        };
+        bottom.write_parts(leaf % BOTTOM_LEAVES, &digest_of_statement(statement), out)?;
+        Ok(())
+    }
+
+    // Appends the parts of a signature by a key with two levels.
+    fn write_two(&self, leaf: u32, statement: &[u8], out: &mut Vec<u8>) -> Result<(), NoMemory>
+        requires two { 12 < self.now.height }
+        requires leaf { leaf < 2 ^ self.now.height }
+        ensures { OnOk result
+            (out.new.items ≡ out.old.items ++ parts_of self.now.secret self.now.height leaf statement.now) }
+    {
+        if let Ok(mut place) = self.bottom.try_borrow_mut() {
+            return self.write_with(&mut place, leaf, statement, out);
+        }
+        let mut place = None;
+        self.write_with(&mut place, leaf, statement, out)
+    }
+
+    /// The signature of a statement with a leaf.
+    pub fn sign(&self, leaf: u32, statement: &[u8]) -> Result<Vec<u8>, NoMemory>
+        requires { leaf < 2 ^ self.now.height }
+        ensures { IfOk result
+            (λ sig. sig.items ≡ signature_of self.now.secret self.now.height leaf statement.now) }
+    {
+        let room = 5 + 32 * digests_of_height(self.height);
+        let mut out = Vec::with_capacity(self.top.alloc(), room)?;
+        out.push(self.height)?;
+        out.extend_from_slice(&leaf.to_be_bytes())?;
+        if has_two_levels(self.height) {
+            self.write_two(leaf, statement, &mut out)?;
+        } else {
+            self.write_one(leaf, statement, &mut out)?;
+        }
+        Ok(out)
+    }
+}

@@ -1,0 +1,100 @@
+//! A computed tree, and the parts of signatures by its leaves.
+
+ghost use Rattle.std.specs.Prelude.{◌≡◌, ◌^◌, ◌<◌, ◌≤◌, ◌++◌, IfOk, IfSome, OnOk};
+ghost use Rattle.iss_keys.specs.Trees.{tree_root, KeyTree, AreNodesOf};
+ghost use Rattle.iss_keys.specs.Signatures.{part_of};
+
+use crate::chain::write_values;
+use crate::tree::{fill_tree, tree_of, write_path};
+use std::alloc::{AllocError, Global};
+use std::marker::Model;
+
+/// A computed tree, and its secret.
+#[derive(Drop)]
+pub struct MadeTree {
+    secret: [u8; 32],
+    height: u8,
+    nodes: Vec<[u8; 32]>,
+}
+
+impl Model for MadeTree {
+    ghost Value = { KeyTree };
+
+    ghost view = { λ t. record { secret = t.secret; height = t.height } };
+
+    ghost invariant = { λ t. AreNodesOf t.secret t.height t.nodes.items };
+}
+
+// The root of a computed tree.
+fn root_of_nodes(nodes: &[[u8; 32]], secret: &[u8; 32], height: u8) -> [u8; 32]
+    requires { AreNodesOf secret.now height nodes.now }
+    ensures { result ≡ tree_root secret.now height }
+{
+    nodes[1]
+}
+
+impl MadeTree {
+    /// Computes the tree over a secret.
+    pub fn make(alloc: Global, secret: &[u8; 32], height: u8) -> Result<MadeTree, AllocError>
+        requires { height ≤ 12 }
+        ensures { IfOk result (λ t. t ≡ record { secret = secret.now; height = height }) }
+    {
+        let nodes = tree_of(alloc, secret, height)?;
+        Ok(MadeTree {
+            secret: *secret,
+            height,
+            nodes,
+        })
+    }
+
+    /// Computes the tree over another secret in its place, unless it is that tree. It allocates nothing.
+    pub fn replace(&mut self, secret: &[u8; 32])
+        ensures { self.new ≡ record { secret = secret.now; height = self.old.height } }
+    {
+        if self.secret != *secret {
+            fill_tree(&mut self.nodes, secret, self.height);
+            self.secret = *secret;
+        }
+    }
+
+    /// This tree, if it is the one asked for.
+    pub fn same(&self, secret: &[u8; 32], height: u8) -> Option<&MadeTree>
+        ensures { IfSome result (λ t. t.now ≡ record { secret = secret.now; height = height }) }
+    {
+        if self.secret == *secret && self.height == height {
+            Some(self)
+        } else {
+            None
+        }
+    }
+
+    /// The height.
+    pub fn height(&self) -> u8
+        ensures { result ≡ self.now.height }
+    {
+        self.height
+    }
+
+    /// The root.
+    pub fn root(&self) -> [u8; 32]
+        ensures { result ≡ tree_root self.now.secret self.now.height }
+    {
+        root_of_nodes(&self.nodes, &self.secret, self.height)
+    }
+
+    /// Appends the part of a signature by a leaf over a digest.
+    pub fn write_part(
+        &self,
+        leaf: u32,
+        digest: &[u8; 32],
+        out: &mut Vec<u8>,
+    ) -> Result<(), AllocError>
+        requires { leaf < 2 ^ self.now.height }
+        ensures { OnOk result
+            (out.new.items ≡ out.old.items ++ part_of self.now.secret self.now.height leaf digest.now) }
+    {
+        write_values(&self.secret, leaf, digest, out)?;
+        write_path(&self.nodes, self.height, leaf, out)?;
+        Ok(())
+    }
+}

@@ -1,7 +1,0 @@
-use Rattle.std.proofs.Common.{◌∙◌, sym}
-use Rattle.iss_node.proofs.EpochEnd.InstancesStart.{good-copy}
-use Rattle.iss_node.proofs.starting.start_if_leader.Goals as goal
-
-pub start-requires-clause-good : goal.start-requires-clause-good
-start-requires-clause-good g c =
-    good-copy g.M.Sequenced.spec c.args.setup.now c.in_ok-copy.field-0 c.args.epoch.0 c.args.leader c.in_ok-slots_of.field-0 c.share.result c.args.layout.now c.requires.good c.requires.leader c.requires.plan (sym c.if-not-leads.ensures) c.in_ok-copy.ensures c.in_ok-slots_of.ensures (c.share.ensures ∙ c.requires.directory)

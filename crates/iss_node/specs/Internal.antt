@@ -1,0 +1,11 @@
+-- Relations that only private contracts of this crate use: nobody above it reads them.
+pub mod Casts
+pub mod Cells
+pub mod Epochs
+pub mod Growth
+pub mod Inputs
+pub mod Parcels
+pub mod Ready
+pub mod Shape
+pub mod Transfers
+pub mod Votes

@@ -1,0 +1,60 @@
+-- What the steps of a node rely on: the state refines some history, and the leaf for the vote is kept. A step is taken
+-- only if a leaf is left behind it, so an epoch that fills up has one. Early messages are tried only in an open epoch.
+use Rattle.std.specs.Prelude.{◌≡◌, ℕ, ◌+◌, ◌<◌, ◌≤◌, Bool, true, false, is_some, length, nat_le, List, Some}
+use Rattle.iss_checkpoint.specs.Votes.{voters_of}
+use Rattle.iss_keys.specs.KeyStates.{left_of}
+use Rattle.iss_node.specs.State.{RefinesPast, StateView, led}
+use Rattle.iss_node.specs.declared.answers.StepResult.{StepResult}
+use Rattle.iss_node.specs.declared.answers.StepResult.TheVariants.{Dropped as Result_dropped, Taken as Result_taken}
+use Rattle.iss_rules.specs.Past.{Past}
+use Rattle.iss_sb.specs.Calls.{Relation}
+use Rattle.iss_sb.specs.Evidence.{Module}
+use Rattle.iss_segment.specs.Instance.{SegmentState}
+use Rattle.iss_transfer.specs.Adoption.{adoption}
+use Rattle.iss_transfer.specs.declared.adopting.Adoption.TheVariants.{Adopt}
+use Rattle.iss_transfer.specs.declared.pieces.Piece.{Piece}
+
+-- The state refines some history.
+abbrev pub RefinesSome : {M Msg : Type 0} → Module Msg → Relation M Msg → StateView M Msg → Type 0
+RefinesSome {Msg = Msg} m refines v = (past : Past Msg) × RefinesPast m refines v past
+
+-- Whether the log has all slots of the epoch.
+abbrev pub is_full : {M Msg : Type 0} → StateView M Msg → Bool
+is_full v = nat_le (v.plan.start + v.setup.epoch) (length v.log.entries)
+
+-- The node leads as l, and more leaves are left than a step of that instance uses.
+pub record HasLeaves {M Msg : Type 0} (m : Module Msg) (v : StateView M Msg) (l : ℕ) : Type 0 where
+  pub leads : is_some (led v.segments l) ≡ true
+  pub enough : (g : SegmentState M) → led v.segments l ≡ Some g → m.signs g.params < left_of v.keys
+
+-- The epoch lasts.
+pub record IsOpen {M Msg : Type 0} (m : Module Msg) (refines : Relation M Msg) (v : StateView M Msg) : Type 0 where
+  pub refined : RefinesSome m refines v
+  pub lasts : is_full v ≡ false
+
+-- If the log has all slots of the epoch, there is a leaf for the vote on it.
+pub record IsReady {M Msg : Type 0} (m : Module Msg) (refines : Relation M Msg) (v : StateView M Msg) : Type 0 where
+  pub refined : RefinesSome m refines v
+  pub leaf : is_full v ≡ true → 1 ≤ left_of v.keys
+
+-- The log has all slots of the epoch, and there is a leaf for the vote on it.
+pub record MayVote {M Msg : Type 0} (m : Module Msg) (refines : Relation M Msg) (v : StateView M Msg) : Type 0 where
+  pub refined : RefinesSome m refines v
+  pub full : is_full v ≡ true
+  pub leaf : 1 ≤ left_of v.keys
+
+-- A step of an instance that was taken left a leaf. One that was dropped changed nothing.
+abbrev pub IsTried : {M Msg : Type 0} → StateView M Msg → StateView M Msg → StepResult → Type 0
+IsTried old new (Result_taken outcome) = 1 ≤ left_of new.keys
+IsTried old new (Result_dropped why) = new ≡ old
+
+-- A step that was taken is to be completed.
+abbrev pub IsToComplete : {M Msg : Type 0} → Module Msg → Relation M Msg → StateView M Msg → StepResult → Type 0
+IsToComplete m refines v (Result_taken outcome) = IsReady m refines v
+IsToComplete m refines v (Result_dropped why) = Unit {0}
+
+-- The state refines some history, and the check of the piece says to adopt it.
+pub record MayAdopt {M Msg : Type 0} (m : Module Msg) (refines : Relation M Msg) (v : StateView M Msg) (p : Piece)
+    (hashed : List (List ℕ)) : Type 0 where
+  pub refined : RefinesSome m refines v
+  pub found : adoption v.setup (voters_of v.setup v.directory) v.log.entries v.epoch p ≡ Adopt hashed

@@ -1,0 +1,2 @@
+-- Relations that only functions of reading a text use.
+pub mod Refusals

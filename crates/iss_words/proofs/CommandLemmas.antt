@@ -1,0 +1,25 @@
+use Rattle.std.proofs.Common.{◌≡◌, List, [], true, refl, subst, ◌⊎◌, inl, inr}
+use Rattle.clap.specs.Words.{App, Text, Kinds, IsAmong, fault_of, is_simple_and_free}
+use Rattle.clap.specs.declared.error.ErrorKind.{ErrorKind}
+use Rattle.clap.specs.declared.error.ErrorKind.TheVariants.{OutOfMemory}
+use Rattle.clap.proofs.OnLiterals.{clap_on_literals}
+use Rattle.iss_words.specs.Commands.{commands}
+
+pub commands_are_free : is_simple_and_free commands ≡ true
+unfolding clap_on_literals
+commands_are_free = refl
+
+-- what a parse says, at the commands
+pub taken_of : (a : App) (ws : List Text) → a ≡ commands → (is_simple_and_free a ≡ true → fault_of a ws ≡ []) → fault_of commands ws ≡ []
+taken_of a ws e h = subst (λ (x : App). is_simple_and_free x ≡ true → fault_of x ws ≡ []) e h commands_are_free
+
+none_among : (k : ErrorKind) (ks : Kinds) → ks ≡ [] → IsAmong k ks → ⊥
+none_among k ks none among = subst (λ (x : Kinds). IsAmong k x) none among
+
+pub refused_of : (a : App) (ws : List Text) (k : ErrorKind) → a ≡ commands
+    → (is_simple_and_free a ≡ true → (k ≡ OutOfMemory) ⊎ IsAmong k (fault_of a ws)) → (k ≡ OutOfMemory → ⊥) → fault_of commands ws ≡ [] → ⊥
+refused_of a ws k e h other none =
+    elim (subst (λ (x : App). is_simple_and_free x ≡ true → (k ≡ OutOfMemory) ⊎ IsAmong k (fault_of x ws)) e h commands_are_free) [
+      | inl memory ↦ other memory
+      | inr among ↦ none_among k (fault_of commands ws) none among
+    ]

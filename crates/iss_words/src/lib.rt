@@ -1,0 +1,10 @@
+//! What the words of a call ask for, read by `clap`.
+#![tactic(auto)]
+
+mod numbers;
+mod orders;
+mod reading;
+
+pub use numbers::read_number;
+pub use orders::{Order, WordsError};
+pub use reading::read_words;

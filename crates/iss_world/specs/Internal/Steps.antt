@@ -1,0 +1,102 @@
+-- One step of a core in the world: test what it claims, step and journal, test what it made, book it and post it.
+-- Where the disk fails nothing of the step comes out.
+use Rattle.std.specs.Prelude.{◌≡◌, ℕ, true, false, cond, List, Option, Some, None, reverse, slice_get, take}
+use Rattle.iss_base.specs.Lists.{first_of, set_at}
+use Rattle.iss_rules.specs.Ends.{End, Forged}
+use Rattle.iss_rules.specs.declared.events.NodeEvent.{NodeEvent}
+use Rattle.iss_rules.specs.declared.events.Why.TheVariants.{Stopped}
+use Rattle.iss_disk.specs.declared.memory.MemoryDisk.{MemoryDisk}
+use Rattle.iss_keep.specs.State.{KeptState}
+use Rattle.iss_keep.specs.declared.answers.Answer.{Answer}
+use Rattle.iss_keep.specs.declared.answers.Answer.TheVariants.{Dropped as Kept_dropped, Failed, NoMemory, Stale, Taken as Kept_taken}
+use Rattle.iss_model.specs.Node.{Core, Dropped, Stepped, Taken, Turn}
+use Rattle.iss_model.specs.Run.{Happening, Held, after_step, by_forged, collision_in, early_of, first_forged, node_of}
+use Rattle.iss_node.specs.Steps.{IsMade}
+use Rattle.iss_node.specs.declared.answers.Outcome.{Outcome}
+use Rattle.iss_request.specs.declared.setups.Setup.{Setup}
+use Rattle.iss_model.specs.Courses.{Machines, Upshot, machines_lost, with_disk, with_disks}
+use Rattle.iss_model.specs.Disks.{Disk, fails, keeps, may_keep}
+use Rattle.iss_rules.specs.Books.{Signed}
+use Rattle.iss_rules.specs.Concrete.{rules_of}
+use Rattle.iss_rules.specs.Past.{log_of}
+use Rattle.iss_sb.specs.Calls.{AreToNodes, Relation}
+use Rattle.iss_sb.specs.Evidence.{Module}
+use Rattle.iss_sb.specs.declared.effects.Claim.{Claim}
+use Rattle.iss_world.specs.Books.{AreHashed, AreSigned}
+use Rattle.iss_world.specs.Refines.{RefinesMachine, RefinesMachines}
+use Rattle.iss_world.specs.State.{SimulationState}
+
+-- The effect of a step of core c whose own claims were tested. The claims in messages that arrived early are tested
+-- next, then the strings that were hashed.
+abbrev pub stepped_to : {Msg : Type 0} → Setup → Held Msg → ℕ → Stepped Msg → Happening Msg
+stepped_to s h c stepped = by_forged (first_forged s (rules_of s) h.signed (early_of stepped)) h
+    (after_step s h c stepped)
+
+-- The simulation refines some state in which the disk of core c has not failed.
+abbrev pub IsWorking : {M Msg : Type 0} → Module Msg → Relation M Msg → SimulationState M Msg → ℕ → Type 0
+IsWorking {Msg = Msg} m refines v c = (w : Machines Msg) × RefinesMachines m refines v w × ((w.disks c).failed ≡ false)
+
+-- The disks after core c journaled an event.
+abbrev pub kept_at : {Msg : Type 0} → Machines Msg → ℕ → NodeEvent → ℕ → Disk
+kept_at w c event = set_at w.disks c (keeps (w.disks c) event)
+
+-- The effect of a step at a core with a working disk. A dropped event does not use the disk. An accepted event is
+-- journaled, or the disk fails and the step has no effect.
+abbrev pub kept_to : {Msg : Type 0} → Setup → Machines Msg → ℕ → NodeEvent → Stepped Msg → Upshot Msg
+kept_to s w c event (Dropped why) = with_disks w w.disks (stepped_to s w.held c (Dropped why))
+kept_to s w c event (Taken turn) =
+    cond (may_keep (w.disks c).passes)
+    (with_disks w (kept_at w c event) (stepped_to s w.held c (Taken turn)))
+    (machines_lost (with_disk w c (fails (w.disks c))) Stopped)
+
+-- The event was accepted and journaled. The node refines the core after it and releases the outcome.
+pub record IsKeptTurn {M Msg : Type 0} (m : Module Msg) (refines : Relation M Msg) (d : Disk) (event : NodeEvent)
+    (stepped : Stepped Msg) (new : KeptState M Msg MemoryDisk) (outcome : Outcome) : Type 0 where
+  pub turn : Turn Msg
+  pub step_is : stepped ≡ Taken turn
+  pub room : may_keep d.passes ≡ true
+  pub over : RefinesMachine m refines new turn.core (keeps d event)
+  pub made : IsMade turn outcome
+  pub addressed : AreToNodes new.setup.n outcome.sends
+
+-- The event would have been accepted, but the disk failed before it was journaled.
+pub record IsStop {M Msg : Type 0} (m : Module Msg) (refines : Relation M Msg) (c : Core Msg) (d : Disk)
+    (stepped : Stepped Msg) (new : KeptState M Msg MemoryDisk) : Type 0 where
+  pub turn : Turn Msg
+  pub step_is : stepped ≡ Taken turn
+  pub no_room : may_keep d.passes ≡ false
+  pub over : RefinesMachine m refines new c (fails d)
+
+-- The answer of a kept node that refined this core with this disk.
+abbrev pub HasAnswered : {M Msg : Type 0} → Module Msg → Relation M Msg → Core Msg → Disk → NodeEvent → Stepped Msg →
+    KeptState M Msg MemoryDisk → Answer → Type 0
+HasAnswered m refines c d event stepped new (Kept_taken outcome) = IsKeptTurn m refines d event stepped new outcome
+HasAnswered m refines c d event stepped new (Kept_dropped why) = (stepped ≡ Dropped why)
+    × RefinesMachine m refines new c d
+HasAnswered m refines c d event stepped new Failed = IsStop m refines c d stepped new
+HasAnswered m refines c d event stepped new Stale = ⊥
+HasAnswered m refines c d event stepped new NoMemory = Unit {0}
+
+abbrev pub forged_in : Option Claim → Option End
+forged_in None = None
+forged_in (Some claim) = Some (Forged claim)
+
+-- The evidence that a turn reveals, if any: a forged claim in a message that arrived early, or a collision.
+abbrev pub ends_by : Setup → List Signed → List (List ℕ) → List Claim → List (List ℕ) → Option End
+ends_by s signed hashed early strings = first_of (forged_in (first_forged s (rules_of s) signed early))
+    (collision_in strings hashed)
+
+-- Core c accepted and journaled an event, but the outcome is not yet tested, recorded or posted. Everything else still
+-- refines w. The log had `slots` slots and the epoch was `at`.
+pub record IsBehind {M Msg : Type 0} (m : Module Msg) (refines : Relation M Msg)
+    (v : SimulationState M Msg) (w : Machines Msg) (event : NodeEvent) (c : ℕ) (t : Turn Msg)
+    (slots at : ℕ) : Type 0 where
+  pub cores : (i : ℕ) (g : KeptState M Msg MemoryDisk) → slice_get v.nodes i ≡ Some g →
+      RefinesMachine m refines g (set_at w.held.net.cores c t.core i) (kept_at w c event i)
+  pub network : v.network ≡ w.held.net.network
+  pub signed : AreSigned v.signed w.held.signed
+  pub hashed : AreHashed v.hashed w.held.hashed
+  pub log : (g : KeptState M Msg MemoryDisk) → slice_get v.nodes c ≡ Some g →
+      log_of (rules_of v.setup) m (node_of v.setup c) (w.held.net.cores c).past ≡ reverse
+      (take slots g.node.state.log.entries)
+  pub epoch : at ≡ (w.held.net.cores c).past.epoch

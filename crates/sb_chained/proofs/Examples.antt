@@ -1,0 +1,3 @@
+pub mod LooseCommits
+pub mod ReachableWorld
+pub mod Runs

@@ -1,0 +1,807 @@
+-- Three nodes must have consecutive views. The variant of chained HotStuff that commits the grandparent of any certified
+-- node is not safe: in the reached world below, a Byzantine leader makes two correct replicas deliver different values.
+--
+-- Nodes of the tree, by view in round 4 but z, which is of round 0: z holds a batch, u holds nil, both on the root.
+--
+--     root -- z (1) -- y (2) -- x (3) -- a (4)       replica 0 sees x certified, and delivers z
+--     root -- u (1) -- s (5) -- t (6) -- v (7)       replica 1 sees t certified, and delivers u
+--
+-- Replica 1 votes for x, which locks it on z. The certificate of u is of a higher view than z's, so s is safe for it.
+-- Under the rule of chained HotStuff z is not committed, since the views of z and y are not consecutive.
+use Rattle.std.proofs.Common.{◌≡◌, ◌<◌, ◌≤◌, ◌^◌, ◌&&◌, ℕ, Bool, true, false, cond, eqb, not, List, [], ◌∷◌, length, replicate, Some, refl, sym, ap, ◌∙◌, subst, inl, inr, arith, true≢false}
+use Rattle.sha2.specs.Sha256.{sha256, digest_bytes, hash_after, compress, rounds, schedule, first_words}
+use Rattle.iss_base.specs.Lists.{In, same_bytes}
+use Rattle.iss_base.proofs.Lists.{and-true, eqb-other}
+use Rattle.iss_keys.specs.Directories.{directory_of}
+use Rattle.iss_request.specs.Digest.{digest}
+use Rattle.iss_request.specs.Formats.{is_signature, spell_batch, spell_count, spell_value, value_string}
+use Rattle.iss_request.specs.Setup.{IsGoodSetup}
+use Rattle.iss_request.specs.declared.requests.Value.{Value}
+use Rattle.iss_request.specs.declared.requests.Value.TheVariants.{Nil as Value_nil, Batch as Value_batch}
+use Rattle.iss_sb.specs.declared.effects.Claim.{Claim}
+use Rattle.iss_sb.specs.declared.effects.Input.{Input}
+use Rattle.iss_sb.specs.declared.effects.Input.TheVariants.{Receive}
+use Rattle.iss_sb.specs.declared.effects.Params.{Params}
+use Rattle.iss_sb.specs.declared.effects.To.{To}
+use Rattle.iss_sb.specs.declared.effects.To.TheVariants.{One as To_one}
+use Rattle.iss_sb.specs.Calls.{IsGoodParams}
+use Rattle.iss_sb.specs.Evidence.{Item, World, IsCredible, IsReached, IsReadMessage, at_start, after, IsSigned, IsString, MayCome, Move, Separate, Verifies, and_then, delivered, empty_world, is_correct}
+use Rattle.iss_sb.specs.Laws.{IsBroadcast}
+use Rattle.iss_sb.specs.Statements.{claim, signature, wide_bytes}
+use Rattle.iss_sb.proofs.Cases.{different}
+use Rattle.iss_sb.proofs.Read.{batch-read}
+use Rattle.iss_sb.proofs.Setups.{good-by}
+use Rattle.iss_sb.proofs.Signatures.{signature-shape, signature-verifies}
+use Rattle.iss_sb.specs.declared.content.Content.{Content}
+use Rattle.iss_sb.specs.declared.content.Content.TheVariants.{Nil, Holds, Mark}
+use Rattle.iss_sb.specs.Content.{IsSpelledContent}
+use Rattle.hs_tree.specs.declared.certificates.Certificate.{Certificate}
+use Rattle.hs_tree.specs.declared.certificates.Certificate.TheVariants.{Root, Votes}
+use Rattle.iss_sb.specs.declared.signers.Signed.{Signed}
+use Rattle.hs_tree.specs.declared.messages.Message.{Message}
+use Rattle.hs_tree.specs.declared.messages.Message.TheVariants.{Prepare, Vote}
+use Rattle.hs_tree.specs.Certificates.{IsSpelledCertificate, root_row, votes_row}
+use Rattle.hs_tree.specs.Statements.{claims, own_statement, vote_statement}
+use Rattle.hs_tree.specs.Tree.{chained as form, root, viewed_string}
+use Rattle.iss_sb.proofs.Contents.{batch-table}
+use Rattle.hs_tree.proofs.MessageGrammar.{spelled-read}
+use Rattle.sb_chained.specs.Chained.{makes}
+use Rattle.sb_chained.specs.Variants.{IsNotSafe, loose}
+use Rattle.sb_chained.proofs.Examples.Runs.{b, node, setup, slot}
+
+good-setup : IsGoodSetup setup
+good-setup = good-by setup refl
+
+-- the Byzantine replica 3 leads rounds 0 and 4
+abbrev q : Params
+q = record { setup = setup; epoch = record { 0 = 2 }; leader = node 3; slots = slot 0 ∷ slot 4 ∷ []; directory = directory_of 4 1 4 }
+
+good : IsGoodParams loose q
+good = record {
+  setup = good-setup;
+  kind = refl;
+  nodes = refl;
+  majority = refl;
+  leader = omega arith;
+  some = omega arith;
+  few = omega arith;
+  ascending = (omega arith, (omega arith, tt));
+  slots_low = (omega arith, (omega arith, tt));
+  directory = refl;
+}
+
+-- ---- The digests of the nodes, computed by another program
+
+abbrev d_z : List ℕ
+d_z = 142 ∷ 178 ∷ 50 ∷ 45 ∷ 116 ∷ 70 ∷ 48 ∷ 26 ∷ 95 ∷ 137 ∷ 136 ∷ 75 ∷ 92 ∷ 75 ∷ 53 ∷ 247 ∷ 86 ∷ 79 ∷ 160 ∷ 190 ∷ 27 ∷ 40 ∷ 246 ∷ 231 ∷ 47 ∷ 210 ∷ 97 ∷ 73 ∷ 50 ∷ 3 ∷ 33 ∷ 175 ∷ []
+
+abbrev d_u : List ℕ
+d_u = 107 ∷ 14 ∷ 158 ∷ 231 ∷ 98 ∷ 204 ∷ 246 ∷ 221 ∷ 93 ∷ 49 ∷ 29 ∷ 9 ∷ 171 ∷ 203 ∷ 171 ∷ 34 ∷ 253 ∷ 146 ∷ 119 ∷ 232 ∷ 103 ∷ 90 ∷ 141 ∷ 59 ∷ 186 ∷ 78 ∷ 143 ∷ 101 ∷ 2 ∷ 52 ∷ 153 ∷ 76 ∷ []
+
+abbrev d_y : List ℕ
+d_y = 206 ∷ 106 ∷ 29 ∷ 112 ∷ 214 ∷ 246 ∷ 243 ∷ 140 ∷ 223 ∷ 23 ∷ 205 ∷ 2 ∷ 169 ∷ 234 ∷ 135 ∷ 230 ∷ 163 ∷ 10 ∷ 16 ∷ 41 ∷ 115 ∷ 179 ∷ 165 ∷ 109 ∷ 30 ∷ 174 ∷ 37 ∷ 219 ∷ 30 ∷ 47 ∷ 17 ∷ 227 ∷ []
+
+abbrev d_x : List ℕ
+d_x = 231 ∷ 169 ∷ 42 ∷ 179 ∷ 213 ∷ 86 ∷ 84 ∷ 63 ∷ 52 ∷ 45 ∷ 255 ∷ 116 ∷ 119 ∷ 197 ∷ 133 ∷ 126 ∷ 106 ∷ 134 ∷ 118 ∷ 236 ∷ 130 ∷ 115 ∷ 251 ∷ 32 ∷ 151 ∷ 205 ∷ 167 ∷ 242 ∷ 46 ∷ 26 ∷ 130 ∷ 72 ∷ []
+
+abbrev d_a : List ℕ
+d_a = 216 ∷ 115 ∷ 183 ∷ 65 ∷ 203 ∷ 241 ∷ 255 ∷ 231 ∷ 106 ∷ 42 ∷ 138 ∷ 232 ∷ 130 ∷ 209 ∷ 185 ∷ 32 ∷ 194 ∷ 223 ∷ 73 ∷ 101 ∷ 82 ∷ 20 ∷ 46 ∷ 181 ∷ 80 ∷ 21 ∷ 192 ∷ 237 ∷ 14 ∷ 153 ∷ 36 ∷ 188 ∷ []
+
+abbrev d_s : List ℕ
+d_s = 156 ∷ 167 ∷ 106 ∷ 69 ∷ 32 ∷ 70 ∷ 30 ∷ 231 ∷ 3 ∷ 205 ∷ 108 ∷ 124 ∷ 162 ∷ 153 ∷ 28 ∷ 223 ∷ 202 ∷ 244 ∷ 50 ∷ 46 ∷ 69 ∷ 234 ∷ 253 ∷ 34 ∷ 152 ∷ 198 ∷ 242 ∷ 96 ∷ 143 ∷ 221 ∷ 39 ∷ 109 ∷ []
+
+abbrev d_t : List ℕ
+d_t = 56 ∷ 119 ∷ 88 ∷ 135 ∷ 103 ∷ 72 ∷ 80 ∷ 203 ∷ 165 ∷ 161 ∷ 170 ∷ 182 ∷ 54 ∷ 220 ∷ 24 ∷ 87 ∷ 95 ∷ 205 ∷ 140 ∷ 144 ∷ 220 ∷ 168 ∷ 237 ∷ 234 ∷ 124 ∷ 144 ∷ 20 ∷ 67 ∷ 163 ∷ 239 ∷ 54 ∷ 136 ∷ []
+
+abbrev d_v : List ℕ
+d_v = 237 ∷ 231 ∷ 71 ∷ 188 ∷ 50 ∷ 226 ∷ 73 ∷ 214 ∷ 159 ∷ 81 ∷ 231 ∷ 173 ∷ 254 ∷ 80 ∷ 67 ∷ 224 ∷ 171 ∷ 244 ∷ 18 ∷ 233 ∷ 45 ∷ 230 ∷ 148 ∷ 200 ∷ 161 ∷ 249 ∷ 212 ∷ 255 ∷ 137 ∷ 49 ∷ 53 ∷ 178 ∷ []
+
+-- ---- The messages
+
+abbrev states : ℕ → List ℕ → List ℕ
+states view d = vote_statement form q 1 view d
+
+-- replica k's vote, signed with this leaf
+abbrev vote : ℕ → List ℕ → ℕ → ℕ → Signed
+vote view d leaf k = record { by = node k; sig = signature q k leaf (states view d) }
+
+-- a certificate by the replicas i, j and 3
+abbrev shown : ℕ → List ℕ → ℕ → ℕ → ℕ → ℕ → Certificate
+shown view d i at j other = Votes view 1 d (vote view d at i ∷ vote view d other j ∷ vote view d 0 3 ∷ [])
+
+abbrev own : ℕ → Content → Certificate → List ℕ
+own view what just = own_statement form q (Prepare view what just [])
+
+abbrev proposal : ℕ → Content → Certificate → Message
+proposal view what just = Prepare view what just (signature q 3 0 (own view what just))
+
+abbrev c_z : Certificate
+c_z = shown 1 d_z 0 0 1 0
+
+abbrev c_u : Certificate
+c_u = shown 262145 d_u 1 1 2 0
+
+abbrev c_y : Certificate
+c_y = shown 262146 d_y 0 2 1 2
+
+abbrev c_x : Certificate
+c_x = shown 262147 d_x 0 3 1 3
+
+abbrev c_s : Certificate
+c_s = shown 262149 d_s 1 4 2 1
+
+abbrev c_t : Certificate
+c_t = shown 262150 d_t 1 5 2 2
+
+abbrev m_z : Message
+m_z = proposal 1 (Holds b) Root
+
+abbrev m_u : Message
+m_u = proposal 262145 Nil Root
+
+abbrev m_y : Message
+m_y = proposal 262146 Nil c_z
+
+abbrev m_x : Message
+m_x = proposal 262147 Mark c_y
+
+abbrev m_a : Message
+m_a = proposal 262148 Mark c_x
+
+abbrev m_s : Message
+m_s = proposal 262149 Nil c_u
+
+abbrev m_t : Message
+m_t = proposal 262150 Mark c_s
+
+abbrev m_v : Message
+m_v = proposal 262151 Mark c_t
+
+abbrev told : Message → Input Message
+told msg = Receive (node 3) msg
+
+-- ---- What the replicas take, by their numbers
+
+abbrev l0_1 : List (Item Message)
+l0_1 = and_then loose q 0 [] (told m_z) 0
+
+abbrev l0_2 : List (Item Message)
+l0_2 = and_then loose q 0 l0_1 (told m_u) 1
+
+abbrev l0_3 : List (Item Message)
+l0_3 = and_then loose q 0 l0_2 (told m_y) 2
+
+abbrev l0_4 : List (Item Message)
+l0_4 = and_then loose q 0 l0_3 (told m_x) 3
+
+abbrev l0_5 : List (Item Message)
+l0_5 = and_then loose q 0 l0_4 (told m_a) 4
+
+abbrev l1_1 : List (Item Message)
+l1_1 = and_then loose q 1 [] (told m_z) 0
+
+abbrev l1_2 : List (Item Message)
+l1_2 = and_then loose q 1 l1_1 (told m_u) 1
+
+abbrev l1_3 : List (Item Message)
+l1_3 = and_then loose q 1 l1_2 (told m_y) 2
+
+abbrev l1_4 : List (Item Message)
+l1_4 = and_then loose q 1 l1_3 (told m_x) 3
+
+abbrev l1_5 : List (Item Message)
+l1_5 = and_then loose q 1 l1_4 (told m_s) 4
+
+abbrev l1_6 : List (Item Message)
+l1_6 = and_then loose q 1 l1_5 (told m_t) 5
+
+abbrev l1_7 : List (Item Message)
+l1_7 = and_then loose q 1 l1_6 (told m_v) 6
+
+abbrev l2_1 : List (Item Message)
+l2_1 = and_then loose q 2 [] (told m_u) 0
+
+abbrev l2_2 : List (Item Message)
+l2_2 = and_then loose q 2 l2_1 (told m_s) 1
+
+abbrev l2_3 : List (Item Message)
+l2_3 = and_then loose q 2 l2_2 (told m_t) 2
+
+abbrev sent : ℕ → ℕ → List ℕ → ℕ → List (To × Message)
+sent me view d leaf = (To_one (node 3), Vote 1 view d (signature q me leaf (states view d))) ∷ []
+
+votes-0-z : (makes q 0 [] (told m_z) 0).sends ≡ sent 0 1 d_z 0
+unfolding sha256 digest_bytes hash_after compress rounds schedule first_words spell_batch spell_count spell_value wide_bytes
+votes-0-z = refl
+
+votes-0-y : (makes q 0 l0_2 (told m_y) 2).sends ≡ sent 0 262146 d_y 2
+unfolding sha256 digest_bytes hash_after compress rounds schedule first_words spell_batch spell_count spell_value wide_bytes
+votes-0-y = refl
+
+votes-0-x : (makes q 0 l0_3 (told m_x) 3).sends ≡ sent 0 262147 d_x 3
+unfolding sha256 digest_bytes hash_after compress rounds schedule first_words spell_batch spell_count spell_value wide_bytes
+votes-0-x = refl
+
+votes-1-z : (makes q 1 [] (told m_z) 0).sends ≡ sent 1 1 d_z 0
+unfolding sha256 digest_bytes hash_after compress rounds schedule first_words spell_batch spell_count spell_value wide_bytes
+votes-1-z = refl
+
+votes-1-u : (makes q 1 l1_1 (told m_u) 1).sends ≡ sent 1 262145 d_u 1
+unfolding sha256 digest_bytes hash_after compress rounds schedule first_words spell_batch spell_count spell_value wide_bytes
+votes-1-u = refl
+
+votes-1-y : (makes q 1 l1_2 (told m_y) 2).sends ≡ sent 1 262146 d_y 2
+unfolding sha256 digest_bytes hash_after compress rounds schedule first_words spell_batch spell_count spell_value wide_bytes
+votes-1-y = refl
+
+votes-1-x : (makes q 1 l1_3 (told m_x) 3).sends ≡ sent 1 262147 d_x 3
+unfolding sha256 digest_bytes hash_after compress rounds schedule first_words spell_batch spell_count spell_value wide_bytes
+votes-1-x = refl
+
+votes-1-s : (makes q 1 l1_4 (told m_s) 4).sends ≡ sent 1 262149 d_s 4
+unfolding sha256 digest_bytes hash_after compress rounds schedule first_words spell_batch spell_count spell_value wide_bytes
+votes-1-s = refl
+
+votes-1-t : (makes q 1 l1_5 (told m_t) 5).sends ≡ sent 1 262150 d_t 5
+unfolding sha256 digest_bytes hash_after compress rounds schedule first_words spell_batch spell_count spell_value wide_bytes
+votes-1-t = refl
+
+votes-2-u : (makes q 2 [] (told m_u) 0).sends ≡ sent 2 262145 d_u 0
+unfolding sha256 digest_bytes hash_after compress rounds schedule first_words spell_batch spell_count spell_value wide_bytes
+votes-2-u = refl
+
+votes-2-s : (makes q 2 l2_1 (told m_s) 1).sends ≡ sent 2 262149 d_s 1
+unfolding sha256 digest_bytes hash_after compress rounds schedule first_words spell_batch spell_count spell_value wide_bytes
+votes-2-s = refl
+
+votes-2-t : (makes q 2 l2_2 (told m_t) 2).sends ≡ sent 2 262150 d_t 2
+unfolding sha256 digest_bytes hash_after compress rounds schedule first_words spell_batch spell_count spell_value wide_bytes
+votes-2-t = refl
+
+delivers-0 : delivered loose q 0 l0_5 0 ≡ Some (Value_batch b)
+unfolding sha256 digest_bytes hash_after compress rounds schedule first_words spell_batch spell_count spell_value wide_bytes
+delivers-0 = refl
+
+delivers-1 : delivered loose q 1 l1_7 0 ≡ Some Value_nil
+unfolding sha256 digest_bytes hash_after compress rounds schedule first_words spell_batch spell_count spell_value wide_bytes
+delivers-1 = refl
+
+-- ---- Worlds in which the replicas 0, 1 and 2 took some input
+
+abbrev world : List (Item Message) → List (Item Message) → List (Item Message) → World Message
+world xs ys zs i = cond (eqb i 0) xs (cond (eqb i 1) ys (cond (eqb i 2) zs []))
+
+none : (a c e : Bool) → ◌≡◌ {A = List (Item Message)} (cond a [] (cond c [] (cond e [] []))) []
+none true c e = refl
+none false true e = refl
+none false false true = refl
+none false false false = refl
+
+first-move : (input : Input Message) (leaf : ℕ) → MayCome loose q empty_world 0 input → Move loose q empty_world (world (and_then loose q 0 [] input leaf) [] [])
+first-move input leaf may = record { node = 0; correct = refl; input = input; may = may; leaf = leaf; takes = refl; others = λ i ne. rw (eqb-other i 0 ne) (none false (eqb i 1) (eqb i 2)) }
+
+move-zero : (xs ys zs : List (Item Message)) (input : Input Message) (leaf : ℕ) → MayCome loose q (world xs ys zs) 0 input → Move loose q (world xs ys zs) (world (and_then loose q 0 xs input leaf) ys zs)
+move-zero xs ys zs input leaf may = record { node = 0; correct = refl; input = input; may = may; leaf = leaf; takes = refl; others = λ i ne. rw (eqb-other i 0 ne) refl }
+
+move-one : (xs ys zs : List (Item Message)) (input : Input Message) (leaf : ℕ) → MayCome loose q (world xs ys zs) 1 input → Move loose q (world xs ys zs) (world xs (and_then loose q 1 ys input leaf) zs)
+move-one xs ys zs input leaf may = record { node = 1; correct = refl; input = input; may = may; leaf = leaf; takes = refl; others = λ i ne. rw (eqb-other i 1 ne) refl }
+
+move-two : (xs ys zs : List (Item Message)) (input : Input Message) (leaf : ℕ) → MayCome loose q (world xs ys zs) 2 input → Move loose q (world xs ys zs) (world xs ys (and_then loose q 2 zs input leaf))
+move-two xs ys zs input leaf may = record { node = 2; correct = refl; input = input; may = may; leaf = leaf; takes = refl; others = λ i ne. rw (eqb-other i 2 ne) refl }
+
+-- ---- The messages can be decoded, and their signatures are valid
+
+abbrev IsRead : Message → Type 0
+IsRead msg = IsReadMessage loose q msg
+
+shape : (k leaf : ℕ) (s : List ℕ) → is_signature (signature q k leaf s) ≡ true
+shape k leaf s = signature-shape loose q good k leaf s
+
+shown-spelled : (view : ℕ) (d : List ℕ) (i at j other : ℕ) → 1 ≤ view → view < 2 ^ 32 → length d ≡ 32 → i < j → j < 3 →
+    IsSpelledCertificate 1 (shown view d i at j other) (votes_row view 1 d (vote view d at i ∷ vote view d other j ∷ vote view d 0 3 ∷ []))
+shown-spelled view d i at j other low high long less few = record {
+  view_low = low;
+  view_fits = high;
+  phase_low = omega arith;
+  phase_fits = omega arith;
+  digest_fits = long;
+  count_fits = omega arith;
+  signers = (omega arith, shape i at (states view d), (omega (arith, less), shape j other (states view d), (omega (arith, few), shape 3 0 (states view d), tt)));
+  row = refl;
+}
+
+batch_held : (behind : List ℕ) × IsSpelledContent 1 (Holds b) behind
+batch_held = batch-table 1 b (batch-read 1 b (omega arith) (λ r h. absurd h))
+
+read-z : IsRead m_z
+read-z = spelled-read 1 1 m_z _ (record { view_fits = omega arith; behind = batch_held.0; what_is = batch_held.1; certificate = root_row; spelled = refl; signed = shape 3 0 (own 1 (Holds b) Root); row = refl })
+
+read-u : IsRead m_u
+read-u = spelled-read 1 1 m_u _ (record { view_fits = omega arith; behind = _; what_is = refl; certificate = root_row; spelled = refl; signed = shape 3 0 (own 262145 Nil Root); row = refl })
+
+read-y : IsRead m_y
+read-y = spelled-read 1 1 m_y _ (record { view_fits = omega arith; behind = _; what_is = refl; certificate = _; spelled = shown-spelled 1 d_z 0 0 1 0 (omega arith) (omega arith) refl (omega arith) (omega arith); signed = shape 3 0 (own 262146 Nil c_z); row = refl })
+
+read-x : IsRead m_x
+read-x = spelled-read 1 1 m_x _ (record { view_fits = omega arith; behind = _; what_is = refl; certificate = _; spelled = shown-spelled 262146 d_y 0 2 1 2 (omega arith) (omega arith) refl (omega arith) (omega arith); signed = shape 3 0 (own 262147 Mark c_y); row = refl })
+
+read-a : IsRead m_a
+read-a = spelled-read 1 1 m_a _ (record { view_fits = omega arith; behind = _; what_is = refl; certificate = _; spelled = shown-spelled 262147 d_x 0 3 1 3 (omega arith) (omega arith) refl (omega arith) (omega arith); signed = shape 3 0 (own 262148 Mark c_x); row = refl })
+
+read-s : IsRead m_s
+read-s = spelled-read 1 1 m_s _ (record { view_fits = omega arith; behind = _; what_is = refl; certificate = _; spelled = shown-spelled 262145 d_u 1 1 2 0 (omega arith) (omega arith) refl (omega arith) (omega arith); signed = shape 3 0 (own 262149 Nil c_u); row = refl })
+
+read-t : IsRead m_t
+read-t = spelled-read 1 1 m_t _ (record { view_fits = omega arith; behind = _; what_is = refl; certificate = _; spelled = shown-spelled 262149 d_s 1 4 2 1 (omega arith) (omega arith) refl (omega arith) (omega arith); signed = shape 3 0 (own 262150 Mark c_s); row = refl })
+
+read-v : IsRead m_v
+read-v = spelled-read 1 1 m_v _ (record { view_fits = omega arith; behind = _; what_is = refl; certificate = _; spelled = shown-spelled 262150 d_t 1 5 2 2 (omega arith) (omega arith) refl (omega arith) (omega arith); signed = shape 3 0 (own 262151 Mark c_t); row = refl })
+
+verifies : (k leaf : ℕ) (s : List ℕ) → k < 4 → leaf < 2 ^ 4 → Verifies q (claim k s (signature q k leaf s))
+verifies k leaf s below few = signature-verifies loose q good k leaf s below few
+
+never : {C : Type 0} → is_correct setup 3 ≡ true → C
+never h = absurd (true≢false (sym h))
+
+-- the votes of two correct replicas and of the Byzantine one, and its own signature
+abbrev four : ℕ → List ℕ → ℕ → ℕ → ℕ → ℕ → List ℕ → List Claim
+four view d i at j other statement =
+    claim i (states view d) (signature q i at (states view d)) ∷
+    claim j (states view d) (signature q j other (states view d)) ∷
+    claim 3 (states view d) (signature q 3 0 (states view d)) ∷
+    claim 3 statement (signature q 3 0 statement) ∷ []
+
+abbrev Comes : World Message → Message → Type 0
+Comes w msg = IsCredible loose q (Verifies q) (IsSigned loose q w) 3 msg
+
+-- a proposal on a certificate, once its votes are signed
+shows-come : (w : World Message) (view : ℕ) (d : List ℕ) (i at j other : ℕ) (msg : Message) (statement : List ℕ) → i < 4 → at < 2 ^ 4 → j < 4 → other < 2 ^ 4 → IsRead msg →
+    IsSigned loose q w i (states view d) → IsSigned loose q w j (states view d) → claims form q 3 msg ≡ four view d i at j other statement → Comes w msg
+shows-come w view d i at j other msg statement li la lj lo read si sj e = record { named = omega arith; read = read; verified = λ c h. check c (rw e at h); signed = λ c h. given c (rw e at h) }
+  where
+    check : (c : Claim) → In c (four view d i at j other statement) → Verifies q c
+    check c (inl k) = subst (λ (z : Claim). Verifies q z) (sym k) (verifies i at (states view d) li la)
+    check c (inr (inl k)) = subst (λ (z : Claim). Verifies q z) (sym k) (verifies j other (states view d) lj lo)
+    check c (inr (inr (inl k))) = subst (λ (z : Claim). Verifies q z) (sym k) (verifies 3 0 (states view d) (omega arith) (omega arith))
+    check c (inr (inr (inr (inl k)))) = subst (λ (z : Claim). Verifies q z) (sym k) (verifies 3 0 statement (omega arith) (omega arith))
+    check c (inr (inr (inr (inr k)))) = absurd k
+
+    given : (c : Claim) → In c (four view d i at j other statement) → is_correct setup c.by.0 ≡ true → IsSigned loose q w c.by.0 c.statement
+    given c (inl k) r = subst (λ (z : Claim). IsSigned loose q w z.by.0 z.statement) (sym k) si
+    given c (inr (inl k)) r = subst (λ (z : Claim). IsSigned loose q w z.by.0 z.statement) (sym k) sj
+    given c (inr (inr (inl k))) r = never (ap (λ (z : Claim). is_correct setup z.by.0) (sym k) ∙ r)
+    given c (inr (inr (inr (inl k)))) r = never (ap (λ (z : Claim). is_correct setup z.by.0) (sym k) ∙ r)
+    given c (inr (inr (inr (inr k)))) r = absurd k
+
+-- a proposal on the root, which claims only its own signature
+first-comes : (w : World Message) (msg : Message) (statement : List ℕ) → IsRead msg → claims form q 3 msg ≡ claim 3 statement (signature q 3 0 statement) ∷ [] → Comes w msg
+first-comes w msg statement read e = record { named = omega arith; read = read; verified = λ c h. check c (rw e at h); signed = λ c h. given c (rw e at h) }
+  where
+    check : (c : Claim) → In c (claim 3 statement (signature q 3 0 statement) ∷ []) → Verifies q c
+    check c (inl k) = subst (λ (z : Claim). Verifies q z) (sym k) (verifies 3 0 statement (omega arith) (omega arith))
+    check c (inr k) = absurd k
+
+    given : (c : Claim) → In c (claim 3 statement (signature q 3 0 statement) ∷ []) → is_correct setup c.by.0 ≡ true → IsSigned loose q w c.by.0 c.statement
+    given c (inl k) r = never (ap (λ (z : Claim). is_correct setup z.by.0) (sym k) ∙ r)
+    given c (inr k) r = absurd k
+
+-- a vote in a replica's history was signed
+signed-by : (w : World Message) (k : ℕ) (x : Item Message) (view : ℕ) (d : List ℕ) (leaf : ℕ) → In x (w k) → x.made.sends ≡ sent k view d leaf → IsSigned loose q w k (states view d)
+signed-by w k x view d leaf h e = record {
+  item = x;
+  taken = h;
+  to = To_one (node 3);
+  msg = Vote 1 view d (signature q k leaf (states view d));
+  sent = rw e (inl refl);
+  claim = claim k (states view d) (signature q k leaf (states view d));
+  made = inl refl;
+  by = refl;
+  is = refl;
+}
+
+-- ---- The run
+
+come-1 : Comes empty_world m_z
+come-1 = first-comes empty_world m_z (own 1 (Holds b) Root) read-z refl
+
+reached-1 : IsReached loose q (world l0_1 [] [])
+reached-1 = after at_start (first-move (told m_z) 0 come-1)
+
+come-2 : Comes (world l0_1 [] []) m_z
+come-2 = first-comes (world l0_1 [] []) m_z (own 1 (Holds b) Root) read-z refl
+
+reached-2 : IsReached loose q (world l0_1 l1_1 [])
+reached-2 = after reached-1 (move-one l0_1 [] [] (told m_z) 0 come-2)
+
+come-3 : Comes (world l0_1 l1_1 []) m_u
+come-3 = first-comes (world l0_1 l1_1 []) m_u (own 262145 Nil Root) read-u refl
+
+reached-3 : IsReached loose q (world l0_2 l1_1 [])
+reached-3 = after reached-2 (move-zero l0_1 l1_1 [] (told m_u) 1 come-3)
+
+come-4 : Comes (world l0_2 l1_1 []) m_u
+come-4 = first-comes (world l0_2 l1_1 []) m_u (own 262145 Nil Root) read-u refl
+
+reached-4 : IsReached loose q (world l0_2 l1_2 [])
+reached-4 = after reached-3 (move-one l0_2 l1_1 [] (told m_u) 1 come-4)
+
+come-5 : Comes (world l0_2 l1_2 []) m_u
+come-5 = first-comes (world l0_2 l1_2 []) m_u (own 262145 Nil Root) read-u refl
+
+reached-5 : IsReached loose q (world l0_2 l1_2 l2_1)
+reached-5 = after reached-4 (move-two l0_2 l1_2 [] (told m_u) 0 come-5)
+
+come-6 : Comes (world l0_2 l1_2 l2_1) m_y
+come-6 = shows-come (world l0_2 l1_2 l2_1) 1 d_z 0 0 1 0 m_y (own 262146 Nil c_z) (omega arith) (omega arith) (omega arith) (omega arith) read-y (signed-by (world l0_2 l1_2 l2_1) 0 _ 1 d_z 0 (inr (inl refl)) votes-0-z) (signed-by (world l0_2 l1_2 l2_1) 1 _ 1 d_z 0 (inr (inl refl)) votes-1-z) refl
+
+reached-6 : IsReached loose q (world l0_3 l1_2 l2_1)
+reached-6 = after reached-5 (move-zero l0_2 l1_2 l2_1 (told m_y) 2 come-6)
+
+come-7 : Comes (world l0_3 l1_2 l2_1) m_y
+come-7 = shows-come (world l0_3 l1_2 l2_1) 1 d_z 0 0 1 0 m_y (own 262146 Nil c_z) (omega arith) (omega arith) (omega arith) (omega arith) read-y (signed-by (world l0_3 l1_2 l2_1) 0 _ 1 d_z 0 (inr (inr (inl refl))) votes-0-z) (signed-by (world l0_3 l1_2 l2_1) 1 _ 1 d_z 0 (inr (inl refl)) votes-1-z) refl
+
+reached-7 : IsReached loose q (world l0_3 l1_3 l2_1)
+reached-7 = after reached-6 (move-one l0_3 l1_2 l2_1 (told m_y) 2 come-7)
+
+come-8 : Comes (world l0_3 l1_3 l2_1) m_x
+come-8 = shows-come (world l0_3 l1_3 l2_1) 262146 d_y 0 2 1 2 m_x (own 262147 Mark c_y) (omega arith) (omega arith) (omega arith) (omega arith) read-x (signed-by (world l0_3 l1_3 l2_1) 0 _ 262146 d_y 2 (inl refl) votes-0-y) (signed-by (world l0_3 l1_3 l2_1) 1 _ 262146 d_y 2 (inl refl) votes-1-y) refl
+
+reached-8 : IsReached loose q (world l0_4 l1_3 l2_1)
+reached-8 = after reached-7 (move-zero l0_3 l1_3 l2_1 (told m_x) 3 come-8)
+
+come-9 : Comes (world l0_4 l1_3 l2_1) m_x
+come-9 = shows-come (world l0_4 l1_3 l2_1) 262146 d_y 0 2 1 2 m_x (own 262147 Mark c_y) (omega arith) (omega arith) (omega arith) (omega arith) read-x (signed-by (world l0_4 l1_3 l2_1) 0 _ 262146 d_y 2 (inr (inl refl)) votes-0-y) (signed-by (world l0_4 l1_3 l2_1) 1 _ 262146 d_y 2 (inl refl) votes-1-y) refl
+
+reached-9 : IsReached loose q (world l0_4 l1_4 l2_1)
+reached-9 = after reached-8 (move-one l0_4 l1_3 l2_1 (told m_x) 3 come-9)
+
+come-10 : Comes (world l0_4 l1_4 l2_1) m_a
+come-10 = shows-come (world l0_4 l1_4 l2_1) 262147 d_x 0 3 1 3 m_a (own 262148 Mark c_x) (omega arith) (omega arith) (omega arith) (omega arith) read-a (signed-by (world l0_4 l1_4 l2_1) 0 _ 262147 d_x 3 (inl refl) votes-0-x) (signed-by (world l0_4 l1_4 l2_1) 1 _ 262147 d_x 3 (inl refl) votes-1-x) refl
+
+reached-10 : IsReached loose q (world l0_5 l1_4 l2_1)
+reached-10 = after reached-9 (move-zero l0_4 l1_4 l2_1 (told m_a) 4 come-10)
+
+come-11 : Comes (world l0_5 l1_4 l2_1) m_s
+come-11 = shows-come (world l0_5 l1_4 l2_1) 262145 d_u 1 1 2 0 m_s (own 262149 Nil c_u) (omega arith) (omega arith) (omega arith) (omega arith) read-s (signed-by (world l0_5 l1_4 l2_1) 1 _ 262145 d_u 1 (inr (inr (inl refl))) votes-1-u) (signed-by (world l0_5 l1_4 l2_1) 2 _ 262145 d_u 0 (inl refl) votes-2-u) refl
+
+reached-11 : IsReached loose q (world l0_5 l1_5 l2_1)
+reached-11 = after reached-10 (move-one l0_5 l1_4 l2_1 (told m_s) 4 come-11)
+
+come-12 : Comes (world l0_5 l1_5 l2_1) m_s
+come-12 = shows-come (world l0_5 l1_5 l2_1) 262145 d_u 1 1 2 0 m_s (own 262149 Nil c_u) (omega arith) (omega arith) (omega arith) (omega arith) read-s (signed-by (world l0_5 l1_5 l2_1) 1 _ 262145 d_u 1 (inr (inr (inr (inl refl)))) votes-1-u) (signed-by (world l0_5 l1_5 l2_1) 2 _ 262145 d_u 0 (inl refl) votes-2-u) refl
+
+reached-12 : IsReached loose q (world l0_5 l1_5 l2_2)
+reached-12 = after reached-11 (move-two l0_5 l1_5 l2_1 (told m_s) 1 come-12)
+
+come-13 : Comes (world l0_5 l1_5 l2_2) m_t
+come-13 = shows-come (world l0_5 l1_5 l2_2) 262149 d_s 1 4 2 1 m_t (own 262150 Mark c_s) (omega arith) (omega arith) (omega arith) (omega arith) read-t (signed-by (world l0_5 l1_5 l2_2) 1 _ 262149 d_s 4 (inl refl) votes-1-s) (signed-by (world l0_5 l1_5 l2_2) 2 _ 262149 d_s 1 (inl refl) votes-2-s) refl
+
+reached-13 : IsReached loose q (world l0_5 l1_6 l2_2)
+reached-13 = after reached-12 (move-one l0_5 l1_5 l2_2 (told m_t) 5 come-13)
+
+come-14 : Comes (world l0_5 l1_6 l2_2) m_t
+come-14 = shows-come (world l0_5 l1_6 l2_2) 262149 d_s 1 4 2 1 m_t (own 262150 Mark c_s) (omega arith) (omega arith) (omega arith) (omega arith) read-t (signed-by (world l0_5 l1_6 l2_2) 1 _ 262149 d_s 4 (inr (inl refl)) votes-1-s) (signed-by (world l0_5 l1_6 l2_2) 2 _ 262149 d_s 1 (inl refl) votes-2-s) refl
+
+reached-14 : IsReached loose q (world l0_5 l1_6 l2_3)
+reached-14 = after reached-13 (move-two l0_5 l1_6 l2_2 (told m_t) 2 come-14)
+
+come-15 : Comes (world l0_5 l1_6 l2_3) m_v
+come-15 = shows-come (world l0_5 l1_6 l2_3) 262150 d_t 1 5 2 2 m_v (own 262151 Mark c_t) (omega arith) (omega arith) (omega arith) (omega arith) read-v (signed-by (world l0_5 l1_6 l2_3) 1 _ 262150 d_t 5 (inl refl) votes-1-t) (signed-by (world l0_5 l1_6 l2_3) 2 _ 262150 d_t 2 (inl refl) votes-2-t) refl
+
+reached-15 : IsReached loose q (world l0_5 l1_7 l2_3)
+reached-15 = after reached-14 (move-one l0_5 l1_6 l2_3 (told m_v) 6 come-15)
+
+-- ---- SHA-256 does not collide on its strings: two values' and eight nodes'
+
+abbrev value : List ℕ
+value = value_string 1 (Value_batch b)
+
+abbrev nil : List ℕ
+nil = value_string 1 Value_nil
+
+abbrev s_z : List ℕ
+s_z = viewed_string 1 1 root (Holds b)
+
+abbrev s_u : List ℕ
+s_u = viewed_string 1 262145 root Nil
+
+abbrev s_y : List ℕ
+s_y = viewed_string 1 262146 d_z Nil
+
+abbrev s_x : List ℕ
+s_x = viewed_string 1 262147 d_y Mark
+
+abbrev s_a : List ℕ
+s_a = viewed_string 1 262148 d_x Mark
+
+abbrev s_s : List ℕ
+s_s = viewed_string 1 262149 d_u Nil
+
+abbrev s_t : List ℕ
+s_t = viewed_string 1 262150 d_s Mark
+
+abbrev s_v : List ℕ
+s_v = viewed_string 1 262151 d_t Mark
+
+abbrev d_value : List ℕ
+d_value = 153 ∷ 249 ∷ 227 ∷ 138 ∷ 12 ∷ 112 ∷ 47 ∷ 234 ∷ 193 ∷ 248 ∷ 131 ∷ 69 ∷ 120 ∷ 191 ∷ 171 ∷ 95 ∷ 188 ∷ 142 ∷ 189 ∷ 158 ∷ 232 ∷ 186 ∷ 78 ∷ 223 ∷ 107 ∷ 7 ∷ 134 ∷ 227 ∷ 98 ∷ 16 ∷ 18 ∷ 220 ∷ []
+
+abbrev d_nil : List ℕ
+d_nil = 238 ∷ 196 ∷ 18 ∷ 31 ∷ 42 ∷ 7 ∷ 182 ∷ 26 ∷ 186 ∷ 22 ∷ 65 ∷ 72 ∷ 18 ∷ 170 ∷ 154 ∷ 252 ∷ 57 ∷ 171 ∷ 10 ∷ 19 ∷ 99 ∷ 96 ∷ 165 ∷ 172 ∷ 226 ∷ 36 ∷ 13 ∷ 193 ∷ 155 ∷ 4 ∷ 100 ∷ 235 ∷ []
+
+-- each string with its digest
+abbrev pairs : List (List ℕ × List ℕ)
+pairs = ([], replicate 32 0) ∷
+    (value, d_value) ∷ (nil, d_nil) ∷ (s_z, d_z) ∷ (s_u, d_u) ∷ (s_y, d_y) ∷ (s_x, d_x) ∷ (s_a, d_a) ∷ (s_s, d_s) ∷ (s_t, d_t) ∷ (s_v, d_v) ∷ []
+
+is-value : digest value ≡ d_value
+unfolding sha256 digest_bytes hash_after compress rounds schedule first_words spell_batch spell_count spell_value wide_bytes
+is-value = refl
+
+is-nil : digest nil ≡ d_nil
+unfolding sha256 digest_bytes hash_after compress rounds schedule first_words spell_batch spell_count spell_value wide_bytes
+is-nil = refl
+
+is-s-z : digest s_z ≡ d_z
+unfolding sha256 digest_bytes hash_after compress rounds schedule first_words spell_batch spell_count spell_value wide_bytes
+is-s-z = refl
+
+is-s-u : digest s_u ≡ d_u
+unfolding sha256 digest_bytes hash_after compress rounds schedule first_words spell_batch spell_count spell_value wide_bytes
+is-s-u = refl
+
+is-s-y : digest s_y ≡ d_y
+unfolding sha256 digest_bytes hash_after compress rounds schedule first_words spell_batch spell_count spell_value wide_bytes
+is-s-y = refl
+
+is-s-x : digest s_x ≡ d_x
+unfolding sha256 digest_bytes hash_after compress rounds schedule first_words spell_batch spell_count spell_value wide_bytes
+is-s-x = refl
+
+is-s-a : digest s_a ≡ d_a
+unfolding sha256 digest_bytes hash_after compress rounds schedule first_words spell_batch spell_count spell_value wide_bytes
+is-s-a = refl
+
+is-s-s : digest s_s ≡ d_s
+unfolding sha256 digest_bytes hash_after compress rounds schedule first_words spell_batch spell_count spell_value wide_bytes
+is-s-s = refl
+
+is-s-t : digest s_t ≡ d_t
+unfolding sha256 digest_bytes hash_after compress rounds schedule first_words spell_batch spell_count spell_value wide_bytes
+is-s-t = refl
+
+is-s-v : digest s_v ≡ d_v
+unfolding sha256 digest_bytes hash_after compress rounds schedule first_words spell_batch spell_count spell_value wide_bytes
+is-s-v = refl
+
+abbrev IsOf : List ℕ × List ℕ → Type 0
+IsOf x = In x pairs
+
+-- a string of the world, with its digest
+record IsOne (s : List ℕ) : Type 0 where
+  digest_of : List ℕ
+  one : IsOf (s, digest_of)
+  is : digest s ≡ digest_of
+
+abbrev differs : List ℕ → List (List ℕ × List ℕ) → Bool
+differs d [] = true
+differs d (x ∷ xs) = not (same_bytes d x.1) && differs d xs
+
+abbrev all_differ : List (List ℕ × List ℕ) → Bool
+all_differ [] = true
+all_differ (x ∷ xs) = differs x.1 xs && all_differ xs
+
+these-differ : all_differ pairs ≡ true
+these-differ = refl
+
+not-same : (d e : List ℕ) → not (same_bytes d e) ≡ true → d ≡ e → ⊥
+not-same d e h k = different d e (go (same_bytes d e) h) k
+  where
+    go : (t : Bool) → not t ≡ true → t ≡ false
+    go true k = absurd (true≢false (sym k))
+    go false k = refl
+
+from-first : (d : List ℕ) (y : List ℕ × List ℕ) (xs : List (List ℕ × List ℕ)) → differs d xs ≡ true → In y xs → d ≡ y.1 → ⊥
+from-first d y [] h k e = k
+from-first d y (x ∷ xs) h (inl k) e = not-same d x.1 (and-true _ (differs d xs) h).0 (e ∙ ap (λ (z : List ℕ × List ℕ). z.1) k)
+from-first d y (x ∷ xs) h (inr k) e = from-first d y xs (and-true _ (differs d xs) h).1 k e
+
+same-of : (xs : List (List ℕ × List ℕ)) (y z : List ℕ × List ℕ) → all_differ xs ≡ true → In y xs → In z xs → y.1 ≡ z.1 → y.0 ≡ z.0
+same-of [] y z h k j e = absurd k
+same-of (x ∷ xs) y z h (inl k) (inl j) e = ap (λ (r : List ℕ × List ℕ). r.0) (k ∙ sym j)
+same-of (x ∷ xs) y z h (inl k) (inr j) e = absurd (from-first x.1 z xs (and-true (differs x.1 xs) _ h).0 j (ap (λ (r : List ℕ × List ℕ). r.1) (sym k) ∙ e))
+same-of (x ∷ xs) y z h (inr k) (inl j) e = absurd (from-first x.1 y xs (and-true (differs x.1 xs) _ h).0 k (ap (λ (r : List ℕ × List ℕ). r.1) (sym j) ∙ sym e))
+same-of (x ∷ xs) y z h (inr k) (inr j) e = same-of xs y z (and-true (differs x.1 xs) _ h).1 k j e
+
+one-empty : IsOne []
+one-empty = record { digest_of = _; one = inl refl; is = refl }
+
+one-value : IsOne value
+one-value = record { digest_of = _; one = (inr (inl refl)); is = is-value }
+
+one-nil : IsOne nil
+one-nil = record { digest_of = _; one = (inr (inr (inl refl))); is = is-nil }
+
+one-s-z : IsOne s_z
+one-s-z = record { digest_of = _; one = (inr (inr (inr (inl refl)))); is = is-s-z }
+
+one-s-u : IsOne s_u
+one-s-u = record { digest_of = _; one = (inr (inr (inr (inr (inl refl))))); is = is-s-u }
+
+one-s-y : IsOne s_y
+one-s-y = record { digest_of = _; one = (inr (inr (inr (inr (inr (inl refl)))))); is = is-s-y }
+
+one-s-x : IsOne s_x
+one-s-x = record { digest_of = _; one = (inr (inr (inr (inr (inr (inr (inl refl))))))); is = is-s-x }
+
+one-s-a : IsOne s_a
+one-s-a = record { digest_of = _; one = (inr (inr (inr (inr (inr (inr (inr (inl refl)))))))); is = is-s-a }
+
+one-s-s : IsOne s_s
+one-s-s = record { digest_of = _; one = (inr (inr (inr (inr (inr (inr (inr (inr (inl refl))))))))); is = is-s-s }
+
+one-s-t : IsOne s_t
+one-s-t = record { digest_of = _; one = (inr (inr (inr (inr (inr (inr (inr (inr (inr (inl refl)))))))))); is = is-s-t }
+
+one-s-v : IsOne s_v
+one-s-v = record { digest_of = _; one = (inr (inr (inr (inr (inr (inr (inr (inr (inr (inr (inl refl))))))))))); is = is-s-v }
+
+are-one : (ss : List (List ℕ)) (s : List ℕ) → In s ss → ((t : List ℕ) → In t ss → IsOne t) → IsOne s
+are-one ss s h f = f s h
+
+strings-0-z : (makes q 0 [] (told m_z) 0).strings ≡ value ∷ s_z ∷ []
+unfolding sha256 digest_bytes hash_after compress rounds schedule first_words spell_batch spell_count spell_value wide_bytes
+strings-0-z = refl
+
+strings-0-u : (makes q 0 l0_1 (told m_u) 1).strings ≡ nil ∷ s_u ∷ []
+unfolding sha256 digest_bytes hash_after compress rounds schedule first_words spell_batch spell_count spell_value wide_bytes
+strings-0-u = refl
+
+strings-0-y : (makes q 0 l0_2 (told m_y) 2).strings ≡ nil ∷ s_y ∷ []
+unfolding sha256 digest_bytes hash_after compress rounds schedule first_words spell_batch spell_count spell_value wide_bytes
+strings-0-y = refl
+
+strings-0-x : (makes q 0 l0_3 (told m_x) 3).strings ≡ s_x ∷ []
+unfolding sha256 digest_bytes hash_after compress rounds schedule first_words spell_batch spell_count spell_value wide_bytes
+strings-0-x = refl
+
+strings-0-a : (makes q 0 l0_4 (told m_a) 4).strings ≡ s_a ∷ []
+unfolding sha256 digest_bytes hash_after compress rounds schedule first_words spell_batch spell_count spell_value wide_bytes
+strings-0-a = refl
+
+strings-1-z : (makes q 1 [] (told m_z) 0).strings ≡ value ∷ s_z ∷ []
+unfolding sha256 digest_bytes hash_after compress rounds schedule first_words spell_batch spell_count spell_value wide_bytes
+strings-1-z = refl
+
+strings-1-u : (makes q 1 l1_1 (told m_u) 1).strings ≡ nil ∷ s_u ∷ []
+unfolding sha256 digest_bytes hash_after compress rounds schedule first_words spell_batch spell_count spell_value wide_bytes
+strings-1-u = refl
+
+strings-1-y : (makes q 1 l1_2 (told m_y) 2).strings ≡ nil ∷ s_y ∷ []
+unfolding sha256 digest_bytes hash_after compress rounds schedule first_words spell_batch spell_count spell_value wide_bytes
+strings-1-y = refl
+
+strings-1-x : (makes q 1 l1_3 (told m_x) 3).strings ≡ s_x ∷ []
+unfolding sha256 digest_bytes hash_after compress rounds schedule first_words spell_batch spell_count spell_value wide_bytes
+strings-1-x = refl
+
+strings-1-s : (makes q 1 l1_4 (told m_s) 4).strings ≡ nil ∷ s_s ∷ []
+unfolding sha256 digest_bytes hash_after compress rounds schedule first_words spell_batch spell_count spell_value wide_bytes
+strings-1-s = refl
+
+strings-1-t : (makes q 1 l1_5 (told m_t) 5).strings ≡ s_t ∷ []
+unfolding sha256 digest_bytes hash_after compress rounds schedule first_words spell_batch spell_count spell_value wide_bytes
+strings-1-t = refl
+
+strings-1-v : (makes q 1 l1_6 (told m_v) 6).strings ≡ s_v ∷ []
+unfolding sha256 digest_bytes hash_after compress rounds schedule first_words spell_batch spell_count spell_value wide_bytes
+strings-1-v = refl
+
+strings-2-u : (makes q 2 [] (told m_u) 0).strings ≡ nil ∷ s_u ∷ []
+unfolding sha256 digest_bytes hash_after compress rounds schedule first_words spell_batch spell_count spell_value wide_bytes
+strings-2-u = refl
+
+strings-2-s : (makes q 2 l2_1 (told m_s) 1).strings ≡ nil ∷ s_s ∷ []
+unfolding sha256 digest_bytes hash_after compress rounds schedule first_words spell_batch spell_count spell_value wide_bytes
+strings-2-s = refl
+
+strings-2-t : (makes q 2 l2_2 (told m_t) 2).strings ≡ s_t ∷ []
+unfolding sha256 digest_bytes hash_after compress rounds schedule first_words spell_batch spell_count spell_value wide_bytes
+strings-2-t = refl
+
+of-z : (s : List ℕ) → In s (value ∷ s_z ∷ []) → IsOne s
+of-z s (inl e) = subst IsOne (sym e) one-value
+of-z s (inr (inl e)) = subst IsOne (sym e) one-s-z
+of-z s (inr (inr k)) = absurd k
+
+of-u : (s : List ℕ) → In s (nil ∷ s_u ∷ []) → IsOne s
+of-u s (inl e) = subst IsOne (sym e) one-nil
+of-u s (inr (inl e)) = subst IsOne (sym e) one-s-u
+of-u s (inr (inr k)) = absurd k
+
+of-y : (s : List ℕ) → In s (nil ∷ s_y ∷ []) → IsOne s
+of-y s (inl e) = subst IsOne (sym e) one-nil
+of-y s (inr (inl e)) = subst IsOne (sym e) one-s-y
+of-y s (inr (inr k)) = absurd k
+
+of-x : (s : List ℕ) → In s (s_x ∷ []) → IsOne s
+of-x s (inl e) = subst IsOne (sym e) one-s-x
+of-x s (inr k) = absurd k
+
+of-a : (s : List ℕ) → In s (s_a ∷ []) → IsOne s
+of-a s (inl e) = subst IsOne (sym e) one-s-a
+of-a s (inr k) = absurd k
+
+of-s : (s : List ℕ) → In s (nil ∷ s_s ∷ []) → IsOne s
+of-s s (inl e) = subst IsOne (sym e) one-nil
+of-s s (inr (inl e)) = subst IsOne (sym e) one-s-s
+of-s s (inr (inr k)) = absurd k
+
+of-t : (s : List ℕ) → In s (s_t ∷ []) → IsOne s
+of-t s (inl e) = subst IsOne (sym e) one-s-t
+of-t s (inr k) = absurd k
+
+of-v : (s : List ℕ) → In s (s_v ∷ []) → IsOne s
+of-v s (inl e) = subst IsOne (sym e) one-s-v
+of-v s (inr k) = absurd k
+
+of-list-0 : (x : Item Message) (s : List ℕ) → In x l0_5 → In s x.made.strings → IsOne s
+of-list-0 x s (inl e) h = of-a s (subst (λ (z : List (List ℕ)). In s z) (ap (λ (z : Item Message). z.made.strings) e ∙ strings-0-a) h)
+of-list-0 x s (inr (inl e)) h = of-x s (subst (λ (z : List (List ℕ)). In s z) (ap (λ (z : Item Message). z.made.strings) e ∙ strings-0-x) h)
+of-list-0 x s (inr (inr (inl e))) h = of-y s (subst (λ (z : List (List ℕ)). In s z) (ap (λ (z : Item Message). z.made.strings) e ∙ strings-0-y) h)
+of-list-0 x s (inr (inr (inr (inl e)))) h = of-u s (subst (λ (z : List (List ℕ)). In s z) (ap (λ (z : Item Message). z.made.strings) e ∙ strings-0-u) h)
+of-list-0 x s (inr (inr (inr (inr (inl e))))) h = of-z s (subst (λ (z : List (List ℕ)). In s z) (ap (λ (z : Item Message). z.made.strings) e ∙ strings-0-z) h)
+of-list-0 x s (inr (inr (inr (inr (inr j))))) h = absurd j
+
+of-list-1 : (x : Item Message) (s : List ℕ) → In x l1_7 → In s x.made.strings → IsOne s
+of-list-1 x s (inl e) h = of-v s (subst (λ (z : List (List ℕ)). In s z) (ap (λ (z : Item Message). z.made.strings) e ∙ strings-1-v) h)
+of-list-1 x s (inr (inl e)) h = of-t s (subst (λ (z : List (List ℕ)). In s z) (ap (λ (z : Item Message). z.made.strings) e ∙ strings-1-t) h)
+of-list-1 x s (inr (inr (inl e))) h = of-s s (subst (λ (z : List (List ℕ)). In s z) (ap (λ (z : Item Message). z.made.strings) e ∙ strings-1-s) h)
+of-list-1 x s (inr (inr (inr (inl e)))) h = of-x s (subst (λ (z : List (List ℕ)). In s z) (ap (λ (z : Item Message). z.made.strings) e ∙ strings-1-x) h)
+of-list-1 x s (inr (inr (inr (inr (inl e))))) h = of-y s (subst (λ (z : List (List ℕ)). In s z) (ap (λ (z : Item Message). z.made.strings) e ∙ strings-1-y) h)
+of-list-1 x s (inr (inr (inr (inr (inr (inl e)))))) h = of-u s (subst (λ (z : List (List ℕ)). In s z) (ap (λ (z : Item Message). z.made.strings) e ∙ strings-1-u) h)
+of-list-1 x s (inr (inr (inr (inr (inr (inr (inl e))))))) h = of-z s (subst (λ (z : List (List ℕ)). In s z) (ap (λ (z : Item Message). z.made.strings) e ∙ strings-1-z) h)
+of-list-1 x s (inr (inr (inr (inr (inr (inr (inr j))))))) h = absurd j
+
+of-list-2 : (x : Item Message) (s : List ℕ) → In x l2_3 → In s x.made.strings → IsOne s
+of-list-2 x s (inl e) h = of-t s (subst (λ (z : List (List ℕ)). In s z) (ap (λ (z : Item Message). z.made.strings) e ∙ strings-2-t) h)
+of-list-2 x s (inr (inl e)) h = of-s s (subst (λ (z : List (List ℕ)). In s z) (ap (λ (z : Item Message). z.made.strings) e ∙ strings-2-s) h)
+of-list-2 x s (inr (inr (inl e))) h = of-u s (subst (λ (z : List (List ℕ)). In s z) (ap (λ (z : Item Message). z.made.strings) e ∙ strings-2-u) h)
+of-list-2 x s (inr (inr (inr j))) h = absurd j
+
+abbrev last : World Message
+last = world l0_5 l1_7 l2_3
+
+of-world : (s : List ℕ) → IsString last s → IsOne s
+of-world s (inl e) = subst IsOne (sym e) one-empty
+of-world s (inr h) = go (eqb h.node 0) (eqb h.node 1) (eqb h.node 2) h.taken
+  where
+    go : (t u r : Bool) → In h.item (cond t l0_5 (cond u l1_7 (cond r l2_3 []))) → IsOne s
+    go true u r k = of-list-0 h.item s k h.hashed
+    go false true r k = of-list-1 h.item s k h.hashed
+    go false false true k = of-list-2 h.item s k h.hashed
+    go false false false k = absurd k
+
+separate : Separate (IsString last)
+separate x y k j e =
+    let a = of-world x k in
+    let c = of-world y j in
+    same-of pairs (x, a.digest_of) (y, c.digest_of) these-differ a.one c.one (sym a.is ∙ e ∙ c.is)
+
+-- ---- Two correct replicas differ
+
+batch-no-nil : ◌≡◌ {A = Value} (Value_batch b) Value_nil → ⊥
+batch-no-nil h = absurd cc
+
+no-broadcast : IsBroadcast loose q last → ⊥
+no-broadcast h = batch-no-nil (h.agreement 0 1 0 (Value_batch b) Value_nil refl refl delivers-0 delivers-1)
+
+pub loose-commits-are-not-safe : IsNotSafe loose
+loose-commits-are-not-safe = record {
+  params = q;
+  world = last;
+  good = good;
+  reached = reached-15;
+  separate = separate;
+  broken = no-broadcast;
+}

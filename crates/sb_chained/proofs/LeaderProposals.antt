@@ -1,0 +1,3 @@
+pub mod CastsAreAppendOnly
+pub mod OneBatchASlot
+pub mod ProposalsAreCasts

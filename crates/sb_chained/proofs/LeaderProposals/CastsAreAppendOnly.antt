@@ -1,0 +1,78 @@
+-- The list of casts is append-only, and a cast that is taken is the next one.
+use Rattle.std.proofs.Common.{◌≡◌, ℕ, true, List, [], ◌∷◌, length, Option, Some, None, refl, ap, ◌∙◌, subst, inl, inr}
+use Rattle.iss_base.specs.Lists.{nth}
+use Rattle.iss_request.specs.declared.ids.NodeId.{NodeId}
+use Rattle.iss_request.specs.declared.ids.Slot.{Slot}
+use Rattle.iss_request.specs.declared.requests.Batch.{Batch}
+use Rattle.iss_sb.specs.declared.effects.Input.{Input}
+use Rattle.iss_sb.specs.declared.effects.Input.TheVariants.{Cast, Receive, Timeout}
+use Rattle.iss_sb.specs.declared.effects.Params.{Params}
+use Rattle.iss_sb.specs.Evidence.{Item}
+use Rattle.iss_sb.specs.Legal.{Front}
+use Rattle.hs_tree.specs.declared.certificates.Certificate.{Certificate}
+use Rattle.hs_tree.specs.declared.messages.Message.{Message}
+use Rattle.hs_tree.specs.declared.messages.Message.TheVariants.{NewView, Prepare, PreCommit, Commit, Decide, Vote}
+use Rattle.sb_chained.specs.Chained.{state}
+use Rattle.sb_chained.specs.Rules.{State, heard, keeps_news, keeps_vote, kept, may_cast, may_end, may_prepare, proposed, shows, taken, with_cast, with_news, with_node, with_round, with_shown, with_turn, with_vote}
+use Rattle.hs_views.specs.Views.{Turn}
+use Rattle.sb_chained.proofs.Safety.CertificatesShown.{shown-like}
+use Rattle.hs_views.proofs.Tests.{by-if, nth-first, nth-end}
+
+abbrev pub Same : State → State → Type 0
+Same s t = (t.turns ≡ s.turns) × (t.casts ≡ s.casts)
+
+turn-casts : (s : State) (o : Option Turn) → (with_turn s o).casts ≡ s.casts
+turn-casts s None = refl
+turn-casts s (Some t) = refl
+
+module _ (p : Params) (me : ℕ) where
+  heard-same : (s : State) (from : ℕ) (msg : Message) → Same s (heard p me s from msg)
+  heard-same s from (NewView round high sig) = by-if (Same s) (keeps_news p me s from round high) (with_news s from round high) s (refl, refl) (refl, refl)
+  heard-same s from (Prepare view what just sig) = by-if (Same s) (may_prepare p s from view what just) (with_node p s view what just) s (refl, refl) (refl, refl)
+  heard-same s from (PreCommit view shown sig) = (refl, refl)
+  heard-same s from (Commit view shown sig) = (refl, refl)
+  heard-same s from (Decide view shown sig) = (refl, refl)
+  heard-same s from (Vote phase view d sig) = by-if (Same s) (keeps_vote p s from phase view d) (with_vote s from view d sig) s (refl, refl) (refl, refl)
+
+  -- a certificate that is shown changes neither
+  pub shown-same : (s : State) (o : Option Certificate) → Same s (with_shown s o)
+  shown-same s o = let l = shown-like s o in (l.turns, l.casts)
+
+  pub kept-same : (s : State) (from : NodeId) (msg : Message) → Same s (kept p me s (Receive from msg))
+  kept-same s from msg =
+      let h = heard-same s from.0 msg in
+      let t = heard p me s from.0 msg in
+      let g = shown-same t (shows p me s t (Receive from msg)) in
+      (g.0 ∙ h.0, g.1 ∙ h.1)
+
+  abbrev pub IsAt : State → ℕ → Batch → Type 0
+  IsAt s k b = nth s.casts k ≡ Some b
+
+  taken-more : (s : State) (i : Input Message) (k : ℕ) (b : Batch) → IsAt s k b → IsAt (taken p me s i) k b
+  taken-more s (Cast slot batch) k b e = by-if (λ (z : State). IsAt z k b) (may_cast p me s slot.0) (with_cast s batch) s (nth-first s.casts batch b k e) e
+  taken-more s (Receive from msg) k b e = ap (λ (cs : List Batch). nth cs k) (heard-same s from.0 msg).1 ∙ e
+  taken-more s Timeout k b e = by-if (λ (z : State). IsAt z k b) (may_end s) (with_round s) s e e
+
+  kept-more : (s : State) (i : Input Message) (k : ℕ) (b : Batch) → IsAt s k b → IsAt (kept p me s i) k b
+  kept-more s i k b e = let t = taken p me s i in ap (λ (cs : List Batch). nth cs k) (shown-same t (shows p me s t i)).1 ∙ taken-more s i k b e
+
+  -- a turn changes no cast
+  pub after-kept : (x : Item Message) (xs : List (Item Message)) (k : ℕ) (b : Batch) → IsAt (kept p me (state p me xs) x.input) k b → IsAt (state p me (x ∷ xs)) k b
+  after-kept x xs k b e =
+      let c = kept p me (state p me xs) x.input in
+      ap (λ (cs : List Batch). nth cs k) (turn-casts c (proposed p me (state p me xs) c x.input)) ∙ e
+
+  pub state-more : (x : Item Message) (xs : List (Item Message)) (k : ℕ) (b : Batch) → IsAt (state p me xs) k b → IsAt (state p me (x ∷ xs)) k b
+  state-more x xs k b e = after-kept x xs k b (kept-more (state p me xs) x.input k b e)
+
+  pub front-more : (xs l : List (Item Message)) → Front xs l → (k : ℕ) (b : Batch) → IsAt (state p me xs) k b → IsAt (state p me l) k b
+  front-more xs [] f k b e = subst (λ (z : List (Item Message)). IsAt (state p me z) k b) f e
+  front-more xs (x ∷ l) (inl q) k b e = subst (λ (z : List (Item Message)). IsAt (state p me z) k b) q e
+  front-more xs (x ∷ l) (inr f) k b e = state-more x l k b (front-more xs l f k b e)
+
+  pub cast-new : (x : Item Message) (xs : List (Item Message)) (slot : Slot) (b : Batch) → x.input ≡ Cast slot b → may_cast p me (state p me xs) slot.0 ≡ true → IsAt (state p me (x ∷ xs)) (length (state p me xs).casts) b
+  cast-new x xs slot b e q =
+      let s = state p me xs in
+      let new : kept p me s (Cast slot b) ≡ with_cast s b = rw q refl in
+      let is : kept p me s x.input ≡ with_cast s b = ap (λ (i : Input Message). kept p me s i) e ∙ new in
+      after-kept x xs (length s.casts) b (ap (λ (z : State). nth z.casts (length s.casts)) is ∙ nth-end s.casts b)

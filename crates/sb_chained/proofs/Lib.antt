@@ -1,0 +1,6 @@
+mod Basics
+mod Examples
+mod LeaderProposals
+mod ModuleLaws
+mod Refinement
+mod Safety

@@ -1,0 +1,2 @@
+pub mod SentMessagesDecode
+pub mod StepsAreLawful

@@ -1,0 +1,197 @@
+-- The laws of HotStuff's single steps.
+use Rattle.std.proofs.Common.{◌≡◌, ◌≤◌, ◌<◌, ℕ, suc, ◌+◌, ◌*◌, ◌%◌, Bool, true, false, ◌==◌, List, [], ◌∷◌, ◌++◌, length, Option, Some, None, refl, sym, ap, ◌∙◌, subst, inl, inr, arith, if◌then◌else◌}
+use Rattle.std.proofs.lemmas.List.{length-append}
+use Rattle.iss_base.specs.Lists.{In, nth}
+use Rattle.iss_base.proofs.Lists.{and-true, first-cases, in_append}
+use Rattle.iss_request.specs.declared.ids.NodeId.{NodeId}
+use Rattle.iss_request.specs.declared.ids.Slot.{Slot}
+use Rattle.iss_request.specs.declared.requests.Batch.{Batch}
+use Rattle.iss_request.specs.declared.requests.Value.{Value}
+use Rattle.iss_sb.specs.declared.effects.Claim.{Claim}
+use Rattle.iss_sb.specs.declared.effects.Input.{Input}
+use Rattle.iss_sb.specs.declared.effects.Input.TheVariants.{Cast, Receive, Timeout}
+use Rattle.iss_sb.specs.declared.effects.Params.{Params}
+use Rattle.iss_sb.specs.declared.effects.To.{To}
+use Rattle.iss_sb.specs.declared.effects.To.TheVariants.{One as To_one}
+use Rattle.iss_sb.specs.Calls.{AreToNodes, IsToNode, is_slot}
+use Rattle.iss_sb.specs.Evidence.{Item, accepts}
+use Rattle.iss_sb.specs.Laws.{IsLawful}
+use Rattle.iss_sb.specs.Statements.{claim, four_bytes, statement_head}
+use Rattle.iss_sb.proofs.Slots.{slot-is, place-In}
+use Rattle.iss_sb.specs.declared.content.Content.{Content}
+use Rattle.iss_sb.specs.declared.content.Content.TheVariants.{Nil, Holds, Mark}
+use Rattle.hs_tree.specs.declared.certificates.Certificate.{Certificate}
+use Rattle.hs_tree.specs.declared.certificates.Certificate.TheVariants.{Root, Votes}
+use Rattle.iss_sb.specs.declared.signers.Signed.{Signed}
+use Rattle.hs_tree.specs.declared.messages.Message.{Message}
+use Rattle.hs_tree.specs.declared.messages.Message.TheVariants.{NewView, Prepare, PreCommit, Commit, Decide, Vote}
+use Rattle.hs_tree.specs.Statements.{certificate_claims, claims, inside, own_statement, signature_of, vote_claims}
+use Rattle.hs_tree.specs.Tree.{Node, branch, chained as form, value_at, value_at_slot}
+use Rattle.sb_chained.specs.Chained.{answers, answers_heard, asked_by, asks, chained, decided, decides, drafts, offered, proposals, sign_all, state, value_on, voted}
+use Rattle.sb_chained.specs.Rules.{State, committed_by, kept, may_cast, may_end, may_prepare, node_digest, proposed, shows, slots_below, taken}
+use Rattle.hs_views.specs.Views.{Turn, round_of}
+use Rattle.sb_chained.proofs.ModuleLaws.SentMessagesDecode.{sent-again}
+use Rattle.hs_views.proofs.BatchesOnce.{unless-In}
+use Rattle.hs_views.proofs.Tests.{IsIf, by-if, if-in, if-some, is-same}
+
+-- ---- Each claim names its instance
+
+abbrev Names : Params → List ℕ → Type 0
+Names p s = (rest : List ℕ) × (s ≡ statement_head p 5 ++ rest)
+
+own-names : (p : Params) (msg : Message) → Names p (own_statement form p msg)
+own-names p (NewView round high sig) = (_, refl)
+own-names p (Prepare view what just sig) = (_, refl)
+own-names p (PreCommit view shown sig) = (_, refl)
+own-names p (Commit view shown sig) = (_, refl)
+own-names p (Decide view shown sig) = (_, refl)
+own-names p (Vote phase view d sig) = (_, refl)
+
+vote-is : (s : List ℕ) (vs : List Signed) (c : Claim) → In c (vote_claims s vs) → c.statement ≡ s
+vote-is s [] c h = absurd h
+vote-is s (v ∷ vs) c (inl e) = ap (λ (z : Claim). z.statement) e
+vote-is s (v ∷ vs) c (inr h) = vote-is s vs c h
+
+certificate-names : (p : Params) (x : Certificate) (c : Claim) → In c (certificate_claims form p x) → Names p c.statement
+certificate-names p Root c h = absurd h
+certificate-names p (Votes view phase d votes) c h = (6 ∷ (phase ∷ four_bytes view ++ d), vote-is _ votes c h)
+
+named : (p : Params) (from : ℕ) (msg : Message) (c : Claim) → In c (claims form p from msg) → Names p c.statement
+named p from msg c h = elim (in_append c (certificate_claims form p (inside msg)) _ h) [
+  | inl k ↦ certificate-names p (inside msg) c k
+  | inr k ↦ own k
+]
+  where
+    own : In c (claim from (own_statement form p msg) (signature_of msg) ∷ []) → Names p c.statement
+    own (inl e) = let n = own-names p msg in (n.0, ap (λ (z : Claim). z.statement) e ∙ n.1)
+    own (inr k) = absurd k
+
+-- ---- Batches that are offered
+
+module _ (p : Params) (me : ℕ) (xs : List (Item Message)) where
+  cast-is : (s : Slot) (b : Batch) (x : Slot × Batch) → asks p me xs (Cast s b) ≡ Some x → IsIf (may_cast p me (state p me xs) s.0) (s, b) x
+  cast-is s b x h = if-some (may_cast p me (state p me xs) s.0) (s, b) x h
+
+  castable : (s : Slot) (b c : Batch) → asks p me xs (Cast s b) ≡ Some (s, b) → asks p me xs (Cast s c) ≡ Some (s, c)
+  castable s b c h = rw ((cast-is s b (s, b) h).passed) refl
+
+offered-In : (p : Params) (s : State) (old : List (Slot × Batch)) (what : Content) (just : Certificate) (x : Slot × Batch) → offered p s old what just ≡ Some x → In x.0 p.slots
+offered-In p s old Nil just x h = absurd cc
+offered-In p s old (Holds b) just x h = unless-In old b p.slots (slots_below s just) x h
+offered-In p s old Mark just x h = absurd cc
+
+heard-In : (p : Params) (s : State) (old : List (Slot × Batch)) (from : ℕ) (msg : Message) (x : Slot × Batch) → asked_by p s old from msg ≡ Some x → In x.0 p.slots
+heard-In p s old from (NewView round high sig) x h = absurd cc
+heard-In p s old from (Prepare view what just sig) x h = offered-In p s old what just x (if-in (may_prepare p s from view what just) (offered p s old what just) x h).is
+heard-In p s old from (PreCommit view shown sig) x h = absurd cc
+heard-In p s old from (Commit view shown sig) x h = absurd cc
+heard-In p s old from (Decide view shown sig) x h = absurd cc
+heard-In p s old from (Vote phase view d sig) x h = absurd cc
+
+asked-In : (p : Params) (me : ℕ) (xs : List (Item Message)) (i : Input Message) (x : Slot × Batch) → asks p me xs i ≡ Some x → In x.0 p.slots
+asked-In p me xs (Cast s b) x h =
+    let c = cast-is p me xs s b x h in
+    let t = and-true _ (is_slot s.0 (nth p.slots (length (state p me xs).casts))) c.passed in
+    subst (λ (z : Slot × Batch). In z.0 p.slots) c.is (place-In s p.slots (length (state p me xs).casts) t.1)
+asked-In p me xs (Receive from msg) x h = heard-In p (state p me xs) (accepts xs) from.0 msg x h
+asked-In p me xs Timeout x h = absurd cc
+
+-- ---- Decisions
+
+value-In : (cs : List Content) (k : ℕ) (slots : List Slot) (s : Slot) (x : Value) → value_at_slot cs k slots s.0 ≡ Some x → In s slots
+value-In cs k [] s x h = absurd cc
+value-In cs k (t ∷ ts) s x h = go (t.0 == s.0) refl h (value-In cs (suc k) ts s x)
+  where
+    go : (b : Bool) → (t.0 == s.0) ≡ b → (if b then value_at cs k else value_at_slot cs (suc k) ts s.0) ≡ Some x → (value_at_slot cs (suc k) ts s.0 ≡ Some x → In s ts) → In s (t ∷ ts)
+    go true q e more = inl (slot-is s t (sym (is-same t.0 s.0 q)))
+    go false q e more = inr (more e)
+
+decides-In : (p : Params) (me : ℕ) (s : State) (i : Input Message) (n : Slot) (x : Value) → decides p me s i n.0 ≡ Some x → In n p.slots
+decides-In p me s i n x h = go (committed_by (taken p me s i) (shows p me s (taken p me s i) i)) h
+  where
+    go : (o : Option Node) → value_on p (taken p me s i) o n.0 ≡ Some x → In n p.slots
+    go None e = absurd cc
+    go (Some z) e = value-In (branch (taken p me s i).tree z.digest) 0 p.slots n x e
+
+decided-In : (p : Params) (me : ℕ) (xs : List (Item Message)) (n : Slot) (x : Value) → decided p me xs n.0 ≡ Some x → In n p.slots
+decided-In p me [] n x h = absurd cc
+decided-In p me (i ∷ xs) n x h = elim (first-cases (decided p me xs n.0) (decides p me (state p me xs) i.input n.0) x h) [
+  | inl old ↦ decided-In p me xs n x old
+  | inr new ↦ decides-In p me (state p me xs) i.input n x new.1
+]
+
+-- ---- At most two messages, to existing replicas
+
+record IsFine (n most : ℕ) (ds : List (To × Message)) : Type 0 where
+  pub to : AreToNodes n ds
+  pub few : length ds ≤ most
+
+none_fine : (n : ℕ) → IsFine n 1 []
+none_fine n = record { to = tt; few = omega arith }
+
+to-append : (n : ℕ) (xs ys : List (To × Message)) → AreToNodes n xs → AreToNodes n ys → AreToNodes n (xs ++ ys)
+to-append n [] ys h g = g
+to-append n (x ∷ xs) ys h g = (h.0, to-append n xs ys h.1 g)
+
+module _ (p : Params) (some : 0 < p.setup.n) where
+  below : (k : ℕ) → k % p.setup.n < p.setup.n
+  below k = go p.setup.n some
+    where
+      go : (n : ℕ) → 0 < n → k % n < n
+      go n h = omega arith
+
+  abbrev Fine : List (To × Message) → Type 0
+  Fine ds = IsFine p.setup.n 1 ds
+
+  proposal_fine : (o : Option Turn) → Fine (proposals o)
+  proposal_fine None = none_fine p.setup.n
+  proposal_fine (Some t) = record { to = (tt, tt); few = omega arith }
+
+  voted_fine : (view : ℕ) (d : List ℕ) → Fine (voted p view d)
+  voted_fine view d = record { to = (below (p.leader.0 + round_of view), tt); few = omega arith }
+
+  answer_fine : (s : State) (from : ℕ) (msg : Message) → Fine (answers_heard p s from msg)
+  answer_fine s from (NewView round high sig) = none_fine p.setup.n
+  answer_fine s from (Prepare view what just sig) = by-if Fine (may_prepare p s from view what just) (voted p view (node_digest p view what just)) [] (voted_fine view (node_digest p view what just)) (none_fine p.setup.n)
+  answer_fine s from (PreCommit view shown sig) = none_fine p.setup.n
+  answer_fine s from (Commit view shown sig) = none_fine p.setup.n
+  answer_fine s from (Decide view shown sig) = none_fine p.setup.n
+  answer_fine s from (Vote phase view d sig) = none_fine p.setup.n
+
+  answers_fine : (s : State) (i : Input Message) → Fine (answers p s i)
+  answers_fine s (Cast slot batch) = none_fine p.setup.n
+  answers_fine s (Receive from msg) = answer_fine s from.0 msg
+  answers_fine s Timeout = by-if Fine (may_end s) _ [] (record { to = (below (p.leader.0 + suc (round_of s.view)), tt); few = omega arith }) (none_fine p.setup.n)
+
+  drafts_fine : (me : ℕ) (s : State) (i : Input Message) → IsFine p.setup.n 2 (drafts p me s i)
+  drafts_fine me s i =
+      let k = kept p me s i in
+      let a = answers_fine s i in
+      let b = proposal_fine (proposed p me s k i) in
+      let long = length-append (answers p s i) (proposals (proposed p me s k i)) in
+      let few_a = a.few in
+      let few_b = b.few in
+      record { to = to-append p.setup.n (answers p s i) (proposals (proposed p me s k i)) a.to b.to; few = omega (arith, long, few_a, few_b) }
+
+-- signing changes neither the recipients nor the number of messages
+signed-to : (p : Params) (me leaf n : ℕ) (ds : List (To × Message)) → AreToNodes n ds → (k : NodeId) (msg : Message) → In {A = To × Message} (To_one k, msg) (sign_all p me leaf ds) → k.0 < n
+signed-to p me leaf n [] h k msg q = absurd q
+signed-to p me leaf n (x ∷ ds) h k msg (inl e) = subst (λ (z : To). IsToNode n z) (ap (λ (z : To × Message). z.0) (sym e)) h.0
+signed-to p me leaf n (x ∷ ds) h k msg (inr q) = signed-to p me (suc leaf) n ds h.1 k msg q
+
+nodes-some : (n f : ℕ) → n ≡ 3 * f + 1 → 0 < n
+nodes-some n f e = omega (arith, e)
+
+pub chained-is-lawful : IsLawful chained
+chained-is-lawful = record {
+  names = named;
+  accepted = λ p me xs i leaf. refl;
+  casts = λ p me xs s b x h. sym (cast-is p me xs s b x h).is;
+  castable = castable;
+  asked_within = asked-In;
+  decided_within = decided-In;
+  addressed = λ p me xs i leaf k msg good input h. signed-to p me leaf p.setup.n (drafts p me (state p me xs) i) (drafts_fine p (nodes-some p.setup.n p.setup.f good.nodes) me (state p me xs) i).to k msg h;
+  read_again = sent-again;
+  few = λ p good. omega arith;
+  uses = λ p me xs i leaf good input. (drafts_fine p (nodes-some p.setup.n p.setup.f good.nodes) me (state p me xs) i).few;
+}

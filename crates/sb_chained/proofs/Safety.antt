@@ -1,0 +1,11 @@
+pub mod BranchesAgree
+pub mod CertificatesShown
+pub mod CertifiedNodes
+pub mod KnownNodesStand
+pub mod NodesHaveOneView
+pub mod OneVoteAView
+pub mod OwnVotesWereSent
+pub mod VotesHaveCauses
+pub mod VotesRespectLocks
+pub mod VotesSentWereReceived
+pub mod WorldsAreBroadcasts

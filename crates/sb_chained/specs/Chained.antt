@@ -1,0 +1,167 @@
+-- Chained HotStuff as a module: what a replica accepts, sends, hashes and decides, over the list of what it took. 3f+1
+-- replicas, 2f+1 decide.
+use Rattle.std.specs.Prelude.{ℕ, suc, ◌+◌, false, List, [], ◌∷◌, ◌++◌, length, Option, Some, None, if◌then◌else◌}
+use Rattle.iss_base.specs.Lists.{first_of, nth}
+use Rattle.iss_request.specs.declared.ids.Slot.{Slot}
+use Rattle.iss_request.specs.declared.requests.Batch.{Batch}
+use Rattle.iss_request.specs.declared.requests.Value.{Value}
+use Rattle.iss_request.specs.Setup.{nodes_of_kind, quorum_of_kind}
+use Rattle.iss_request.specs.declared.setups.Kind.TheVariants.{Byzantine}
+use Rattle.iss_sb.specs.declared.effects.Input.{Input}
+use Rattle.iss_sb.specs.declared.effects.Input.TheVariants.{Cast, Receive, Timeout}
+use Rattle.iss_sb.specs.declared.effects.Params.{Params}
+use Rattle.iss_sb.specs.declared.effects.To.{To}
+use Rattle.iss_sb.specs.declared.effects.To.TheVariants.{All as To_all, One as To_one}
+use Rattle.iss_sb.specs.Evidence.{Item, Made, Module, accepts}
+use Rattle.iss_sb.specs.Statements.{signature}
+use Rattle.iss_sb.specs.declared.content.Content.{Content}
+use Rattle.iss_sb.specs.declared.content.Content.TheVariants.{Nil, Holds, Mark}
+use Rattle.hs_tree.specs.declared.certificates.Certificate.{Certificate}
+use Rattle.hs_tree.specs.declared.messages.Message.{Message}
+use Rattle.hs_tree.specs.declared.messages.Message.TheVariants.{NewView, Prepare, PreCommit, Commit, Decide, Vote}
+use Rattle.hs_tree.specs.Messages.{parse, spell}
+use Rattle.hs_tree.specs.Statements.{claims, node_string, own_statement, with_signature}
+use Rattle.hs_tree.specs.Tree.{Node, branch, chained as form, strings_of, value_at_slot, value_of}
+use Rattle.sb_chained.specs.Rules.{State, after, committed_by, kept, may_cast, may_end, may_prepare, node_digest, proposed, shows, slots_below, start, taken}
+use Rattle.hs_views.specs.Views.{Turn, leader_of, round_of}
+use Rattle.hs_views.specs.Batches.{unless_accepted}
+
+-- the state of a replica with this history
+abbrev pub state : Params → ℕ → List (Item Message) → State
+state p me [] = start
+state p me (x ∷ xs) = after p me (state p me xs) x.input
+
+-- ---- Accepted batches: a valid cast, or the batch of a valid proposal, unless it was accepted at that slot before
+
+-- the batch of a proposal, at the slot after those of its parent's branch
+abbrev pub offered : Params → State → List (Slot × Batch) → Content → Certificate → Option (Slot × Batch)
+offered p s old Nil just = None
+offered p s old (Holds b) just = unless_accepted old b (nth p.slots (slots_below s just))
+offered p s old Mark just = None
+
+-- the batch that the replica accepts with a message
+abbrev pub asked_by : Params → State → List (Slot × Batch) → ℕ → Message → Option (Slot × Batch)
+asked_by p s old from (NewView round high sig) = None
+asked_by p s old from (Prepare view what just sig) =
+    if may_prepare p s from view what just then offered p s old what just else None
+asked_by p s old from (PreCommit view shown sig) = None
+asked_by p s old from (Commit view shown sig) = None
+asked_by p s old from (Decide view shown sig) = None
+asked_by p s old from (Vote phase view d sig) = None
+
+-- the batch that the replica accepts with an input
+abbrev pub asks : Params → ℕ → List (Item Message) → Input Message → Option (Slot × Batch)
+asks p me xs (Cast slot batch) = if may_cast p me (state p me xs) slot.0 then Some (slot, batch) else None
+asks p me xs (Receive from msg) = asked_by p (state p me xs) (accepts xs) from.0 msg
+asks p me xs Timeout = None
+
+-- ---- Unsigned messages: first the answer, then the proposal that the input triggers; a step has at most one of both
+
+abbrev pub to_leader : Params → ℕ → To
+to_leader p round = To_one (record { 0 = leader_of p round })
+
+-- a vote, to the leader of the view's round
+abbrev pub voted : Params → ℕ → List ℕ → List (To × Message)
+voted p view d = (to_leader p (round_of view), Vote 1 view d []) ∷ []
+
+-- the answer to a message: a vote for a proposal that is taken
+abbrev pub answers_heard : Params → State → ℕ → Message → List (To × Message)
+answers_heard p s from (NewView round high sig) = []
+answers_heard p s from (Prepare view what just sig) =
+    if may_prepare p s from view what just then voted p view (node_digest p view what just) else []
+answers_heard p s from (PreCommit view shown sig) = []
+answers_heard p s from (Commit view shown sig) = []
+answers_heard p s from (Decide view shown sig) = []
+answers_heard p s from (Vote phase view d sig) = []
+
+-- the answer to an input
+-- rule: Chained HotStuff: A timeout enters the next round and tells its leader the highest certificate
+abbrev pub answers : Params → State → Input Message → List (To × Message)
+answers p s (Cast slot batch) = []
+answers p s (Receive from msg) = answers_heard p s from.0 msg
+answers p s Timeout =
+    if may_end s then (to_leader p (suc (round_of s.view)), NewView (suc (round_of s.view)) s.high []) ∷ [] else []
+
+-- the Prepare message of a turn
+abbrev pub proposals : Option Turn → List (To × Message)
+proposals None = []
+proposals (Some t) = (To_all, Prepare t.view t.what t.just []) ∷ []
+
+-- all unsigned messages of a step
+abbrev pub drafts : Params → ℕ → State → Input Message → List (To × Message)
+drafts p me s i = answers p s i ++ proposals (proposed p me s (kept p me s i) i)
+
+-- signs each message with the next leaf, from this one on
+abbrev pub sign_all : Params → ℕ → ℕ → List (To × Message) → List (To × Message)
+sign_all p me leaf [] = []
+sign_all p me leaf (x ∷ xs) =
+    (x.0, with_signature (signature p me leaf (own_statement form p x.1)) x.1) ∷ sign_all p me (suc leaf) xs
+
+-- ---- Hashed strings: for a node that is taken or proposed, its value's string and its own
+
+abbrev pub strings_at : Params → ℕ → Content → Certificate → List (List ℕ)
+strings_at p view what just = strings_of p.setup.version (value_of what) ++ node_string form p view what just ∷ []
+
+abbrev pub taken_strings : Params → State → ℕ → Message → List (List ℕ)
+taken_strings p s from (NewView round high sig) = []
+taken_strings p s from (Prepare view what just sig) =
+    if may_prepare p s from view what just then strings_at p view what just else []
+taken_strings p s from (PreCommit view shown sig) = []
+taken_strings p s from (Commit view shown sig) = []
+taken_strings p s from (Decide view shown sig) = []
+taken_strings p s from (Vote phase view d sig) = []
+
+abbrev pub taken_of : Params → State → Input Message → List (List ℕ)
+taken_of p s (Cast slot batch) = []
+taken_of p s (Receive from msg) = taken_strings p s from.0 msg
+taken_of p s Timeout = []
+
+abbrev pub turn_strings : Params → Option Turn → List (List ℕ)
+turn_strings p None = []
+turn_strings p (Some t) = strings_at p t.view t.what t.just
+
+abbrev pub strings : Params → ℕ → State → Input Message → List (List ℕ)
+strings p me s i = taken_of p s i ++ turn_strings p (proposed p me s (kept p me s i) i)
+
+abbrev pub makes : Params → ℕ → List (Item Message) → Input Message → ℕ → Made Message
+makes p me xs input leaf = record {
+  sends = sign_all p me leaf (drafts p me (state p me xs) input);
+  accepted = asks p me xs input;
+  strings = strings p me (state p me xs) input;
+  used = length (drafts p me (state p me xs) input);
+}
+
+-- ---- Decisions: a certificate decides the branch of the node two below its own, if the three have consecutive views
+
+-- the value at slot n on the branch of a node, if there is one
+abbrev pub value_on : Params → State → Option Node → ℕ → Option Value
+value_on p s None n = None
+value_on p s (Some z) n = value_at_slot (branch s.tree z.digest) 0 p.slots n
+
+-- the value that an input decides at slot n, by the certificate that it shows
+abbrev pub decides : Params → ℕ → State → Input Message → ℕ → Option Value
+decides p me s i n =
+    value_on p (taken p me s i) (committed_by (taken p me s i) (shows p me s (taken p me s i) i)) n
+
+-- the value at slot n that was decided first
+abbrev pub decided : Params → ℕ → List (Item Message) → ℕ → Option Value
+decided p me [] n = None
+decided p me (x ∷ xs) n = first_of (decided p me xs n) (decides p me (state p me xs) x.input n)
+
+-- ---- The module
+
+-- for f Byzantine replicas of 3f+1; a step signs at most one message
+abbrev pub chained : Module Message
+chained = record {
+  nodes = nodes_of_kind Byzantine;
+  quorum = quorum_of_kind Byzantine;
+  stopping = false;
+  tag = form.tag;
+  signs = λ p. 2;
+  spell = spell form.phases;
+  parse = parse form.phases;
+  claims = claims form;
+  asks = asks;
+  makes = makes;
+  decided = decided;
+}

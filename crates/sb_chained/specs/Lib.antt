@@ -1,0 +1,10 @@
+pub mod Chained
+pub mod Drafts
+pub mod Facts
+pub mod Internal
+pub mod Links
+pub mod Paths
+pub mod Refines
+pub mod Rules
+pub mod Tallies
+pub mod Variants

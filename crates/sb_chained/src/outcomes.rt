@@ -1,0 +1,86 @@
+//! The outcome of a rule, not yet signed.
+ghost use Rattle.std.specs.Prelude.{◌≤◌, Some, IfOk};
+ghost use Rattle.iss_keys.specs.KeyStates.{left_of};
+ghost use Rattle.iss_sb.specs.Calls.{IsGoodParams};
+ghost use Rattle.sb_chained.specs.Chained.{chained};
+ghost use Rattle.sb_chained.specs.Internal.Instances.{IsSigned};
+ghost use Rattle.sb_chained.specs.Refines.{IsAlone, IsDrafted, IsQuiet};
+
+use crate::signing::{Draft, send};
+use hs_tree::Message;
+use iss_keys::Keys;
+use iss_request::{Batch, Bytes, NoMemory, Seq, Slot, Value};
+use iss_sb::{Effects, Params};
+use std::alloc::Global;
+
+/// An unsigned message, if there is one, and the strings that were hashed.
+#[derive(Drop)]
+pub struct Outcome {
+    pub draft: Option<Draft>,
+    pub hashed: Seq<Bytes>,
+}
+
+impl Outcome {
+    /// No effects.
+    pub fn nothing(alloc: Global) -> Outcome
+        ensures { IsQuiet result }
+    {
+        Outcome {
+            draft: None,
+            hashed: Seq::new(alloc),
+        }
+    }
+
+    /// A message, and no other effect.
+    pub fn of(alloc: Global, draft: Draft) -> Outcome
+        ensures { IsDrafted draft result }
+    {
+        Outcome {
+            draft: Some(draft),
+            hashed: Seq::new(alloc),
+        }
+    }
+}
+
+/// What an input comes to: the outcome of its rule, the batch that is accepted, and what is delivered.
+#[derive(Drop)]
+pub struct Taken {
+    pub outcome: Outcome,
+    pub accepted: Option<(Slot, Batch)>,
+    pub delivers: Seq<(Slot, Value)>,
+}
+
+impl Taken {
+    /// An outcome, with nothing accepted or delivered.
+    pub fn of(alloc: Global, outcome: Outcome) -> Taken
+        ensures { IsAlone outcome result }
+    {
+        Taken {
+            outcome,
+            accepted: None,
+            delivers: Seq::new(alloc),
+        }
+    }
+
+    /// The effects: the message signed with the next leaf, and the rest. The only error is out of memory.
+    pub fn sign(
+        self,
+        alloc: Global,
+        p: &Params,
+        keys: &mut Keys,
+    ) -> Result<Effects<Message>, NoMemory>
+        requires good { IsGoodParams chained p.now }
+        requires enough { 2 ≤ left_of keys.old }
+        ensures { IfOk result (λ e. IsSigned p.now self keys.old keys.new e) }
+    {
+        let mut sends = Seq::new(alloc);
+        let outcome = self.outcome;
+        send(p, outcome.draft, keys, &mut sends)?;
+        Ok(Effects {
+            sends,
+            accepted: self.accepted,
+            delivers: self.delivers,
+            hashed: outcome.hashed,
+        })
+    }
+}

@@ -1,5 +1,0 @@
-use Rattle.std.proofs.Common.{length}
-use Rattle.sb_hotstuff.proofs.accepted.+same_batch.Given as goal
-
-abbrev pub decreases-same_batch : goal.decreases-same_batch
-decreases-same_batch l = length l.a.now

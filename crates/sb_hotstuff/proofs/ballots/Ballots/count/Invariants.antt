@@ -1,6 +1,0 @@
-use Rattle.std.proofs.Common.{◌≡◌, ◌≤◌}
-use Rattle.sb_hotstuff.specs.Tallies.{count_at}
-use Rattle.sb_hotstuff.proofs.ballots.Ballots.count.Given as goal
-
-abbrev pub invariant-loop-by : goal.invariant-loop-by
-invariant-loop-by l = (l.count ≡ count_at l.self l.by l.phase l.view l.digest) × (l.count ≤ l.by)

@@ -1,5 +1,0 @@
-use Rattle.sb_hotstuff.proofs.Safety.WorldsAreBroadcasts.{vote-once}
-use Rattle.sb_hotstuff.proofs.facts.votes_are_once_in_rising_views.Goals as goal
-
-pub returns : goal.returns
-returns c = λ p w good reached. vote-once p w good reached

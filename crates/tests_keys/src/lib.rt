@@ -1,0 +1,5 @@
+//! Tests of keys: signatures, their checks, and directories, compared with results of another program.
+#![tactic(auto)]
+
+#[cfg(test)]
+mod tests;
