@@ -1,5 +1,6 @@
-//! Wrong variants of the protocols, each without one of its rules, and for each a world that it reaches in which correct
-//! replicas disagree. So the law of safety refuses them, not only the clauses that tie the code to its definition.
+//! Wrong variants of the protocols, each without one of its rules, and for each a world that it reaches in which
+//! correct replicas disagree. So the law of safety refuses them, not only the clauses that tie the code to its
+//! definition.
 #![tactic(auto)]
 
 pub mod pbft;

@@ -2,7 +2,8 @@
 use iss_reply::Reply;
 use iss_request::{Seq, Setup};
 
-/// Replies of the nodes of a cluster, in the order of the text. Each reply is in range, and nothing else is known of it.
+/// Replies of the nodes of a cluster, in the order of the text. Each reply is in range, and nothing else is known of
+/// it.
 #[derive(Drop)]
 pub struct Told {
     pub setup: Setup,

@@ -9,8 +9,8 @@ ghost use Rattle.iss_believed.specs.Believed.{AreOfOneLog};
 use iss_sb::Sequenced;
 use iss_theorems::restarts_change_nothing;
 
-/// The correct nodes of a run reply by one log. What a client accepts is that log's answer, whatever else it is told, as
-/// long as no reply of a correct node is forged.
+/// The correct nodes of a run reply by one log. What a client accepts is that log's answer, whatever else it is told,
+/// as long as no reply of a correct node is forged.
 pub fn replies_are_of_one_log<M: Sequenced>()
     ensures { (s : Setup) → IsSetupOf M.spec s → (events : List Event) → AreInRange s events →
         AreOfOneLog s M.spec events }

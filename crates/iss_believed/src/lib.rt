@@ -1,5 +1,5 @@
-//! What clients believe of the replies of a run: the answers of its one log (PBFT, with Castro and Liskov's clients: f + 1
-//! equal replies). A theorem, and no code.
+//! What clients believe of the replies of a run: the answers of its one log (PBFT, with Castro and Liskov's clients: f
+//! + 1 equal replies). A theorem, and no code.
 #![tactic(auto)]
 
 pub mod laws;

@@ -1,5 +1,5 @@
--- What a certified log says of a run under the same header to who trusts enough of the nodes: at the end of each epoch it
--- is a prefix of the log of one of them, unless two different strings of the two logs have one digest.
+-- What a certified log says of a run under the same header to who trusts enough of the nodes: at the end of each epoch
+-- it is a prefix of the log of one of them, unless two different strings of the two logs have one digest.
 use Rattle.std.specs.Prelude.{◌≡◌, ◌⊎◌, ℕ, suc, ◌+◌, ◌*◌, ◌<◌, true, List, [], ◌++◌, length, take}
 use Rattle.iss_audit.specs.Exports.{log_of}
 use Rattle.iss_audit.specs.declared.exports.CertifiedEpoch.{CertifiedEpoch}
@@ -36,8 +36,8 @@ pub record AreEnough (s : Setup) (trusted : List ℕ) : Type 0 where
   pub different : distinct trusted ≡ true
   pub many : s.n < s.quorum + length trusted
 
--- They are correct, and did sign what verifies under their keys in these certificates: it is in the book of what correct
--- nodes signed.
+-- They are correct, and did sign what verifies under their keys in these certificates: it is in the book of what
+-- correct nodes signed.
 pub record AreTrusted {Msg : Type 0} (s : Setup) (h : Held Msg) (trusted : List ℕ) (epochs : List CertifiedEpoch)
     : Type 0 where
   pub correct : (k : ℕ) → mem k trusted ≡ true → is_correct s k ≡ true

@@ -28,9 +28,9 @@ pub fn exports_are_certified<M: Sequenced>()
     restarts_change_nothing::<M>();
 }
 
-/// What an auditor may conclude who trusts f + 1 nodes, and their keys, and no one else. A certified log under the header
-/// of a run is a log of that run: one of the nodes that he trusts signed each epoch, and at the epoch's end the log is a
-/// prefix of this node's log. Or the two logs show two different strings with one digest.
+/// What an auditor may conclude who trusts f + 1 nodes, and their keys, and no one else. A certified log under the
+/// header of a run is a log of that run: one of the nodes that he trusts signed each epoch, and at the epoch's end the
+/// log is a prefix of this node's log. Or the two logs show two different strings with one digest.
 pub fn certified_logs_are_of_the_run<M: Sequenced>()
     ensures { (s : Setup) → IsSetupOf M.spec s → (events : List Event) → AreAtCores s events →
         (bytes : List ℕ) (x : Export) → IsCertifiedText bytes x → x.setup ≡ s →

@@ -47,7 +47,8 @@ root_of secret h = root_in (top_tree secret h)
 abbrev pub root_statement : ℕ → List ℕ → List ℕ
 root_statement b root = 0x17 ∷ to_be_bytes w32 b ++ root
 
--- A leaf of one of a key's trees signs a statement. Tree 0 is the only one or the top tree, tree b + 1 is bottom tree b.
+-- A leaf of one of a key's trees signs a statement. Tree 0 is the only one or the top tree, tree b + 1 is bottom tree
+-- b.
 pub record Signing : Type 0 where
   pub tree : ℕ
   pub leaf : ℕ

@@ -113,7 +113,8 @@ impl Directory {
         self.clients.key(client)
     }
 
-    /// The keys of a node, with no leaf used. They share their trees with this directory, so that each is computed once.
+    /// The keys of a node, with no leaf used. They share their trees with this directory, so that each is computed
+    /// once.
     pub fn keys_of_node(&self, alloc: Global, node: u8) -> Keys
         requires { node < length self.now.nodes }
         ensures own { IfSome (slice_get self.now.nodes node)

@@ -1,6 +1,6 @@
 //! The trees of a key: one tree, or a top tree and a bottom tree at a time. Each is computed when it is first needed.
-//! The bottom tree is kept until another is needed, which is then computed in its memory. With it the part of a signature
-//! by the top tree is kept, which is the same for all leaves of the bottom tree.
+//! The bottom tree is kept until another is needed, which is then computed in its memory. With it the part of a
+//! signature by the top tree is kept, which is the same for all leaves of the bottom tree.
 
 ghost use Rattle.std.specs.Prelude.{◌≡◌, ◌+◌, ◌*◌, ◌^◌, ◌/◌, ◌%◌, ◌<◌, ◌≤◌, ◌++◌, IfOk, IsTrue, OnOk, Some};
 ghost use Rattle.iss_base.specs.Heights.{IsHeight};

@@ -59,8 +59,8 @@ fn signature_by(trees: &KeyTrees, leaf: u32, statement: &[u8]) -> Result<Vec<u8>
     trees.sign(leaf, statement)
 }
 
-/// A key: a secret, the trees over its leaves, and how many leaves are used. A tree is computed when it is first needed,
-/// and takes 64 bytes of memory a leaf. Above height 12 there are two at a time, of 64 KB at most each.
+/// A key: a secret, the trees over its leaves, and how many leaves are used. A tree is computed when it is first
+/// needed, and takes 64 bytes of memory a leaf. Above height 12 there are two at a time, of 64 KB at most each.
 #[derive(Drop)]
 pub struct Keys {
     trees: HeldTrees,
@@ -76,8 +76,9 @@ impl Model for Keys {
 }
 
 impl Keys {
-    /// The key of a secret with no leaf used. The first signature or call of `public` computes its only or its top tree,
-    /// by 1,072 small hashes a leaf. With two levels a signature computes its bottom tree too, unless the last one did.
+    /// The key of a secret with no leaf used. The first signature or call of `public` computes its only or its top
+    /// tree, by 1,072 small hashes a leaf. With two levels a signature computes its bottom tree too, unless the last
+    /// one did.
     pub fn make(alloc: Global, secret: [u8; 32], height: u8) -> Result<Keys, NoMemory>
         requires height { IsHeight height }
         ensures { IfOk result (λ keys. keys ≡ record { secret = secret; height = height; used = 0 }) }

@@ -10,8 +10,8 @@ ghost use Rattle.iss_reply.specs.Replies.{Replying, Separates, chain_string, rep
 ghost use Rattle.iss_reply.specs.Repliers.{Answered, ReplierState};
 ghost use Rattle.sha2.specs.Sha256.{sha256};
 
-/// What a replier answered of a log it answered of each longer one (`answered`). A node's reply to a request of a log is
-/// its reply in each longer one (`replies`).
+/// What a replier answered of a log it answered of each longer one (`answered`). A node's reply to a request of a log
+/// is its reply in each longer one (`replies`).
 pub fn repliers_follow_the_log()
     ensures answered { (r : ReplierState) (log more : List Value) → Answered r log → Answered r (log ++ more) }
     ensures replies { (w : Replying) (log more : List Value) (q : ℕ) (r : Reply) → reply_at w log q ≡ Some r →

@@ -1,7 +1,7 @@
 -- The evidence with which a run ends early. A forgery: a core read a claim that verifies under the key of a correct
 -- node, which never sent it. A collision: a core hashed the second of two different strings of one digest. The core
--- took what the schedule's event gave it. The book misses no claim that a correct node sent, nor its votes, so the evidence
--- convinces anyone who has the schedule.
+-- took what the schedule's event gave it. The book misses no claim that a correct node sent, nor its votes, so the
+-- evidence convinces anyone who has the schedule.
 use Rattle.std.specs.Prelude.{◌≡◌, ◌⊎◌, ℕ, suc, ◌<◌, true, false, List, ◌∷◌, ◌++◌, Some}
 use Rattle.iss_base.specs.Lists.{In, nth, push_all}
 use Rattle.iss_keys.specs.Directories.{VerifiesBy, directory_of}

@@ -71,9 +71,9 @@ AreOfRow W me row [] = Unit {0}
 AreOfRow W me row (x ∷ xs) =
     ((c : Claim) → In c x.turn.own → IsOfRow W.rules me row c ⊎ In c (told W me (x ∷ xs))) × AreOfRow W me row xs
 
--- No leaf signs two statements: `row` gives each used leaf its one statement. So no leaf of any of the key's trees does:
--- a leaf of a top tree signs the root of its bottom tree alone (`trees`). Every signature of its own that the node sends
--- is by a leaf over that leaf's statement, or the node had received it.
+-- No leaf signs two statements: `row` gives each used leaf its one statement. So no leaf of any of the key's trees
+-- does: a leaf of a top tree signs the root of its bottom tree alone (`trees`). Every signature of its own that the
+-- node sends is by a leaf over that leaf's statement, or the node had received it.
 -- rule: Signatures: A node signs at most one statement with each leaf
 pub record SignsOnceEach {Msg : Type 0} (W : Frame Msg) (me : ℕ) (deeds : List (Deed Msg)) : Type 0 where
   pub row : List (List ℕ)
