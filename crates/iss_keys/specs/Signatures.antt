@@ -82,7 +82,7 @@ part_of secret h q m = join_below (signed_value secret q m) 67 ++ join_below (pa
 abbrev pub part_by : List ℕ → ℕ → Signing → List ℕ
 part_by secret h x =
     part_of (tree_of_key secret h x.tree).secret (tree_of_key secret h x.tree).height x.leaf
-        (statement_digest x.statement)
+    (statement_digest x.statement)
 
 -- the parts of the signature of s with leaf q of a key
 unfoldable pub parts_of : List ℕ → ℕ → ℕ → List ℕ → List ℕ
