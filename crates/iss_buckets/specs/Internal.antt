@@ -1,3 +1,4 @@
 -- Relations that only private contracts of this crate use: nobody above it reads them.
 pub mod Filed
 pub mod Shelves
+pub mod Turns

@@ -6,6 +6,7 @@ ghost use Rattle.iss_base.specs.Lists.{Different};
 ghost use Rattle.iss_request.specs.Log.{has_id, ids};
 ghost use Rattle.iss_request.specs.declared.ids.ReqId.{ReqId};
 ghost use Rattle.iss_buckets.specs.Internal.Filed.{AreFiled, AreQueued, IsNext, IsSetAt, bucket_of_id, is_unmarked_in, kept_at, least_of, number_of};
+ghost use Rattle.iss_buckets.specs.Internal.Turns.{may_cast_at};
 ghost use Rattle.iss_buckets.specs.Waiting.{waits, may_cast, cut, uncut, absent, AreNew};
 
 use crate::queues::{Queues, bucket_of};
@@ -29,6 +30,14 @@ pub struct Pending {
     shelf: Shelf,
     // Built when a batch is first cut, one for each bucket of the layout then.
     queues: Queues,
+}
+
+// Who casts, and what it must not cast: only requests of the owner's buckets, and none that is marked.
+#[derive(Drop)]
+struct Turn<'a> {
+    layout: &'a Layout,
+    owner: NodeId,
+    marks: &'a HashSet<ReqId>,
 }
 
 impl Model for Pending {
@@ -101,15 +110,12 @@ impl Pending {
             &mut self.queues,
             layout.buckets() as usize,
         )?;
-        cut_from(
-            &mut self.shelf,
-            &mut self.queues,
+        let turn = Turn {
             layout,
             owner,
-            &marks,
-            max,
-            &mut out,
-        );
+            marks: &marks,
+        };
+        cut_from(&mut self.shelf, &mut self.queues, &turn, max, &mut out);
         Ok(Batch::of(out))
     }
 
@@ -278,28 +284,20 @@ fn marks_of(alloc: Global, marked: &[ReqId]) -> Result<HashSet<ReqId>, NoMemory>
     Ok(marks)
 }
 
-fn cut_from(
-    shelf: &mut Shelf,
-    queues: &mut Queues,
-    layout: &Layout,
-    owner: NodeId,
-    marks: &HashSet<ReqId>,
-    max: usize,
-    out: &mut Vec<Request>,
-)
+fn cut_from(shelf: &mut Shelf, queues: &mut Queues, turn: &Turn, max: usize, out: &mut Vec<Request>)
     requires filed { AreFiled 0 shelf.old }
     requires queued { AreQueued shelf.old queues.old }
-    requires count { length queues.old ≡ layout.now.buckets }
+    requires count { length queues.old ≡ turn.now.layout.now.buckets }
     requires empty { out.old.items ≡ [] }
     requires room { max ≤ vec_capacity out.old }
-    ensures taken { out.new.items ≡ cut max (may_cast layout.now owner.0 marks.now.keys) (values_of shelf.old) }
-    ensures left { values_of shelf.new ≡ uncut max (may_cast layout.now owner.0 marks.now.keys) (values_of shelf.old) }
+    ensures taken { out.new.items ≡ cut max (may_cast_at turn.now) (values_of shelf.old) }
+    ensures left { values_of shelf.new ≡ uncut max (may_cast_at turn.now) (values_of shelf.old) }
     ensures filed { AreFiled 0 shelf.new }
     ensures queued { AreQueued shelf.new queues.new }
 {
     let mut from = 0;
     'scan: while out.len() < max {
-        let Some(number) = next_castable(shelf, queues, layout, owner, marks, from) else {
+        let Some(number) = next_castable(shelf, queues, turn, from) else {
             break;
         };
         if let Some(request) = take_out(shelf, queues, number) {
@@ -312,25 +310,18 @@ fn cut_from(
 }
 
 // The next request, from a number on, that the owner may propose.
-fn next_castable(
-    shelf: &Shelf,
-    queues: &Queues,
-    layout: &Layout,
-    owner: NodeId,
-    marks: &HashSet<ReqId>,
-    from: u64,
-) -> Option<u64>
+fn next_castable(shelf: &Shelf, queues: &Queues, turn: &Turn, from: u64) -> Option<u64>
     requires filed { AreFiled 0 shelf.now }
     requires queued { AreQueued shelf.now queues.now }
-    requires count { length queues.now ≡ layout.now.buckets }
-    ensures { IsNext (may_cast layout.now owner.0 marks.now.keys) shelf.now from result }
+    requires count { length queues.now ≡ turn.now.layout.now.buckets }
+    ensures { IsNext (may_cast_at turn.now) shelf.now from result }
 {
     let mut first = None;
-    for bucket in 0..layout.buckets() {
-        if layout.owner_of(bucket) == owner {
+    for bucket in 0..turn.layout.buckets() {
+        if turn.layout.owner_of(bucket) == turn.owner {
             first = least(
                 first,
-                next_unmarked(shelf, queues, marks, bucket as usize, from),
+                next_unmarked(shelf, queues, turn.marks, bucket as usize, from),
             );
         }
     }

@@ -3,14 +3,14 @@ use Rattle.std.specs.Result.{is_ok}
 use Rattle.std.specs.Map.{values_of}
 use Rattle.iss_request.specs.declared.requests.Request.{Request}
 use Rattle.iss_buckets.specs.Internal.Filed.{kept_at}
-use Rattle.iss_buckets.specs.Waiting.{may_cast}
+use Rattle.iss_buckets.specs.Internal.Turns.{may_cast_at}
 use Rattle.iss_buckets.proofs.NextLemmas.{Cutting, cutting_none, cutting_more, cutting_full, cutting_end}
 use Rattle.iss_buckets.proofs.pending.cut_from.Goals as goal
 
 pub scan-init : goal.scan-init
 scan-init c = record {
-  cuts = subst (λ (out : List Request). Cutting (may_cast c.args.layout.now c.args.owner.0 c.args.marks.now.keys) c.args.max (values_of c.args.shelf.now) out c.args.shelf.now 0) (sym c.requires.empty)
-      (cutting_none (may_cast c.args.layout.now c.args.owner.0 c.args.marks.now.keys) c.args.max c.args.shelf.now);
+  cuts = subst (λ (out : List Request). Cutting (may_cast_at c.args.turn.now) c.args.max (values_of c.args.shelf.now) out c.args.shelf.now 0) (sym c.requires.empty)
+      (cutting_none (may_cast_at c.args.turn.now) c.args.max c.args.shelf.now);
   room = c.requires.room;
   count = c.requires.count;
   filed = c.requires.filed;
@@ -19,7 +19,7 @@ scan-init c = record {
 
 pub scan-preserved-else-is_err : goal.scan-preserved-else-is_err
 scan-preserved-else-is_err c =
-    let p = may_cast c.args.layout.now c.args.owner.0 c.args.marks.now.keys in
+    let p = may_cast_at c.args.turn.now in
     let room : length c.scan.out.items < c.args.max = search rules in
     let ok : is_ok c.push.result ≡ true = search rules in
     let pushed : c.push.new.self.items ≡ c.scan.out.items ++ c.in-Some-take_out.request ∷ [] = rw ok at c.push.ensures.items in
@@ -36,16 +36,16 @@ scan-preserved-else-is_err c =
 
 pub returns-after-scan-clause-taken : goal.returns-after-scan-clause-taken
 returns-after-scan-clause-taken c =
-    (cutting_full (may_cast c.args.layout.now c.args.owner.0 c.args.marks.now.keys) c.args.max (values_of c.args.shelf.now) c.scan.out.items c.scan.shelf c.scan.from c.scan.invariant.cuts (search rules)).0
+    (cutting_full (may_cast_at c.args.turn.now) c.args.max (values_of c.args.shelf.now) c.scan.out.items c.scan.shelf c.scan.from c.scan.invariant.cuts (search rules)).0
 
 pub returns-after-scan-clause-left : goal.returns-after-scan-clause-left
 returns-after-scan-clause-left c =
-    (cutting_full (may_cast c.args.layout.now c.args.owner.0 c.args.marks.now.keys) c.args.max (values_of c.args.shelf.now) c.scan.out.items c.scan.shelf c.scan.from c.scan.invariant.cuts (search rules)).1
+    (cutting_full (may_cast_at c.args.turn.now) c.args.max (values_of c.args.shelf.now) c.scan.out.items c.scan.shelf c.scan.from c.scan.invariant.cuts (search rules)).1
 
 pub returns-in_default-clause-taken : goal.returns-in_default-clause-taken
 returns-in_default-clause-taken c =
-    (cutting_end (may_cast c.args.layout.now c.args.owner.0 c.args.marks.now.keys) c.args.max (values_of c.args.shelf.now) c.scan.out.items c.scan.shelf c.scan.from c.scan.invariant.filed c.scan.invariant.cuts c.in_default.ensures).0
+    (cutting_end (may_cast_at c.args.turn.now) c.args.max (values_of c.args.shelf.now) c.scan.out.items c.scan.shelf c.scan.from c.scan.invariant.filed c.scan.invariant.cuts c.in_default.ensures).0
 
 pub returns-in_default-clause-left : goal.returns-in_default-clause-left
 returns-in_default-clause-left c =
-    (cutting_end (may_cast c.args.layout.now c.args.owner.0 c.args.marks.now.keys) c.args.max (values_of c.args.shelf.now) c.scan.out.items c.scan.shelf c.scan.from c.scan.invariant.filed c.scan.invariant.cuts c.in_default.ensures).1
+    (cutting_end (may_cast_at c.args.turn.now) c.args.max (values_of c.args.shelf.now) c.scan.out.items c.scan.shelf c.scan.from c.scan.invariant.filed c.scan.invariant.cuts c.in_default.ensures).1

@@ -2,15 +2,15 @@ use Rattle.std.proofs.Common.{◌≡◌, ◌≤◌, length}
 use Rattle.std.specs.Map.{values_of}
 use Rattle.std.specs.Vec.{vec_capacity}
 use Rattle.iss_buckets.specs.Internal.Filed.{AreFiled, AreQueued}
-use Rattle.iss_buckets.specs.Waiting.{may_cast}
+use Rattle.iss_buckets.specs.Internal.Turns.{may_cast_at}
 use Rattle.iss_buckets.proofs.NextLemmas.{Cutting}
 use Rattle.iss_buckets.proofs.pending.cut_from.Given as goal
 
 abbrev pub invariant-scan : goal.invariant-scan
 invariant-scan l = record {
-  cuts : Cutting (may_cast l.layout l.owner.0 l.marks.keys) l.max (values_of l.fn.shelf) l.out.items l.shelf l.from;
+  cuts : Cutting (may_cast_at l.turn) l.max (values_of l.fn.shelf) l.out.items l.shelf l.from;
   room : l.max ≤ vec_capacity l.out;
-  count : length l.queues ≡ l.layout.buckets;
+  count : length l.queues ≡ l.turn.layout.now.buckets;
   filed : AreFiled 0 l.shelf;
   queued : AreQueued l.shelf l.queues;
 }
