@@ -2,5 +2,6 @@
 //! own, since a crate that has tests is proved twice.
 #![tactic(auto)]
 
+pub mod packets;
 #[cfg(test)]
 mod tests;

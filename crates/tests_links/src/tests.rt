@@ -1,6 +1,7 @@
 //! Packets that are sent, lost in part, and reassembled. Expected frames are written by hand.
 ghost use Rattle.std.specs.Prelude.{◌<◌};
 
+use crate::packets::packet;
 use iss_links::{
     Arrival, EndError, FailingLinks, Frame, Links, MemoryLinks, Reassembly, UdpLinks, read_frame,
     write_frame,
@@ -9,15 +10,6 @@ use std::alloc::Global;
 use std::net::{Ipv4Addr, Net, UdpSocket};
 use std::process::Abort;
 use std::test::Fail;
-
-// A packet of this length; neighbouring bytes differ, and packets with different keys differ everywhere.
-fn packet(alloc: Global, len: usize, key: u8) -> Result<Vec<u8>, Fail> {
-    let mut bytes = Vec::new(alloc);
-    for i in 0..len {
-        bytes.push((i % 251) as u8 ^ key)?;
-    }
-    Ok(bytes)
-}
 
 // Takes at most `most` frames, and returns the first packet that they complete.
 fn next_packet<L: Links>(links: &mut L, at: u32, most: u32) -> Result<Option<Vec<u8>>, EndError>
