@@ -135,8 +135,8 @@ fn first_number(log: &Log, slot: u64) -> u64
     }
 }
 
-// Writes the line of a slot. `first` is the number of its first request.
-fn put_slot(out: &mut Vec<u8>, slot: u64, first: u64, value: &Value) -> Result<(), NoMemory>
+/// Writes the line of a slot. `first` is the number of its first request.
+pub fn put_slot(out: &mut Vec<u8>, slot: u64, first: u64, value: &Value) -> Result<(), NoMemory>
     ensures { OnOk result (out.new.items ≡ out.old.items ++ slot_line slot first value.now) }
 {
     put_number(out, slot)?;
