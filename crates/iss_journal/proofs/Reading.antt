@@ -119,6 +119,13 @@ pub before_sync : (P : List ℕ → Type 0) (h0 h1 : List File) → Moves synced
 before_sync P [] h1 moves told = tt
 before_sync P (file ∷ past) h1 moves told = subst (λ (h : List File). IfTold h (λ f. P f.content)) moves told
 
+-- a sync settles what the file holds
+pub settles : (h0 h1 : List File) → Moves synced true h0 h1 →
+    IfTold h0 (λ before. IfTold h1 (λ now. now ≡ settled before.content))
+settles [] h1 moves = tt
+settles (file ∷ past) h1 moves =
+    subst (λ (h : List File). IfTold h (λ now. now ≡ settled file.content)) (sym moves) refl
+
 pub loses_start : (h : List File) → LosesNothing h h
 loses_start [] = refl
 loses_start (file ∷ past) = ([], refl, λ entries leaves. tt)

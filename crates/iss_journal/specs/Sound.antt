@@ -43,9 +43,10 @@ pub record IsSound {D : Type 0} (history : D → List File) (room : D → Room) 
   pub rests : journal.attached ≡ true → IfTold (history journal.disk) (RestsOn (entries_in journal.entries))
   pub room_kept : 0 < journal.reserved.limit → HasRoom journal.reserved journal.entries (room journal.disk)
 
--- the file, the outcomes of later calls and whether the journal is attached are the same
+-- the file, the outcomes of later calls, whether the journal is attached and its room are the same
 pub record NothingChanged {D : Type 0} (history : D → List File) (passes : D → Passes) (old new : Journal D) :
     Type 0 where
   pub file : history new.disk ≡ history old.disk
   pub calls : passes new.disk ≡ passes old.disk
   pub attached : new.attached ≡ old.attached
+  pub reserved : new.reserved ≡ old.reserved

@@ -27,6 +27,7 @@ pub struct Journal<D: Disk> {
 
 impl<D: Disk> Journal<D> {
     ghost use Rattle.std.specs.Prelude.{slice_index_or, take};
+    ghost use Rattle.iss_disk.specs.File.{settled};
     ghost use Rattle.iss_disk.specs.Calls.{IfTold, Stays, StaysHere, HasCause, Runs};
     ghost use Rattle.iss_journal.specs.Frames.{frames, max_entry, Reads, holds, damaged};
     ghost use Rattle.iss_journal.specs.Promises.{OnlyLeaves, LeavesOnly, HoldsWithOrWithout, LosesNothing, ComesToRest, EndsClosed, Works};
@@ -54,13 +55,16 @@ impl<D: Disk> Journal<D> {
 
     /// Syncs and reads the file, and cuts off what follows its last gate. A file of at most one byte becomes an empty
     /// journal. The errors: `Damaged` if an open gate is not followed by a whole entry, `Failed` if the device fails,
-    /// `NoMemory` if out of memory. After an error the entries are those from before the call.
+    /// `NoMemory` if out of memory. After an error the entries are those from before the call. A damaged file stays byte
+    /// for byte, so that it is damaged at each later call too.
     pub fn attach(&mut self) -> Result<(), AttachError>
         requires sound { IsSound D.history D.room self.old }
         ensures entries { OnOk result (IfTold (D.history (disk_of self.old))
             (λ file. Reads file.content (holds (entries_of self.new)))) }
         ensures damaged { (at : ℕ) → IsErrOf result (AttachError.Damaged at) → IfTold (D.history (disk_of self.old))
             (λ file. Reads file.content (damaged at)) }
+        ensures damaged_stays { (at : ℕ) → IsErrOf result (AttachError.Damaged at) → IfTold (D.history (disk_of self.old))
+            (λ before. IfTold (D.history (disk_of self.new)) (λ now. now ≡ settled before.content)) }
         ensures err { OnErr result (entries_of self.new ≡ entries_of self.old) }
         ensures attached { is_attached self.new ≡ is_ok result }
         ensures file { OnOk result (IfTold (D.history (disk_of self.old)) (λ before.
@@ -113,11 +117,13 @@ impl<D: Disk> Journal<D> {
     }
 
     /// Makes the room that appending an entry of `bytes` bytes needs, in memory and on the disk. Nothing else changes.
+    /// Without memory the room is what it was.
     #[inline(always)]
     pub fn reserve(&mut self, bytes: u64) -> Result<(), NoMemory>
         requires sound { IsSound D.history D.room self.old }
         ensures reserved { OnOk result ((most : ℕ) × (reserved_of self.new ≡ Some most) × (bytes ≤ most)) }
         ensures ready { (most : ℕ) → reserved_of self.old ≡ Some most → bytes ≤ most → is_ok result ≡ true }
+        ensures no_memory { OnErr result (reserved_of self.new ≡ reserved_of self.old) }
         ensures entries { entries_of self.new ≡ entries_of self.old }
         ensures attached { is_attached self.new ≡ is_attached self.old }
         ensures history { D.history (disk_of self.new) ≡ D.history (disk_of self.old) }
@@ -136,6 +142,7 @@ impl<D: Disk> Journal<D> {
         requires sound { IsSound D.history D.room self.old }
         ensures reserved { OnOk result (bytes < self.new.reserved.limit) }
         ensures ready { bytes < self.old.reserved.limit → is_ok result ≡ true }
+        ensures no_memory { OnErr result (self.new.reserved ≡ self.old.reserved) }
         ensures entries { entries_of self.new ≡ entries_of self.old }
         ensures attached { is_attached self.new ≡ is_attached self.old }
         ensures history { D.history (disk_of self.new) ≡ D.history (disk_of self.old) }
@@ -157,6 +164,7 @@ impl<D: Disk> Journal<D> {
     fn make_room(&mut self, bytes: u64) -> Result<(), NoMemory>
         requires sound { IsSound D.history D.room self.old }
         ensures reserved { OnOk result (bytes < self.new.reserved.limit) }
+        ensures no_memory { OnErr result (self.new.reserved ≡ self.old.reserved) }
         ensures entries { entries_of self.new ≡ entries_of self.old }
         ensures attached { is_attached self.new ≡ is_attached self.old }
         ensures history { D.history (disk_of self.new) ≡ D.history (disk_of self.old) }

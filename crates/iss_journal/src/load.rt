@@ -38,6 +38,7 @@ fn read_file<D: Disk>(alloc: Global, disk: &mut D) -> Result<Vec<u8>, EndError>
 }
 
 /// Reads the entries of the current file, which is all synced, and cuts off what follows the last gate.
+// rule: Journal: A damaged file stays byte for byte
 pub(crate) fn load<D: Disk>(alloc: Global, disk: &mut D) -> Result<Entries, AttachError>
     requires on_disk { IfTold (D.history disk.old) (λ file. file ≡ settled file.content) }
     requires calls { 3 ≤ (D.room disk.old).calls }
@@ -49,6 +50,7 @@ pub(crate) fn load<D: Disk>(alloc: Global, disk: &mut D) -> Result<Entries, Atta
         (λ before. IfTold (D.history disk.new) (ComesToRest (entries_in entries) before.content))) }
     ensures damaged { (at : ℕ) → IsErrOf result (AttachError.Damaged at) → IfTold (D.history disk.old)
         (λ file. Reads file.content (damaged at)) }
+    ensures damaged_stays { (at : ℕ) → IsErrOf result (AttachError.Damaged at) → D.history disk.new ≡ D.history disk.old }
     ensures any_moment { LeavesReading (D.history disk.old) (D.history disk.new) }
     ensures others { StaysHere (D.current disk.old) (D.current disk.new) (D.files disk.old) (D.files disk.new) }
     ensures cause { HasCause (D.faults disk.old) (D.faults disk.new) (IsErrOf result AttachError.Failed) }

@@ -4,7 +4,7 @@
 -- a stale node shows the log and epoch from before.
 use Rattle.std.specs.Prelude.{◌≡◌, ◌⊎◌, ℕ, Bool, true, false, List, [], ◌∷◌, ◌++◌}
 use Rattle.iss_disk.specs.Calls.{HasCause, IfTold, Passes, Runs, StaysHere}
-use Rattle.iss_disk.specs.File.{File}
+use Rattle.iss_disk.specs.File.{File, settled}
 use Rattle.iss_journal.specs.Frames.{Reads, damaged, holds}
 use Rattle.iss_journal.specs.Promises.{ComesToRest, HoldsWithOrWithout, LeavesOnly, LosesNothing, OnlyLeaves, Works}
 use Rattle.iss_model.specs.Node.{Core, Dropped as Step_dropped, Stepped, Taken as Step_taken, Turn}
@@ -145,6 +145,14 @@ abbrev pub IsDamaged : {Msg : Type 0} → Setup → Module Msg → ℕ → List 
 IsDamaged s m me entries before at =
     IfTold before (λ file. Reads file.content (damaged at))
     ⊎ (IfTold before (λ file. Reads file.content (holds entries)) × StopsAt s m me at entries)
+
+-- What a refusal at this offset leaves of the file. A damaged file stays byte for byte. A file that was read, and one of
+-- whose entries the node refuses, comes to rest: only what follows its last gate goes. So the next call finds the same.
+-- rule: Journal: A damaged file stays byte for byte
+abbrev pub IsLeft : List (List ℕ) → List File → List File → ℕ → Type 0
+IsLeft entries before now at = IfTold before (λ from.
+    (Reads from.content (damaged at) × IfTold now (λ file. file ≡ settled from.content))
+    ⊎ (Reads from.content (holds entries) × IfTold now (ComesToRest entries from.content)))
 
 -- ---- what does not change
 

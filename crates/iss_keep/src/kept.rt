@@ -4,7 +4,7 @@ ghost use Rattle.iss_disk.specs.Calls.{Restarts, Stays, script, up_to};
 ghost use Rattle.iss_keep.specs.Cores.{step_of};
 ghost use Rattle.iss_keep.specs.Entries.{spell_event};
 ghost use Rattle.iss_keep.specs.State.{KeptRefinesCore, RefinesEntries};
-ghost use Rattle.iss_keep.specs.Steps.{IsAnswer, IsAttached, IsDamaged, IsSame, IsWritten, LosesNone, ShowsAsBefore, makes_stale, sight};
+ghost use Rattle.iss_keep.specs.Steps.{IsAnswer, IsAttached, IsDamaged, IsLeft, IsSame, IsWritten, LosesNone, ShowsAsBefore, makes_stale, sight};
 ghost use Rattle.iss_rules.specs.Concrete.{keys_of};
 ghost use Rattle.iss_model.specs.Node.{Core};
 ghost use Rattle.iss_rules.specs.Setups.{IsSetupOf};
@@ -112,7 +112,8 @@ impl<M: Sequenced, D: Disk> Kept<M, D> {
     }
 
     /// Recovers the node by replaying its journal. `Damaged` if the file is damaged, or if an entry is no event or is
-    /// one that the node would drop at that point. `Failed` only if the disk failed.
+    /// one that the node would drop at that point. A damaged file stays byte for byte, so that no later call takes it for
+    /// a new one. `Failed` only if the disk failed.
     pub fn reopen(&mut self) -> Result<(), AttachError>
         ensures stale { self.new.stale ≡ not (is_ok result) }
         ensures core { OnOk result ((c : Core M.Msg) × RefinesEntries M.spec M.refines self.new c) }
@@ -120,6 +121,8 @@ impl<M: Sequenced, D: Disk> Kept<M, D> {
             (sight D.history D.passes D.faults D.current D.files self.new.disk) self.new.entries) }
         ensures damaged { (at : ℕ) → IsErrOf result (AttachError.Damaged at) →
             IsDamaged self.old.setup M.spec self.old.me.0 self.new.entries (D.history self.old.disk) at }
+        ensures left { (at : ℕ) → IsErrOf result (AttachError.Damaged at) →
+            IsLeft self.new.entries (D.history self.old.disk) (D.history self.new.disk) at }
         ensures loses { LosesNone (sight D.history D.passes D.faults D.current D.files self.old.disk)
             (sight D.history D.passes D.faults D.current D.files self.new.disk) (IsErrOf result AttachError.Failed) }
         ensures shown { OnErr result (ShowsAsBefore self.old self.new) }

@@ -3,7 +3,7 @@ ghost use Rattle.std.specs.Prelude.{◌≡◌, ◌<◌, ℕ, true, IfOk, IsErrOf
 ghost use Rattle.iss_journal.specs.Sound.{IsSound, disk_of, entries_of, is_attached};
 ghost use Rattle.iss_keep.specs.Cores.{StopsAt};
 ghost use Rattle.iss_keep.specs.Internal.Replays.{GoesTo, IsOf, IsReplayed};
-ghost use Rattle.iss_keep.specs.Steps.{IsAttached, IsDamaged, LosesNone, sight};
+ghost use Rattle.iss_keep.specs.Steps.{IsAttached, IsDamaged, IsLeft, LosesNone, sight};
 ghost use Rattle.iss_rules.specs.Concrete.{keys_of};
 ghost use Rattle.iss_model.specs.Node.{Core, initial_core};
 ghost use Rattle.iss_rules.specs.Setups.{IsSetupOf};
@@ -118,6 +118,8 @@ pub(crate) fn open<M: Sequenced, D: Disk>(
     ensures is_attached { OnOk result (is_attached journal.new ≡ true) }
     ensures damaged { (at : ℕ) → IsErrOf result (AttachError.Damaged at) →
         IsDamaged setup.now M.spec me.0 (entries_of journal.new) (D.history (disk_of journal.old)) at }
+    ensures left { (at : ℕ) → IsErrOf result (AttachError.Damaged at) →
+        IsLeft (entries_of journal.new) (D.history (disk_of journal.old)) (D.history (disk_of journal.new)) at }
     ensures loses { LosesNone (sight D.history D.passes D.faults D.current D.files (disk_of journal.old))
         (sight D.history D.passes D.faults D.current D.files (disk_of journal.new))
         (IsErrOf result AttachError.Failed) }

@@ -1,5 +1,5 @@
-//! What a kept node reports of its core while it is not stale. Log and epoch are always available.
-ghost use Rattle.std.specs.Prelude.{◌≡◌, ℕ, IfOk, None, map, option_map, reverse, true};
+//! What a kept node reports of its core. A stale node shows its log and epoch, and nothing else.
+ghost use Rattle.std.specs.Prelude.{◌≡◌, ℕ, [], IfOk, None, map, option_map, reverse, false, true};
 ghost use Rattle.iss_keep.specs.State.{KeptRefinesCore};
 ghost use Rattle.iss_rules.specs.Concrete.{rules_of};
 ghost use Rattle.iss_rules.specs.Formats.{formats_of};
@@ -50,43 +50,61 @@ impl<M: Sequenced, D: Disk> Kept<M, D> {
     }
 
     /// The signatures that a packet claims, if it is a message of the node's current epoch for a leader of that epoch.
+    /// None while the node is stale.
     pub fn claims_of(&self, bytes: &[u8]) -> Result<Seq<Claim>, NoMemory>
-        ensures { IfOk result (λ claims. (c : Core M.Msg) → KeptRefinesCore M.spec M.refines self.now c →
+        ensures is { IfOk result (λ claims. (c : Core M.Msg) → KeptRefinesCore M.spec M.refines self.now c →
             claims ≡ claims_of_bytes (formats_of self.now.setup M.spec)
             (rules_of self.now.setup) M.spec self.now.me.0 c bytes.now) }
+        ensures stale { self.now.stale ≡ true → IfOk result (λ claims. claims ≡ []) }
     {
+        if self.stale {
+            return Ok(Seq::of(Vec::new(self.alloc)));
+        }
         self.node.claims_of(self.alloc, bytes)
     }
 
-    /// The batches that the instances of the current epoch accepted, oldest first.
+    /// The batches that the instances of the current epoch accepted, oldest first. None while the node is stale.
     pub fn accepted(&self) -> &[Accepted]
-        ensures { (c : Core M.Msg) (l : ℕ) → KeptRefinesCore M.spec M.refines self.now c →
+        ensures is { (c : Core M.Msg) (l : ℕ) → KeptRefinesCore M.spec M.refines self.now c →
             reverse (accepted_of l result.now) ≡ accepted_by c l }
+        ensures stale { self.now.stale ≡ true → result.now ≡ [] }
     {
+        if self.stale {
+            return &[];
+        }
         self.node.accepted()
     }
 
-    /// The identities of waiting requests in order of arrival, and the batches in flight.
+    /// The identities of waiting requests in order of arrival, and the batches in flight. None while the node is stale.
     pub fn unordered(&self) -> Result<(Seq<ReqId>, &[(Slot, Batch)]), NoMemory>
-        ensures { IfOk result (λ both. (c : Core M.Msg) → KeptRefinesCore M.spec M.refines self.now c →
+        ensures is { IfOk result (λ both. (c : Core M.Msg) → KeptRefinesCore M.spec M.refines self.now c →
             (both.0 ≡ ids c.waiting) × (both.1.now ≡ c.flight)) }
+        ensures stale { self.now.stale ≡ true → IfOk result (λ both. (both.0 ≡ []) × (both.1.now ≡ [])) }
     {
+        if self.stale {
+            return Ok((Seq::of(Vec::new(self.alloc)), &[]));
+        }
         self.node.unordered(self.alloc)
     }
 
-    /// Whether a proposal would find a free slot.
+    /// Whether a proposal would find a free slot. While the node is stale it would not.
     pub fn castable(&self) -> bool
-        ensures { (c : Core M.Msg) → KeptRefinesCore M.spec M.refines self.now c →
+        ensures is { (c : Core M.Msg) → KeptRefinesCore M.spec M.refines self.now c →
             result ≡ is_castable_now (rules_of self.now.setup) M.spec self.now.me.0 c }
+        ensures stale { self.now.stale ≡ true → result ≡ false }
     {
-        self.node.castable()
+        !self.stale && self.node.castable()
     }
 
-    /// The leaders whose segments are not yet filled, ascending.
+    /// The leaders whose segments are not yet filled, ascending. None while the node is stale.
     pub fn unfilled(&self) -> Result<Seq<NodeId>, NoMemory>
-        ensures { IfOk result (λ leaders. (c : Core M.Msg) → KeptRefinesCore M.spec M.refines self.now c →
+        ensures is { IfOk result (λ leaders. (c : Core M.Msg) → KeptRefinesCore M.spec M.refines self.now c →
             map (λ l. l.0) leaders ≡ unfilled (rules_of self.now.setup) M.spec self.now.setup.n self.now.me.0 c.past) }
+        ensures stale { self.now.stale ≡ true → IfOk result (λ leaders. leaders ≡ []) }
     {
+        if self.stale {
+            return Ok(Seq::of(Vec::new(self.alloc)));
+        }
         self.node.unfilled(self.alloc)
     }
 }

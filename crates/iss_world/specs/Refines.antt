@@ -206,10 +206,13 @@ HasHappened m refines v old new (Result_collision first second) = RefinesRun m r
 HasHappened m refines v old new NoMemory = v.stale ≡ true
 HasHappened m refines v old new Stale = ⊥
 
--- A world answers `Stale` if and only if it is stale, and then it does not change.
+-- A world answers `Stale` if and only if it is stale, and then it does not change. It becomes stale by `NoMemory`, and
+-- by no other answer.
 pub record IsStaleOr {M Msg : Type 0} (old new : WorldState M Msg) (r : EventResult) : Type 0 where
   pub exactly : (r ≡ Stale) ↔ (old.stale ≡ true)
   pub same : old.stale ≡ true → new ≡ old
+  pub out : r ≡ NoMemory → new.stale ≡ true
+  pub only : new.stale ≡ true → (r ≡ NoMemory) ⊎ (r ≡ Stale)
 
 -- Nothing changes after the run has stopped.
 pub record IsOverOr {M Msg : Type 0} (old new : WorldState M Msg) : Type 0 where

@@ -1,11 +1,11 @@
 use Rattle.std.proofs.Common.{rules, ◌≡◌, ◌∷◌, ◌∙◌, sym, subst, List, IsErrOf}
-use Rattle.iss_disk.specs.File.{File, Image}
+use Rattle.iss_disk.specs.File.{File, Image, settled}
 use Rattle.iss_disk.specs.Calls.{IfTold}
 use Rattle.iss_journal.specs.Frames.{Reads, damaged}
 use Rattle.iss_journal.specs.EntryViews.{entries_in}
 use Rattle.iss_journal.specs.Promises.{LosesNothing, ComesToRest}
 use Rattle.iss_journal.specs.declared.errors.AttachError.TheVariants.{Damaged}
-use Rattle.iss_journal.proofs.Reading.{loses_start, rests_durable, history_same, sync_fails, sync_then, before_sync}
+use Rattle.iss_journal.proofs.Reading.{loses_start, rests_durable, history_same, sync_fails, sync_then, before_sync, settles}
 use Rattle.iss_journal.proofs.journal.Journal.attach.Goals as goal
 
 pub returns-in_err-reserve-clause-any_moment : goal.returns-in_err-reserve-clause-any_moment
@@ -89,3 +89,18 @@ returns-clause-file g c =
     subst (λ (h : List File). IfTold h (λ file. IfTold new (ComesToRest es file.content))) same
     (before_sync (λ bytes. IfTold new (ComesToRest es bytes)) (g.D.Disk.history d1)
     (g.D.Disk.history c.sync.new.self) c.in_ok-sync.ensures.file c.in_ok-self.ensures.file)
+
+pub returns-in_err-self-clause-damaged_stays : goal.returns-in_err-self-clause-damaged_stays
+returns-in_err-self-clause-damaged_stays g c = λ at is.
+    let d0 = c.args.self.now.disk in
+    let d1 = c.reserve.new.self in
+    let new = g.D.Disk.history c.load.new.disk in
+    let same : g.D.Disk.history d1 ≡ g.D.Disk.history d0 =
+    history_same (g.D.Disk.history d0) (g.D.Disk.history d1) (g.D.Disk.files d0) (g.D.Disk.files d1)
+    (g.D.Disk.current d0) (g.D.Disk.current d1) (g.met.D.Disk.here d0)
+    (g.met.D.Disk.here d1) c.reserve.ensures.same in
+    let damage : IsErrOf c.load.result (Damaged at) = search rules in
+    let stays : new ≡ g.D.Disk.history c.sync.new.self = c.load.ensures.damaged_stays at damage in
+    subst (λ (h : List File). IfTold h (λ before. IfTold new (λ now. now ≡ settled before.content))) same
+    (subst (λ (h : List File). IfTold (g.D.Disk.history d1) (λ before. IfTold h (λ now. now ≡ settled before.content)))
+    (sym stays) (settles (g.D.Disk.history d1) (g.D.Disk.history c.sync.new.self) c.in_ok-sync.ensures.file))
