@@ -6,6 +6,7 @@ pub mod cores;
 pub mod ends;
 mod posting;
 mod requests;
+mod shown;
 pub mod simulation;
 mod stepping;
 pub mod strings;
