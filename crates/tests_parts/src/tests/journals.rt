@@ -80,6 +80,30 @@ fn a_length_past_the_end_is_damage(rt: HostRuntime) -> Result<(), Fail> {
     Ok(())
 }
 
+// Checks that a journal over these bytes is damaged at this offset, twice, and that the file stays what it was.
+fn assert_damage_stays(rt: &impl Abort, alloc: Global, bytes: &[u8], at: u64) -> Result<(), Fail> {
+    let mut disk = disk_with(alloc, bytes)?;
+    for _ in 0..2 {
+        let mut journal = Journal::over(alloc, &mut disk);
+        assert_eq!(rt; journal.attach(), Err(AttachError::Damaged { at }));
+    }
+    assert_file(rt, &mut disk, bytes)
+}
+
+// Two entries and a closed gate. A byte of either length is changed, each in turn.
+#[test]
+fn a_damaged_file_stays_as_it_is(rt: HostRuntime) -> Result<(), Fail> {
+    for k in 1..5usize {
+        let mut first = [1, 0, 0, 0, 1, 5, 1, 0, 0, 0, 1, 6, 0];
+        first[k] = 9;
+        assert_damage_stays(&rt, rt.alloc(), &first, 0)?;
+        let mut second = [1, 0, 0, 0, 1, 5, 1, 0, 0, 0, 1, 6, 0];
+        second[6 + k] = 9;
+        assert_damage_stays(&rt, rt.alloc(), &second, 6)?;
+    }
+    Ok(())
+}
+
 // The disk fails after n calls of an append. The entry is there exactly if all four succeeded.
 #[test]
 fn a_stop_at_each_call(rt: HostRuntime) -> Result<(), Fail> {
