@@ -1,7 +1,9 @@
 -- What an answer says about the journal's disk.
-use Rattle.std.proofs.Common.{◌≡◌, ℕ, Result, Ok, Err}
-use Rattle.iss_disk.specs.Calls.{HasCause}
-use Rattle.iss_keep.specs.Steps.{LosesNone, Sight}
+use Rattle.std.proofs.Common.{◌≡◌, inl, ℕ, List, [], ◌∷◌, Result, Ok, Err}
+use Rattle.iss_disk.specs.Calls.{HasCause, IfTold}
+use Rattle.iss_disk.specs.File.{File, settled}
+use Rattle.iss_journal.specs.Frames.{Reads, damaged}
+use Rattle.iss_keep.specs.Steps.{IsLeft, LosesNone, Sight}
 
 -- The cause of one failure is the cause of every failure that implies it.
 caused-by : (before now : ℕ) (P Q : Type 0) → (Q → P) → HasCause before now P → HasCause before now Q
@@ -18,3 +20,11 @@ loses-none before now P Q none h = record {
 
 pub no-error : {A E : Type 0} (x : A) (e : E) → ◌≡◌ {A = Result A E} (Ok x) (Err e) → ⊥
 no-error x e h = cc
+
+-- ---- what a refusal leaves of the file
+
+pub left-damaged : (entries : List (List ℕ)) (before now : List File) (at : ℕ) →
+    IfTold before (λ file. Reads file.content (damaged at)) →
+    IfTold before (λ from. IfTold now (λ file. file ≡ settled from.content)) → IsLeft entries before now at
+left-damaged entries [] now at damage stays = tt
+left-damaged entries (file ∷ past) now at damage stays = inl (damage, stays)

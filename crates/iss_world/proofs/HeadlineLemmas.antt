@@ -58,10 +58,7 @@ module _ {M Msg : Type 0} (m : Module Msg) (refines : Relation M Msg) (s : Setup
       | inr t ↦ inl (k.left.others i g at t.1).entries
       | inl t ↦
           let P : ℕ → Type 0 = λ n. HoldsKept g.entries (p.machines.disks n) (Some end) in
-          subst P (sym t.1) (elim (k.left.there g (subst (λ (n : ℕ). slice_get v.simulation.nodes n ≡ Some g) t.1 at)) [
-            | inl st ↦ inl st.entries
-            | inr back ↦ inr (back.event, back.entries)
-          ])
+          subst P (sym t.1) (k.left.there g (subst (λ (n : ℕ). slice_get v.simulation.nodes n ≡ Some g) t.1 at)).entries
     ]
 
     headline-of : (v : WorldState M Msg) (events : List Event) → AreInRange s events → RefinesEvents s m refines v events → IsHeadline s m refines v events

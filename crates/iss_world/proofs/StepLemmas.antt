@@ -2,6 +2,7 @@
 use Rattle.std.proofs.Common.{inl, inr, ◌≡◌, ◌≢◌, ◌⊎◌, ℕ, zero, suc, ◌<◌, ◌≤◌, Bool, true, false, cond, List, [], ◌∷◌, ◌++◌, length, take, set, slice_get, Option, Some, None, reverse, refl, sym, ap, ◌∙◌, subst, arith}
 use Rattle.std.specs.Prelude.{eqb, option_map}
 use Rattle.std.proofs.lemmas.Bool.Decides.{eqb_tells}
+use Rattle.std.proofs.lemmas.List.{take_all}
 use Rattle.iss_base.specs.Lists.{first_of, push_all, set_at}
 use Rattle.iss_base.proofs.Lists.{none-some, set_at-same, some-injective}
 use Rattle.iss_keep.proofs.TakenLemmas.{log-cut, log-long}
@@ -41,7 +42,7 @@ use Rattle.iss_world.proofs.BookLemmas.{forged-append}
 use Rattle.iss_world.proofs.OverLemmas.{at-working, epoch-grown, log-grown, over-shows, over-stale}
 use Rattle.iss_world.specs.Books.{AreHashed, AreSigned}
 use Rattle.iss_world.specs.Internal.Shape.{IsNetworkOf, IsSimulation}
-use Rattle.iss_world.specs.Refines.{HasChanged, HasRetreated, IsLeft, RefinesMachine, RefinesMachines, RefinesOrRetreated, RefinesOrShows, ShowsCore, end_of, spelled}
+use Rattle.iss_world.specs.Refines.{HasChanged, HasRetreated, IsLeft, RefinesMachine, RefinesMachines, RefinesOrShows, ShowsCore, end_of, spelled}
 use Rattle.iss_world.specs.State.{SimulationState}
 use Rattle.iss_world.specs.Internal.Steps.{HasAnswered, IsBehind, IsKeptTurn, ends_by, forged_in, kept_at, kept_to, stepped_to}
 use Rattle.iss_world.specs.declared.ends.EventOutcome.{EventOutcome}
@@ -216,15 +217,10 @@ module _ {M Msg : Type 0} (m : Module Msg) (refines : Relation M Msg) where
   pub runs-show : (v : SimulationState M Msg) (w : Machines Msg) → IsSimulation m v → RefinesMachines m refines v w → ShowsHeld v w.held
   runs-show v w r st i g at = core-shown v i g (w.held.net.cores i) r at (over-shows m refines g (w.held.net.cores i) (w.disks i) (st.cores i g at))
 
-  here-shows : (v : SimulationState M Msg) (i : ℕ) (g : KeptState M Msg MemoryDisk) (c : Core Msg) (d : Disk) → IsSimulation m v → slice_get v.nodes i ≡ Some g →
-      RefinesOrRetreated m refines v.setup (node_of v.setup i) g c d → ShowsCore m v.setup (node_of v.setup i) g c
-  here-shows v i g c d r at k = elim k [ inl st ↦ core-shown v i g c r at (over-shows m refines g c d st) | inr back ↦ back.shows ]
-
   left-shows : (v : SimulationState M Msg) (w : Machines Msg) → IsSimulation m v → IsLeft m refines v w → ShowsHeld v w.held
   left-shows v w r left i g at = elim (eqb_tells i left.core) [
     | inl t ↦ subst (λ (n : ℕ). ShowsCore m v.setup (node_of v.setup n) g (w.held.net.cores n)) (sym t.1)
-        (here-shows v left.core g (w.held.net.cores left.core) (w.disks left.core) r (subst (λ (n : ℕ). slice_get v.nodes n ≡ Some g) t.1 at)
-        (left.there g (subst (λ (n : ℕ). slice_get v.nodes n ≡ Some g) t.1 at)))
+        (left.there g (subst (λ (n : ℕ). slice_get v.nodes n ≡ Some g) t.1 at)).shows
     | inr t ↦ core-shown v i g (w.held.net.cores i) r at
         (over-shows m refines g (w.held.net.cores i) (w.disks i) (left.others i g at t.1))
   ]
@@ -232,15 +228,33 @@ module _ {M Msg : Type 0} (m : Module Msg) (refines : Relation M Msg) where
   pub shown-shows : (v : SimulationState M Msg) (w : Machines Msg) → IsSimulation m v → RefinesOrShows m refines v w → ShowsHeld v w.held
   shown-shows v w r k = elim k [ inl st ↦ runs-show v w r st | inr left ↦ left-shows v w r left ]
 
-  -- A simulation that refines machines is left so by evidence that changes nothing.
-  pub runs-left : (v : SimulationState M Msg) (w : Machines Msg) → RefinesMachines m refines v w → IsLeft m refines v w
-  runs-left v w st = record {
-    core = 0;
-    others = λ i g at ne. st.cores i g at;
-    there = λ g at. inl (st.cores 0 g at);
-    network = st.network;
-    signed = st.signed;
-  }
+  -- What is left when a core read a forged claim, and retreated to where it was.
+  pub forged-left : (v : SimulationState M Msg) (w : Machines Msg) (i : ℕ) (g later : KeptState M Msg MemoryDisk) → IsSimulation m v → i < length v.nodes →
+      RefinesMachines m refines v w → slice_get v.nodes i ≡ Some g →
+      later.node.state.log.entries ≡ take (length g.node.state.log.entries) g.node.state.log.entries → later.node.state.epoch ≡ g.node.state.epoch →
+      later.stale ≡ true → later.entries ≡ g.entries →
+      IsLeft m refines (record { setup = v.setup; nodes = set v.nodes i later; network = v.network; signed = v.signed; hashed = v.hashed }) w
+  forged-left v w i g later r lt st at cut back gone kept =
+      let shown = runs-show v w r st i g at in
+      let whole = take_all (length g.node.state.log.entries) g.node.state.log.entries (omega arith) in
+      let retreated : HasRetreated m v.setup (node_of v.setup i) later (w.held.net.cores i) (w.disks i) =
+      record {
+        stale = gone;
+        shows = record {
+          log = shown.log ∙ ap (λ (xs : List Value). reverse xs) (sym (cut ∙ whole));
+          epoch = back ∙ shown.epoch;
+        };
+        entries = inl (kept ∙ (st.cores i g at).entries);
+      } in
+      record {
+        core = i;
+        others = λ j k e ne. elim (written v.nodes i j later k lt e) [ inl z ↦ absurd (ne z.1) | inr z ↦ st.cores j k z.1 ];
+        there = λ k e.
+            let is : k ≡ later = some-injective k later (sym e ∙ get-set_same v.nodes i later lt) in
+            subst (λ (x : KeptState M Msg MemoryDisk). HasRetreated m v.setup (node_of v.setup i) x (w.held.net.cores i) (w.disks i)) (sym is) retreated;
+        network = st.network;
+        signed = st.signed;
+      }
 
   -- ---- a node is replaced by a later state of it
 
@@ -467,8 +481,7 @@ module _ {M Msg : Type 0} (m : Module Msg) (refines : Relation M Msg) where
           log = b.log g at ∙ ap (λ (xs : List Value). reverse xs) (sym cut);
           epoch = back ∙ b.epoch;
         };
-        event = event;
-        entries = kept ∙ (b.cores i g at).entries ∙ ap (λ (d : Disk). spelled d.kept) (set_at-same w.disks i (keeps (w.disks i) event));
+        entries = inr (event, kept ∙ (b.cores i g at).entries ∙ ap (λ (d : Disk). spelled d.kept) (set_at-same w.disks i (keeps (w.disks i) event)));
       }
 
       pub left-so : IsLeft m refines (record { setup = v.setup; nodes = set v.nodes i later; network = net; signed = signed; hashed = hashed }) w
@@ -480,7 +493,7 @@ module _ {M Msg : Type 0} (m : Module Msg) (refines : Relation M Msg) where
         ];
         there = λ k e.
             let is : k ≡ later = some-injective k later (sym e ∙ get-set_same v.nodes i later lt) in
-            inr (subst (λ (x : KeptState M Msg MemoryDisk). HasRetreated m v.setup (node_of v.setup i) x (w.held.net.cores i) (w.disks i)) (sym is) retreated);
+            subst (λ (x : KeptState M Msg MemoryDisk). HasRetreated m v.setup (node_of v.setup i) x (w.held.net.cores i) (w.disks i)) (sym is) retreated;
         network = same_net ∙ b.network;
         signed = subst (λ (xs : List (List ℕ)). AreSigned xs w.held.signed) (sym same_signed) b.signed;
       }

@@ -41,7 +41,7 @@ module _ {M Msg : Type 0} (m : Module Msg) (refines : Relation M Msg) where
     | inr t ↦ inl (k.left.others i g at t.1)
     | inl t ↦
         let P : ℕ → Type 0 = λ n. RefinesOrRetreated m refines v.simulation.setup (node_of v.simulation.setup n) g (w.held.net.cores n) (w.disks n) in
-        subst P (sym t.1) (k.left.there g (subst (λ (n : ℕ). slice_get v.simulation.nodes n ≡ Some g) t.1 at))
+        subst P (sym t.1) (inr (k.left.there g (subst (λ (n : ℕ). slice_get v.simulation.nodes n ≡ Some g) t.1 at)))
   ]
 
   pub node-left : (v : WorldState M Msg) (p : Course Msg) → RefinesRun m refines v p → (i : ℕ) (g : KeptState M Msg MemoryDisk) →

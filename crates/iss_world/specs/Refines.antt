@@ -92,29 +92,29 @@ pub record RefinesMachines {M Msg : Type 0} (m : Module Msg) (refines : Relation
   pub signed : AreSigned v.signed w.held.signed
   pub hashed : AreHashed v.hashed w.held.hashed
 
--- A kept node whose last event revealed the evidence. It went back to the core from before that event: it is stale, and
--- reports the core's log and epoch. Its journal holds the event after those that the model's disk keeps.
+-- A kept node that read or took the event that revealed the evidence. It went back to the core from before that event:
+-- it is stale, and reports the core's log and epoch. Its journal holds the events that the model's disk keeps, and that
+-- event behind them if the node took it.
 pub record HasRetreated {M Msg : Type 0} (m : Module Msg) (s : Setup) (me : ℕ) (g : KeptState M Msg MemoryDisk)
     (c : Core Msg) (d : Disk) : Type 0 where
   pub stale : g.stale ≡ true
   pub shows : ShowsCore m s me g c
-  pub event : NodeEvent
-  pub entries : g.entries ≡ spelled (event ∷ d.kept)
+  pub entries : (g.entries ≡ spelled d.kept) ⊎ ((event : NodeEvent) × (g.entries ≡ spelled (event ∷ d.kept)))
 
 -- The kept node refines this core with its disk, or has retreated to it.
 abbrev pub RefinesOrRetreated : {M Msg : Type 0} → Module Msg → Relation M Msg → Setup → ℕ →
     KeptState M Msg MemoryDisk → Core Msg → Disk → Type 0
 RefinesOrRetreated m refines s me g c d = RefinesMachine m refines g c d ⊎ HasRetreated m s me g c d
 
--- What evidence leaves of a simulation. All kept nodes refine their cores, but for the one that took the last event: it
--- may have retreated. The network is the model's, and so are the recorded claims.
+-- What evidence leaves of a simulation. All kept nodes refine their cores, but for the one whose event revealed it: that
+-- one has retreated. The network is the model's, and so are the recorded claims.
 pub record IsLeft {M Msg : Type 0} (m : Module Msg) (refines : Relation M Msg) (v : SimulationState M Msg)
     (w : Machines Msg) : Type 0 where
   pub core : ℕ
   pub others : (i : ℕ) (g : KeptState M Msg MemoryDisk) → slice_get v.nodes i ≡ Some g → i ≢ core →
       RefinesMachine m refines g (w.held.net.cores i) (w.disks i)
   pub there : (g : KeptState M Msg MemoryDisk) → slice_get v.nodes core ≡ Some g →
-      RefinesOrRetreated m refines v.setup (node_of v.setup core) g (w.held.net.cores core) (w.disks core)
+      HasRetreated m v.setup (node_of v.setup core) g (w.held.net.cores core) (w.disks core)
   pub network : v.network ≡ w.held.net.network
   pub signed : AreSigned v.signed w.held.signed
 

@@ -51,6 +51,14 @@ fn claims_at<M: Sequenced>(
     }
 }
 
+// A node's number of slots and its epoch, to which it can retreat.
+fn savepoint_of<M: Sequenced>(node: &Kept<M, MemoryDisk>) -> (usize, Epoch)
+    ensures slots { result.0 ≡ length node.now.node.state.log.entries }
+    ensures epoch { result.1.0 ≡ node.now.node.state.epoch }
+{
+    (node.log().entries().len(), node.epoch())
+}
+
 // Steps a kept node. Also returns its number of slots and its epoch from before the event, to which it can retreat.
 fn take_with_savepoint<M: Sequenced>(
     node: &mut Kept<M, MemoryDisk>,
@@ -63,8 +71,7 @@ fn take_with_savepoint<M: Sequenced>(
     ensures epoch { result.2.0 ≡ node.old.node.state.epoch }
     ensures same { IsSame node.old node.new }
 {
-    let slots = node.log().entries().len();
-    let epoch = node.epoch();
+    let (slots, epoch) = savepoint_of(node);
     (node.take(event), slots, epoch)
 }
 
@@ -93,8 +100,8 @@ fn ends(
 }
 
 impl<M: Sequenced> Simulation<M> {
-    // A core takes an event. It is lost if the core's disk has failed. It stops the run if the event claims a forged
-    // signature.
+    // A core takes an event. It is lost if the core's disk has failed. If the event claims a forged signature, the run
+    // stops, and the core is stale.
     // rule: Evidence: A verified claim that its correct signer never sent ends the run before the step
     // rule: Recovery: A core whose disk has failed takes and reads nothing until it recovers
     pub(crate) fn take(
@@ -120,7 +127,11 @@ impl<M: Sequenced> Simulation<M> {
             .signed
             .first_forged(alloc, &self.setup, directory, claims.as_slice())?;
         match forged {
-            Some(claim) => Ok(EventOutcome::Ended(Evidence::Forged(claim))),
+            Some(claim) => {
+                let (held, entered) = savepoint_of(node);
+                self.nodes[core as usize].retreat(held, entered);
+                Ok(EventOutcome::Ended(Evidence::Forged(claim)))
+            }
             None => self.step(alloc, core, event),
         }
     }

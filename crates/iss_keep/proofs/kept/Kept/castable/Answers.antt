@@ -5,8 +5,8 @@ use Rattle.iss_request.specs.declared.ids.NodeId.{NodeId}
 use Rattle.iss_request.specs.declared.setups.Setup.{Setup}
 use Rattle.iss_keep.proofs.kept.Kept.castable.Goals as goal
 
-pub returns : goal.returns
-returns g c =
+pub returns-then-not-self-clause-is : goal.returns-then-not-self-clause-is
+returns-then-not-self-clause-is g c =
     let m = g.M.Sequenced.spec in
     rw (← c.self.view_is) (λ d for.
     subst (λ (i : NodeId). c.castable.result ≡ is_castable_now (rules_of c.self.inside.setup) m i.0 d) c.self.invariant.number
