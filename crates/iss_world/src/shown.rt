@@ -1,5 +1,5 @@
 //! What a world shows of a core while its disk works. A core whose disk has failed shows its log and epoch alone.
-ghost use Rattle.std.specs.Prelude.{◌≡◌, ◌<◌, ◌×◌, ℕ, IfOk, map, reverse, false};
+ghost use Rattle.std.specs.Prelude.{◌≡◌, ◌<◌, ℕ, IfOk, map, reverse, false};
 ghost use Rattle.iss_model.specs.Courses.{Machines};
 ghost use Rattle.iss_model.specs.Run.{cores_of, node_of};
 ghost use Rattle.iss_model.specs.Views.{accepted_by, claims_of_bytes, is_castable_now, unfilled};

@@ -17,7 +17,7 @@ ghost use Rattle.iss_model.specs.Disks.{Disk};
 ghost use Rattle.iss_model.specs.CourseFrames.{at_machine_in};
 ghost use Rattle.iss_sb.specs.Calls.{AreToNodes};
 ghost use Rattle.iss_world.specs.Books.{AreHashed, AreSigned};
-ghost use Rattle.iss_world.specs.Refines.{HasChanged, RefinesMachine, RefinesMachines, RefinesSome, end_of};
+ghost use Rattle.iss_world.specs.Refines.{HasChanged, IsLeft, RefinesMachine, RefinesMachines, RefinesSome, end_of};
 ghost use Rattle.iss_world.specs.Internal.Steps.{HasAnswered, IsBehind, IsWorking, ends_by, kept_at, kept_to, stepped_to};
 
 use crate::claims::{Claims, book_own};
@@ -128,12 +128,23 @@ impl<M: Sequenced> Simulation<M> {
             .first_forged(alloc, &self.setup, directory, claims.as_slice())?;
         match forged {
             Some(claim) => {
-                let (held, entered) = savepoint_of(node);
-                self.nodes[core as usize].retreat(held, entered);
+                self.stop_at(core);
                 Ok(EventOutcome::Ended(Evidence::Forged(claim)))
             }
             None => self.step(alloc, core, event),
         }
+    }
+
+    // The run stops at a core that read a forged claim. The core is stale from now on, and shows what it showed.
+    fn stop_at(&mut self, core: u32)
+        requires core { core < cores_of self.old.setup }
+        ensures left { (w : Machines M.Msg) → RefinesMachines M.spec M.refines self.old w →
+            IsLeft M.spec M.refines self.new w }
+        ensures same { self.new.setup ≡ self.old.setup }
+    {
+        let node = &mut self.nodes[core as usize];
+        let (held, entered) = savepoint_of(node);
+        node.retreat(held, entered);
     }
 
     // A core with a working disk takes an event whose claims were tested.

@@ -1,7 +1,5 @@
-use Rattle.std.proofs.Common.{◌<◌, ◌≡◌, ◌∙◌, ℕ, List, length, take, true, false, arith, ap, refl, sym, subst}
+use Rattle.std.proofs.Common.{◌<◌, ◌≡◌, ◌∙◌, List, length, true, false, arith, ap, refl, sym, subst}
 use Rattle.std.proofs.lemmas.Option.{slice_get_read}
-use Rattle.iss_base.proofs.Lists.{some-injective}
-use Rattle.iss_keep.specs.State.{KeptState}
 use Rattle.iss_rules.specs.Concrete.{rules_of}
 use Rattle.iss_rules.specs.Formats.{formats_of}
 use Rattle.iss_rules.specs.declared.events.Why.TheVariants.{Stopped}
@@ -9,13 +7,13 @@ use Rattle.iss_model.specs.Node.{step}
 use Rattle.iss_model.specs.Run.{cores_of, first_forged, node_of}
 use Rattle.iss_model.specs.Courses.{Machines, Upshot}
 use Rattle.iss_sb.specs.declared.effects.Claim.{Claim}
-use Rattle.iss_world.specs.Refines.{HasChanged, RefinesMachines}
+use Rattle.iss_world.specs.Refines.{HasChanged, IsLeft, RefinesMachines}
 use Rattle.iss_world.specs.State.{SimulationState}
 use Rattle.iss_world.specs.Internal.Steps.{kept_to}
 use Rattle.iss_world.specs.declared.ends.EventOutcome.TheVariants.{Ended, Lost}
 use Rattle.iss_world.specs.declared.ends.Evidence.TheVariants.{Forged as Evidence_forged}
 use Rattle.iss_world.proofs.BookLemmas.{if-ok}
-use Rattle.iss_world.proofs.StepLemmas.{claims-here, forged-left, machine-forged, machine-kept, machine-stopped, same-network, stale-here, still-running}
+use Rattle.iss_world.proofs.StepLemmas.{claims-here, machine-forged, machine-kept, machine-stopped, stale-here}
 use Rattle.iss_world.proofs.simulation.Simulation.take.Goals as goal
 
 pub returns-then-stale-clause-happened : goal.returns-then-stale-clause-happened
@@ -40,39 +38,23 @@ step-requires-clause-working g c =
     let st = subst (λ (z : SimulationState _ _). RefinesMachines g.M.Sequenced.spec g.M.Sequenced.refines z w) (sym c.self.view_is) c.requires.standing.1 in
     (w, c.requires.standing.1, sym (stale-here g.M.Sequenced.spec g.M.Sequenced.refines v c.args.core c.index-node.result.now c.args.event c.self.invariant.0 at w st) ∙ (sym c.stale.ensures ∙ c.if-stale.false))
 
-pub invariant_of-self-in-Some : goal.invariant_of-self-in-Some
-invariant_of-self-in-Some g c =
-    let v : SimulationState g.row.M.Denot g.row.M-Msg.Denot = record { setup = c.self.inside.setup; nodes = c.self.inside.nodes.items; network = c.self.inside.network; signed = c.self.inside.signed; hashed = c.self.inside.hashed } in
-    let lt : c.args.core < length c.self.inside.nodes.items = omega (arith, ap (λ (z : SimulationState _ _). cores_of z.setup) c.self.view_is, c.self.invariant.0.count) in
-    let at = slice_get_read c.self.inside.nodes.items _ c.args.core c.index_mut.result.now refl lt c.index_mut.ensures.value in (
-      still-running g.M.Sequenced.spec g.M.Sequenced.refines v c.args.core c.index_mut.result.now c.retreat.new.self c.self.inside.network c.self.inside.signed c.self.inside.hashed c.self.invariant.0 lt at c.retreat.ensures.same
-          (same-network g.M.Sequenced.spec g.M.Sequenced.refines v c.self.invariant.0),
-      c.self.invariant.1,
-    )
-
 pub returns-in-Some-clause-happened : goal.returns-in-Some-clause-happened
 returns-in-Some-clause-happened g c =
     let v : SimulationState g.row.M.Denot g.row.M-Msg.Denot = record { setup = c.self.inside.setup; nodes = c.self.inside.nodes.items; network = c.self.inside.network; signed = c.self.inside.signed; hashed = c.self.inside.hashed } in
     let lt : c.args.core < length c.self.inside.nodes.items = omega (arith, ap (λ (z : SimulationState _ _). cores_of z.setup) c.self.view_is, c.self.invariant.0.count) in
     let at = slice_get_read c.self.inside.nodes.items _ c.args.core c.index-node.result.now refl lt c.index-node.ensures in
-    let here = slice_get_read c.self.inside.nodes.items _ c.args.core c.index_mut.result.now refl lt c.index_mut.ensures.value in
-    let same = some-injective c.index-node.result.now c.index_mut.result.now (sym at ∙ here) in
     rw (← c.self.view_is) (λ w st.
     let m = g.M.Sequenced.spec in
     let s = c.self.inside.setup in
     let working : (w.disks c.args.core).failed ≡ false =
     sym (stale-here g.M.Sequenced.spec g.M.Sequenced.refines v c.args.core c.index-node.result.now c.args.event c.self.invariant.0 at w st) ∙ (sym c.stale.ensures ∙ c.if-stale.false) in
     let are = claims-here g.M.Sequenced.spec g.M.Sequenced.refines v c.args.core c.index-node.result.now c.args.event c.self.invariant.0 at c.in_ok-claims.claims c.in_ok-claims.ensures w st working in
+    let there = subst (λ (z : SimulationState g.row.M.Denot g.row.M-Msg.Denot). (w : Machines g.row.M-Msg.Denot) → RefinesMachines m g.M.Sequenced.refines z w →
+    IsLeft m g.M.Sequenced.refines c.stop_at.new.self w) (sym c.self.view_is) c.stop_at.ensures.left in
     let first = sym c.in-Some.is ∙ c.in_ok-forged.ensures w.held.signed st.signed ∙ ap (λ (cs : List Claim). first_forged s (rules_of s) w.held.signed cs) c.as_slice.ensures in
-    subst (λ (u : Upshot g.row.M-Msg.Denot). HasChanged m g.M.Sequenced.refines v u (Ended (Evidence_forged c.in-Some.claim)))
-    (sym (machine-forged m s (formats_of s m) w c.args.core c.args.event c.in_ok-claims.claims are working c.in-Some.claim first)) (
-      forged-left g.M.Sequenced.spec g.M.Sequenced.refines v w c.args.core c.index_mut.result.now c.retreat.new.self c.self.invariant.0 lt st here
-          (c.retreat.ensures.log ∙ ap (λ (k : ℕ). take k c.index_mut.result.now.node.state.log.entries) (c.savepoint_of.ensures.slots ∙ ap (λ (k : KeptState _ _ _). length k.node.state.log.entries) same))
-          (c.retreat.ensures.epoch ∙ c.savepoint_of.ensures.epoch ∙ ap (λ (k : KeptState _ _ _). k.node.state.epoch) same)
-          c.retreat.ensures.stale c.retreat.ensures.journal.1,
-      refl,
-      refl,
-    ))
+    subst (λ (u : Upshot g.row.M-Msg.Denot). HasChanged m g.M.Sequenced.refines c.stop_at.new.self u (Ended (Evidence_forged c.in-Some.claim)))
+    (sym (machine-forged m s (formats_of s m) w c.args.core c.args.event c.in_ok-claims.claims are working c.in-Some.claim first))
+    (there w st, refl, refl))
 
 pub returns-in-None-clause-happened : goal.returns-in-None-clause-happened
 returns-in-None-clause-happened g c =
