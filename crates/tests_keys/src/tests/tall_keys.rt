@@ -1,5 +1,4 @@
 //! Keys with two levels, compared with another program's results. A bottom tree takes a quarter second.
-ghost use Rattle.std.specs.Prelude.{◌<◌, ◌^◌};
 ghost use Rattle.iss_base.specs.Heights.{IsHeight};
 
 use super::vectors::{root_13, signature_13_at_0, signature_13_at_1024};
@@ -15,10 +14,11 @@ fn key(alloc: Global, height: u8) -> Result<Keys, Fail>
     Ok(Keys::make(alloc, [0; 32], height)?)
 }
 
-// A signature by a leaf of the caller's choice.
-fn at_leaf(keys: &mut Keys, leaf: u32) -> Result<Vec<u8>, Fail>
-    requires { leaf < 2 ^ keys.old.height }
-{
+// A signature by a leaf of the caller's choice. A leaf that is not left is refused.
+fn at_leaf(keys: &mut Keys, leaf: u32) -> Result<Vec<u8>, Fail> {
+    if leaf >= keys.left() {
+        return Err("no such leaf")?;
+    }
     Ok(keys.sign_at(leaf, &[0])?)
 }
 
