@@ -77,11 +77,13 @@ fn changed_and_verified(public: &PublicKey, signature: &mut [u8]) -> Option<usiz
 
 // The parts of two signatures of height 13: the bottom part of one and the top part of another, under a leaf's number.
 fn mixed(alloc: Global, bottom: &[u8], leaf: u32, top: &[u8]) -> Result<Vec<u8>, Fail> {
+    let own = bottom.get(5..2469).unwrap_or(&[]);
+    let above = top.get(2469..).unwrap_or(&[]);
     let mut all = Vec::new(alloc);
     all.push(13)?;
     all.extend_from_slice(&leaf.to_be_bytes())?;
-    all.extend_from_slice(bottom.get(5..2469).unwrap_or(&[]))?;
-    all.extend_from_slice(top.get(2469..).unwrap_or(&[]))?;
+    all.extend_from_slice(own)?;
+    all.extend_from_slice(above)?;
     Ok(all)
 }
 
