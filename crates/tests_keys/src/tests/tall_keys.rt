@@ -75,10 +75,15 @@ fn changed_and_verified(public: &PublicKey, signature: &mut [u8]) -> Option<usiz
     None
 }
 
+// The bytes from one place up to another, or none where there are fewer.
+fn piece(bytes: &[u8], from: usize, to: usize) -> &[u8] {
+    bytes.get(from..to).unwrap_or(&[])
+}
+
 // The parts of two signatures of height 13: the bottom part of one and the top part of another, under a leaf's number.
 fn mixed(alloc: Global, bottom: &[u8], leaf: u32, top: &[u8]) -> Result<Vec<u8>, Fail> {
-    let own = bottom.get(5..2469).unwrap_or(&[]);
-    let above = top.get(2469..).unwrap_or(&[]);
+    let own = piece(bottom, 5, 2469);
+    let above = piece(top, 2469, 4709);
     let mut all = Vec::new(alloc);
     all.push(13)?;
     all.extend_from_slice(&leaf.to_be_bytes())?;
@@ -108,7 +113,7 @@ fn only_its_own_parts(
 fn only_of_its_length(alloc: Global, public: &PublicKey, signature: &[u8]) -> Result<bool, Fail> {
     let mut longer = Vec::from_slice(alloc, signature)?;
     longer.push(0)?;
-    let shorter = signature.get(..4708).unwrap_or(&[]);
+    let shorter = piece(signature, 0, 4708);
     let lower = key(alloc, 2)?;
     Ok(
         !verify(public, &[0], &longer)
