@@ -98,6 +98,10 @@ or-right : (a b : Bool) → b ≡ true → (a || b) ≡ true
 or-right true b is = refl
 or-right false b is = is
 
+pub or-neither : (a b : Bool) → (a || b) ≡ false → a ≡ false
+or-neither true b is = is
+or-neither false b is = refl
+
 or-none : (a b : Bool) → b ≡ false → (a || b) ≡ a
 or-none true b is = refl
 or-none false b is = is

@@ -1,12 +1,12 @@
 //! The text that a core exports after a run.
-ghost use Rattle.std.specs.Prelude.{◌≡◌, ◌<◌, ◌≤◌, ◌||◌, IfOk, OnOk, length, true, take, drop};
+ghost use Rattle.std.specs.Prelude.{◌≡◌, ◌<◌, ◌≤◌, ◌||◌, IfOk, OnOk, false, length, take, drop};
 ghost use Rattle.iss_export.specs.Exporting.{HasExported, HasPut, IsExported, IsWritten, is_given, was_given};
 ghost use Rattle.iss_keep.specs.State.{KeptRefinesCore};
 ghost use Rattle.iss_model.specs.Courses.{Course};
 ghost use Rattle.iss_model.specs.Node.{Core};
 ghost use Rattle.iss_replay.specs.Refines.{ReportRefinesRun, end_kept};
 ghost use Rattle.iss_rules.specs.Setups.{IsSetupOf};
-ghost use Rattle.iss_rules.specs.Votes.{cert_on};
+ghost use Rattle.iss_certified.specs.Exported.{certs_shown};
 ghost use Rattle.iss_schedule.specs.Events.{AreInRange};
 ghost use Rattle.iss_schedule.specs.Schedules.{IsKnown};
 ghost use Rattle.iss_theorems.specs.Headline.{course_after};
@@ -136,7 +136,7 @@ fn put_kept<M: Sequenced>(
 ) -> Result<(), NoMemory>
     requires { 0 < setup.now.epoch }
     ensures { OnOk result ((c : Core M.Msg) → KeptRefinesCore M.spec M.refines node.now c →
-        HasPut setup.now (cert_on c.certs) log.now out.old.items out.new.items) }
+        HasPut setup.now (certs_shown c false) log.now out.old.items out.new.items) }
 {
     let slots = setup.epoch as usize;
     let mut rest = log;
