@@ -7,6 +7,7 @@ use Rattle.iss_audit.specs.declared.exports.CertifiedEpoch.{CertifiedEpoch}
 use Rattle.iss_audit.specs.declared.exports.Export.{Export}
 use Rattle.iss_audit.proofs.EpochLemmas.{each-push, log-push}
 use Rattle.iss_audit.proofs.ReadLemmas.{epochs-push}
+use Rattle.iss_base.proofs.Quorum.{or_right_true}
 use Rattle.iss_certified.specs.Exported.{AreCertifiedIfShort, AreExported, IsKept, IsRanged, certs_shown}
 use Rattle.iss_checkpoint.specs.declared.votes.Cert.{Cert}
 use Rattle.iss_disk.specs.declared.memory.MemoryDisk.{MemoryDisk}
@@ -94,10 +95,6 @@ put-none s c log old =
 or-left : (a b : Bool) → a ≡ true → (a || b) ≡ true
 or-left a b is = ap (λ (x : Bool). x || b) is
 
-or-right : (a b : Bool) → b ≡ true → (a || b) ≡ true
-or-right true b is = refl
-or-right false b is = is
-
 pub or-neither : (a b : Bool) → (a || b) ≡ false → a ≡ false
 or-neither true b is = is
 or-neither false b is = refl
@@ -130,7 +127,7 @@ module _ {M Msg : Type 0} (m : Module Msg) (refines : Relation M Msg) (v : World
       ((w : Machines Msg) → WorldRefinesMachines m refines v w → RefinesMachine m refines g (w.held.net.cores i) (w.disks i)) → silent ≡ (g.stale || was_given events p.ended i) → IsSilent events p i silent
   silent-is s me silent st left goes is = record {
     failed = λ failed. is ∙ or-left g.stale (was_given events p.ended i) (failed-stale m refines g (p.machines.held.net.cores i) s me (p.machines.disks i) left failed);
-    given = λ given. is ∙ or-right g.stale (was_given events p.ended i) given;
+    given = λ given. is ∙ or_right_true g.stale (was_given events p.ended i) given;
     goes_on = λ none.
         let here = goes p.machines (subst (λ (o : Option (ℕ × End)). RefinesRunUntil m refines v p.machines o) none st) in
         is ∙ or-none g.stale (was_given events p.ended i) (ap (λ (o : Option (ℕ × End)). was_given events o i) none) ∙ stale-is m refines g (p.machines.held.net.cores i) (p.machines.disks i).failed here.there;
