@@ -1,4 +1,6 @@
 //! A log of full batches, and the set-up of its cluster.
+ghost use Rattle.std.specs.Prelude.{IfOk};
+ghost use Rattle.iss_request.specs.Setup.{IsGoodSetup};
 
 use iss_log::Log;
 use iss_request::{Batch, Bytes, ReqId, Request, Setup, Slot, Value};
@@ -10,7 +12,9 @@ const HEADER: &str =
     "iss 1\nmodule pbft\nf 1\nepoch 4\nbuckets 4\nbatch 4\nwindow 8\npolicy simple\nclients 8\nkeys 8\nfaulty none\n";
 
 /// The set-up of four nodes with trees of height 8.
-pub(crate) fn setup(alloc: Global) -> Result<Setup, Fail> {
+pub(crate) fn setup(alloc: Global) -> Result<Setup, Fail>
+    ensures { IfOk result IsGoodSetup }
+{
     let schedule = read(alloc, HEADER.as_bytes())?;
     Ok(schedule.setup)
 }

@@ -22,7 +22,7 @@ fn main(rt: HostRuntime) -> Result<(), Fail> {
     match words.get(1) {
         Some(what) => time(&rt, what.as_str()),
         None => {
-            stores::count_all(&rt, 1000)?;
+            stores::count_all(&rt, 4000)?;
             replies::count_all(&rt, 4)
         }
     }

@@ -7,18 +7,20 @@ use std::time::Instant;
 
 type Timed<T> = Result<T, Fail>;
 
-// The payload of a request: in turn a put of 16 bytes, a get, a get and a delete, of one of 1,000 keys.
+const KEYS: u32 = 1000;
+
+// The payload of a request. In turn all keys are put, with values of 16 bytes, then got twice, and then deleted.
 fn payload(alloc: Global, number: u32) -> Result<Vec<u8>, AllocError> {
-    let key = (number.wrapping_mul(7919) % 1000).to_be_bytes();
+    let key = (number.wrapping_mul(7919) % KEYS).to_be_bytes();
     let mut bytes = Vec::new(alloc);
-    bytes.push(match number % 4 {
+    bytes.push(match number / KEYS % 4 {
         0 => 1,
         3 => 2,
         _ => 0,
     })?;
     bytes.push(4)?;
     bytes.extend_from_slice(&key)?;
-    if number % 4 == 0 {
+    if number / KEYS % 4 == 0 {
         bytes.extend_from_slice(&[7; 16])?;
     }
     Ok(bytes)

@@ -1,3 +1,4 @@
+pub mod AuditLemmas
 pub mod BelievingLemmas
 pub mod EndLemmas
 pub mod TopLemmas

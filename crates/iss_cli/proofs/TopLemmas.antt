@@ -7,11 +7,11 @@ use Rattle.iss_schedule.specs.Schedules.{most_bytes}
 use Rattle.iss_schedule.specs.declared.schedules.Schedule.{Schedule}
 use Rattle.iss_words.specs.Commands.{Asks}
 use Rattle.iss_words.specs.declared.orders.Order.{Order}
-use Rattle.iss_words.specs.declared.orders.Order.TheVariants.{Replay, Lab, Replies, Answers}
+use Rattle.iss_words.specs.declared.orders.Order.TheVariants.{Replay, Lab, Replies, Answers, Export, Audit}
 use Rattle.iss_cli.specs.declared.answers.Answer.{Answer}
 use Rattle.iss_schedule.specs.BadLines.{IsBadLine}
 use Rattle.iss_schedule.specs.declared.errors.LineFault.{LineFault}
-use Rattle.iss_cli.specs.Answers.{IsAnswer, IsOfReplies, IsOfSchedule, Reads, refused_words}
+use Rattle.iss_cli.specs.Answers.{IsAnswer, IsAudited, IsOfReplies, IsOfSchedule, Reads, refused_words}
 use Rattle.iss_cli.specs.Calls.{Ends, IsAnswerTo, IsAnswered, Prints}
 use Rattle.iss_cli.specs.Ends.{IfTold, IsDrained}
 use Rattle.iss_cli.specs.Views.{IsShown}
@@ -32,6 +32,8 @@ same_answer Replay input other a unread is = absurd (unread tt)
 same_answer (Lab number events) input other a unread is = is
 same_answer Replies input other a unread is = absurd (unread tt)
 same_answer Answers input other a unread is = absurd (unread tt)
+same_answer (Export core) input other a unread is = absurd (unread tt)
+same_answer Audit input other a unread is = absurd (unread tt)
 
 pub answer_unread : (order : Order) (left : Option (List ℕ)) (input : List ℕ) (a : Answer) → (Reads order → ⊥) → IsAnswer order input a → IsAnswerTo order left left a
 answer_unread order left input a unread is =
@@ -65,23 +67,38 @@ schedule_of_front P most all a h answer = go (at_most_or_more (length all) most_
     go (inr long) (inr (line, (why, (inl bad, e)))) = inr (line, (why, (inl (long, bad.1, bad.2), e)))
     go (inr long) (inr (line, (why, (inr bad, e)))) = absurd (omega (arith, bad.0, long_front most_bytes most all h long))
 
+-- The header of a long input is that of its prefix.
+header_of_front : (most : ℕ) (all : List ℕ) (line : ℕ) (why : LineFault) → most_bytes < most → most_bytes < length all → (line ≤ 11) × IsBadLine (take most all) line why →
+    (line ≤ 11) × IsBadLine all line why
+header_of_front most all line why h long (low, inl bad) = (low, inl (long, bad.1, bad.2))
+header_of_front most all line why h long (low, inr bad) = absurd (omega (arith, bad.0, long_front most_bytes most all h long))
+
 -- So is a text of replies.
 replies_of_front : (most : ℕ) (all : List ℕ) (a : Answer) → most_bytes < most → IsOfReplies (take most all) a →
     IsOfReplies all a
 replies_of_front most all a h answer = go (at_most_or_more (length all) most_bytes) answer
   where
-    header_of_front : (line : ℕ) (why : LineFault) → most_bytes < length all → (line ≤ 11) × IsBadLine (take most all) line why →
-        (line ≤ 11) × IsBadLine all line why
-    header_of_front line why long (low, inl bad) = (low, inl (long, bad.1, bad.2))
-    header_of_front line why long (low, inr bad) = absurd (omega (arith, bad.0, long_front most_bytes most all h long))
-
     go : (length all ≤ most_bytes) ⊎ (most_bytes < length all) → IsOfReplies (take most all) a → IsOfReplies all a
     go (inl short) answer =
         let whole : take most all ≡ all = take_all most all (omega (arith, short, h)) in
         subst (λ (bytes : List ℕ). IsOfReplies bytes a) whole answer
     go (inr long) (inl (t, is)) = absurd (omega (arith, is.0.short, long_front most_bytes most all h long))
-    go (inr long) (inr (line, (why, (inl bad, e)))) = inr (line, (why, (inl (header_of_front line why long bad), e)))
+    go (inr long) (inr (line, (why, (inl bad, e)))) = inr (line, (why, (inl (header_of_front most all line why h long bad), e)))
     go (inr long) (inr (line, (why, (inr bad, e)))) = absurd (omega (arith, bad.short, long_front most_bytes most all h long))
+
+-- So is an exported log.
+audited_of_front : (most : ℕ) (all : List ℕ) (a : Answer) → most_bytes < most → IsAudited (take most all) a →
+    IsAudited all a
+audited_of_front most all a h answer = go (at_most_or_more (length all) most_bytes) answer
+  where
+    go : (length all ≤ most_bytes) ⊎ (most_bytes < length all) → IsAudited (take most all) a → IsAudited all a
+    go (inl short) answer =
+        let whole : take most all ≡ all = take_all most all (omega (arith, short, h)) in
+        subst (λ (bytes : List ℕ). IsAudited bytes a) whole answer
+    go (inr long) (inl is) = absurd (omega (arith, is.certified.export.short, long_front most_bytes most all h long))
+    go (inr long) (inr (inl (line, (why, (inl bad, e))))) = inr (inl (line, (why, (inl (header_of_front most all line why h long bad), e))))
+    go (inr long) (inr (inl (line, (why, (inr bad, e))))) = absurd (omega (arith, bad.short, long_front most_bytes most all h long))
+    go (inr long) (inr (inr (epoch, (why, (bad, e))))) = absurd (omega (arith, bad.export.short, long_front most_bytes most all h long))
 
 -- The answer to the bytes that are read is that to all bytes.
 answer_of_front : (order : Order) (most : ℕ) (all : List ℕ) (a : Answer) → most_bytes < most → IsAnswer order (take most all) a → IsAnswer order all a
@@ -89,6 +106,8 @@ answer_of_front Replay most all a h is = schedule_of_front (IsShown Full) most a
 answer_of_front (Lab number events) most all a h is = is
 answer_of_front Replies most all a h is = schedule_of_front _ most all a h is
 answer_of_front Answers most all a h is = replies_of_front most all a h is
+answer_of_front (Export core) most all a h is = schedule_of_front _ most all a h is
+answer_of_front Audit most all a h is = audited_of_front most all a h is
 
 pub answer_read : (order : Order) (left left_now : Option (List ℕ)) (bytes : List ℕ) (a : Answer) → IfTold left (λ all. bytes ≡ take 16777217 all) →
     IsDrained 16777217 left left_now → IsAnswer order bytes a → IsAnswerTo order left left_now a

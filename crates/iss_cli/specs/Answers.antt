@@ -7,10 +7,13 @@ use Rattle.iss_schedule.specs.declared.errors.LineFault.{LineFault}
 use Rattle.iss_schedule.specs.declared.errors.LineFault.TheVariants.{Cut, Form, Faulty, Injected, Range, Size}
 use Rattle.iss_schedule.specs.declared.schedules.Schedule.{Schedule}
 use Rattle.iss_words.specs.declared.orders.Order.{Order}
-use Rattle.iss_words.specs.declared.orders.Order.TheVariants.{Replay, Lab, Replies, Answers}
+use Rattle.iss_words.specs.declared.orders.Order.TheVariants.{Replay, Lab, Replies, Answers, Export, Audit}
 use Rattle.iss_answers.specs.Refusals.{IsBadText}
+use Rattle.iss_audit.specs.Refusals.{IsBadEpoch, IsBadText as IsBadExport}
+use Rattle.iss_audit.specs.declared.errors.EpochFault.{EpochFault}
 use Rattle.iss_answers.specs.Texts.{IsTold}
 use Rattle.iss_answers.specs.declared.told.Told.{Told}
+use Rattle.iss_cli.specs.Auditing.{IsCertifiedAnswer, IsOfCore, refused_epoch}
 use Rattle.iss_cli.specs.Believing.{AreReplied, IsBelieved}
 use Rattle.iss_cli.specs.Views.{IsShown}
 use Rattle.iss_cli.specs.declared.answers.Answer.{Answer}
@@ -48,6 +51,14 @@ IsOfReplies input a =
     ((t : Told) × (IsTold input t × IsBelieved t a))
     ⊎ ((line : ℕ) × ((why : LineFault) × (IsBadText input line why × (a ≡ refused_line line why))))
 
+-- The answer to an input that must be an exported log: the log, if it is certified; otherwise the first bad line, or the
+-- first bad epoch.
+abbrev pub IsAudited : List ℕ → Answer → Type 0
+IsAudited input a =
+    IsCertifiedAnswer input a
+    ⊎ ((line : ℕ) × ((why : LineFault) × (IsBadExport input line why × (a ≡ refused_line line why))))
+    ⊎ ((epoch : ℕ) × ((why : EpochFault) × (IsBadEpoch input epoch why × (a ≡ refused_epoch epoch why))))
+
 -- ---- orders
 
 -- The answer to an order and its input.
@@ -57,6 +68,8 @@ IsAnswer Replay input a = IsOfSchedule (IsShown Full) input a
 IsAnswer (Lab number events) input a = IsShown Summary (generated number events) a
 IsAnswer Replies input a = IsOfSchedule (λ s answer. IsShown Replied s answer × AreReplied s) input a
 IsAnswer Answers input a = IsOfReplies input a
+IsAnswer (Export core) input a = IsOfSchedule (IsOfCore core) input a
+IsAnswer Audit input a = IsAudited input a
 
 -- the order reads the input
 abbrev pub Reads : Order → Type 0
@@ -64,3 +77,5 @@ Reads Replay = Unit {0}
 Reads (Lab number events) = ⊥
 Reads Replies = Unit {0}
 Reads Answers = Unit {0}
+Reads (Export core) = Unit {0}
+Reads Audit = Unit {0}

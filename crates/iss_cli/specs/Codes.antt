@@ -1,7 +1,7 @@
 -- The exit status of the program: one number for each way in which a call ends.
 use Rattle.std.specs.Prelude.{ℕ}
 use Rattle.iss_cli.specs.declared.status.Outcome.{Outcome}
-use Rattle.iss_cli.specs.declared.status.Outcome.TheVariants.{Done, RefusedWords, RefusedInput, Forged as Outcome_forged, Collision as Outcome_collision, Unconfirmed}
+use Rattle.iss_cli.specs.declared.status.Outcome.TheVariants.{Done, RefusedWords, RefusedInput, Forged as Outcome_forged, Collision as Outcome_collision, Unconfirmed, RefusedConfiguration, Uncertified}
 use Rattle.iss_cli.specs.declared.status.Status.{Status}
 use Rattle.iss_cli.specs.declared.status.Status.TheVariants.{Answered, NoMemory, SourceFailed, SinkFailed}
 
@@ -12,6 +12,8 @@ outcome_code RefusedInput = 3
 outcome_code Outcome_forged = 6
 outcome_code Outcome_collision = 7
 outcome_code Unconfirmed = 12
+outcome_code RefusedConfiguration = 11
+outcome_code Uncertified = 12
 
 abbrev pub code_of : Status → ℕ
 code_of (Answered outcome) = outcome_code outcome

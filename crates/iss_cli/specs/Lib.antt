@@ -1,4 +1,5 @@
 pub mod Answers
+pub mod Auditing
 pub mod Believing
 pub mod Calls
 pub mod Codes

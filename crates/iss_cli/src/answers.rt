@@ -5,6 +5,7 @@ ghost use Rattle.iss_cli.specs.Views.{IsShown};
 ghost use Rattle.iss_cli.specs.declared.views.View.TheVariants.{Summary};
 ghost use Rattle.iss_lab.specs.Generated.{generated};
 
+use crate::audits::{audit, export_core};
 use crate::believing::{believe, reply};
 use crate::status::Outcome;
 use crate::views::{View, show};
@@ -30,6 +31,7 @@ pub fn reads(order: Order) -> bool
         Order::Replay => true,
         Order::Lab { .. } => false,
         Order::Replies | Order::Answers => true,
+        Order::Export { .. } | Order::Audit => true,
     }
 }
 
@@ -42,6 +44,8 @@ pub fn respond(alloc: Global, order: Order, input: &[u8]) -> Result<Answer, NoMe
         Order::Lab { number, events } => show_generated(alloc, number, events),
         Order::Replies => reply(alloc, input),
         Order::Answers => believe(alloc, input),
+        Order::Export { core } => export_core(alloc, core, input),
+        Order::Audit => audit(alloc, input),
     }
 }
 

@@ -2,6 +2,7 @@
 #![tactic(auto)]
 
 pub mod answers;
+pub mod audits;
 pub mod believing;
 pub mod ends;
 pub mod errors;

@@ -17,6 +17,10 @@ pub enum Outcome {
     Collision,
     /// A client counted a reply to a request, and accepted no answer.
     Unconfirmed,
+    /// The schedule's cluster has no core that the words name.
+    RefusedConfiguration,
+    /// An epoch of the exported log is not certified.
+    Uncertified,
 }
 
 /// How the top call ends.
@@ -44,6 +48,8 @@ impl Outcome {
             Outcome::Forged => 6,
             Outcome::Collision => 7,
             Outcome::Unconfirmed => 12,
+            Outcome::RefusedConfiguration => 11,
+            Outcome::Uncertified => 12,
         }
     }
 }

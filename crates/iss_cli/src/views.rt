@@ -91,9 +91,9 @@ fn write_view<M: Sequenced>(
     }
 }
 
-// The outcome of a run.
+/// The outcome of a run.
 // rule: Program: A run that ends with evidence exits with 6 or 7, and reports the logs before it
-fn outcome_of(ended: &Option<(u64, Evidence)>) -> Outcome
+pub fn outcome_of(ended: &Option<(u64, Evidence)>) -> Outcome
     ensures { result ≡ outcome_of (end_kept ended.now) }
 {
     match ended {

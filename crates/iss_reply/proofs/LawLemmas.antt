@@ -9,7 +9,9 @@ use Rattle.iss_base.proofs.Lists.{ends-same, some-injective}
 use Rattle.iss_keys.specs.Chains.{chain_start}
 use Rattle.iss_keys.specs.Directories.{public_keys_of}
 use Rattle.iss_keys.specs.KeyStates.{public_key}
-use Rattle.iss_base.specs.Heights.{IsHeight}
+use Rattle.iss_keys.specs.Levels.{top_secret, top_tree, tree_of_key}
+use Rattle.iss_keys.specs.Trees.{KeyTree}
+use Rattle.iss_base.specs.Heights.{IsHeight, has_two_levels}
 use Rattle.iss_keys.specs.Signatures.{Verifies, signature_of}
 use Rattle.iss_keys.specs.VerifiedBy.{is_verified_by}
 use Rattle.iss_keys.proofs.DirectoryLemmas.{verified-by}
@@ -22,7 +24,7 @@ use Rattle.iss_request.specs.declared.setups.Setup.{Setup}
 use Rattle.iss_reply.specs.declared.replies.Reply.{Reply}
 use Rattle.iss_reply.specs.Answers.{answer_to, held_after, requests_in, requests_of}
 use Rattle.iss_reply.specs.Clients.{IsReplyOf, cluster_of, is_signed}
-use Rattle.iss_reply.specs.Replies.{Replying, Separates, chain_string, replying, reply_at, reply_secret, reply_to, signed_reply, slot_of}
+use Rattle.iss_reply.specs.Replies.{Replying, Separates, chain_string, replying, reply_at, reply_secret, reply_to, signed_reply, slot_of, tree_string}
 use Rattle.iss_reply.specs.Repliers.{Answered, ReplierState}
 use Rattle.iss_reply.proofs.RequestLemmas.{get-below, get-front, requests-length}
 
@@ -136,14 +138,70 @@ rest-same a b xs ys h = cc
 pub secrets-apart : (kind i j : ℕ) → kind ≢ 0x22 → Separates (0x22 ∷ i ∷ []) (kind ∷ j ∷ []) → reply_secret i ≢ sha256 (kind ∷ j ∷ [])
 secrets-apart kind i j other h e = other (sym (first-same 0x22 kind (i ∷ []) (j ∷ []) (h e)))
 
-pub chains-apart : (kind i j q r k l : ℕ) → kind ≢ 0x22 → Separates (0x22 ∷ i ∷ []) (kind ∷ j ∷ [])
-    → Separates (chain_string (reply_secret i) q k) (chain_string (sha256 (kind ∷ j ∷ [])) r l)
-    → chain_start (reply_secret i) q k ≢ chain_start (sha256 (kind ∷ j ∷ [])) r l
-chains-apart kind i j q r k l other h g e =
-    let a = reply_secret i in
-    let b = sha256 (kind ∷ j ∷ []) in
-    let same = rest-same 0x10 0x10 _ _ (g e) in
+-- the secret of each tree is the hash of its string
+tree-hashed : (own : List ℕ) (h t : ℕ) → (tree_of_key (sha256 own) h t).secret ≡ sha256 (tree_string own h t)
+unfolding top_tree
+tree-hashed own h zero = by_levels (has_two_levels h)
+  where
+    by_levels : (b : Bool) → (cond {A = KeyTree} b (record { secret = top_secret (sha256 own); height = h - 10 })
+        (record { secret = sha256 own; height = h })).secret ≡ sha256 (cond b (0x16 ∷ sha256 own) own)
+    by_levels true = refl
+    by_levels false = refl
+tree-hashed own h (suc b) = refl
+
+-- a tree's string is the other tree's only if the keys' secrets are equal
+strings-apart : (kind i j h t u : ℕ) → kind ≢ 0x22 → Separates (0x22 ∷ i ∷ []) (kind ∷ j ∷ []) →
+    tree_string (0x22 ∷ i ∷ []) h t ≢ tree_string (kind ∷ j ∷ []) h u
+strings-apart kind i j h zero zero other g e = by_levels (has_two_levels h) e
+  where
+    by_levels : (b : Bool) → cond b (0x16 ∷ sha256 (0x22 ∷ i ∷ [])) (0x22 ∷ i ∷ [])
+        ≡ cond b (0x16 ∷ sha256 (kind ∷ j ∷ [])) (kind ∷ j ∷ []) → ⊥
+    by_levels true e = secrets-apart kind i j other g (rest-same 0x16 0x16 _ _ e)
+    by_levels false e = other (sym (first-same 0x22 kind (i ∷ []) (j ∷ []) e))
+strings-apart kind i j h zero (suc b) other g e = by_levels (has_two_levels h) e
+  where
+    by_levels : (c : Bool) → cond c (0x16 ∷ sha256 (0x22 ∷ i ∷ [])) (0x22 ∷ i ∷ [])
+        ≡ 0x15 ∷ sha256 (kind ∷ j ∷ []) ++ to_be_bytes w32 b → ⊥
+    by_levels true e = let clash : 0x16 ≡ 0x15 = first-same 0x16 0x15 _ _ e in absurd (omega (arith, clash))
+    by_levels false e = let clash : 0x22 ≡ 0x15 = first-same 0x22 0x15 _ _ e in absurd (omega (arith, clash))
+strings-apart kind i j h (suc a) zero other g e = by_levels (has_two_levels h) e
+  where
+    by_levels : (c : Bool) → 0x15 ∷ sha256 (0x22 ∷ i ∷ []) ++ to_be_bytes w32 a
+        ≡ cond c (0x16 ∷ sha256 (kind ∷ j ∷ [])) (kind ∷ j ∷ []) → ⊥
+    by_levels true e = let clash : 0x15 ≡ 0x16 = first-same 0x15 0x16 _ _ e in absurd (omega (arith, clash))
+    by_levels false e =
+        let same = ap (λ (xs : List ℕ). length xs) (rest-same 0x15 kind _ _ e) in
+        let sum = length-append (sha256 (0x22 ∷ i ∷ [])) (to_be_bytes w32 a) in
+        let long = length-sha256 (0x22 ∷ i ∷ []) in
+        absurd (omega (arith, same, sum, long))
+strings-apart kind i j h (suc a) (suc b) other g e =
+    let long = length-sha256 (0x22 ∷ i ∷ []) ∙ sym (length-sha256 (kind ∷ j ∷ [])) in
+    let same = rest-same 0x15 0x15 _ _ e in
+    secrets-apart kind i j other g
+    (ends-same (sha256 (0x22 ∷ i ∷ [])) (sha256 (kind ∷ j ∷ [])) (to_be_bytes w32 a) (to_be_bytes w32 b) long same).0
+
+pub trees-apart : (kind i j h t u : ℕ) → kind ≢ 0x22 → Separates (0x22 ∷ i ∷ []) (kind ∷ j ∷ [])
+    → Separates (tree_string (0x22 ∷ i ∷ []) h t) (tree_string (kind ∷ j ∷ []) h u)
+    → (tree_of_key (reply_secret i) h t).secret ≢ (tree_of_key (sha256 (kind ∷ j ∷ [])) h u).secret
+trees-apart kind i j h t u other g f e =
+    strings-apart kind i j h t u other g
+    (f (sym (tree-hashed (0x22 ∷ i ∷ []) h t) ∙ e ∙ tree-hashed (kind ∷ j ∷ []) h u))
+
+-- a tree's secret is a digest
+tree-long : (own : List ℕ) (h t : ℕ) → length (tree_of_key (sha256 own) h t).secret ≡ 32
+tree-long own h t = ap (λ (xs : List ℕ). length xs) (tree-hashed own h t) ∙ length-sha256 (tree_string own h t)
+
+pub chains-apart : (kind i j h t u q r k l : ℕ) → kind ≢ 0x22 → Separates (0x22 ∷ i ∷ []) (kind ∷ j ∷ [])
+    → Separates (tree_string (0x22 ∷ i ∷ []) h t) (tree_string (kind ∷ j ∷ []) h u)
+    → Separates (chain_string (tree_of_key (reply_secret i) h t).secret q k)
+    (chain_string (tree_of_key (sha256 (kind ∷ j ∷ [])) h u).secret r l)
+    → chain_start (tree_of_key (reply_secret i) h t).secret q k
+    ≢ chain_start (tree_of_key (sha256 (kind ∷ j ∷ [])) h u).secret r l
+chains-apart kind i j h t u q r k l other g f d e =
+    let a = (tree_of_key (reply_secret i) h t).secret in
+    let b = (tree_of_key (sha256 (kind ∷ j ∷ [])) h u).secret in
+    let same = rest-same 0x10 0x10 _ _ (d e) in
     let turned : a ++ (to_be_bytes w32 q ++ to_be_bytes w16 k) ≡ b ++ (to_be_bytes w32 r ++ to_be_bytes w16 l) =
     sym (append_assoc a (to_be_bytes w32 q) (to_be_bytes w16 k)) ∙ same ∙ append_assoc b (to_be_bytes w32 r) (to_be_bytes w16 l) in
-    let long : length a ≡ length b = length-sha256 (0x22 ∷ i ∷ []) ∙ sym (length-sha256 (kind ∷ j ∷ [])) in
-    secrets-apart kind i j other h (ends-same a b (to_be_bytes w32 q ++ to_be_bytes w16 k) (to_be_bytes w32 r ++ to_be_bytes w16 l) long turned).0
+    let long : length a ≡ length b = tree-long (0x22 ∷ i ∷ []) h t ∙ sym (tree-long (kind ∷ j ∷ []) h u) in
+    trees-apart kind i j h t u other g f (ends-same a b (to_be_bytes w32 q ++ to_be_bytes w16 k) (to_be_bytes w32 r ++ to_be_bytes w16 l) long turned).0

@@ -5,6 +5,7 @@
 use Rattle.std.specs.Prelude.{◌≡◌, ℕ, zero, suc, ◌-◌, ◌/◌, ◌%◌, ◌^◌, min, nat_lt, if◌then◌else◌, List, [], ◌∷◌, ◌++◌, length, take, Option, Some, None, slice_get}
 use Rattle.std.specs.Int.{w16, w32, w64, to_be_bytes}
 use Rattle.sha2.specs.Sha256.{sha256}
+use Rattle.iss_base.specs.Heights.{has_two_levels}
 use Rattle.iss_keys.specs.KeyStates.{KeyState}
 use Rattle.iss_keys.specs.Signatures.{signature_of}
 use Rattle.iss_request.specs.Log.{requests, size_of}
@@ -102,3 +103,9 @@ Separates a b = sha256 a ≡ sha256 b → a ≡ b
 -- the strings hashed for the start of a chain, and for a secret
 abbrev pub chain_string : List ℕ → ℕ → ℕ → List ℕ
 chain_string secret q i = 0x10 ∷ secret ++ to_be_bytes w32 q ++ to_be_bytes w16 i
+
+-- The string whose hash is the secret of a tree of a key, where the hash of `own` is the key's secret. Tree 0 is the only
+-- one or the top tree, tree b + 1 is bottom tree b.
+abbrev pub tree_string : List ℕ → ℕ → ℕ → List ℕ
+tree_string own h zero = if has_two_levels h then 0x16 ∷ sha256 own else own
+tree_string own h (suc b) = 0x15 ∷ sha256 own ++ to_be_bytes w32 b

@@ -2,11 +2,12 @@
 ghost use Rattle.std.specs.Prelude.{◌≡◌, ◌≢◌, ◌^◌, ◌<◌, ◌≤◌, ◌++◌, ◌∷◌, [], ℕ, List, Some, true};
 ghost use Rattle.iss_base.specs.Heights.{IsHeight};
 ghost use Rattle.iss_keys.specs.Chains.{chain_start};
+ghost use Rattle.iss_keys.specs.Levels.{tree_of_key};
 ghost use Rattle.iss_request.specs.declared.requests.Value.{Value};
 ghost use Rattle.iss_request.specs.declared.setups.Setup.{Setup};
 ghost use Rattle.iss_reply.specs.declared.replies.Reply.{Reply};
 ghost use Rattle.iss_reply.specs.Clients.{IsReplyOf, cluster_of, is_signed};
-ghost use Rattle.iss_reply.specs.Replies.{Replying, Separates, chain_string, replying, reply_at, reply_secret};
+ghost use Rattle.iss_reply.specs.Replies.{Replying, Separates, chain_string, replying, reply_at, reply_secret, tree_string};
 ghost use Rattle.iss_reply.specs.Repliers.{Answered, ReplierState};
 ghost use Rattle.sha2.specs.Sha256.{sha256};
 
@@ -27,13 +28,20 @@ pub fn replies_are_their_nodes()
         q < 2 ^ s.keys → reply_at (replying s me) log q ≡ Some r → is_signed (cluster_of s) r ≡ true }
 {}
 
-/// A reply key has no secret and no start of a chain in common with a key of another kind, whose secret is hashed
-/// behind another byte, unless SHA-256 collides.
+/// A reply key has no secret in common with a key of another kind, whose secret is hashed behind another byte, unless
+/// SHA-256 collides. Nor has any of its trees a secret, or a start of a chain, in common with a tree of the other key. So
+/// no leaf is shared.
 // rule: Replies: A node's reply key has a secret of its own, made behind a byte that no other key uses
 pub fn reply_keys_are_apart()
     ensures secrets { (kind i j : ℕ) → kind ≢ 0x22 → Separates (0x22 ∷ i ∷ []) (kind ∷ j ∷ []) →
         reply_secret i ≢ sha256 (kind ∷ j ∷ []) }
-    ensures chains { (kind i j q r k l : ℕ) → kind ≢ 0x22 → Separates (0x22 ∷ i ∷ []) (kind ∷ j ∷ []) →
-        Separates (chain_string (reply_secret i) q k) (chain_string (sha256 (kind ∷ j ∷ [])) r l) →
-        chain_start (reply_secret i) q k ≢ chain_start (sha256 (kind ∷ j ∷ [])) r l }
+    ensures trees { (kind i j h t u : ℕ) → kind ≢ 0x22 → Separates (0x22 ∷ i ∷ []) (kind ∷ j ∷ []) →
+        Separates (tree_string (0x22 ∷ i ∷ []) h t) (tree_string (kind ∷ j ∷ []) h u) →
+        (tree_of_key (reply_secret i) h t).secret ≢ (tree_of_key (sha256 (kind ∷ j ∷ [])) h u).secret }
+    ensures chains { (kind i j h t u q r k l : ℕ) → kind ≢ 0x22 → Separates (0x22 ∷ i ∷ []) (kind ∷ j ∷ []) →
+        Separates (tree_string (0x22 ∷ i ∷ []) h t) (tree_string (kind ∷ j ∷ []) h u) →
+        Separates (chain_string (tree_of_key (reply_secret i) h t).secret q k)
+        (chain_string (tree_of_key (sha256 (kind ∷ j ∷ [])) h u).secret r l) →
+        chain_start (tree_of_key (reply_secret i) h t).secret q k
+        ≢ chain_start (tree_of_key (sha256 (kind ∷ j ∷ [])) h u).secret r l }
 {}

@@ -4,7 +4,7 @@ use Rattle.std.specs.Prelude.{◌≡◌, ◌^◌, ◌-◌, ℕ, true, List, [], 
 use Rattle.clap.specs.Words.{App, Row, Rule, Text, fault_of, new_app, new_rule, subcommand_of, with_rule, with_subcommand}
 use Rattle.iss_words.specs.Numbers.{IsNumberAt}
 use Rattle.iss_words.specs.declared.orders.Order.{Order}
-use Rattle.iss_words.specs.declared.orders.Order.TheVariants.{Replay, Lab, Replies, Answers}
+use Rattle.iss_words.specs.declared.orders.Order.TheVariants.{Replay, Lab, Replies, Answers, Export, Audit}
 
 -- a positional that must be there
 abbrev pub word_rule : Text → Rule
@@ -25,13 +25,22 @@ replies = new_app (codes "replies")
 abbrev pub answers : App
 answers = new_app (codes "answers")
 
--- the commands that print the runs of schedules, and those on replies
+abbrev pub export : App
+export = with_rule (new_app (codes "export")) (word_rule (codes "core"))
+
+abbrev pub audit : App
+audit = new_app (codes "audit")
+
+-- the commands that print the runs of schedules, those on replies, and those on certified logs
 -- rule: Program: The words are one command with its positionals
 abbrev pub with_runs : App
 with_runs = with_subcommand (with_subcommand top replay.top) lab.top
 
+abbrev pub with_replies : App
+with_replies = with_subcommand (with_subcommand with_runs replies.top) answers.top
+
 abbrev pub commands : App
-commands = with_subcommand (with_subcommand with_runs replies.top) answers.top
+commands = with_subcommand (with_subcommand with_replies export.top) audit.top
 
 -- what is asked for by the name of a command and its positionals
 abbrev pub IsOrder : Text → List Row → Order → Type 0
@@ -40,6 +49,8 @@ IsOrder name rows (Lab number events) = (name ≡ codes "lab")
     × IsNumberAt rows (codes "number") 0 (2 ^ 64 - 1) number × IsNumberAt rows (codes "events") 1 100000 events
 IsOrder name rows Replies = name ≡ codes "replies"
 IsOrder name rows Answers = name ≡ codes "answers"
+IsOrder name rows (Export core) = (name ≡ codes "export") × IsNumberAt rows (codes "core") 0 9 core
+IsOrder name rows Audit = name ≡ codes "audit"
 
 -- The words ask for this: `clap` finds no fault in them, and they are this command, with numbers in their ranges.
 -- rule: Program: The words are one command with its positionals

@@ -12,6 +12,10 @@ pub enum Order {
     Replies,
     /// What a client makes of replies.
     Answers,
+    /// The certified log of a core after a schedule's run.
+    Export { core: u32 },
+    /// Whether a text is a certified log.
+    Audit,
 }
 
 /// Why words were not read.

@@ -2,7 +2,7 @@
 ghost use Rattle.std.specs.Prelude.{◌≡◌, ◌≢◌, ◌↔◌, ℕ, [], Err, IfNone, IfOk, IfSome, IsTrue, codes, false, map, option_map, string_bytes};
 ghost use Rattle.clap.specs.Words.{app_of, fault_of, first_of, found_of, kind_of, new_app, rows_of, subcommand_of, subcommand_rows_of, with_rule, with_subcommand};
 ghost use Rattle.clap.specs.declared.Command.TheViews.{out-Command};
-ghost use Rattle.iss_words.specs.Commands.{Asks, IsOrder, commands, lab, top, with_runs, word_rule};
+ghost use Rattle.iss_words.specs.Commands.{Asks, IsOrder, commands, export, lab, top, with_replies, with_runs, word_rule};
 ghost use Rattle.iss_words.specs.Numbers.{IsNumberAt};
 ghost use Rattle.iss_words.specs.declared.orders.Order.{Order};
 
@@ -39,6 +39,8 @@ fn order_of(name: &str, matches: &ArgMatches<'_>) -> Option<Order>
         "lab" => lab_of(matches),
         "replies" => Some(Order::Replies),
         "answers" => Some(Order::Answers),
+        "export" => export_of(matches),
+        "audit" => Some(Order::Audit),
         _ => None,
     }
 }
@@ -53,6 +55,15 @@ fn lab_of(matches: &ArgMatches<'_>) -> Option<Order>
         number,
         events: events as u32,
     })
+}
+
+fn export_of(matches: &ArgMatches<'_>) -> Option<Order>
+    ensures some { IfSome result (IsOrder (codes "export") (rows_of (found_of matches.now))) }
+    ensures none { IfNone result ((order : Order) →
+        ¬ IsOrder (codes "export") (rows_of (found_of matches.now)) order) }
+{
+    let core = number_at(matches, "core", 0, 9)?;
+    Some(Order::Export { core: core as u32 })
 }
 
 // The number at a positional, if it is spelled as it should be and in the range.
@@ -106,6 +117,15 @@ fn is_memory(error: &Error) -> bool
 fn commands<'a>(alloc: Global) -> Result<Command<'a>, AllocError>
     ensures { IfOk result (λ c. app_of c ≡ commands) }
 {
+    let command = with_command(with_replies(alloc)?, export(alloc)?)?;
+    with_command(command, Command::new(alloc, "audit"))
+}
+
+// The commands on runs and on replies.
+fn with_replies<'a>(alloc: Global) -> Result<Command<'a>, AllocError>
+    ensures shape { IfOk result (λ c. app_of c ≡ with_replies) }
+    ensures globals { IfOk result (λ c. (out-Command c).has_globals ≡ false) }
+{
     let command = with_command(with_runs(alloc)?, Command::new(alloc, "replies"))?;
     with_command(command, Command::new(alloc, "answers"))
 }
@@ -133,6 +153,13 @@ fn lab<'a>(alloc: Global) -> Result<Command<'a>, AllocError>
     let command = Command::new(alloc, "lab");
     let command = with_word(alloc, command, "number")?;
     with_word(alloc, command, "events")
+}
+
+fn export<'a>(alloc: Global) -> Result<Command<'a>, AllocError>
+    ensures shape { IfOk result (λ c. app_of c ≡ export) }
+    ensures globals { IfOk result (λ c. (out-Command c).has_globals ≡ false) }
+{
+    with_word(alloc, Command::new(alloc, "export"), "core")
 }
 
 // The command with one more positional.

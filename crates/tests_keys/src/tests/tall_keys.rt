@@ -1,5 +1,4 @@
 //! Keys with two levels, compared with another program's results. A bottom tree takes a quarter second.
-ghost use Rattle.std.specs.Prelude.{◌<◌, ◌^◌};
 ghost use Rattle.iss_base.specs.Heights.{IsHeight};
 
 use super::vectors::{root_13, signature_13_at_0, signature_13_at_1024};
@@ -15,10 +14,11 @@ fn key(alloc: Global, height: u8) -> Result<Keys, Fail>
     Ok(Keys::make(alloc, [0; 32], height)?)
 }
 
-// A signature by a leaf of the caller's choice.
-fn at_leaf(keys: &mut Keys, leaf: u32) -> Result<Vec<u8>, Fail>
-    requires { leaf < 2 ^ keys.old.height }
-{
+// A signature by a leaf of the caller's choice. A leaf that is not left is refused.
+fn at_leaf(keys: &mut Keys, leaf: u32) -> Result<Vec<u8>, Fail> {
+    if leaf >= keys.left() {
+        return Err("no such leaf")?;
+    }
     Ok(keys.sign_at(leaf, &[0])?)
 }
 
@@ -75,13 +75,20 @@ fn changed_and_verified(public: &PublicKey, signature: &mut [u8]) -> Option<usiz
     None
 }
 
+// The bytes from one place up to another, or none where there are fewer.
+fn piece(bytes: &[u8], from: usize, to: usize) -> &[u8] {
+    bytes.get(from..to).unwrap_or(&[])
+}
+
 // The parts of two signatures of height 13: the bottom part of one and the top part of another, under a leaf's number.
 fn mixed(alloc: Global, bottom: &[u8], leaf: u32, top: &[u8]) -> Result<Vec<u8>, Fail> {
+    let own = piece(bottom, 5, 2469);
+    let above = piece(top, 2469, 4709);
     let mut all = Vec::new(alloc);
     all.push(13)?;
     all.extend_from_slice(&leaf.to_be_bytes())?;
-    all.extend_from_slice(bottom.get(5..2469).unwrap_or(&[]))?;
-    all.extend_from_slice(top.get(2469..).unwrap_or(&[]))?;
+    all.extend_from_slice(own)?;
+    all.extend_from_slice(above)?;
     Ok(all)
 }
 
@@ -106,7 +113,7 @@ fn only_its_own_parts(
 fn only_of_its_length(alloc: Global, public: &PublicKey, signature: &[u8]) -> Result<bool, Fail> {
     let mut longer = Vec::from_slice(alloc, signature)?;
     longer.push(0)?;
-    let shorter = signature.get(..4708).unwrap_or(&[]);
+    let shorter = piece(signature, 0, 4708);
     let lower = key(alloc, 2)?;
     Ok(
         !verify(public, &[0], &longer)

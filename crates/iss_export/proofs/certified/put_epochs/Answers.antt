@@ -1,0 +1,19 @@
+use Rattle.std.proofs.Common.{◌∙◌, ◌++◌, ◌∷◌, [], append-nil, arith, ap, refl, sym, take}
+use Rattle.std.proofs.lemmas.List.{take_more}
+use Rattle.iss_audit.specs.Exports.{log_of}
+use Rattle.iss_audit.specs.declared.exports.CertifiedEpoch.{CertifiedEpoch}
+use Rattle.iss_export.proofs.CertifiedLemmas.{epoch-more, printed-same}
+use Rattle.iss_export.proofs.certified.put_epochs.Goals as goal
+
+pub loop-epoch-start : goal.loop-epoch-start
+loop-epoch-start c = record { lines = sym (append-nil c.args.out.now.items); place = refl }
+
+pub loop-epoch-preserved : goal.loop-epoch-preserved
+loop-epoch-preserved c =
+    let xs = c.args.epochs.now in
+    let i = c.loop-epoch.epoch-index in
+    let x = c.epoch-item.result in
+    let before = c.loop-epoch.invariant in
+    let more = take_more xs i x (omega (arith, c.loop-epoch-test.true)) ∙ ap (λ (y : CertifiedEpoch). take i xs ++ y ∷ []) (sym c.epoch-item.is) in
+    printed-same _ _ c.args.out.now.items _ _ (epoch-more (take i xs) (take (i + 1) xs) x more)
+    (c.in_ok-put_values.ensures (log_of (take i xs)) c.args.out.now.items before.place before.lines)
