@@ -51,8 +51,8 @@ IsOfReplies input a =
     ((t : Told) × (IsTold input t × IsBelieved t a))
     ⊎ ((line : ℕ) × ((why : LineFault) × (IsBadText input line why × (a ≡ refused_line line why))))
 
--- The answer to an input that must be an exported log: the log, if it is certified; otherwise the first bad line, or the
--- first bad epoch.
+-- The answer to an input that must be an exported log: the log, if it is certified; otherwise the first bad line, or
+-- the first bad epoch.
 abbrev pub IsAudited : List ℕ → Answer → Type 0
 IsAudited input a =
     IsCertifiedAnswer input a

@@ -63,8 +63,8 @@ impl<D: Disk> Journal<D> {
             (λ file. Reads file.content (holds (entries_of self.new)))) }
         ensures damaged { (at : ℕ) → IsErrOf result (AttachError.Damaged at) → IfTold (D.history (disk_of self.old))
             (λ file. Reads file.content (damaged at)) }
-        ensures damaged_stays { (at : ℕ) → IsErrOf result (AttachError.Damaged at) → IfTold (D.history (disk_of self.old))
-            (λ before. IfTold (D.history (disk_of self.new)) (λ now. now ≡ settled before.content)) }
+        ensures damaged_stays { (at : ℕ) → IsErrOf result (AttachError.Damaged at) →
+            IfTold (D.history (disk_of self.old)) (λ before. IfTold (D.history (disk_of self.new)) (λ now. now ≡ settled before.content)) }
         ensures err { OnErr result (entries_of self.new ≡ entries_of self.old) }
         ensures attached { is_attached self.new ≡ is_ok result }
         ensures file { OnOk result (IfTold (D.history (disk_of self.old)) (λ before.

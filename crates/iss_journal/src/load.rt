@@ -50,7 +50,8 @@ pub(crate) fn load<D: Disk>(alloc: Global, disk: &mut D) -> Result<Entries, Atta
         (λ before. IfTold (D.history disk.new) (ComesToRest (entries_in entries) before.content))) }
     ensures damaged { (at : ℕ) → IsErrOf result (AttachError.Damaged at) → IfTold (D.history disk.old)
         (λ file. Reads file.content (damaged at)) }
-    ensures damaged_stays { (at : ℕ) → IsErrOf result (AttachError.Damaged at) → D.history disk.new ≡ D.history disk.old }
+    ensures damaged_stays { (at : ℕ) → IsErrOf result (AttachError.Damaged at) →
+        D.history disk.new ≡ D.history disk.old }
     ensures any_moment { LeavesReading (D.history disk.old) (D.history disk.new) }
     ensures others { StaysHere (D.current disk.old) (D.current disk.new) (D.files disk.old) (D.files disk.new) }
     ensures cause { HasCause (D.faults disk.old) (D.faults disk.new) (IsErrOf result AttachError.Failed) }

@@ -146,8 +146,9 @@ IsDamaged s m me entries before at =
     IfTold before (λ file. Reads file.content (damaged at))
     ⊎ (IfTold before (λ file. Reads file.content (holds entries)) × StopsAt s m me at entries)
 
--- What a refusal at this offset leaves of the file. A damaged file stays byte for byte. A file that was read, and one of
--- whose entries the node refuses, comes to rest: only what follows its last gate goes. So the next call finds the same.
+-- What a refusal at this offset leaves of the file. A damaged file stays byte for byte. A file that was read, and one
+-- of whose entries the node refuses, comes to rest: only what follows its last gate goes. So the next call finds the
+-- same.
 -- rule: Journal: A damaged file stays byte for byte
 abbrev pub IsLeft : List (List ℕ) → List File → List File → ℕ → Type 0
 IsLeft entries before now at = IfTold before (λ from.

@@ -112,8 +112,8 @@ impl<M: Sequenced, D: Disk> Kept<M, D> {
     }
 
     /// Recovers the node by replaying its journal. `Damaged` if the file is damaged, or if an entry is no event or is
-    /// one that the node would drop at that point. A damaged file stays byte for byte, so that no later call takes it for
-    /// a new one. `Failed` only if the disk failed.
+    /// one that the node would drop at that point. A damaged file stays byte for byte, so that no later call takes it
+    /// for a new one. `Failed` only if the disk failed.
     pub fn reopen(&mut self) -> Result<(), AttachError>
         ensures stale { self.new.stale ≡ not (is_ok result) }
         ensures core { OnOk result ((c : Core M.Msg) × RefinesEntries M.spec M.refines self.new c) }

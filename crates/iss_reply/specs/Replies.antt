@@ -104,8 +104,8 @@ Separates a b = sha256 a ≡ sha256 b → a ≡ b
 abbrev pub chain_string : List ℕ → ℕ → ℕ → List ℕ
 chain_string secret q i = 0x10 ∷ secret ++ to_be_bytes w32 q ++ to_be_bytes w16 i
 
--- The string whose hash is the secret of a tree of a key, where the hash of `own` is the key's secret. Tree 0 is the only
--- one or the top tree, tree b + 1 is bottom tree b.
+-- The string whose hash is the secret of a tree of a key, where the hash of `own` is the key's secret. Tree 0 is the
+-- only one or the top tree, tree b + 1 is bottom tree b.
 abbrev pub tree_string : List ℕ → ℕ → ℕ → List ℕ
 tree_string own h zero = if has_two_levels h then 0x16 ∷ sha256 own else own
 tree_string own h (suc b) = 0x15 ∷ sha256 own ++ to_be_bytes w32 b

@@ -29,8 +29,8 @@ pub fn replies_are_their_nodes()
 {}
 
 /// A reply key has no secret in common with a key of another kind, whose secret is hashed behind another byte, unless
-/// SHA-256 collides. Nor has any of its trees a secret, or a start of a chain, in common with a tree of the other key. So
-/// no leaf is shared.
+/// SHA-256 collides. Nor has any of its trees a secret, or a start of a chain, in common with a tree of the other key.
+/// So no leaf is shared.
 // rule: Replies: A node's reply key has a secret of its own, made behind a byte that no other key uses
 pub fn reply_keys_are_apart()
     ensures secrets { (kind i j : ℕ) → kind ≢ 0x22 → Separates (0x22 ∷ i ∷ []) (kind ∷ j ∷ []) →

@@ -106,8 +106,8 @@ abbrev pub RefinesOrRetreated : {M Msg : Type 0} → Module Msg → Relation M M
     KeptState M Msg MemoryDisk → Core Msg → Disk → Type 0
 RefinesOrRetreated m refines s me g c d = RefinesMachine m refines g c d ⊎ HasRetreated m s me g c d
 
--- What evidence leaves of a simulation. All kept nodes refine their cores, but for the one whose event revealed it: that
--- one has retreated. The network is the model's, and so are the recorded claims.
+-- What evidence leaves of a simulation. All kept nodes refine their cores, but for the one whose event revealed it:
+-- that one has retreated. The network is the model's, and so are the recorded claims.
 pub record IsLeft {M Msg : Type 0} (m : Module Msg) (refines : Relation M Msg) (v : SimulationState M Msg)
     (w : Machines Msg) : Type 0 where
   pub core : ℕ
