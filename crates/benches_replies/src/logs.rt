@@ -9,9 +9,9 @@ use std::alloc::Global;
 use std::test::Fail;
 
 const HEADER: &str =
-    "iss 1\nmodule pbft\nf 1\nepoch 4\nbuckets 4\nbatch 4\nwindow 8\npolicy simple\nclients 8\nkeys 8\nfaulty none\n";
+    "iss 1\nmodule pbft\nf 1\nepoch 4\nbuckets 4\nbatch 4\nwindow 8\npolicy simple\nclients 8\nkeys 5\nfaulty none\n";
 
-/// The set-up of four nodes with trees of height 8.
+/// The set-up of four nodes with trees of height 5.
 pub(crate) fn setup(alloc: Global) -> Result<Setup, Fail>
     ensures { IfOk result IsGoodSetup }
 {

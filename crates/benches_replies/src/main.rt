@@ -12,7 +12,7 @@ use std::test::Fail;
 fn time(rt: &HostRuntime, what: &str) -> Result<(), Fail> {
     match what {
         "store" => stores::time_all(rt, 100_000, 40),
-        "replies" => replies::time_all(rt, 64, 20),
+        "replies" => replies::time_all(rt, 8, 200),
         _ => Err("what is to be timed?")?,
     }
 }

@@ -18,7 +18,7 @@ use std::time::Instant;
 
 type Timed<T> = Result<T, Fail>;
 
-const HEIGHT: u8 = 8;
+const HEIGHT: u8 = 5;
 
 const NODES: u8 = 4;
 
@@ -110,7 +110,7 @@ fn time_answering(rt: &HostRuntime, text: &[u8], digests: Digests, rounds: u32) 
     print_best(rt, "answers", best)
 }
 
-/// Times both over a log of this many slots, at most 64.
+/// Times both over a log of this many slots, at most 8.
 pub(crate) fn time_all(rt: &HostRuntime, slots: u32, rounds: u32) -> Timed<()> {
     let setup = setup(rt.alloc())?;
     let log = log(rt.alloc(), slots)?;

@@ -9,7 +9,8 @@ const INPUT: &[u8] =
     b"iss 1\nmodule relay\nf 0\nepoch 3\nbuckets 3\nbatch 4\nwindow 8\npolicy simple\nclients 1\nkeys 4\nfaulty none\n\
       request 0 0 0 aa\npropose 0\ncalm 10\n";
 
-const TEXT: &[u8] = b"node 0 epoch 0 slots 1 requests 1\n0 0 1 0.0\nnode 1 epoch 0 slots 1 requests 1\n0 0 1 0.0\n\
+const TEXT: &[u8] =
+    b"node 0 epoch 0 slots 1 requests 1\n0 0 1 0.0\nnode 1 epoch 0 slots 1 requests 1\n0 0 1 0.0\n\
       node 2 epoch 0 slots 1 requests 1\n0 0 1 0.0\nend ok\n";
 
 // How many calls of 16 bytes read the input, the last of which finds its end; and how many write the text.
