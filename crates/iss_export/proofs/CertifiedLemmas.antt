@@ -5,7 +5,7 @@ use Rattle.iss_audit.specs.Exports.{log_of}
 use Rattle.iss_audit.specs.declared.exports.CertifiedEpoch.{CertifiedEpoch}
 use Rattle.iss_audit.proofs.EpochLemmas.{log-push}
 use Rattle.iss_export.specs.Certified.{HasPrinted, certified_line, certified_text, place_behind}
-use Rattle.iss_export.specs.declared.certified.Place.{Place}
+use Rattle.iss_export.specs.declared.printing.Place.{Place}
 use Rattle.iss_log.proofs.LogLemmas.{requests-turned, requests_more}
 use Rattle.iss_replay.specs.Text.{slot_line, slot_lines}
 use Rattle.iss_request.specs.Log.{requests, size_of}

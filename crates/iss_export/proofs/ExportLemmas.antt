@@ -92,6 +92,9 @@ put-none s c log old =
 
 -- ---- silent cores
 
+pub told-silent : (silent stale : Bool) (events : List Event) (a b : Option (ℕ × End)) (i : ℕ) → silent ≡ (stale || was_given events a i) → a ≡ b → silent ≡ (stale || was_given events b i)
+told-silent silent stale events a b i is same = subst (λ (o : Option (ℕ × End)). silent ≡ (stale || was_given events o i)) same is
+
 or-left : (a b : Bool) → a ≡ true → (a || b) ≡ true
 or-left a b is = ap (λ (x : Bool). x || b) is
 

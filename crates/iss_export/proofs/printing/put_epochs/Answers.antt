@@ -1,12 +1,12 @@
-use Rattle.std.proofs.Common.{◌∙◌, ◌++◌, ◌∷◌, [], append-nil, arith, ap, refl, sym, take}
+use Rattle.std.proofs.Common.{◌∙◌, ◌+◌, ◌++◌, ◌∷◌, [], append-nil, arith, ap, refl, sym, take}
 use Rattle.std.proofs.lemmas.List.{take_more}
 use Rattle.iss_audit.specs.Exports.{log_of}
 use Rattle.iss_audit.specs.declared.exports.CertifiedEpoch.{CertifiedEpoch}
 use Rattle.iss_export.proofs.CertifiedLemmas.{epoch-more, printed-same}
-use Rattle.iss_export.proofs.certified.put_epochs.Goals as goal
+use Rattle.iss_export.proofs.printing.put_epochs.Goals as goal
 
-pub loop-epoch-start : goal.loop-epoch-start
-loop-epoch-start c = record { lines = sym (append-nil c.args.out.now.items); place = refl }
+pub loop-epoch-init : goal.loop-epoch-init
+loop-epoch-init c = record { lines = sym (append-nil c.args.out.now.items); place = refl }
 
 pub loop-epoch-preserved : goal.loop-epoch-preserved
 loop-epoch-preserved c =
@@ -16,4 +16,4 @@ loop-epoch-preserved c =
     let before = c.loop-epoch.invariant in
     let more = take_more xs i x (omega (arith, c.loop-epoch-test.true)) ∙ ap (λ (y : CertifiedEpoch). take i xs ++ y ∷ []) (sym c.epoch-item.is) in
     printed-same _ _ c.args.out.now.items _ _ (epoch-more (take i xs) (take (i + 1) xs) x more)
-    (c.in_ok-put_values.ensures (log_of (take i xs)) c.args.out.now.items before.place before.lines)
+    (c.in_ok-place.ensures (log_of (take i xs)) c.args.out.now.items before.place before.lines)
