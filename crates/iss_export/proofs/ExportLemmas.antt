@@ -22,7 +22,6 @@ use Rattle.iss_request.specs.declared.setups.Setup.{Setup}
 use Rattle.iss_rules.specs.Concrete.{rules_of}
 use Rattle.iss_rules.specs.Ends.{End}
 use Rattle.iss_rules.specs.Past.{log_of as past_log}
-use Rattle.iss_rules.specs.Votes.{cert_on}
 use Rattle.iss_schedule.specs.Schedules.{header_lines, most_bytes}
 use Rattle.iss_schedule.specs.Words.{ended}
 use Rattle.iss_schedule.specs.declared.schedules.Event.{Event}

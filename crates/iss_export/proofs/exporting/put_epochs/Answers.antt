@@ -1,11 +1,9 @@
-use Rattle.std.proofs.Common.{◌≡◌, ◌∙◌, ℕ, Bool, true, false, List, Option, sym, ap, subst}
-use Rattle.std.specs.Prelude.{◌||◌}
+use Rattle.std.proofs.Common.{◌∙◌, true, false, List, sym, subst}
 use Rattle.std.proofs.lemmas.Result.{on_ok_weaker}
 use Rattle.iss_certified.specs.Exported.{certs_shown}
 use Rattle.iss_model.specs.Run.{node_of}
 use Rattle.iss_request.specs.declared.requests.Value.{Value}
 use Rattle.iss_request.specs.declared.setups.Setup.{Setup}
-use Rattle.iss_rules.specs.Ends.{End}
 use Rattle.iss_theorems.specs.Headline.{shown}
 use Rattle.iss_export.specs.Exporting.{HasPut, was_given}
 use Rattle.iss_export.proofs.ExportLemmas.{log-shown, or-neither, put-none, refines-core, silent-is, told-silent}

@@ -1,4 +1,4 @@
-use Rattle.std.proofs.Common.{◌∙◌, ◌+◌, ◌++◌, List, ap, arith, drop, false, length, sym, subst}
+use Rattle.std.proofs.Common.{◌∙◌, ◌+◌, ◌++◌, List, ap, arith, false, length, sym, subst}
 use Rattle.std.proofs.lemmas.List.{length-drop}
 use Rattle.iss_audit.specs.Exports.{AreBytes, lines_of}
 use Rattle.iss_certified.specs.Exported.{certs_shown}

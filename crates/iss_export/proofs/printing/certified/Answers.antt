@@ -1,4 +1,4 @@
-use Rattle.std.proofs.Common.{◌∙◌, ◌++◌, List, [], ap, length, subst}
+use Rattle.std.proofs.Common.{◌∙◌, ◌++◌, List, ap, length, subst}
 use Rattle.iss_audit.specs.Exports.{log_of}
 use Rattle.iss_audit.specs.declared.exports.CertifiedEpoch.{CertifiedEpoch}
 use Rattle.iss_export.specs.Certified.{HasPrinted, certified_line}
