@@ -1,11 +1,11 @@
 -- The lines of a certified log, value by value and epoch by epoch.
-use Rattle.std.proofs.Common.{◌≡◌, ◌∙◌, ℕ, ◌+◌, List, [], ◌∷◌, ◌++◌, length, reverse, append_assoc, append-nil, length-append, sym, ap, ap₂, subst}
+use Rattle.std.proofs.Common.{◌≡◌, ◌∙◌, ℕ, ◌+◌, List, [], ◌∷◌, ◌++◌, length, reverse, append_assoc, length-append, sym, ap, ap₂, subst}
 use Rattle.std.proofs.lemmas.List.{length-reverse, reverse-append}
 use Rattle.iss_audit.specs.Exports.{log_of}
 use Rattle.iss_audit.specs.declared.exports.CertifiedEpoch.{CertifiedEpoch}
 use Rattle.iss_audit.proofs.EpochLemmas.{log-push}
-use Rattle.iss_export.specs.Certified.{HasPrinted, certified_line, certified_text, place_behind}
-use Rattle.iss_export.specs.declared.certified.Place.{Place}
+use Rattle.iss_export.specs.Certified.{HasPrinted, certified_line, certified_text}
+use Rattle.iss_export.specs.declared.printing.Place.{Place}
 use Rattle.iss_log.proofs.LogLemmas.{requests-turned, requests_more}
 use Rattle.iss_replay.specs.Text.{slot_line, slot_lines}
 use Rattle.iss_request.specs.Log.{requests, size_of}
@@ -35,6 +35,20 @@ printed-same log other text now place is h = subst (λ (l : List Value). HasPrin
 -- the log of one more epoch
 pub epoch-more : (before later : List CertifiedEpoch) (x : CertifiedEpoch) → later ≡ before ++ x ∷ [] → log_of before ++ x.values ≡ log_of later
 epoch-more before later x is = sym (log-push before x) ∙ ap (λ (xs : List CertifiedEpoch). log_of xs) (sym is)
+
+-- ---- the last line
+
+words-next : (out front old new name digits : List ℕ) → old ≡ out ++ front → new ≡ (old ++ name) ++ digits → new ≡ out ++ ((front ++ name) ++ digits)
+words-next out front old new name digits h is =
+    is ∙ ap (λ (t : List ℕ). (t ++ name) ++ digits) h ∙ ap (λ (t : List ℕ). t ++ digits) (append_assoc out front name) ∙ append_assoc out (front ++ name) digits
+
+pub words-written : (out n1 d1 n2 d2 n3 d3 last a b c all : List ℕ) → a ≡ (out ++ n1) ++ d1 → b ≡ (a ++ n2) ++ d2 → c ≡ (b ++ n3) ++ d3 → all ≡ c ++ last →
+    all ≡ out ++ ((((((n1 ++ d1) ++ n2) ++ d2) ++ n3) ++ d3) ++ last)
+words-written out n1 d1 n2 d2 n3 d3 last a b c all one two three is =
+    let first = one ∙ append_assoc out n1 d1 in
+    let second = words-next out (n1 ++ d1) a b n2 d2 first two in
+    let third = words-next out (((n1 ++ d1) ++ n2) ++ d2) b c n3 d3 second three in
+    is ∙ ap (λ (t : List ℕ). t ++ last) third ∙ append_assoc out (((((n1 ++ d1) ++ n2) ++ d2) ++ n3) ++ d3) last
 
 -- the lines, and then the last one
 pub text-is : (epochs : List CertifiedEpoch) (lines all : List ℕ) (end : Place) → HasPrinted (log_of epochs) [] lines end → all ≡ lines ++ certified_line (length epochs) end.slot end.first → all ≡ certified_text epochs

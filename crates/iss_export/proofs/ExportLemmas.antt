@@ -22,7 +22,6 @@ use Rattle.iss_request.specs.declared.setups.Setup.{Setup}
 use Rattle.iss_rules.specs.Concrete.{rules_of}
 use Rattle.iss_rules.specs.Ends.{End}
 use Rattle.iss_rules.specs.Past.{log_of as past_log}
-use Rattle.iss_rules.specs.Votes.{cert_on}
 use Rattle.iss_schedule.specs.Schedules.{header_lines, most_bytes}
 use Rattle.iss_schedule.specs.Words.{ended}
 use Rattle.iss_schedule.specs.declared.schedules.Event.{Event}
@@ -91,6 +90,9 @@ put-none s c log old =
     record { epochs = []; exported = record { each = tt; rest = log; all = refl; last = inl refl }; ranged = tt; text = sym (append-nil old) }
 
 -- ---- silent cores
+
+pub told-silent : (silent stale : Bool) (events : List Event) (a b : Option (ℕ × End)) (i : ℕ) → silent ≡ (stale || was_given events a i) → a ≡ b → silent ≡ (stale || was_given events b i)
+told-silent silent stale events a b i is same = subst (λ (o : Option (ℕ × End)). silent ≡ (stale || was_given events o i)) same is
 
 or-left : (a b : Bool) → a ≡ true → (a || b) ≡ true
 or-left a b is = ap (λ (x : Bool). x || b) is

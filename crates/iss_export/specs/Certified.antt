@@ -6,7 +6,7 @@ use Rattle.iss_audit.specs.declared.exports.CertifiedEpoch.{CertifiedEpoch}
 use Rattle.iss_replay.specs.Text.{slot_lines}
 use Rattle.iss_request.specs.Log.{requests}
 use Rattle.iss_request.specs.declared.requests.Value.{Value}
-use Rattle.iss_export.specs.declared.certified.Place.{Place}
+use Rattle.iss_export.specs.declared.printing.Place.{Place}
 
 abbrev pub certified_line : ℕ → ℕ → ℕ → List ℕ
 certified_line epochs slots requests = codes "certified epochs " ++ decimal epochs ++ codes " slots " ++ decimal slots

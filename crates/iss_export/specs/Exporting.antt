@@ -1,6 +1,6 @@
 -- What a core exports after the run of a schedule, as a text, and which cores are silent: they export no epoch.
-use Rattle.std.specs.Prelude.{◌≡◌, ℕ, ◌==◌, Bool, true, false, List, [], ◌++◌, length, Option, Some, None}
-use Rattle.iss_audit.specs.Exports.{EachEpoch, epoch_lines, log_of}
+use Rattle.std.specs.Prelude.{◌≡◌, ℕ, ◌==◌, Bool, true, false, List, [], ◌++◌, Option, Some, None}
+use Rattle.iss_audit.specs.Exports.{EachEpoch, epoch_lines}
 use Rattle.iss_audit.specs.declared.exports.CertifiedEpoch.{CertifiedEpoch}
 use Rattle.iss_base.specs.Lists.{nth}
 use Rattle.iss_certified.specs.Exported.{AreExported, IsCertifiedIfShort, IsExportOf, IsRanged, certs_shown}

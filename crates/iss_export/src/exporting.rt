@@ -98,8 +98,8 @@ fn is_silent<M: Sequenced>(
     node.stale() || was_given(events, ended, core)
 }
 
-// Whether the run ended at an event that gave the core something itself. Evidence in a packet that was sent shows only
-// after the step, since its sender had read all of its claims, and then the core is stale.
+// Whether the run ended at an event that gave the core something itself. Such a core is silent by the event alone; one
+// that a packet was delivered to is stale.
 fn was_given(events: &[Event], ended: &Option<(u64, Evidence)>, core: u32) -> bool
     ensures { result ≡ was_given events.now (end_kept ended.now) core }
 {

@@ -1,5 +1,5 @@
 //! What is printed of a certified log.
-ghost use Rattle.std.specs.Prelude.{◌≡◌, ◌+◌, ◌++◌, ℕ, IfOk, List, OnOk, reverse};
+ghost use Rattle.std.specs.Prelude.{◌≡◌, ◌+◌, ◌++◌, ℕ, IfOk, List, OnOk, decimal, reverse};
 ghost use Rattle.iss_audit.specs.Exports.{log_of};
 ghost use Rattle.iss_export.specs.Certified.{HasPrinted, certified_line, certified_text, place_behind};
 ghost use Rattle.iss_replay.specs.Text.{slot_lines};
@@ -87,11 +87,16 @@ fn size(value: &Value) -> u64
 fn put_size(out: &mut Vec<u8>, epochs: u64, end: Place) -> Result<(), NoMemory>
     ensures { OnOk result (out.new.items ≡ out.old.items ++ certified_line epochs end.slot end.first) }
 {
-    put_text(out, b"certified epochs ")?;
-    put_number(out, epochs)?;
-    put_text(out, b" slots ")?;
-    put_number(out, end.slot)?;
-    put_text(out, b" requests ")?;
-    put_number(out, end.first)?;
+    put_count(out, b"certified epochs ", epochs)?;
+    put_count(out, b" slots ", end.slot)?;
+    put_count(out, b" requests ", end.first)?;
     put_text(out, b"\n")
+}
+
+// Writes a number behind its name.
+fn put_count(out: &mut Vec<u8>, name: &[u8], count: u64) -> Result<(), NoMemory>
+    ensures { OnOk result (out.new.items ≡ out.old.items ++ name.now ++ decimal count) }
+{
+    put_text(out, name)?;
+    put_number(out, count)
 }
