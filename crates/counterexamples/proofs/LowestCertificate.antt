@@ -33,6 +33,7 @@ use Rattle.sb_pbft.specs.Pbft.{pbft}
 use Rattle.sb_pbft.proofs.Examples.FourReplicas.{b, change, d, from, give_up, nil, node, p, setup, sig, slot}
 use Rattle.sb_pbft.proofs.Examples.ByzantineRun.{Items, by_key, b-read, d-fit, empty-fit, good-setup, shape, world}
 use Rattle.sb_pbft.proofs.Examples.PremisesAreMet.{EachOf, OneOf, each-of, one-string}
+use Rattle.counterexamples.proofs.PbftStrings.{nil-fit, two-are-separate}
 use Rattle.counterexamples.specs.Pbft.{by_the_lowest, claims_seen, makes_seen}
 
 good : IsGoodParams by_the_lowest p
@@ -282,9 +283,6 @@ unfolding sha256 digest_bytes hash_after compress rounds schedule first_words sp
 nil-delivered = refl
 
 -- ---- messages that decode
-
-nil-fit : (k leaf : ℕ) (st : List ℕ) → ((length nil == 32) && is_signature (signature p k leaf st)) ≡ true
-nil-fit k leaf st = both _ _ (eq-eqb (length nil) 32 (digest-length p Value_nil)) (shape k leaf st)
 
 proposal-fit : fits 1 proposal ≡ true
 proposal-fit = both _ _ refl (both _ _ refl (both _ _ refl (shape 0 1 (state_at p 1 0 0 d))))
@@ -571,12 +569,8 @@ hashed-of s h = go (eqb h.node 0) (eqb h.node 1) (eqb h.node 2) h.taken
     go false false true k = each-of t9 h.item s of-two k h.hashed
     go false false false k = absurd k
 
-is-one : (s : List ℕ) → IsString last s → (s ≡ []) ⊎ OneOf s
-is-one s (inl e) = inl e
-is-one s (inr h) = inr (hashed-of s h)
-
 separate : Separate (IsString last)
-separate x y h k e = one-string x y (is-one x h) (is-one y k) e
+separate = two-are-separate last hashed-of
 
 -- ---- two correct replicas disagree
 

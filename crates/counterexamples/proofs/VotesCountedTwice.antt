@@ -30,6 +30,7 @@ use Rattle.sb_pbft.specs.Pbft.{pbft}
 use Rattle.sb_pbft.proofs.Examples.FourReplicas.{b, change, commit, d, from, give_up, next, nil, p, prepare, proposal, said, setup, sig, slot}
 use Rattle.sb_pbft.proofs.Examples.ByzantineRun.{AreSigned, Items, by_key, by-leaf, b-read, cast, commit-fit, credible, empty-fit, first-move, good-setup, move-one, move-two, of-three, one-claim, prepare-fit, proposal-fit, sent-claim, shape, signed-proposal, world, z1}
 use Rattle.sb_pbft.proofs.Examples.PremisesAreMet.{EachOf, OneOf, each-of, one-string}
+use Rattle.counterexamples.proofs.PbftStrings.{nil-fit, two-are-separate}
 use Rattle.counterexamples.specs.Pbft.{counting_votes, decided_by_votes}
 use Rattle.counterexamples.proofs.Deciding.{reached-too}
 
@@ -127,9 +128,6 @@ unfolding sha256 digest_bytes hash_after compress rounds schedule first_words sp
 nil-delivered = refl
 
 -- ---- messages that decode
-
-nil-fit : (k leaf : ℕ) (st : List ℕ) → ((length nil == 32) && is_signature (signature p k leaf st)) ≡ true
-nil-fit k leaf st = both _ _ (eq-eqb (length nil) 32 (digest-length p Value_nil)) (shape k leaf st)
 
 prepare-nil-fit : fits 1 prepare_nil ≡ true
 prepare-nil-fit = both _ _ refl (both _ _ refl (nil-fit 3 5 (state_at p 2 1 0 nil)))
@@ -280,12 +278,8 @@ hashed-of s h = go (eqb h.node 0) (eqb h.node 1) (eqb h.node 2) h.taken
     go false false true k = each-of t7 h.item s of-two k h.hashed
     go false false false k = absurd k
 
-is-one : (s : List ℕ) → IsString last s → (s ≡ []) ⊎ OneOf s
-is-one s (inl e) = inl e
-is-one s (inr h) = inr (hashed-of s h)
-
 separate : Separate (IsString last)
-separate x y h k e = one-string x y (is-one x h) (is-one y k) e
+separate = two-are-separate last hashed-of
 
 -- ---- two correct replicas disagree
 

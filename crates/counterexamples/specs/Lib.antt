@@ -1,1 +1,1 @@
-pub mod Pbft
+pub mod Chained

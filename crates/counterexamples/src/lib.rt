@@ -3,6 +3,8 @@
 //! definition.
 #![tactic(auto)]
 
+pub mod chained;
 pub mod pbft;
 
+pub use chained::chained_needs_views_in_digests;
 pub use pbft::{pbft_needs_distinct_voters, pbft_needs_the_highest_certificate};

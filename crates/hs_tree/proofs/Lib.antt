@@ -2,6 +2,7 @@ pub mod Branches
 mod Examples
 mod Reading
 pub mod CertificateGrammar
+pub mod Claimed
 pub mod MessageGrammar
 pub mod Nodes
 pub mod Places

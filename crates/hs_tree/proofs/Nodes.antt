@@ -14,7 +14,7 @@ use Rattle.hs_tree.specs.Tree.{Node, branch, extends, is_known, kind_of, plain_s
 use Rattle.iss_sb.proofs.Contents.{holds-value}
 
 -- values that can be decoded have different strings
-value-same : (version : ℕ) (b c : Batch) → IsReadAgain (spell_value version) (parse_value version) (Value_batch b) → IsReadAgain (spell_value version) (parse_value version) (Value_batch c) → value_string version (Value_batch b) ≡ value_string version (Value_batch c) → b ≡ c
+pub value-same : (version : ℕ) (b c : Batch) → IsReadAgain (spell_value version) (parse_value version) (Value_batch b) → IsReadAgain (spell_value version) (parse_value version) (Value_batch c) → value_string version (Value_batch b) ≡ value_string version (Value_batch c) → b ≡ c
 value-same version b c h g e =
     let same : spell_value version (Value_batch b) ≡ spell_value version (Value_batch c) = cc in
     let both : Good (Value_batch b) [] ≡ Good (Value_batch c) [] = sym (h []) ∙ ap (λ (x : List ℕ). parse_value version (x ++ [])) same ∙ g [] in

@@ -1,13 +1,16 @@
 -- A place of a branch keeps its value when the branch is extended.
-use Rattle.std.proofs.Common.{◌≡◌, ◌≤◌, ◌<◌, ℕ, ◌+◌, ◌==◌, ◌&&◌, Bool, true, false, if◌then◌else◌, List, [], ◌∷◌, ◌++◌, Option, Some, refl, ap, inl, inr, ◌⊎◌, arith}
+use Rattle.std.proofs.Common.{◌≡◌, ◌≤◌, ◌<◌, ℕ, suc, ◌+◌, ◌==◌, ◌&&◌, Bool, true, false, if◌then◌else◌, List, [], ◌∷◌, ◌++◌, Option, Some, refl, sym, ap, inl, inr, ◌⊎◌, arith}
 use Rattle.std.proofs.lemmas.Bool.Decides.{Decides-eqb}
+use Rattle.iss_base.specs.Lists.{In}
+use Rattle.iss_request.specs.declared.ids.Slot.{Slot}
 use Rattle.iss_request.specs.declared.requests.Batch.{Batch}
 use Rattle.iss_request.specs.declared.requests.Value.{Value}
 use Rattle.iss_request.specs.declared.requests.Value.TheVariants.{Batch as Value_batch}
 use Rattle.iss_request.proofs.Identities.{holds-injective}
+use Rattle.iss_sb.proofs.Slots.{slot-is}
 use Rattle.iss_sb.specs.declared.content.Content.{Content}
 use Rattle.iss_sb.specs.declared.content.Content.TheVariants.{Nil, Holds, Mark}
-use Rattle.hs_tree.specs.Tree.{filled, value_at, value_here, value_of, weight}
+use Rattle.hs_tree.specs.Tree.{filled, value_at, value_at_slot, value_here, value_of, weight}
 
 -- the batch at a place is the newest one, or below it
 pub here-is : (k n : ℕ) (c : Content) (o : Option Value) (b : Batch) → value_here k n c o ≡ Some (Value_batch b) → ((k ≡ n) × (c ≡ Holds b)) ⊎ (o ≡ Some (Value_batch b))
@@ -42,3 +45,12 @@ filled-more (x ∷ xs) ys = let h = filled-more xs ys in omega (arith, h)
 pub value-on : (xs ys : List Content) (k : ℕ) (x : Value) → value_at ys k ≡ Some x → value_at (xs ++ ys) k ≡ Some x
 value-on [] ys k x h = h
 value-on (c ∷ xs) ys k x h = one-below k (filled ys) (filled (xs ++ ys)) c (value_at (xs ++ ys) k) x (value-low ys k x h) (filled-more xs ys) (value-on xs ys k x h)
+
+-- a branch has values only at the given slots
+pub value-In : (cs : List Content) (k : ℕ) (slots : List Slot) (s : Slot) (x : Value) → value_at_slot cs k slots s.0 ≡ Some x → In s slots
+value-In cs k [] s x h = absurd cc
+value-In cs k (t ∷ ts) s x h = go (t.0 == s.0) refl h (value-In cs (suc k) ts s x)
+  where
+    go : (b : Bool) → (t.0 == s.0) ≡ b → (if b then value_at cs k else value_at_slot cs (suc k) ts s.0) ≡ Some x → (value_at_slot cs (suc k) ts s.0 ≡ Some x → In s ts) → In s (t ∷ ts)
+    go true q e more = inl (slot-is s t (sym ((Decides-eqb t.0 s.0).0 q)))
+    go false q e more = inr (more e)

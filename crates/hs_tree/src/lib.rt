@@ -3,15 +3,19 @@
 #![tactic(auto)]
 
 pub mod certificates;
+pub mod claiming;
 pub mod hashing;
 pub mod laws;
 pub mod messages;
+pub mod protocols;
 pub mod signing;
 pub mod tree;
 pub mod wire;
 
 pub use certificates::Certificate;
+pub use claiming::{claims, with_signature};
 pub use laws::{certificates_count_nodes, messages_are_exact, one_digest_one_branch};
 pub use messages::Message;
+pub use protocols::Protocol;
 pub use tree::Tree;
 pub use wire::{read, write};

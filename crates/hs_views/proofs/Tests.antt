@@ -1,9 +1,13 @@
--- Tests as records, and lists that grow.
-use Rattle.std.proofs.Common.{◌≡◌, ℕ, zero, suc, ◌+◌, ◌==◌, ◌&&◌, Bool, true, false, if◌then◌else◌, List, [], ◌∷◌, ◌++◌, length, Option, Some, None, refl, sym, true≢false}
-use Rattle.iss_base.specs.Lists.{nth}
+-- Tests as records, options by cases, and lists that grow.
+use Rattle.std.proofs.Common.{◌≡◌, ℕ, zero, suc, ◌+◌, ◌==◌, ◌&&◌, Bool, true, false, if◌then◌else◌, List, [], ◌∷◌, ◌++◌, length, Option, Some, None, refl, sym, subst, inl, inr, true≢false}
+use Rattle.iss_base.specs.Lists.{In, nth}
 use Rattle.iss_base.proofs.Lists.{and-true}
 use Rattle.std.proofs.lemmas.Bool.Decides.{Decides-eqb}
+use Rattle.iss_request.specs.declared.ids.Slot.{Slot}
 use Rattle.iss_request.specs.declared.requests.Batch.{Batch}
+use Rattle.iss_request.specs.declared.requests.Value.{Value}
+use Rattle.iss_sb.specs.Calls.{AllIn, slots_of}
+use Rattle.iss_sb.specs.Evidence.{Item}
 use Rattle.hs_tree.specs.declared.certificates.Certificate.{Certificate}
 use Rattle.hs_tree.specs.declared.certificates.Certificate.TheVariants.{Root, Votes}
 use Rattle.hs_tree.specs.Certificates.{is_quorum, view_of}
@@ -54,3 +58,22 @@ nth-first (a ∷ cs) c b (suc k) h = nth-first cs c b k h
 pub nth-end : (cs : List Batch) (c : Batch) → nth (cs ++ c ∷ []) (length cs) ≡ Some c
 nth-end [] c = refl
 nth-end (a ∷ cs) c = nth-end cs c
+
+-- what holds without the thing and with each holds
+pub each-option : {A B : Type 0} (f : Option B → A) (a : A) → f None ≡ a → ((b : B) → f (Some b) ≡ a) → (o : Option B) → f o ≡ a
+each-option f a h g None = h
+each-option f a h g (Some b) = g b
+
+pub none-within : (ds : List (Slot × Value)) (ss : List Slot) → ds ≡ [] → AllIn (slots_of ds) ss
+none-within ds ss h = subst (λ (z : List (Slot × Value)). AllIn (slots_of z) ss) (sym h) tt
+
+-- ---- The strings of a list of items
+
+abbrev pub AreStrings : {M : Type 0} → (List ℕ → Type 0) → List (Item M) → Type 0
+AreStrings Is [] = Unit {0}
+AreStrings Is (x ∷ xs) = ((s : List ℕ) → In s x.made.strings → Is s) × AreStrings Is xs
+
+pub each-string : {M : Type 0} (Is : List ℕ → Type 0) (xs : List (Item M)) (x : Item M) (s : List ℕ) → AreStrings Is xs → In x xs → In s x.made.strings → Is s
+each-string Is [] x s all k h = absurd k
+each-string Is (y ∷ ys) x s all (inl e) h = all.0 s (subst (λ z. In s z.made.strings) e h)
+each-string Is (y ∷ ys) x s all (inr k) h = each-string Is ys x s all.1 k h

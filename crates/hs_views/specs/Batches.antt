@@ -1,9 +1,12 @@
 -- A batch is accepted once at a slot.
 use Rattle.std.specs.Prelude.{ℕ, ◌==◌, ◌&&◌, ◌||◌, Bool, true, false, List, [], ◌∷◌, Option, Some, None, if◌then◌else◌}
-use Rattle.iss_base.specs.Lists.{same_bytes}
+use Rattle.iss_base.specs.Lists.{nth, same_bytes}
 use Rattle.iss_request.specs.declared.ids.Slot.{Slot}
 use Rattle.iss_request.specs.declared.requests.Batch.{Batch}
 use Rattle.iss_request.specs.declared.requests.Request.{Request}
+use Rattle.iss_sb.specs.declared.content.Content.{Content}
+use Rattle.iss_sb.specs.declared.content.Content.TheVariants.{Nil, Holds, Mark}
+use Rattle.iss_sb.specs.declared.effects.Params.{Params}
 
 -- whether two requests are equal, byte by byte
 abbrev pub same_request : Request → Request → Bool
@@ -27,3 +30,9 @@ was_accepted s b (a ∷ old) = ((a.0.0 == s) && same_batch a.1 b) || was_accepte
 abbrev pub unless_accepted : List (Slot × Batch) → Batch → Option Slot → Option (Slot × Batch)
 unless_accepted old b None = None
 unless_accepted old b (Some s) = if was_accepted s.0 b old then None else Some (s, b)
+
+-- the batch of a proposal, at the segment's slot of this place
+abbrev pub offered_at : Params → List (Slot × Batch) → Content → ℕ → Option (Slot × Batch)
+offered_at p old Nil place = None
+offered_at p old (Holds b) place = unless_accepted old b (nth p.slots place)
+offered_at p old Mark place = None

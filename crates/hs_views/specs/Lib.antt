@@ -1,4 +1,7 @@
 pub mod Accepted
 pub mod Batches
 pub mod Counts
+pub mod Drafts
+pub mod Sending
+pub mod Turns
 pub mod Views

@@ -1,3 +1,4 @@
+pub mod ByzantineLeader
 pub mod LooseCommits
 pub mod ReachableWorld
 pub mod Runs

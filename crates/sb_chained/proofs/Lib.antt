@@ -1,5 +1,5 @@
 mod Basics
-mod Examples
+pub mod Examples
 mod LeaderProposals
 mod ModuleLaws
 mod Refinement

@@ -1,6 +1,5 @@
 pub mod CertificatesNoted
 pub mod CountsAgree
-pub mod DraftsAgree
 pub mod InputRefines
 pub mod LinksAgree
 pub mod MessagesRefine

@@ -11,20 +11,19 @@ use Rattle.iss_sb.specs.declared.effects.Input.{Input}
 use Rattle.iss_sb.specs.declared.effects.Input.TheVariants.{Cast, Receive, Timeout}
 use Rattle.iss_sb.specs.declared.effects.Params.{Params}
 use Rattle.iss_sb.specs.declared.effects.To.{To}
-use Rattle.iss_sb.specs.declared.effects.To.TheVariants.{All as To_all, One as To_one}
+use Rattle.iss_sb.specs.declared.effects.To.TheVariants.{All as To_all}
 use Rattle.iss_sb.specs.Evidence.{Item, Made, Module, accepts}
-use Rattle.iss_sb.specs.Statements.{signature}
 use Rattle.iss_sb.specs.declared.content.Content.{Content}
-use Rattle.iss_sb.specs.declared.content.Content.TheVariants.{Nil, Holds, Mark}
 use Rattle.hs_tree.specs.declared.certificates.Certificate.{Certificate}
 use Rattle.hs_tree.specs.declared.messages.Message.{Message}
 use Rattle.hs_tree.specs.declared.messages.Message.TheVariants.{NewView, Prepare, PreCommit, Commit, Decide, Vote}
 use Rattle.hs_tree.specs.Messages.{parse, spell}
-use Rattle.hs_tree.specs.Statements.{claims, node_string, own_statement, with_signature}
+use Rattle.hs_tree.specs.Statements.{claims, node_string}
 use Rattle.hs_tree.specs.Tree.{Node, branch, chained as form, strings_of, value_at_slot, value_of}
 use Rattle.sb_chained.specs.Rules.{State, after, committed_by, kept, may_cast, may_end, may_prepare, node_digest, proposed, shows, slots_below, start, taken}
-use Rattle.hs_views.specs.Views.{Turn, leader_of, round_of}
-use Rattle.hs_views.specs.Batches.{unless_accepted}
+use Rattle.hs_views.specs.Sending.{signed_from, to_leader, vote_for}
+use Rattle.hs_views.specs.Views.{Turn, round_of}
+use Rattle.hs_views.specs.Batches.{offered_at}
 
 -- the state of a replica with this history
 abbrev pub state : Params → ℕ → List (Item Message) → State
@@ -35,9 +34,7 @@ state p me (x ∷ xs) = after p me (state p me xs) x.input
 
 -- the batch of a proposal, at the slot after those of its parent's branch
 abbrev pub offered : Params → State → List (Slot × Batch) → Content → Certificate → Option (Slot × Batch)
-offered p s old Nil just = None
-offered p s old (Holds b) just = unless_accepted old b (nth p.slots (slots_below s just))
-offered p s old Mark just = None
+offered p s old what just = offered_at p old what (slots_below s just)
 
 -- the batch that the replica accepts with a message
 abbrev pub asked_by : Params → State → List (Slot × Batch) → ℕ → Message → Option (Slot × Batch)
@@ -57,12 +54,9 @@ asks p me xs Timeout = None
 
 -- ---- Unsigned messages: first the answer, then the proposal that the input triggers; a step has at most one of both
 
-abbrev pub to_leader : Params → ℕ → To
-to_leader p round = To_one (record { 0 = leader_of p round })
-
 -- a vote, to the leader of the view's round
 abbrev pub voted : Params → ℕ → List ℕ → List (To × Message)
-voted p view d = (to_leader p (round_of view), Vote 1 view d []) ∷ []
+voted p view d = vote_for p 1 view d
 
 -- the answer to a message: a vote for a proposal that is taken
 abbrev pub answers_heard : Params → State → ℕ → Message → List (To × Message)
@@ -93,9 +87,7 @@ drafts p me s i = answers p s i ++ proposals (proposed p me s (kept p me s i) i)
 
 -- signs each message with the next leaf, from this one on
 abbrev pub sign_all : Params → ℕ → ℕ → List (To × Message) → List (To × Message)
-sign_all p me leaf [] = []
-sign_all p me leaf (x ∷ xs) =
-    (x.0, with_signature (signature p me leaf (own_statement form p x.1)) x.1) ∷ sign_all p me (suc leaf) xs
+sign_all p me leaf xs = signed_from form p me leaf xs
 
 -- ---- Hashed strings: for a node that is taken or proposed, its value's string and its own
 

@@ -1,32 +1,14 @@
--- Messages before they are signed, as the code makes them, each with its statement.
-use Rattle.std.specs.Prelude.{◌≡◌, ℕ, List, [], ◌∷◌, Option, Some, None}
+-- Messages before they are signed, under the statements of chained HotStuff.
+use Rattle.std.specs.Prelude.{List, Option}
 use Rattle.iss_sb.specs.declared.effects.Params.{Params}
 use Rattle.iss_sb.specs.declared.effects.To.{To}
-use Rattle.iss_sb.specs.declared.effects.To.TheVariants.{All as To_all}
 use Rattle.hs_tree.specs.declared.messages.Message.{Message}
-use Rattle.hs_tree.specs.Statements.{own_statement}
 use Rattle.hs_tree.specs.Tree.{chained as form}
-use Rattle.sb_chained.specs.declared.signing.Draft.{Draft}
-use Rattle.sb_chained.specs.declared.signing.Recipient.{Recipient}
-use Rattle.sb_chained.specs.declared.signing.Recipient.TheVariants.{All as Recipient_all, Leader}
-use Rattle.sb_chained.specs.Chained.{to_leader}
+use Rattle.hs_views.specs.declared.drafts.Draft.{Draft}
+use Rattle.hs_views.specs.Drafts as Drafts
 
--- the recipients: all replicas, or the leader of a round
-abbrev pub to_nodes : Params → Recipient → To
-to_nodes p Recipient_all = To_all
-to_nodes p (Leader round) = to_leader p round
+abbrev pub IsDraft : Params → Draft → List (To × Message) → Type 0
+IsDraft p d xs = Drafts.IsDraft form p d xs
 
--- how many signatures the draft needs: none or one
-abbrev pub count_of : Option Draft → ℕ
-count_of None = 0
-count_of (Some d) = 1
-
--- the draft is this one message with its recipient, and has the statement that its sender signs
-pub record IsDraft (p : Params) (d : Draft) (xs : List (To × Message)) : Type 0 where
-  pub message : xs ≡ (to_nodes p d.to, d.msg) ∷ []
-  pub statement : d.statement ≡ own_statement form p d.msg
-
--- the optional draft is this list of unsigned messages, which has at most one
 abbrev pub AreDrafts : Params → Option Draft → List (To × Message) → Type 0
-AreDrafts p None xs = xs ≡ []
-AreDrafts p (Some d) xs = IsDraft p d xs
+AreDrafts p d xs = Drafts.AreDrafts form p d xs

@@ -5,9 +5,9 @@ use Rattle.iss_sb.specs.declared.content.Content.{Content}
 use Rattle.hs_tree.specs.Tree.{weight}
 use Rattle.sb_chained.specs.declared.outcomes.Outcome.{Outcome}
 use Rattle.sb_chained.specs.declared.outcomes.Taken.{Taken}
-use Rattle.sb_chained.specs.declared.signing.Draft.{Draft}
+use Rattle.hs_views.specs.declared.drafts.Draft.{Draft}
 use Rattle.sb_chained.specs.declared.state.Node.{Node}
-use Rattle.sb_chained.specs.declared.turns.Last.{Last}
+use Rattle.hs_views.specs.declared.turns.Last.{Last}
 use Rattle.sb_chained.specs.Chained.{proposals, turn_strings}
 use Rattle.sb_chained.specs.Drafts.{AreDrafts}
 use Rattle.sb_chained.specs.Links.{Holds}
@@ -33,7 +33,7 @@ pub record RefinesState (p : Params) (m : Node) (s : State) : Type 0 where
   pub lock : m.lock ≡ s.lock
   pub casts : m.casts ≡ s.casts
   pub turns : AreTurns p m.turns s.turns
-  pub low : (t : Last) → m.turns.last ≡ Some t → IsLow p t
+  pub low : (t : Last) → m.turns.made.last ≡ Some t → IsLow p t
   pub full : AreLow p s.turns
   pub votes : AreVotes m.votes s.votes
   pub news : AreNews m.news s.news

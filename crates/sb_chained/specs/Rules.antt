@@ -142,7 +142,6 @@ is_allowed p round slots (Holds b) = (round == 0) && nat_lt slots (length p.slot
 is_allowed p round slots Mark = not (nat_lt slots (length p.slots))
 
 -- how many slots the branch of the justification's node fills
--- how many slots the branch of the justification's node fills
 abbrev pub slots_below : State → Certificate → ℕ
 slots_below s just = filled (branch s.tree (digest_of just))
 
@@ -162,7 +161,6 @@ node_on p view what just = record {
   what = what;
 }
 
--- the node is now known, in a new view without pre-commit and commit votes
 -- the node is now known, and its view the replica's own
 abbrev pub with_node : Params → State → ℕ → Content → Certificate → State
 with_node p s view what just = record s { view = view; tree = node_on p view what just ∷ s.tree }
@@ -269,7 +267,6 @@ abbrev pub turn : Params → ℕ → Certificate → Content → ℕ → Turn
 turn p view just what slots =
     record { view = view; digest = node_digest p view what just; just = just; what = what; slots = weight what + slots }
 
--- the turn that proposes this batch, if there is one
 -- the turn that proposes this batch, if there is one
 abbrev pub cast_turn : Params → ℕ → Certificate → ℕ → Option Batch → Option Turn
 cast_turn p view just slots None = None

@@ -15,14 +15,13 @@ ghost use Rattle.sb_chained.specs.Refines.{RefinesState};
 
 use crate::accepting::{cast_slot, offered_slot};
 use crate::outcomes::{Outcome, Taken};
-use crate::signing::claims;
 use crate::state::{Node, PHASE};
-use hs_tree::{Certificate, Message};
-use hs_views::{Accepted, keep_at, keep_what, pair};
+use hs_tree::{Certificate, Message, Protocol, claims};
+use hs_views::{Accepted, Proposal, Vote, keep_at, keep_what, pair};
 use iss_keys::Keys;
 use iss_request::{
-    Batch, Bytes, DecodeError, Fields, Kind, NoMemory, NodeId, Seq, Slot, Value, Writer,
-    nodes_of_kind, quorum,
+    Batch, DecodeError, Fields, Kind, NoMemory, NodeId, Seq, Slot, Value, Writer, nodes_of_kind,
+    quorum,
 };
 use iss_sb::{Claim, Content, Effects, Input, Params, Sequenced, asks_if};
 use std::alloc::Global;
@@ -165,14 +164,15 @@ impl Chained {
         alloc: Global,
         p: &Params,
         from: NodeId,
-        view: u32,
-        what: Content,
-        just: Certificate,
+        proposal: Proposal,
     ) -> Result<Taken, NoMemory>
         requires { IsGoodParams chained p.now }
-        ensures { IfOk result (λ t. (sig : List ℕ) →
-            Takes p.now self.old self.new (Input.Receive from (Prepare view what just sig)) t) }
+        ensures { IfOk result (λ t. (sig : List ℕ) → Takes p.now self.old self.new
+            (Input.Receive from (Prepare proposal.view proposal.what proposal.just sig)) t) }
     {
+        let view = proposal.view;
+        let what = proposal.what;
+        let just = proposal.just;
         if !self.node.is_usable(p, from, view, &just) {
             return Ok(Taken::of(alloc, Outcome::nothing(alloc)));
         }
@@ -201,18 +201,18 @@ impl Chained {
         alloc: Global,
         p: &Params,
         from: NodeId,
-        phase: u8,
-        view: u32,
-        digest: [u8; 32],
-        sig: Bytes,
+        vote: Vote,
     ) -> Result<Taken, NoMemory>
         requires { IsGoodParams chained p.now }
-        ensures { IfOk result (λ t. Takes p.now self.old self.new (Input.Receive from (Vote phase view digest sig)) t) }
+        ensures { IfOk result (λ t. Takes p.now self.old self.new
+            (Input.Receive from (Vote vote.phase vote.view vote.digest vote.sig)) t) }
     {
-        if !self.node.keeps_vote(p, from, phase, view, &digest) {
+        let view = vote.view;
+        let digest = vote.digest;
+        if !self.node.keeps_vote(p, from, vote.phase, view, &digest) {
             return Ok(Taken::of(alloc, Outcome::nothing(alloc)));
         }
-        self.node.votes.keep(from.0, PHASE, view, digest, sig)?;
+        self.node.votes.keep(from.0, PHASE, view, digest, vote.sig)?;
         if !self.node.is_reached(p, view, &digest) {
             return Ok(Taken::of(alloc, Outcome::nothing(alloc)));
         }
@@ -278,13 +278,21 @@ impl Chained {
                 what,
                 just,
                 ..
-            } => self.prepare(alloc, p, from, view, what, just),
+            } => self.prepare(alloc, p, from, Proposal { view, what, just }),
             Message::Vote {
                 phase,
                 view,
                 digest,
                 sig,
-            } => self.vote(alloc, p, from, phase, view, digest, sig),
+            } => {
+                let vote = Vote {
+                    phase,
+                    view,
+                    digest,
+                    sig,
+                };
+                self.vote(alloc, p, from, vote)
+            }
             Message::PreCommit { .. } => Ok(Taken::of(alloc, Outcome::nothing(alloc))),
             Message::Commit { .. } => Ok(Taken::of(alloc, Outcome::nothing(alloc))),
             Message::Decide { .. } => Ok(Taken::of(alloc, Outcome::nothing(alloc))),
@@ -392,7 +400,7 @@ impl Sequenced for Chained {
         from: NodeId,
         m: &Message,
     ) -> Result<Seq<Claim>, NoMemory> {
-        claims(alloc, p, from, m)
+        claims(alloc, Protocol::Chained, p, from, m)
     }
 
     fn laws() {}

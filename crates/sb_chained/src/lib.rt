@@ -14,7 +14,6 @@ pub mod outcomes;
 pub mod preparing;
 pub mod proposing;
 pub mod rules;
-pub mod signing;
 pub mod state;
 pub mod turns;
 

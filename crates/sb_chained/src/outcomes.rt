@@ -6,8 +6,8 @@ ghost use Rattle.sb_chained.specs.Chained.{chained};
 ghost use Rattle.sb_chained.specs.Internal.Instances.{IsSigned};
 ghost use Rattle.sb_chained.specs.Refines.{IsAlone, IsDrafted, IsQuiet};
 
-use crate::signing::{Draft, send};
 use hs_tree::Message;
+use hs_views::{Draft, send};
 use iss_keys::Keys;
 use iss_request::{Batch, Bytes, NoMemory, Seq, Slot, Value};
 use iss_sb::{Effects, Params};

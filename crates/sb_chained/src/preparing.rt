@@ -10,11 +10,11 @@ ghost use Rattle.sb_chained.specs.Rules.{State, is_allowed, is_just, is_safe, is
 ghost use Rattle.hs_views.specs.Views.{leader_of, round_of, turn_of};
 ghost use Rattle.sb_chained.specs.Refines.{RefinesState};
 
-use crate::signing::leader_of;
-use crate::state::{Node, is_allowed, is_just, round_of};
+use crate::state::{Node, is_allowed, is_just};
 use hs_tree::Certificate;
 use hs_tree::hashing::digest_of_node;
 use hs_tree::tree::same;
+use hs_views::{leader_of, round_of};
 use iss_request::NodeId;
 use iss_sb::{Content, Params};
 

@@ -7,17 +7,16 @@ ghost use Rattle.sb_chained.specs.Chained.{chained};
 ghost use Rattle.sb_chained.specs.Rules.{State, cast_turn, first_high, full_turn, is_full, is_marked, next_turn, nil_or_mark, turn, turn_after, turn_on};
 ghost use Rattle.hs_views.specs.Views.{Turn, round_of};
 ghost use Rattle.sb_chained.specs.Refines.{RefinesState, IsLow, MayMake, Proposes, is_last_ready};
-ghost use Rattle.sb_chained.specs.Tallies.{own_of};
+ghost use Rattle.hs_views.specs.Turns.{own_of};
 ghost use Rattle.hs_tree.specs.declared.certificates.Certificate.{Certificate};
 
 use crate::links::Link;
 use crate::outcomes::Outcome;
-use crate::signing::proposal_draft;
-use crate::state::{Node, PHASE, round_of};
-use crate::turns::Last;
-use hs_tree::Certificate;
+use crate::state::{Node, PHASE};
 use hs_tree::signing::hash_node;
 use hs_tree::tree::weight;
+use hs_tree::{Certificate, Protocol};
+use hs_views::{Last, Proposal, proposal_draft, round_of};
 use iss_request::{Batch, NoMemory};
 use iss_sb::{Content, Params};
 use std::alloc::Global;
@@ -47,22 +46,22 @@ impl Node {
         &mut self,
         alloc: Global,
         p: &Params,
-        view: u32,
-        just: Certificate,
-        what: Content,
+        proposal: Proposal,
         slots: usize,
     ) -> Result<Outcome, NoMemory>
-        ensures { IfOk result (λ o. (k : State) (t : Turn) → t ≡ turn p.now view just what slots →
-            MayMake p.now k view slots what →
+        ensures { IfOk result (λ o. (k : State) (t : Turn) →
+            t ≡ turn p.now proposal.view proposal.just proposal.what slots →
+            MayMake p.now k proposal.view slots proposal.what →
             RefinesState p.now self.old k → Proposes p.now self.old self.new k (Some t) o) }
     {
-        let parent = just.digest();
-        let from = just.view();
-        let node = hash_node(alloc, p, Some(view), &parent, &what)?;
+        let parent = proposal.just.digest();
+        let from = proposal.just.view();
+        let view = proposal.view;
+        let node = hash_node(alloc, p, Some(view), &parent, &proposal.what)?;
         let digest = node.digest;
-        let slots = slots.saturating_add(weight(&what));
-        let held = what.copy()?;
-        let draft = proposal_draft(alloc, p, view, what, just, &digest)?;
+        let slots = slots.saturating_add(weight(&proposal.what));
+        let held = proposal.what.copy()?;
+        let draft = proposal_draft(alloc, Protocol::Chained, p, proposal, &digest)?;
         let full = is_full(p, slots);
         self.turns.add(
             Last {
@@ -104,7 +103,7 @@ impl Node {
             return Ok(Outcome::nothing(alloc));
         };
         let what = Content::Holds(batch.copy()?);
-        self.propose(alloc, p, view, just, what, slots)
+        self.propose(alloc, p, Proposal { view, what, just }, slots)
     }
 
     // Whether the last turn is certified, and the replica is in no later round.
@@ -163,12 +162,14 @@ impl Node {
             if !self.is_marked(p, &last) {
                 return Ok(Outcome::nothing(alloc));
             }
-            return self.propose(alloc, p, view, just, Content::Mark, last.slots);
+            let what = Content::Mark;
+            return self.propose(alloc, p, Proposal { view, what, just }, last.slots);
         }
         if round_of(last.view) == 0 {
             return self.propose_cast(alloc, p, view, just, last.slots);
         }
-        self.propose(alloc, p, view, just, Content::Nil, last.slots)
+        let what = Content::Nil;
+        self.propose(alloc, p, Proposal { view, what, just }, last.slots)
     }
 
     /// The highest certificate of exactly a quorum's NewView messages, if its node is known and the replica is in no
@@ -209,6 +210,7 @@ impl Node {
     {
         let slots = self.nodes.tree.slots(&just.digest());
         let what = nil_or_mark(p, slots);
-        self.propose(alloc, p, round as u32 * 65536 + 1, just, what, slots)
+        let view = round as u32 * 65536 + 1;
+        self.propose(alloc, p, Proposal { view, what, just }, slots)
     }
 }

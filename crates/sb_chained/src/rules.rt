@@ -9,10 +9,10 @@ ghost use Rattle.sb_chained.specs.Refines.{RefinesState};
 
 use crate::links::{Link, Lock};
 use crate::outcomes::Outcome;
-use crate::signing::{round_draft, vote_draft};
-use crate::state::{Node, round_of};
-use hs_tree::Certificate;
+use crate::state::{Node, PHASE};
 use hs_tree::signing::hash_node;
+use hs_tree::{Certificate, Protocol};
+use hs_views::{round_draft, round_of, vote_draft};
 use iss_request::{Batch, NoMemory, Slot};
 use iss_sb::{Content, Input, Params};
 use std::alloc::Global;
@@ -92,7 +92,7 @@ impl Node {
         let from = just.view();
         let node = hash_node(alloc, p, Some(view), &parent, &what)?;
         let digest = node.digest;
-        let draft = vote_draft(alloc, p, view, digest)?;
+        let draft = vote_draft(alloc, Protocol::Chained, p, PHASE, view, digest)?;
         self.nodes.add(digest, Link { view, from, parent }, what)?;
         self.view = view;
         Ok(Outcome {
@@ -115,7 +115,7 @@ impl Node {
         }
         let next = round + 1;
         let high = self.high.copy(alloc)?;
-        let draft = round_draft(alloc, p, next, high)?;
+        let draft = round_draft(alloc, Protocol::Chained, p, next, high)?;
         self.view = next as u32 * 65536;
         Ok(Outcome::of(alloc, draft))
     }

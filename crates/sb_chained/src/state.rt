@@ -1,5 +1,5 @@
 //! What a replica of chained HotStuff keeps, and the tests of its rules.
-ghost use Rattle.std.specs.Prelude.{◌≡◌, ◌/◌, ◌==◌, ◌&&◌, not, nat_lt, is_some, length, IsTrue};
+ghost use Rattle.std.specs.Prelude.{◌≡◌, ◌==◌, ◌&&◌, not, nat_lt, is_some, length, IsTrue};
 ghost use Rattle.iss_base.specs.Lists.{In};
 ghost use Rattle.iss_sb.specs.declared.effects.Params.{Params};
 ghost use Rattle.iss_sb.specs.Calls.{IsGoodParams};
@@ -9,10 +9,9 @@ ghost use Rattle.hs_views.specs.Views.{is_own_turn, vote_of, votes_of};
 ghost use Rattle.sb_chained.specs.Refines.{RefinesState};
 
 use crate::links::{Lock, Nodes};
-use crate::signing::leader_of;
 use crate::turns::Turns;
 use hs_tree::Certificate;
-use hs_views::{Ballots, Words};
+use hs_views::{Ballots, Words, leader_of, round_of};
 use iss_request::{Batch, NodeId, Seq, Slot};
 use iss_sb::{Content, Params, is_next};
 use std::alloc::Global;
@@ -35,13 +34,6 @@ pub struct Node {
     pub(crate) turns: Turns,
     pub(crate) votes: Ballots,
     pub(crate) news: Words,
-}
-
-/// The round of a view: its upper 16 bits. The lower 16 bits are the turn.
-pub fn round_of(view: u32) -> u16
-    ensures { result ≡ view / 65536 }
-{
-    (view / 65536) as u16
 }
 
 /// Whether the certificate has exactly a quorum's votes in this view, which has a turn.

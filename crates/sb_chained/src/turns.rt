@@ -1,35 +1,21 @@
-//! The turns of a leader: the proposals that it made.
+//! The turns of a leader, and where in each round a branch was full first.
 ghost use Rattle.std.specs.Prelude.{◌≡◌, ◌∷◌, List, [], OnOk};
 ghost use Rattle.iss_sb.specs.declared.effects.Params.{Params};
 ghost use Rattle.sb_chained.specs.Rules.{full_turn, is_full};
 ghost use Rattle.hs_views.specs.Views.{Turn, is_own_turn, round_of};
-ghost use Rattle.sb_chained.specs.Tallies.{AreTurns, Fills, last_of, own_of};
+ghost use Rattle.hs_views.specs.Turns.{last_of, own_of};
+ghost use Rattle.sb_chained.specs.Tallies.{AreTurns, Fills};
 
+use hs_views::Last;
 use iss_request::NoMemory;
 use std::alloc::Global;
-use std::collections::{BTreeMap, BTreeSet};
-
-/// The key of a turn: its view, and the digest of the node proposed in it.
-#[derive(PartialEq, Eq, PartialOrd, Ord, Drop)]
-pub struct Own {
-    pub view: u32,
-    pub digest: [u8; 32],
-}
-
-/// The last turn, and how many slots the branch of its node fills.
-#[derive(Clone, Copy)]
-pub struct Last {
-    pub view: u32,
-    pub digest: [u8; 32],
-    pub slots: usize,
-}
+use std::collections::BTreeMap;
 
 /// The turns of a leader, and for each round the view of the first one whose branch is full.
 #[derive(Drop)]
 pub struct Turns {
-    all: BTreeSet<Own>,
+    made: hs_views::Turns,
     full: BTreeMap<u16, u32>,
-    last: Option<Last>,
 }
 
 impl Turns {
@@ -38,9 +24,8 @@ impl Turns {
         ensures { (p : Params) → AreTurns p result [] }
     {
         Turns {
-            all: BTreeSet::new(alloc),
+            made: hs_views::Turns::new(alloc),
             full: BTreeMap::new(alloc),
-            last: None,
         }
     }
 
@@ -48,18 +33,14 @@ impl Turns {
     pub fn has(&self, view: u32, digest: &[u8; 32]) -> bool
         ensures { (p : Params) (ts : List Turn) → AreTurns p self.now ts → result ≡ is_own_turn ts view digest.now }
     {
-        let own = Own {
-            view,
-            digest: *digest,
-        };
-        self.all.contains(&own)
+        self.made.has(view, digest)
     }
 
     /// The newest turn.
     pub fn last(&self) -> Option<Last>
         ensures { (p : Params) (ts : List Turn) → AreTurns p self.now ts → result ≡ last_of ts }
     {
-        self.last
+        self.made.last()
     }
 
     /// The view of the round's first turn whose branch is full.
@@ -94,13 +75,7 @@ impl Turns {
             AreTurns p self.new (t ∷ ts)) }
     {
         self.fill(round, turn.view, full)?;
-        let digest = turn.digest;
-        let own = Own {
-            view: turn.view,
-            digest,
-        };
-        self.all.insert(own)?;
-        self.last = Some(turn);
+        self.made.add(turn)?;
         Ok(())
     }
 }

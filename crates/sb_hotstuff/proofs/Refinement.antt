@@ -1,4 +1,3 @@
-pub mod CountsAgree
 pub mod DraftsAgree
 pub mod InputRefines
 pub mod ProposalTestAgrees

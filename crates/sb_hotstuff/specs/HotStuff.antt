@@ -11,21 +11,20 @@ use Rattle.iss_sb.specs.declared.effects.Input.{Input}
 use Rattle.iss_sb.specs.declared.effects.Input.TheVariants.{Cast, Receive, Timeout}
 use Rattle.iss_sb.specs.declared.effects.Params.{Params}
 use Rattle.iss_sb.specs.declared.effects.To.{To}
-use Rattle.iss_sb.specs.declared.effects.To.TheVariants.{All as To_all, One as To_one}
+use Rattle.iss_sb.specs.declared.effects.To.TheVariants.{All as To_all}
 use Rattle.iss_sb.specs.Evidence.{Item, Made, Module, accepts}
-use Rattle.iss_sb.specs.Statements.{signature}
 use Rattle.iss_sb.specs.declared.content.Content.{Content}
-use Rattle.iss_sb.specs.declared.content.Content.TheVariants.{Nil, Holds, Mark}
 use Rattle.hs_tree.specs.declared.certificates.Certificate.{Certificate}
 use Rattle.hs_tree.specs.declared.messages.Message.{Message}
 use Rattle.hs_tree.specs.declared.messages.Message.TheVariants.{NewView, Prepare, PreCommit, Commit, Decide, Vote}
 use Rattle.hs_tree.specs.Certificates.{digest_of}
 use Rattle.hs_tree.specs.Messages.{parse, spell}
-use Rattle.hs_tree.specs.Statements.{claims, node_string, own_statement, with_signature}
+use Rattle.hs_tree.specs.Statements.{claims, node_string}
 use Rattle.hs_tree.specs.Tree.{basic, branch, is_known, strings_of, value_at_slot, value_of}
 use Rattle.sb_hotstuff.specs.Rules.{State, after, certificate, is_good, is_reached, keeps_vote, kept, may_cast, may_end, may_prepare, may_second, may_third, node_digest, proposed, slots_below, start}
-use Rattle.hs_views.specs.Views.{Turn, leader_of, round_of}
-use Rattle.hs_views.specs.Batches.{unless_accepted}
+use Rattle.hs_views.specs.Sending.{signed_from, to_leader, vote_for}
+use Rattle.hs_views.specs.Views.{Turn, round_of}
+use Rattle.hs_views.specs.Batches.{offered_at}
 
 -- the state of a replica with this history
 abbrev pub state : Params → ℕ → List (Item Message) → State
@@ -36,9 +35,7 @@ state p me (x ∷ xs) = after p me (state p me xs) x.input
 
 -- the batch of a proposal, at the slot after those of its parent's branch
 abbrev pub offered : Params → State → List (Slot × Batch) → Content → Certificate → Option (Slot × Batch)
-offered p s old Nil just = None
-offered p s old (Holds b) just = unless_accepted old b (nth p.slots (slots_below s just))
-offered p s old Mark just = None
+offered p s old what just = offered_at p old what (slots_below s just)
 
 -- the batch that the replica accepts with a message
 abbrev pub asked_by : Params → State → List (Slot × Batch) → ℕ → Message → Option (Slot × Batch)
@@ -58,12 +55,9 @@ asks p me xs Timeout = None
 
 -- ---- Unsigned messages: first the answer, then the proposal that the input triggers
 
-abbrev pub to_leader : Params → ℕ → To
-to_leader p round = To_one (record { 0 = leader_of p round })
-
 -- a vote, to the leader of the view's round
 abbrev pub voted : Params → ℕ → ℕ → List ℕ → List (To × Message)
-voted p phase view d = (to_leader p (round_of view), Vote phase view d []) ∷ []
+voted p phase view d = vote_for p phase view d
 
 -- the message that broadcasts a quorum certificate of a phase: PreCommit, Commit or Decide
 abbrev pub shows : ℕ → ℕ → Certificate → Message
@@ -103,9 +97,7 @@ drafts p me s i = answers p s (kept p me s i) i ++ proposals (proposed p me s (k
 
 -- signs each message with the next leaf, from this one on
 abbrev pub sign_all : Params → ℕ → ℕ → List (To × Message) → List (To × Message)
-sign_all p me leaf [] = []
-sign_all p me leaf (x ∷ xs) =
-    (x.0, with_signature (signature p me leaf (own_statement basic p x.1)) x.1) ∷ sign_all p me (suc leaf) xs
+sign_all p me leaf xs = signed_from basic p me leaf xs
 
 -- ---- Hashed strings: for a node that is taken or proposed, its value's string and its own
 

@@ -2,7 +2,6 @@ pub mod Facts
 pub mod HotStuff
 pub mod Internal
 pub mod Rules
-pub mod Tallies
 pub mod Drafts
 pub mod Refines
 pub mod Steps

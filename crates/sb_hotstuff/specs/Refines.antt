@@ -4,10 +4,10 @@ use Rattle.iss_sb.specs.declared.effects.Params.{Params}
 use Rattle.hs_tree.specs.Known.{Keeps}
 use Rattle.hs_tree.specs.Tree.{basic}
 use Rattle.sb_hotstuff.specs.declared.state.Node.{Node}
-use Rattle.sb_hotstuff.specs.declared.turns.Last.{Last}
+use Rattle.hs_views.specs.declared.turns.Last.{Last}
 use Rattle.sb_hotstuff.specs.Rules.{State, is_reached}
 use Rattle.hs_views.specs.Views.{round_of}
-use Rattle.sb_hotstuff.specs.Tallies.{AreTurns}
+use Rattle.hs_views.specs.Turns.{AreTurns}
 use Rattle.hs_views.specs.Counts.{AreNews, AreVotes}
 
 -- Bounds of a turn by the slots of its branch, which keep its view within its round. In each round every turn but the

@@ -12,14 +12,12 @@ ghost use Rattle.sb_hotstuff.specs.Rules.{State, may_prepare};
 ghost use Rattle.sb_hotstuff.specs.Refines.{RefinesState};
 
 use crate::accepting::{cast_slot, offered_slot};
-use crate::signing::claims;
 use crate::state::{Node, PHASES};
-use hs_tree::{Certificate, Message};
-use hs_views::{Accepted, keep_at, keep_what, pair};
+use hs_tree::{Certificate, Message, Protocol, claims};
+use hs_views::{Accepted, Proposal, Vote, keep_at, keep_what, pair};
 use iss_keys::Keys;
 use iss_request::{
-    Batch, Bytes, DecodeError, Fields, Kind, NoMemory, NodeId, Seq, Slot, Writer, nodes_of_kind,
-    quorum,
+    Batch, DecodeError, Fields, Kind, NoMemory, NodeId, Seq, Slot, Writer, nodes_of_kind, quorum,
 };
 use iss_sb::{Claim, Content, Effects, Input, Params, Sequenced, asks_if};
 use std::alloc::Global;
@@ -106,17 +104,18 @@ impl HotStuff {
         alloc: Global,
         p: &Params,
         from: NodeId,
-        view: u32,
-        what: Content,
-        just: Certificate,
+        proposal: Proposal,
         keys: &mut Keys,
     ) -> Result<Effects<Message>, NoMemory>
         requires good { IsGoodParams hotstuff p.now }
         requires enough { 2 ≤ left_of keys.old }
         ensures { IfOk result (λ e. (sig : List ℕ) →
             IsTrueStep hotstuff Refines p.now self.old self.new
-            (Input.Receive from (Prepare view what just sig)) keys.old keys.new e) }
+            (Input.Receive from (Prepare proposal.view proposal.what proposal.just sig)) keys.old keys.new e) }
     {
+        let view = proposal.view;
+        let what = proposal.what;
+        let just = proposal.just;
         if !self.node.may_prepare(p, from, view, &what, &just) {
             return Ok(Effects::nothing(alloc));
         }
@@ -222,20 +221,15 @@ impl HotStuff {
         alloc: Global,
         p: &Params,
         from: NodeId,
-        phase: u8,
-        view: u32,
-        digest: [u8; 32],
-        sig: Bytes,
+        vote: Vote,
         keys: &mut Keys,
     ) -> Result<Effects<Message>, NoMemory>
         requires good { IsGoodParams hotstuff p.now }
         requires enough { 2 ≤ left_of keys.old }
         ensures { IfOk result (λ e. IsTrueStep hotstuff Refines p.now self.old self.new
-            (Input.Receive from (Vote phase view digest sig)) keys.old keys.new e) }
+            (Input.Receive from (Vote vote.phase vote.view vote.digest vote.sig)) keys.old keys.new e) }
     {
-        let outcome = self
-            .node
-            .take_vote(alloc, p, from, phase, view, digest, sig)?;
+        let outcome = self.node.take_vote(alloc, p, from, vote)?;
         outcome.sign(alloc, p, None, keys)
     }
 
@@ -262,7 +256,7 @@ impl HotStuff {
                 what,
                 just,
                 ..
-            } => self.prepare(alloc, p, from, view, what, just, keys),
+            } => self.prepare(alloc, p, from, Proposal { view, what, just }, keys),
             Message::PreCommit { view, shown, .. } => {
                 self.pre_commit(alloc, p, from, view, shown, keys)
             }
@@ -273,7 +267,15 @@ impl HotStuff {
                 view,
                 digest,
                 sig,
-            } => self.vote(alloc, p, from, phase, view, digest, sig, keys),
+            } => {
+                let vote = Vote {
+                    phase,
+                    view,
+                    digest,
+                    sig,
+                };
+                self.vote(alloc, p, from, vote, keys)
+            }
         }
     }
 
@@ -376,7 +378,7 @@ impl Sequenced for HotStuff {
         from: NodeId,
         m: &Message,
     ) -> Result<Seq<Claim>, NoMemory> {
-        claims(alloc, p, from, m)
+        claims(alloc, Protocol::Basic, p, from, m)
     }
 
     fn laws() {}

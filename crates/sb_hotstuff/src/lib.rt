@@ -12,9 +12,8 @@ pub mod outcomes;
 pub mod preparing;
 pub mod proposing;
 pub mod rules;
-pub mod signing;
+pub mod showing;
 pub mod state;
-pub mod turns;
 
 pub use facts::{
     a_quorum_accepted_what_is_delivered, batches_are_accepted_once, batches_share_an_acceptor,

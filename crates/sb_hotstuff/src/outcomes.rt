@@ -6,8 +6,8 @@ ghost use Rattle.sb_hotstuff.specs.HotStuff.{hotstuff};
 ghost use Rattle.sb_hotstuff.specs.Internal.Instances.{IsSigned};
 ghost use Rattle.sb_hotstuff.specs.Steps.{IsAnswer, IsQuiet};
 
-use crate::signing::{Draft, send};
 use hs_tree::Message;
+use hs_views::{Draft, send};
 use iss_keys::Keys;
 use iss_request::{Batch, Bytes, NoMemory, Seq, Slot};
 use iss_sb::{Effects, Params};

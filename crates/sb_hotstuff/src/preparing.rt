@@ -10,10 +10,11 @@ ghost use Rattle.sb_hotstuff.specs.Rules.{State, is_allowed, is_just, is_safe, m
 ghost use Rattle.hs_views.specs.Views.{round_of};
 ghost use Rattle.sb_hotstuff.specs.Refines.{RefinesState};
 
-use crate::state::{Node, is_allowed, is_just, round_of};
+use crate::state::{Node, is_allowed, is_just};
 use hs_tree::Certificate;
 use hs_tree::hashing::digest_of_node;
 use hs_tree::tree::same;
+use hs_views::round_of;
 use iss_request::NodeId;
 use iss_sb::{Content, Params};
 

@@ -8,15 +8,14 @@ ghost use Rattle.sb_hotstuff.specs.Rules.{State, cast_turn, first_turn, next_tur
 ghost use Rattle.hs_views.specs.Views.{Turn};
 ghost use Rattle.sb_hotstuff.specs.Refines.{IsLow, RefinesState, is_last_ready};
 ghost use Rattle.sb_hotstuff.specs.Steps.{Proposes};
-ghost use Rattle.sb_hotstuff.specs.Tallies.{own_of};
+ghost use Rattle.hs_views.specs.Turns.{own_of};
 
 use crate::outcomes::Outcome;
-use crate::signing::proposal_draft;
-use crate::state::{Node, PHASES, round_of};
-use crate::turns::Last;
-use hs_tree::Certificate;
+use crate::state::{Node, PHASES};
 use hs_tree::signing::hash_node;
 use hs_tree::tree::weight;
+use hs_tree::{Certificate, Protocol};
+use hs_views::{Last, Proposal, proposal_draft, round_of};
 use iss_request::{Batch, NoMemory};
 use iss_sb::{Content, Params};
 use std::alloc::Global;
@@ -39,19 +38,19 @@ impl Node {
         &mut self,
         alloc: Global,
         p: &Params,
-        view: u32,
-        just: Certificate,
-        what: Content,
+        proposal: Proposal,
         slots: usize,
     ) -> Result<Outcome, NoMemory>
-        ensures { IfOk result (λ o. (k : State) (t : Turn) → t ≡ turn p.now view just what slots → slots < 2 ^ 63 →
+        ensures { IfOk result (λ o. (k : State) (t : Turn) →
+            t ≡ turn p.now proposal.view proposal.just proposal.what slots → slots < 2 ^ 63 →
             IsLow (own_of t) → RefinesState self.old k → Proposes p.now self.old self.new k (Some t) o) }
     {
-        let parent = just.digest();
-        let node = hash_node(alloc, p, None, &parent, &what)?;
+        let parent = proposal.just.digest();
+        let node = hash_node(alloc, p, None, &parent, &proposal.what)?;
         let digest = node.digest;
-        let slots = slots.saturating_add(weight(&what));
-        let draft = proposal_draft(alloc, p, view, what, just, &digest)?;
+        let slots = slots.saturating_add(weight(&proposal.what));
+        let view = proposal.view;
+        let draft = proposal_draft(alloc, Protocol::Basic, p, proposal, &digest)?;
         self.turns.add(Last {
             view,
             digest,
@@ -89,7 +88,7 @@ impl Node {
             return Ok(Outcome::nothing(alloc));
         };
         let what = Content::Holds(batch.copy()?);
-        self.propose(alloc, p, view, just, what, slots)
+        self.propose(alloc, p, Proposal { view, what, just }, slots)
     }
 
     // Whether the last turn's prepareQC and commitQC were broadcast, and the replica is in no later round.
@@ -139,7 +138,8 @@ impl Node {
         if last.slots >= p.slots.len() {
             return Ok(Outcome::nothing(alloc));
         }
-        self.propose(alloc, p, view, just, Content::Nil, last.slots)
+        let what = Content::Nil;
+        self.propose(alloc, p, Proposal { view, what, just }, last.slots)
     }
 
     /// Proposes the first turn of a round, once exactly a quorum's NewView messages were received. Nothing is proposed
@@ -167,6 +167,7 @@ impl Node {
         }
         let slots = self.tree.slots(&parent);
         let what = nil_or_mark(p, slots);
-        self.propose(alloc, p, round as u32 * 65536 + 1, just, what, slots)
+        let view = round as u32 * 65536 + 1;
+        self.propose(alloc, p, Proposal { view, what, just }, slots)
     }
 }

@@ -9,11 +9,12 @@ ghost use Rattle.sb_hotstuff.specs.Refines.{RefinesState};
 ghost use Rattle.sb_hotstuff.specs.Steps.{Does};
 
 use crate::outcomes::Outcome;
-use crate::signing::{round_draft, shown_draft, vote_draft};
-use crate::state::{Node, round_of};
-use hs_tree::Certificate;
+use crate::showing::shown_draft;
+use crate::state::Node;
 use hs_tree::signing::hash_node;
-use iss_request::{Batch, Bytes, NoMemory, NodeId, Slot};
+use hs_tree::{Certificate, Protocol};
+use hs_views::{Vote, round_draft, round_of, vote_draft};
+use iss_request::{Batch, NoMemory, NodeId, Slot};
 use iss_sb::{Content, Input, Params};
 use std::alloc::Global;
 
@@ -59,7 +60,7 @@ impl Node {
         let parent = just.digest();
         let node = hash_node(alloc, p, None, &parent, &what)?;
         let digest = node.digest;
-        let draft = vote_draft(alloc, p, 1, view, digest)?;
+        let draft = vote_draft(alloc, Protocol::Basic, p, 1, view, digest)?;
         self.tree.add(digest, parent, what)?;
         self.view = view;
         self.second = false;
@@ -88,7 +89,7 @@ impl Node {
             return Ok(Outcome::nothing(alloc));
         }
         let digest = shown.digest();
-        let draft = vote_draft(alloc, p, 2, view, digest)?;
+        let draft = vote_draft(alloc, Protocol::Basic, p, 2, view, digest)?;
         self.high = shown;
         self.second = true;
         Ok(Outcome::of(alloc, draft))
@@ -112,7 +113,7 @@ impl Node {
             return Ok(Outcome::nothing(alloc));
         }
         let digest = shown.digest();
-        let draft = vote_draft(alloc, p, 3, view, digest)?;
+        let draft = vote_draft(alloc, Protocol::Basic, p, 3, view, digest)?;
         self.lock = shown;
         self.third = true;
         Ok(Outcome::of(alloc, draft))
@@ -125,19 +126,19 @@ impl Node {
         alloc: Global,
         p: &Params,
         from: NodeId,
-        phase: u8,
-        view: u32,
-        digest: [u8; 32],
-        sig: Bytes,
+        vote: Vote,
     ) -> Result<Outcome, NoMemory>
         requires { IsGoodParams hotstuff p.now }
         ensures { IfOk result (λ o. (s : State) → RefinesState self.old s →
-            Does p.now self.old self.new s (Input.Receive from (Vote phase view digest sig)) o) }
+            Does p.now self.old self.new s (Input.Receive from (Vote vote.phase vote.view vote.digest vote.sig)) o) }
     {
+        let phase = vote.phase;
+        let view = vote.view;
+        let digest = vote.digest;
         if !self.keeps_vote(p, from, phase, view, &digest) {
             return Ok(Outcome::nothing(alloc));
         }
-        self.votes.keep(from.0, phase, view, digest, sig)?;
+        self.votes.keep(from.0, phase, view, digest, vote.sig)?;
         if !self.is_reached(p, phase, view, &digest) {
             return Ok(Outcome::nothing(alloc));
         }
@@ -190,7 +191,7 @@ impl Node {
         }
         let next = round + 1;
         let high = self.high.copy(alloc)?;
-        let draft = round_draft(alloc, p, next, high)?;
+        let draft = round_draft(alloc, Protocol::Basic, p, next, high)?;
         self.view = next as u32 * 65536;
         self.second = false;
         self.third = false;

@@ -1,5 +1,5 @@
 //! The state of a replica of HotStuff, and the tests of its rules.
-ghost use Rattle.std.specs.Prelude.{◌≡◌, ◌/◌, ◌&&◌, IsTrue};
+ghost use Rattle.std.specs.Prelude.{◌≡◌, ◌&&◌, IsTrue};
 ghost use Rattle.iss_base.specs.Lists.{In};
 ghost use Rattle.hs_tree.specs.Certificates.{digest_of};
 ghost use Rattle.hs_tree.specs.Tree.{is_known};
@@ -8,11 +8,9 @@ ghost use Rattle.sb_hotstuff.specs.HotStuff.{hotstuff};
 ghost use Rattle.sb_hotstuff.specs.Rules.{State, is_allowed, is_good, is_just, is_reached, is_shown, is_timely, keeps_news, keeps_vote, may_cast, may_second, may_third, start};
 ghost use Rattle.sb_hotstuff.specs.Refines.{RefinesState};
 
-use crate::signing::leader_of;
-use crate::turns::Turns;
 use hs_tree::certificates::is_phase;
 use hs_tree::{Certificate, Tree};
-use hs_views::{Ballots, Words};
+use hs_views::{Ballots, Turns, Words, leader_of, round_of};
 use iss_request::{Batch, NodeId, Seq, Slot};
 use iss_sb::{Content, Params, is_next};
 use std::alloc::Global;
@@ -37,13 +35,6 @@ pub struct Node {
     pub(crate) turns: Turns,
     pub(crate) votes: Ballots,
     pub(crate) news: Words,
-}
-
-/// The round of a view: its upper 16 bits. The lower 16 bits are the turn.
-pub fn round_of(view: u32) -> u16
-    ensures { result ≡ view / 65536 }
-{
-    (view / 65536) as u16
 }
 
 /// Whether this is a valid quorum certificate: exactly a quorum's votes for this phase in this view, which has a turn.

@@ -8,19 +8,16 @@
 --
 -- Replica 1 votes for x, which locks it on z. The certificate of u is of a higher view than z's, so s is safe for it.
 -- Under the rule of chained HotStuff z is not committed, since the views of z and y are not consecutive.
-use Rattle.std.proofs.Common.{◌≡◌, ◌<◌, ◌≤◌, ◌^◌, ◌&&◌, ℕ, Bool, true, false, cond, eqb, not, List, [], ◌∷◌, length, replicate, Some, refl, sym, ap, ◌∙◌, subst, inl, inr, arith, true≢false}
+use Rattle.std.proofs.Common.{◌≡◌, ◌<◌, ◌^◌, ℕ, Bool, true, false, cond, eqb, List, [], ◌∷◌, replicate, Some, refl, sym, ap, ◌∙◌, subst, inl, inr, arith, true≢false}
 use Rattle.sha2.specs.Sha256.{sha256, digest_bytes, hash_after, compress, rounds, schedule, first_words}
-use Rattle.iss_base.specs.Lists.{In, same_bytes}
-use Rattle.iss_base.proofs.Lists.{and-true, eqb-other}
-use Rattle.iss_keys.specs.Directories.{directory_of}
+use Rattle.iss_base.specs.Lists.{In}
+use Rattle.iss_base.proofs.Lists.{eqb-other}
 use Rattle.iss_request.specs.Digest.{digest}
 use Rattle.iss_request.specs.Formats.{is_signature, spell_batch, spell_count, spell_value, value_string}
-use Rattle.iss_request.specs.Setup.{IsGoodSetup}
 use Rattle.iss_request.specs.declared.requests.Value.{Value}
 use Rattle.iss_request.specs.declared.requests.Value.TheVariants.{Nil as Value_nil, Batch as Value_batch}
 use Rattle.iss_sb.specs.declared.effects.Claim.{Claim}
 use Rattle.iss_sb.specs.declared.effects.Input.{Input}
-use Rattle.iss_sb.specs.declared.effects.Input.TheVariants.{Receive}
 use Rattle.iss_sb.specs.declared.effects.Params.{Params}
 use Rattle.iss_sb.specs.declared.effects.To.{To}
 use Rattle.iss_sb.specs.declared.effects.To.TheVariants.{One as To_one}
@@ -28,33 +25,21 @@ use Rattle.iss_sb.specs.Calls.{IsGoodParams}
 use Rattle.iss_sb.specs.Evidence.{Item, World, IsCredible, IsReached, IsReadMessage, at_start, after, IsSigned, IsString, MayCome, Move, Separate, Verifies, and_then, delivered, empty_world, is_correct}
 use Rattle.iss_sb.specs.Laws.{IsBroadcast}
 use Rattle.iss_sb.specs.Statements.{claim, signature, wide_bytes}
-use Rattle.iss_sb.proofs.Cases.{different}
-use Rattle.iss_sb.proofs.Read.{batch-read}
-use Rattle.iss_sb.proofs.Setups.{good-by}
 use Rattle.iss_sb.proofs.Signatures.{signature-shape, signature-verifies}
 use Rattle.iss_sb.specs.declared.content.Content.{Content}
 use Rattle.iss_sb.specs.declared.content.Content.TheVariants.{Nil, Holds, Mark}
-use Rattle.iss_sb.specs.Content.{IsSpelledContent}
 use Rattle.hs_tree.specs.declared.certificates.Certificate.{Certificate}
-use Rattle.hs_tree.specs.declared.certificates.Certificate.TheVariants.{Root, Votes}
-use Rattle.iss_sb.specs.declared.signers.Signed.{Signed}
+use Rattle.hs_tree.specs.declared.certificates.Certificate.TheVariants.{Root}
 use Rattle.hs_tree.specs.declared.messages.Message.{Message}
 use Rattle.hs_tree.specs.declared.messages.Message.TheVariants.{Prepare, Vote}
-use Rattle.hs_tree.specs.Certificates.{IsSpelledCertificate, root_row, votes_row}
-use Rattle.hs_tree.specs.Statements.{claims, own_statement, vote_statement}
+use Rattle.hs_tree.specs.Certificates.{root_row}
+use Rattle.hs_tree.specs.Statements.{claims, own_statement}
 use Rattle.hs_tree.specs.Tree.{chained as form, root, viewed_string}
-use Rattle.iss_sb.proofs.Contents.{batch-table}
 use Rattle.hs_tree.proofs.MessageGrammar.{spelled-read}
 use Rattle.sb_chained.specs.Chained.{makes}
 use Rattle.sb_chained.specs.Variants.{IsNotSafe, loose}
-use Rattle.sb_chained.proofs.Examples.Runs.{b, node, setup, slot}
-
-good-setup : IsGoodSetup setup
-good-setup = good-by setup refl
-
--- the Byzantine replica 3 leads rounds 0 and 4
-abbrev q : Params
-q = record { setup = setup; epoch = record { 0 = 2 }; leader = node 3; slots = slot 0 ∷ slot 4 ∷ []; directory = directory_of 4 1 4 }
+use Rattle.sb_chained.proofs.Examples.ByzantineLeader.{IsOneOf, all_differ, batch_held, good-setup, none, q, sent, separate-by, shown, shown-spelled, states, told, world}
+use Rattle.sb_chained.proofs.Examples.Runs.{b, node, setup}
 
 good : IsGoodParams loose q
 good = record {
@@ -97,17 +82,6 @@ abbrev d_v : List ℕ
 d_v = 237 ∷ 231 ∷ 71 ∷ 188 ∷ 50 ∷ 226 ∷ 73 ∷ 214 ∷ 159 ∷ 81 ∷ 231 ∷ 173 ∷ 254 ∷ 80 ∷ 67 ∷ 224 ∷ 171 ∷ 244 ∷ 18 ∷ 233 ∷ 45 ∷ 230 ∷ 148 ∷ 200 ∷ 161 ∷ 249 ∷ 212 ∷ 255 ∷ 137 ∷ 49 ∷ 53 ∷ 178 ∷ []
 
 -- ---- The messages
-
-abbrev states : ℕ → List ℕ → List ℕ
-states view d = vote_statement form q 1 view d
-
--- replica k's vote, signed with this leaf
-abbrev vote : ℕ → List ℕ → ℕ → ℕ → Signed
-vote view d leaf k = record { by = node k; sig = signature q k leaf (states view d) }
-
--- a certificate by the replicas i, j and 3
-abbrev shown : ℕ → List ℕ → ℕ → ℕ → ℕ → ℕ → Certificate
-shown view d i at j other = Votes view 1 d (vote view d at i ∷ vote view d other j ∷ vote view d 0 3 ∷ [])
 
 abbrev own : ℕ → Content → Certificate → List ℕ
 own view what just = own_statement form q (Prepare view what just [])
@@ -157,9 +131,6 @@ m_t = proposal 262150 Mark c_s
 abbrev m_v : Message
 m_v = proposal 262151 Mark c_t
 
-abbrev told : Message → Input Message
-told msg = Receive (node 3) msg
-
 -- ---- What the replicas take, by their numbers
 
 abbrev l0_1 : List (Item Message)
@@ -206,9 +177,6 @@ l2_2 = and_then loose q 2 l2_1 (told m_s) 1
 
 abbrev l2_3 : List (Item Message)
 l2_3 = and_then loose q 2 l2_2 (told m_t) 2
-
-abbrev sent : ℕ → ℕ → List ℕ → ℕ → List (To × Message)
-sent me view d leaf = (To_one (node 3), Vote 1 view d (signature q me leaf (states view d))) ∷ []
 
 votes-0-z : (makes q 0 [] (told m_z) 0).sends ≡ sent 0 1 d_z 0
 unfolding sha256 digest_bytes hash_after compress rounds schedule first_words spell_batch spell_count spell_value wide_bytes
@@ -268,15 +236,6 @@ delivers-1 = refl
 
 -- ---- Worlds in which the replicas 0, 1 and 2 took some input
 
-abbrev world : List (Item Message) → List (Item Message) → List (Item Message) → World Message
-world xs ys zs i = cond (eqb i 0) xs (cond (eqb i 1) ys (cond (eqb i 2) zs []))
-
-none : (a c e : Bool) → ◌≡◌ {A = List (Item Message)} (cond a [] (cond c [] (cond e [] []))) []
-none true c e = refl
-none false true e = refl
-none false false true = refl
-none false false false = refl
-
 first-move : (input : Input Message) (leaf : ℕ) → MayCome loose q empty_world 0 input → Move loose q empty_world (world (and_then loose q 0 [] input leaf) [] [])
 first-move input leaf may = record { node = 0; correct = refl; input = input; may = may; leaf = leaf; takes = refl; others = λ i ne. rw (eqb-other i 0 ne) (none false (eqb i 1) (eqb i 2)) }
 
@@ -294,54 +253,32 @@ move-two xs ys zs input leaf may = record { node = 2; correct = refl; input = in
 abbrev IsRead : Message → Type 0
 IsRead msg = IsReadMessage loose q msg
 
-shape : (k leaf : ℕ) (s : List ℕ) → is_signature (signature q k leaf s) ≡ true
-shape k leaf s = signature-shape loose q good k leaf s
-
-shown-spelled : (view : ℕ) (d : List ℕ) (i at j other : ℕ) → 1 ≤ view → view < 2 ^ 32 → length d ≡ 32 → i < j → j < 3 →
-    IsSpelledCertificate 1 (shown view d i at j other) (votes_row view 1 d (vote view d at i ∷ vote view d other j ∷ vote view d 0 3 ∷ []))
-shown-spelled view d i at j other low high long less few = record {
-  view_low = low;
-  view_fits = high;
-  phase_low = omega arith;
-  phase_fits = omega arith;
-  digest_fits = long;
-  count_fits = omega arith;
-  signers = (omega arith, shape i at (states view d), (omega (arith, less), shape j other (states view d), (omega (arith, few), shape 3 0 (states view d), tt)));
-  row = refl;
-}
-
-batch_held : (behind : List ℕ) × IsSpelledContent 1 (Holds b) behind
-batch_held = batch-table 1 b (batch-read 1 b (omega arith) (λ r h. absurd h))
-
 read-z : IsRead m_z
-read-z = spelled-read 1 1 m_z _ (record { view_fits = omega arith; behind = batch_held.0; what_is = batch_held.1; certificate = root_row; spelled = refl; signed = shape 3 0 (own 1 (Holds b) Root); row = refl })
+read-z = spelled-read 1 1 m_z _ (record { view_fits = omega arith; behind = batch_held.0; what_is = batch_held.1; certificate = root_row; spelled = refl; signed = signature-shape loose q good 3 0 (own 1 (Holds b) Root); row = refl })
 
 read-u : IsRead m_u
-read-u = spelled-read 1 1 m_u _ (record { view_fits = omega arith; behind = _; what_is = refl; certificate = root_row; spelled = refl; signed = shape 3 0 (own 262145 Nil Root); row = refl })
+read-u = spelled-read 1 1 m_u _ (record { view_fits = omega arith; behind = _; what_is = refl; certificate = root_row; spelled = refl; signed = signature-shape loose q good 3 0 (own 262145 Nil Root); row = refl })
 
 read-y : IsRead m_y
-read-y = spelled-read 1 1 m_y _ (record { view_fits = omega arith; behind = _; what_is = refl; certificate = _; spelled = shown-spelled 1 d_z 0 0 1 0 (omega arith) (omega arith) refl (omega arith) (omega arith); signed = shape 3 0 (own 262146 Nil c_z); row = refl })
+read-y = spelled-read 1 1 m_y _ (record { view_fits = omega arith; behind = _; what_is = refl; certificate = _; spelled = shown-spelled 1 d_z 0 0 1 0 (omega arith) (omega arith) refl (omega arith) (omega arith); signed = signature-shape loose q good 3 0 (own 262146 Nil c_z); row = refl })
 
 read-x : IsRead m_x
-read-x = spelled-read 1 1 m_x _ (record { view_fits = omega arith; behind = _; what_is = refl; certificate = _; spelled = shown-spelled 262146 d_y 0 2 1 2 (omega arith) (omega arith) refl (omega arith) (omega arith); signed = shape 3 0 (own 262147 Mark c_y); row = refl })
+read-x = spelled-read 1 1 m_x _ (record { view_fits = omega arith; behind = _; what_is = refl; certificate = _; spelled = shown-spelled 262146 d_y 0 2 1 2 (omega arith) (omega arith) refl (omega arith) (omega arith); signed = signature-shape loose q good 3 0 (own 262147 Mark c_y); row = refl })
 
 read-a : IsRead m_a
-read-a = spelled-read 1 1 m_a _ (record { view_fits = omega arith; behind = _; what_is = refl; certificate = _; spelled = shown-spelled 262147 d_x 0 3 1 3 (omega arith) (omega arith) refl (omega arith) (omega arith); signed = shape 3 0 (own 262148 Mark c_x); row = refl })
+read-a = spelled-read 1 1 m_a _ (record { view_fits = omega arith; behind = _; what_is = refl; certificate = _; spelled = shown-spelled 262147 d_x 0 3 1 3 (omega arith) (omega arith) refl (omega arith) (omega arith); signed = signature-shape loose q good 3 0 (own 262148 Mark c_x); row = refl })
 
 read-s : IsRead m_s
-read-s = spelled-read 1 1 m_s _ (record { view_fits = omega arith; behind = _; what_is = refl; certificate = _; spelled = shown-spelled 262145 d_u 1 1 2 0 (omega arith) (omega arith) refl (omega arith) (omega arith); signed = shape 3 0 (own 262149 Nil c_u); row = refl })
+read-s = spelled-read 1 1 m_s _ (record { view_fits = omega arith; behind = _; what_is = refl; certificate = _; spelled = shown-spelled 262145 d_u 1 1 2 0 (omega arith) (omega arith) refl (omega arith) (omega arith); signed = signature-shape loose q good 3 0 (own 262149 Nil c_u); row = refl })
 
 read-t : IsRead m_t
-read-t = spelled-read 1 1 m_t _ (record { view_fits = omega arith; behind = _; what_is = refl; certificate = _; spelled = shown-spelled 262149 d_s 1 4 2 1 (omega arith) (omega arith) refl (omega arith) (omega arith); signed = shape 3 0 (own 262150 Mark c_s); row = refl })
+read-t = spelled-read 1 1 m_t _ (record { view_fits = omega arith; behind = _; what_is = refl; certificate = _; spelled = shown-spelled 262149 d_s 1 4 2 1 (omega arith) (omega arith) refl (omega arith) (omega arith); signed = signature-shape loose q good 3 0 (own 262150 Mark c_s); row = refl })
 
 read-v : IsRead m_v
-read-v = spelled-read 1 1 m_v _ (record { view_fits = omega arith; behind = _; what_is = refl; certificate = _; spelled = shown-spelled 262150 d_t 1 5 2 2 (omega arith) (omega arith) refl (omega arith) (omega arith); signed = shape 3 0 (own 262151 Mark c_t); row = refl })
+read-v = spelled-read 1 1 m_v _ (record { view_fits = omega arith; behind = _; what_is = refl; certificate = _; spelled = shown-spelled 262150 d_t 1 5 2 2 (omega arith) (omega arith) refl (omega arith) (omega arith); signed = signature-shape loose q good 3 0 (own 262151 Mark c_t); row = refl })
 
 verifies : (k leaf : ℕ) (s : List ℕ) → k < 4 → leaf < 2 ^ 4 → Verifies q (claim k s (signature q k leaf s))
 verifies k leaf s below few = signature-verifies loose q good k leaf s below few
-
-never : {C : Type 0} → is_correct setup 3 ≡ true → C
-never h = absurd (true≢false (sym h))
 
 -- the votes of two correct replicas and of the Byzantine one, and its own signature
 abbrev four : ℕ → List ℕ → ℕ → ℕ → ℕ → ℕ → List ℕ → List Claim
@@ -369,8 +306,8 @@ shows-come w view d i at j other msg statement li la lj lo read si sj e = record
     given : (c : Claim) → In c (four view d i at j other statement) → is_correct setup c.by.0 ≡ true → IsSigned loose q w c.by.0 c.statement
     given c (inl k) r = subst (λ (z : Claim). IsSigned loose q w z.by.0 z.statement) (sym k) si
     given c (inr (inl k)) r = subst (λ (z : Claim). IsSigned loose q w z.by.0 z.statement) (sym k) sj
-    given c (inr (inr (inl k))) r = never (ap (λ (z : Claim). is_correct setup z.by.0) (sym k) ∙ r)
-    given c (inr (inr (inr (inl k)))) r = never (ap (λ (z : Claim). is_correct setup z.by.0) (sym k) ∙ r)
+    given c (inr (inr (inl k))) r = absurd (true≢false (sym (ap (λ (z : Claim). is_correct setup z.by.0) (sym k) ∙ r)))
+    given c (inr (inr (inr (inl k)))) r = absurd (true≢false (sym (ap (λ (z : Claim). is_correct setup z.by.0) (sym k) ∙ r)))
     given c (inr (inr (inr (inr k)))) r = absurd k
 
 -- a proposal on the root, which claims only its own signature
@@ -382,7 +319,7 @@ first-comes w msg statement read e = record { named = omega arith; read = read; 
     check c (inr k) = absurd k
 
     given : (c : Claim) → In c (claim 3 statement (signature q 3 0 statement) ∷ []) → is_correct setup c.by.0 ≡ true → IsSigned loose q w c.by.0 c.statement
-    given c (inl k) r = never (ap (λ (z : Claim). is_correct setup z.by.0) (sym k) ∙ r)
+    given c (inl k) r = absurd (true≢false (sym (ap (λ (z : Claim). is_correct setup z.by.0) (sym k) ∙ r)))
     given c (inr k) r = absurd k
 
 -- a vote in a replica's history was signed
@@ -574,44 +511,11 @@ is-s-v : digest s_v ≡ d_v
 unfolding sha256 digest_bytes hash_after compress rounds schedule first_words spell_batch spell_count spell_value wide_bytes
 is-s-v = refl
 
-abbrev IsOf : List ℕ × List ℕ → Type 0
-IsOf x = In x pairs
-
--- a string of the world, with its digest
-record IsOne (s : List ℕ) : Type 0 where
-  digest_of : List ℕ
-  one : IsOf (s, digest_of)
-  is : digest s ≡ digest_of
-
-abbrev differs : List ℕ → List (List ℕ × List ℕ) → Bool
-differs d [] = true
-differs d (x ∷ xs) = not (same_bytes d x.1) && differs d xs
-
-abbrev all_differ : List (List ℕ × List ℕ) → Bool
-all_differ [] = true
-all_differ (x ∷ xs) = differs x.1 xs && all_differ xs
+abbrev IsOne : List ℕ → Type 0
+IsOne s = IsOneOf pairs s
 
 these-differ : all_differ pairs ≡ true
 these-differ = refl
-
-not-same : (d e : List ℕ) → not (same_bytes d e) ≡ true → d ≡ e → ⊥
-not-same d e h k = different d e (go (same_bytes d e) h) k
-  where
-    go : (t : Bool) → not t ≡ true → t ≡ false
-    go true k = absurd (true≢false (sym k))
-    go false k = refl
-
-from-first : (d : List ℕ) (y : List ℕ × List ℕ) (xs : List (List ℕ × List ℕ)) → differs d xs ≡ true → In y xs → d ≡ y.1 → ⊥
-from-first d y [] h k e = k
-from-first d y (x ∷ xs) h (inl k) e = not-same d x.1 (and-true _ (differs d xs) h).0 (e ∙ ap (λ (z : List ℕ × List ℕ). z.1) k)
-from-first d y (x ∷ xs) h (inr k) e = from-first d y xs (and-true _ (differs d xs) h).1 k e
-
-same-of : (xs : List (List ℕ × List ℕ)) (y z : List ℕ × List ℕ) → all_differ xs ≡ true → In y xs → In z xs → y.1 ≡ z.1 → y.0 ≡ z.0
-same-of [] y z h k j e = absurd k
-same-of (x ∷ xs) y z h (inl k) (inl j) e = ap (λ (r : List ℕ × List ℕ). r.0) (k ∙ sym j)
-same-of (x ∷ xs) y z h (inl k) (inr j) e = absurd (from-first x.1 z xs (and-true (differs x.1 xs) _ h).0 j (ap (λ (r : List ℕ × List ℕ). r.1) (sym k) ∙ e))
-same-of (x ∷ xs) y z h (inr k) (inl j) e = absurd (from-first x.1 y xs (and-true (differs x.1 xs) _ h).0 k (ap (λ (r : List ℕ × List ℕ). r.1) (sym j) ∙ sym e))
-same-of (x ∷ xs) y z h (inr k) (inr j) e = same-of xs y z (and-true (differs x.1 xs) _ h).1 k j e
 
 one-empty : IsOne []
 one-empty = record { digest_of = _; one = inl refl; is = refl }
@@ -645,9 +549,6 @@ one-s-t = record { digest_of = _; one = (inr (inr (inr (inr (inr (inr (inr (inr 
 
 one-s-v : IsOne s_v
 one-s-v = record { digest_of = _; one = (inr (inr (inr (inr (inr (inr (inr (inr (inr (inr (inl refl))))))))))); is = is-s-v }
-
-are-one : (ss : List (List ℕ)) (s : List ℕ) → In s ss → ((t : List ℕ) → In t ss → IsOne t) → IsOne s
-are-one ss s h f = f s h
 
 strings-0-z : (makes q 0 [] (told m_z) 0).strings ≡ value ∷ s_z ∷ []
 unfolding sha256 digest_bytes hash_after compress rounds schedule first_words spell_batch spell_count spell_value wide_bytes
@@ -783,10 +684,7 @@ of-world s (inr h) = go (eqb h.node 0) (eqb h.node 1) (eqb h.node 2) h.taken
     go false false false k = absurd k
 
 separate : Separate (IsString last)
-separate x y k j e =
-    let a = of-world x k in
-    let c = of-world y j in
-    same-of pairs (x, a.digest_of) (y, c.digest_of) these-differ a.one c.one (sym a.is ∙ e ∙ c.is)
+separate = separate-by pairs these-differ last of-world
 
 -- ---- Two correct replicas differ
 

@@ -39,39 +39,15 @@ use Rattle.iss_sb.proofs.Contents.{batch-table}
 use Rattle.hs_tree.proofs.MessageGrammar.{spelled-read}
 use Rattle.sb_chained.specs.Chained.{chained, makes}
 use Rattle.sb_chained.specs.Rules.{node_digest}
-use Rattle.sb_chained.proofs.Examples.Runs.{b, node, setup, slot}
+use Rattle.sb_chained.proofs.Examples.ByzantineLeader.{batch_held, good-q, q, sent, states, told, vote}
+use Rattle.sb_chained.proofs.Examples.Runs.{b, node, setup}
 use Rattle.sb_chained.proofs.Safety.WorldsAreBroadcasts.{chained-safe}
 
-good-setup : IsGoodSetup setup
-good-setup = good-by setup refl
-
--- the Byzantine replica leads
-abbrev q : Params
-q = record { setup = setup; epoch = record { 0 = 2 }; leader = node 3; slots = slot 0 ∷ slot 4 ∷ []; directory = directory_of 4 1 4 }
-
 good : IsGoodParams chained q
-good = record {
-  setup = good-setup;
-  kind = refl;
-  nodes = refl;
-  majority = refl;
-  leader = omega arith;
-  some = omega arith;
-  few = omega arith;
-  ascending = (omega arith, (omega arith, tt));
-  slots_low = (omega arith, (omega arith, tt));
-  directory = refl;
-}
+good = good-q
 
 -- ---- The messages: two nodes with empty batches and two marks, each on the certificate of the one before, with votes of
 -- the replicas 0, 1 and 3
-
-abbrev states : ℕ → List ℕ → List ℕ
-states view d = vote_statement form q 1 view d
-
--- replica k's vote, signed with this leaf
-abbrev vote : ℕ → List ℕ → ℕ → ℕ → Signed
-vote view d leaf k = record { by = node k; sig = signature q k leaf (states view d) }
 
 abbrev shown : ℕ → List ℕ → ℕ → Certificate
 shown view d leaf = Votes view 1 d (vote view d leaf 0 ∷ vote view d leaf 1 ∷ vote view d leaf 3 ∷ [])
@@ -113,9 +89,6 @@ m3 = proposal 5 3 Mark c2
 abbrev m4 : Message
 m4 = proposal 6 4 Mark c3
 
-abbrev told : Message → Input Message
-told msg = Receive (node 3) msg
-
 -- ---- What a replica takes, and its votes
 
 abbrev list1 : ℕ → List (Item Message)
@@ -129,9 +102,6 @@ list3 me = and_then chained q me (list2 me) (told m3) 2
 
 abbrev list4 : ℕ → List (Item Message)
 list4 me = and_then chained q me (list3 me) (told m4) 3
-
-abbrev sent : ℕ → ℕ → List ℕ → ℕ → List (To × Message)
-sent me view d leaf = (To_one (node 3), Vote 1 view d (signature q me leaf (states view d))) ∷ []
 
 first-vote : (me : ℕ) → (makes q me [] (told m1) 0).sends ≡ sent me 1 d1 0
 unfolding sha256 digest_bytes hash_after compress rounds schedule first_words spell_batch spell_count spell_value wide_bytes
@@ -172,9 +142,6 @@ move-one xs ys input leaf may = record { node = 1; correct = refl; input = input
 abbrev IsRead : Message → Type 0
 IsRead msg = IsReadMessage chained q msg
 
-shape : (k leaf : ℕ) (s : List ℕ) → is_signature (signature q k leaf s) ≡ true
-shape k leaf s = signature-shape chained q good k leaf s
-
 shown-spelled : (view : ℕ) (d : List ℕ) (leaf : ℕ) → 1 ≤ view → view ≤ 4 → length d ≡ 32 → IsSpelledCertificate 1 (shown view d leaf) (votes_row view 1 d (vote view d leaf 0 ∷ vote view d leaf 1 ∷ vote view d leaf 3 ∷ []))
 shown-spelled view d leaf low high long = record {
   view_low = low;
@@ -183,24 +150,21 @@ shown-spelled view d leaf low high long = record {
   phase_fits = omega arith;
   digest_fits = long;
   count_fits = omega arith;
-  signers = (omega arith, shape 0 leaf (states view d), (omega arith, shape 1 leaf (states view d), (omega arith, shape 3 leaf (states view d), tt)));
+  signers = (omega arith, signature-shape chained q good 0 leaf (states view d), (omega arith, signature-shape chained q good 1 leaf (states view d), (omega arith, signature-shape chained q good 3 leaf (states view d), tt)));
   row = refl;
 }
 
-batch_held : (behind : List ℕ) × IsSpelledContent 1 (Holds b) behind
-batch_held = batch-table 1 b (batch-read 1 b (omega arith) (λ r h. absurd h))
-
 read1 : IsRead m1
-read1 = spelled-read 1 1 m1 _ (record { view_fits = omega arith; behind = batch_held.0; what_is = batch_held.1; certificate = root_row; spelled = refl; signed = shape 3 3 (own 1 (Holds b) Root); row = refl })
+read1 = spelled-read 1 1 m1 _ (record { view_fits = omega arith; behind = batch_held.0; what_is = batch_held.1; certificate = root_row; spelled = refl; signed = signature-shape chained q good 3 3 (own 1 (Holds b) Root); row = refl })
 
 read2 : IsRead m2
-read2 = spelled-read 1 1 m2 _ (record { view_fits = omega arith; behind = batch_held.0; what_is = batch_held.1; certificate = _; spelled = shown-spelled 1 d1 0 (omega arith) (omega arith) (length-sha256 _); signed = shape 3 4 (own 2 (Holds b) c1); row = refl })
+read2 = spelled-read 1 1 m2 _ (record { view_fits = omega arith; behind = batch_held.0; what_is = batch_held.1; certificate = _; spelled = shown-spelled 1 d1 0 (omega arith) (omega arith) (length-sha256 _); signed = signature-shape chained q good 3 4 (own 2 (Holds b) c1); row = refl })
 
 read3 : IsRead m3
-read3 = spelled-read 1 1 m3 _ (record { view_fits = omega arith; behind = _; what_is = refl; certificate = _; spelled = shown-spelled 2 d2 1 (omega arith) (omega arith) (length-sha256 _); signed = shape 3 5 (own 3 Mark c2); row = refl })
+read3 = spelled-read 1 1 m3 _ (record { view_fits = omega arith; behind = _; what_is = refl; certificate = _; spelled = shown-spelled 2 d2 1 (omega arith) (omega arith) (length-sha256 _); signed = signature-shape chained q good 3 5 (own 3 Mark c2); row = refl })
 
 read4 : IsRead m4
-read4 = spelled-read 1 1 m4 _ (record { view_fits = omega arith; behind = _; what_is = refl; certificate = _; spelled = shown-spelled 3 d3 2 (omega arith) (omega arith) (length-sha256 _); signed = shape 3 6 (own 4 Mark c3); row = refl })
+read4 = spelled-read 1 1 m4 _ (record { view_fits = omega arith; behind = _; what_is = refl; certificate = _; spelled = shown-spelled 3 d3 2 (omega arith) (omega arith) (length-sha256 _); signed = signature-shape chained q good 3 6 (own 4 Mark c3); row = refl })
 
 verifies : (k leaf : ℕ) (s : List ℕ) → k < 4 → leaf < 2 ^ 4 → Verifies q (claim k s (signature q k leaf s))
 verifies k leaf s below few = signature-verifies chained q good k leaf s below few
@@ -209,9 +173,6 @@ verifies k leaf s below few = signature-verifies chained q good k leaf s below f
 record AreSigned (w : World Message) (view : ℕ) (d : List ℕ) : Type 0 where
   zero_did : IsSigned chained q w 0 (states view d)
   one_did : IsSigned chained q w 1 (states view d)
-
-never : {C : Type 0} → is_correct setup 3 ≡ true → C
-never h = absurd (true≢false (sym h))
 
 -- three votes, and the leader's own signature
 abbrev four : ℕ → List ℕ → ℕ → List ℕ → List ℕ → List Claim
@@ -237,8 +198,8 @@ shows-come w view d leaf at msg statement few small read signed e = record { nam
     given : (c : Claim) → In c (four view d leaf statement (signature q 3 at statement)) → is_correct setup c.by.0 ≡ true → IsSigned chained q w c.by.0 c.statement
     given c (inl k) r = subst (λ (z : Claim). IsSigned chained q w z.by.0 z.statement) (sym k) signed.zero_did
     given c (inr (inl k)) r = subst (λ (z : Claim). IsSigned chained q w z.by.0 z.statement) (sym k) signed.one_did
-    given c (inr (inr (inl k))) r = never (ap (λ (z : Claim). is_correct setup z.by.0) (sym k) ∙ r)
-    given c (inr (inr (inr (inl k)))) r = never (ap (λ (z : Claim). is_correct setup z.by.0) (sym k) ∙ r)
+    given c (inr (inr (inl k))) r = absurd (true≢false (sym (ap (λ (z : Claim). is_correct setup z.by.0) (sym k) ∙ r)))
+    given c (inr (inr (inr (inl k)))) r = absurd (true≢false (sym (ap (λ (z : Claim). is_correct setup z.by.0) (sym k) ∙ r)))
     given c (inr (inr (inr (inr k)))) r = absurd k
 
 -- the leader's first proposal, which claims only its own signature
@@ -250,7 +211,7 @@ proposal-comes w = record { named = omega arith; read = read1; verified = check;
     check c (inr k) = absurd k
 
     given : (c : Claim) → In c (claims form q 3 m1) → is_correct setup c.by.0 ≡ true → IsSigned chained q w c.by.0 c.statement
-    given c (inl k) r = never (ap (λ (z : Claim). is_correct setup z.by.0) (sym k) ∙ r)
+    given c (inl k) r = absurd (true≢false (sym (ap (λ (z : Claim). is_correct setup z.by.0) (sym k) ∙ r)))
     given c (inr k) r = absurd k
 
 -- a vote in a replica's history was signed

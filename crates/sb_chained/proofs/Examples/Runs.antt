@@ -166,12 +166,10 @@ votes_first : makes p 1 [] (told 0 (Prepare 1 (Holds b) Root [])) 9 ≡
 unfolding sha256 digest_bytes hash_after compress rounds schedule first_words spell_batch spell_count spell_value wide_bytes
 votes_first = refl
 
-no_second_proposal : sends 1 first (told 0 (Prepare 1 (Holds b) Root [])) ≡ []
+-- neither a second proposal of the view nor one that is not its leader's gets a vote
+no_vote : (sends 1 first (told 0 (Prepare 1 (Holds b) Root [])) ≡ []) × (sends 1 [] (told 2 (Prepare 1 (Holds b) Root [])) ≡ [])
 unfolding sha256 digest_bytes hash_after compress rounds schedule first_words spell_batch spell_count spell_value wide_bytes
-no_second_proposal = refl
-
-no_leader : sends 1 [] (told 2 (Prepare 1 (Holds b) Root [])) ≡ []
-no_leader = refl
+no_vote = (refl, refl)
 
 -- one vote short is no certificate
 no_quorum : sends 1 first (told 0 (Prepare 2 (Holds b) (Votes 1 1 d1 (vote 0 ∷ vote 1 ∷ [])) [])) ≡ []

@@ -16,14 +16,10 @@ use Rattle.sb_chained.specs.Chained.{state}
 use Rattle.sb_chained.specs.Rules.{State, heard, keeps_news, keeps_vote, kept, may_cast, may_end, may_prepare, proposed, shows, taken, with_cast, with_news, with_node, with_round, with_shown, with_turn, with_vote}
 use Rattle.hs_views.specs.Views.{Turn}
 use Rattle.sb_chained.proofs.Safety.CertificatesShown.{shown-like}
-use Rattle.hs_views.proofs.Tests.{by-if, nth-first, nth-end}
+use Rattle.hs_views.proofs.Tests.{by-if, each-option, nth-first, nth-end}
 
 abbrev pub Same : State → State → Type 0
 Same s t = (t.turns ≡ s.turns) × (t.casts ≡ s.casts)
-
-turn-casts : (s : State) (o : Option Turn) → (with_turn s o).casts ≡ s.casts
-turn-casts s None = refl
-turn-casts s (Some t) = refl
 
 module _ (p : Params) (me : ℕ) where
   heard-same : (s : State) (from : ℕ) (msg : Message) → Same s (heard p me s from msg)
@@ -60,7 +56,7 @@ module _ (p : Params) (me : ℕ) where
   pub after-kept : (x : Item Message) (xs : List (Item Message)) (k : ℕ) (b : Batch) → IsAt (kept p me (state p me xs) x.input) k b → IsAt (state p me (x ∷ xs)) k b
   after-kept x xs k b e =
       let c = kept p me (state p me xs) x.input in
-      ap (λ (cs : List Batch). nth cs k) (turn-casts c (proposed p me (state p me xs) c x.input)) ∙ e
+      ap (λ (cs : List Batch). nth cs k) (each-option (λ (z : Option Turn). (with_turn c z).casts) c.casts refl (λ t. refl) (proposed p me (state p me xs) c x.input)) ∙ e
 
   pub state-more : (x : Item Message) (xs : List (Item Message)) (k : ℕ) (b : Batch) → IsAt (state p me xs) k b → IsAt (state p me (x ∷ xs)) k b
   state-more x xs k b e = after-kept x xs k b (kept-more (state p me xs) x.input k b e)

@@ -26,6 +26,7 @@ use Rattle.hs_tree.specs.declared.messages.Message.{Message}
 use Rattle.hs_tree.specs.declared.messages.Message.TheVariants.{NewView, Prepare, PreCommit, Commit, Decide, Vote}
 use Rattle.hs_tree.specs.Certificates.{digest_of}
 use Rattle.hs_tree.specs.Statements.{own_statement, with_signature}
+use Rattle.hs_tree.proofs.Claimed.{prepare-unsigned}
 use Rattle.hs_tree.specs.Tree.{chained as form, filled, root, weight}
 use Rattle.sb_chained.specs.Chained.{answers, asks, chained, drafts, makes, proposals, sign_all, state, voted}
 use Rattle.sb_chained.specs.Facts.{IsAt, Leads}
@@ -37,14 +38,6 @@ use Rattle.sb_chained.proofs.Safety.VotesHaveCauses.{Part, acc, front-older, par
 use Rattle.hs_views.proofs.Tests.{by-if, by-test, is-same}
 
 -- ---- Unsigned messages
-
-prepare-unsigned : (s t : List ℕ) (msg : Message) (view : ℕ) (what : Content) (just : Certificate) → Prepare view what just s ≡ with_signature t msg → (sig : List ℕ) × (msg ≡ Prepare view what just sig)
-prepare-unsigned s t (NewView round high old) view what just h = absurd cc
-prepare-unsigned s t (PreCommit v shown old) view what just h = absurd cc
-prepare-unsigned s t (Commit v shown old) view what just h = absurd cc
-prepare-unsigned s t (Decide v shown old) view what just h = absurd cc
-prepare-unsigned s t (Vote q v e old) view what just h = absurd cc
-prepare-unsigned s t (Prepare v c j old) view what just h = (old, (let a : v ≡ view = cc in let b : c ≡ what = cc in let d : j ≡ just = cc in cc))
 
 unsigned : (p : Params) (me leaf : ℕ) (ds : List (To × Message)) (to : To) (view : ℕ) (what : Content) (just : Certificate) (sig : List ℕ) → In {A = To × Message} (to, Prepare view what just sig) (sign_all p me leaf ds) →
     (old : List ℕ) × In {A = To × Message} (to, Prepare view what just old) ds
@@ -97,15 +90,14 @@ module _ (p : Params) (to : To) (view : ℕ) (what : Content) (just : Certificat
       let c : t.just ≡ just = cc in
       record { turn = t; is = refl; view_is = a; what_is = b; just_is = c }
 
-pub proposal-turn : (p : Params) (me leaf : ℕ) (xs : List (Item Message)) (i : Input Message) (to : To) (view : ℕ) (what : Content) (just : Certificate) (sig : List ℕ) → In {A = To × Message} (to, Prepare view what just sig) (makes p me xs i leaf).sends →
-    IsTurn (proposed p me (state p me xs) (kept p me (state p me xs) i) i) view what just
-proposal-turn p me leaf xs i to view what just sig h =
-    let s = state p me xs in
+-- a proposal among the unsigned messages is that of the step's turn
+pub proposal-turn : (p : Params) (me : ℕ) (s : State) (i : Input Message) (to : To) (view : ℕ) (what : Content) (just : Certificate) (sig : List ℕ) → In {A = To × Message} (to, Prepare view what just sig) (drafts p me s i) →
+    IsTurn (proposed p me s (kept p me s i) i) view what just
+proposal-turn p me s i to view what just sig h =
     let k = kept p me s i in
-    let r = unsigned p me leaf (drafts p me s i) to view what just sig h in
-    elim (in_append {A = To × Message} (to, Prepare view what just r.0) (answers p s i) (proposals (proposed p me s k i)) r.1) [
-      | inl a ↦ absurd (none-answered p to view what just r.0 s i a)
-      | inr a ↦ of-turn p to view what just r.0 (proposed p me s k i) a
+    elim (in_append {A = To × Message} (to, Prepare view what just sig) (answers p s i) (proposals (proposed p me s k i)) h) [
+      | inl a ↦ absurd (none-answered p to view what just sig s i a)
+      | inr a ↦ of-turn p to view what just sig (proposed p me s k i) a
     ]
 
 -- ---- the turns of a list
@@ -294,7 +286,8 @@ module _ (p : Params) (w : World Message) (good : IsGoodParams chained p) (reach
         let s = state p me xs in
         let k = kept p me s x.input in
         let made = subst (λ (z : Made Message). In {A = To × Message} (to, Prepare view what just sig) z.sends) (part-made p w good reached me (x ∷ xs) f).0 sent in
-        let t = proposal-turn p me x.leaf xs x.input to view what just sig made in
+        let r = unsigned p me x.leaf (drafts p me s x.input) to view what just sig made in
+        let t = proposal-turn p me s x.input to view what just r.0 r.1 in
         let ok = subst MayOk t.is (proposed-ok s k x.input (step-ok x xs f (leader-ok xs (front-older x xs (w me) f)))) in
         let at = subst (λ (o : Option Turn). MayAt p w good reached me o) t.is (proposed-at p w good reached me sep x xs f) in
         record { turn = t.turn; view_is = t.view_is; what_is = t.what_is; just_is = t.just_is; ok = ok; at = at }

@@ -3,7 +3,6 @@ use Rattle.std.proofs.Common.{◌≡◌, ◌≤◌, ◌<◌, ℕ, zero, suc, ◌
 use Rattle.std.specs.Prelude.{nat_lt, not}
 use Rattle.std.proofs.lemmas.Bool.{leb-true, lt-ltb, ltb-true}
 use Rattle.std.proofs.lemmas.List.{length-append}
-use Rattle.sha2.proofs.Facts256.{length-sha256}
 use Rattle.iss_base.specs.Lists.{In, nth, same_bytes}
 use Rattle.iss_base.proofs.Lists.{and-true, first-cases, in_append, none-some, nth-in}
 use Rattle.iss_request.specs.Formats.{is_signature}
@@ -37,10 +36,8 @@ use Rattle.sb_chained.specs.Chained.{answers, answers_heard, drafts, chained, ma
 use Rattle.sb_chained.specs.Rules.{State, after, cast_turn, certificate, find, first_high, full_turn, heard, is_marked, is_ready, is_reached, is_usable, keeps_news, keeps_vote, kept, known_high, may_cast, may_end, may_prepare, next_turn, nil_or_mark, node_digest, noted, proposed, shows, slots_below, taken, turn, turn_after, turn_on, with_cast, with_news, with_node, with_round, with_shown, with_turn, with_vote}
 use Rattle.hs_views.specs.Views.{Kept, News, Turn, all_news, best, is_own_turn, news_of, round_of, turn_of, vote_of, votes_of}
 use Rattle.iss_sb.proofs.Cases.{by-both}
+use Rattle.hs_tree.proofs.Claimed.{digest-long}
 use Rattle.hs_views.proofs.Tests.{by-if, by-test, if-some, is-same}
-
-digest-long : (p : Params) (view : ℕ) (what : Content) (just : Certificate) → length (node_digest p view what just) ≡ 32
-digest-long p view what just = length-sha256 _
 
 module _ (p : Params) (good : IsGoodParams chained p) where
   -- ---- what has a spelling
@@ -210,7 +207,7 @@ module _ (p : Params) (good : IsGoodParams chained p) where
 
   turn-new : (ts : List Turn) (view : ℕ) (just : Certificate) (what : Content) (slots : ℕ) → 1 ≤ view → round_of view ≤ 65535 → (weight what + slots < length p.slots → turn_of view ≤ suc (weight what + slots)) → turn_of view ≤ length p.slots + 4 →
       (full_turn p ts (round_of view) ≡ None → turn_of view ≤ suc (length p.slots)) → Spelled just → SpelledWhat what → NewTurn ts (turn p view just what slots)
-  turn-new ts view just what slots a b c l f h g = record { fits = record { some = a; round_fits = b; low = c; high = l; long = digest-long p view what just }; fresh = f; just = h; what = g }
+  turn-new ts view just what slots a b c l f h g = record { fits = record { some = a; round_fits = b; low = c; high = l; long = digest-long form p view what just }; fresh = f; just = h; what = g }
 
   -- the turn after one whose branch is not full fills a slot
   filling : (ts : List Turn) (t : Turn) (just : Certificate) (what : Content) → TurnFits t → t.slots < length p.slots → weight what ≡ 1 → Spelled just → SpelledWhat what → NewTurn ts (turn p (suc t.view) just what t.slots)
@@ -437,7 +434,7 @@ module _ (p : Params) (good : IsGoodParams chained p) where
 
   answer-signs : (s : State) (from : ℕ) (msg : Message) → SpelledAs msg → SignsAll (answers_heard p s from msg)
   answer-signs s from (NewView round high sig) m = tt
-  answer-signs s from (Prepare view what just sig) m = by-if SignsAll (may_prepare p s from view what just) (voted p view (node_digest p view what just)) [] (vote-signs view (node_digest p view what just) m.1.view_fits (digest-long p view what just)) tt
+  answer-signs s from (Prepare view what just sig) m = by-if SignsAll (may_prepare p s from view what just) (voted p view (node_digest p view what just)) [] (vote-signs view (node_digest p view what just) m.1.view_fits (digest-long form p view what just)) tt
   answer-signs s from (PreCommit view shown sig) m = tt
   answer-signs s from (Commit view shown sig) m = tt
   answer-signs s from (Decide view shown sig) m = tt

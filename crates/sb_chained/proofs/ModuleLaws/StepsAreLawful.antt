@@ -31,40 +31,11 @@ use Rattle.sb_chained.specs.Chained.{answers, answers_heard, asked_by, asks, cha
 use Rattle.sb_chained.specs.Rules.{State, committed_by, kept, may_cast, may_end, may_prepare, node_digest, proposed, shows, slots_below, taken}
 use Rattle.hs_views.specs.Views.{Turn, round_of}
 use Rattle.sb_chained.proofs.ModuleLaws.SentMessagesDecode.{sent-again}
-use Rattle.hs_views.proofs.BatchesOnce.{unless-In}
+use Rattle.hs_tree.proofs.Claimed.{named}
+use Rattle.hs_tree.proofs.Places.{value-In}
+use Rattle.hs_views.proofs.DraftsAgree.{to-append}
+use Rattle.hs_views.proofs.Inside.{AsksInside, DecidesInside, offered-In}
 use Rattle.hs_views.proofs.Tests.{IsIf, by-if, if-in, if-some, is-same}
-
--- ---- Each claim names its instance
-
-abbrev Names : Params → List ℕ → Type 0
-Names p s = (rest : List ℕ) × (s ≡ statement_head p 5 ++ rest)
-
-own-names : (p : Params) (msg : Message) → Names p (own_statement form p msg)
-own-names p (NewView round high sig) = (_, refl)
-own-names p (Prepare view what just sig) = (_, refl)
-own-names p (PreCommit view shown sig) = (_, refl)
-own-names p (Commit view shown sig) = (_, refl)
-own-names p (Decide view shown sig) = (_, refl)
-own-names p (Vote phase view d sig) = (_, refl)
-
-vote-is : (s : List ℕ) (vs : List Signed) (c : Claim) → In c (vote_claims s vs) → c.statement ≡ s
-vote-is s [] c h = absurd h
-vote-is s (v ∷ vs) c (inl e) = ap (λ (z : Claim). z.statement) e
-vote-is s (v ∷ vs) c (inr h) = vote-is s vs c h
-
-certificate-names : (p : Params) (x : Certificate) (c : Claim) → In c (certificate_claims form p x) → Names p c.statement
-certificate-names p Root c h = absurd h
-certificate-names p (Votes view phase d votes) c h = (6 ∷ (phase ∷ four_bytes view ++ d), vote-is _ votes c h)
-
-named : (p : Params) (from : ℕ) (msg : Message) (c : Claim) → In c (claims form p from msg) → Names p c.statement
-named p from msg c h = elim (in_append c (certificate_claims form p (inside msg)) _ h) [
-  | inl k ↦ certificate-names p (inside msg) c k
-  | inr k ↦ own k
-]
-  where
-    own : In c (claim from (own_statement form p msg) (signature_of msg) ∷ []) → Names p c.statement
-    own (inl e) = let n = own-names p msg in (n.0, ap (λ (z : Claim). z.statement) e ∙ n.1)
-    own (inr k) = absurd k
 
 -- ---- Batches that are offered
 
@@ -75,36 +46,22 @@ module _ (p : Params) (me : ℕ) (xs : List (Item Message)) where
   castable : (s : Slot) (b c : Batch) → asks p me xs (Cast s b) ≡ Some (s, b) → asks p me xs (Cast s c) ≡ Some (s, c)
   castable s b c h = rw ((cast-is s b (s, b) h).passed) refl
 
-offered-In : (p : Params) (s : State) (old : List (Slot × Batch)) (what : Content) (just : Certificate) (x : Slot × Batch) → offered p s old what just ≡ Some x → In x.0 p.slots
-offered-In p s old Nil just x h = absurd cc
-offered-In p s old (Holds b) just x h = unless-In old b p.slots (slots_below s just) x h
-offered-In p s old Mark just x h = absurd cc
-
-heard-In : (p : Params) (s : State) (old : List (Slot × Batch)) (from : ℕ) (msg : Message) (x : Slot × Batch) → asked_by p s old from msg ≡ Some x → In x.0 p.slots
-heard-In p s old from (NewView round high sig) x h = absurd cc
-heard-In p s old from (Prepare view what just sig) x h = offered-In p s old what just x (if-in (may_prepare p s from view what just) (offered p s old what just) x h).is
-heard-In p s old from (PreCommit view shown sig) x h = absurd cc
-heard-In p s old from (Commit view shown sig) x h = absurd cc
-heard-In p s old from (Decide view shown sig) x h = absurd cc
-heard-In p s old from (Vote phase view d sig) x h = absurd cc
-
-asked-In : (p : Params) (me : ℕ) (xs : List (Item Message)) (i : Input Message) (x : Slot × Batch) → asks p me xs i ≡ Some x → In x.0 p.slots
+asked-In : AsksInside chained
 asked-In p me xs (Cast s b) x h =
     let c = cast-is p me xs s b x h in
     let t = and-true _ (is_slot s.0 (nth p.slots (length (state p me xs).casts))) c.passed in
     subst (λ (z : Slot × Batch). In z.0 p.slots) c.is (place-In s p.slots (length (state p me xs).casts) t.1)
-asked-In p me xs (Receive from msg) x h = heard-In p (state p me xs) (accepts xs) from.0 msg x h
+asked-In p me xs (Receive from (NewView round high sig)) x h = absurd cc
+asked-In p me xs (Receive from (Prepare view what just sig)) x h =
+    let s = state p me xs in
+    offered-In p (accepts xs) what (slots_below s just) x (if-in (may_prepare p s from.0 view what just) (offered p s (accepts xs) what just) x h).is
+asked-In p me xs (Receive from (PreCommit view shown sig)) x h = absurd cc
+asked-In p me xs (Receive from (Commit view shown sig)) x h = absurd cc
+asked-In p me xs (Receive from (Decide view shown sig)) x h = absurd cc
+asked-In p me xs (Receive from (Vote phase view d sig)) x h = absurd cc
 asked-In p me xs Timeout x h = absurd cc
 
 -- ---- Decisions
-
-value-In : (cs : List Content) (k : ℕ) (slots : List Slot) (s : Slot) (x : Value) → value_at_slot cs k slots s.0 ≡ Some x → In s slots
-value-In cs k [] s x h = absurd cc
-value-In cs k (t ∷ ts) s x h = go (t.0 == s.0) refl h (value-In cs (suc k) ts s x)
-  where
-    go : (b : Bool) → (t.0 == s.0) ≡ b → (if b then value_at cs k else value_at_slot cs (suc k) ts s.0) ≡ Some x → (value_at_slot cs (suc k) ts s.0 ≡ Some x → In s ts) → In s (t ∷ ts)
-    go true q e more = inl (slot-is s t (sym (is-same t.0 s.0 q)))
-    go false q e more = inr (more e)
 
 decides-In : (p : Params) (me : ℕ) (s : State) (i : Input Message) (n : Slot) (x : Value) → decides p me s i n.0 ≡ Some x → In n p.slots
 decides-In p me s i n x h = go (committed_by (taken p me s i) (shows p me s (taken p me s i) i)) h
@@ -113,7 +70,7 @@ decides-In p me s i n x h = go (committed_by (taken p me s i) (shows p me s (tak
     go None e = absurd cc
     go (Some z) e = value-In (branch (taken p me s i).tree z.digest) 0 p.slots n x e
 
-decided-In : (p : Params) (me : ℕ) (xs : List (Item Message)) (n : Slot) (x : Value) → decided p me xs n.0 ≡ Some x → In n p.slots
+decided-In : DecidesInside chained
 decided-In p me [] n x h = absurd cc
 decided-In p me (i ∷ xs) n x h = elim (first-cases (decided p me xs n.0) (decides p me (state p me xs) i.input n.0) x h) [
   | inl old ↦ decided-In p me xs n x old
@@ -128,10 +85,6 @@ record IsFine (n most : ℕ) (ds : List (To × Message)) : Type 0 where
 
 none_fine : (n : ℕ) → IsFine n 1 []
 none_fine n = record { to = tt; few = omega arith }
-
-to-append : (n : ℕ) (xs ys : List (To × Message)) → AreToNodes n xs → AreToNodes n ys → AreToNodes n (xs ++ ys)
-to-append n [] ys h g = g
-to-append n (x ∷ xs) ys h g = (h.0, to-append n xs ys h.1 g)
 
 module _ (p : Params) (some : 0 < p.setup.n) where
   below : (k : ℕ) → k % p.setup.n < p.setup.n
@@ -184,7 +137,7 @@ nodes-some n f e = omega (arith, e)
 
 pub chained-is-lawful : IsLawful chained
 chained-is-lawful = record {
-  names = named;
+  names = named form;
   accepted = λ p me xs i leaf. refl;
   casts = λ p me xs s b x h. sym (cast-is p me xs s b x h).is;
   castable = castable;

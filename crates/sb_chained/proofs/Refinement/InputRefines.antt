@@ -15,7 +15,7 @@ use Rattle.sb_chained.specs.declared.links.Link.{Link}
 use Rattle.sb_chained.specs.declared.links.Nodes.{Nodes}
 use Rattle.hs_views.specs.declared.news.Words.{Words}
 use Rattle.sb_chained.specs.declared.outcomes.Outcome.{Outcome}
-use Rattle.sb_chained.specs.declared.signing.Draft.{Draft}
+use Rattle.hs_views.specs.declared.drafts.Draft.{Draft}
 use Rattle.sb_chained.specs.declared.state.Node.{Node}
 use Rattle.sb_chained.specs.Chained.{proposals, turn_strings, voted}
 use Rattle.sb_chained.specs.Drafts.{AreDrafts}

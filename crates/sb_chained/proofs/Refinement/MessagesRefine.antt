@@ -18,11 +18,12 @@ use Rattle.hs_tree.specs.declared.certificates.Certificate.TheVariants.{Root, Vo
 use Rattle.hs_tree.specs.declared.messages.Message.{Message}
 use Rattle.hs_tree.specs.declared.messages.Message.TheVariants.{NewView, Prepare, PreCommit, Commit, Decide, Vote}
 use Rattle.hs_tree.specs.Tree.{Node as Tree_node}
+use Rattle.hs_views.proofs.Tests.{none-within}
 use Rattle.hs_views.specs.declared.accepted.Accepted.{Accepted}
 use Rattle.sb_chained.specs.declared.chained.Chained.{Chained}
 use Rattle.sb_chained.specs.declared.outcomes.Outcome.{Outcome}
 use Rattle.sb_chained.specs.declared.outcomes.Taken.{Taken}
-use Rattle.sb_chained.specs.declared.signing.Draft.{Draft}
+use Rattle.hs_views.specs.declared.drafts.Draft.{Draft}
 use Rattle.sb_chained.specs.declared.state.Node.{Node}
 use Rattle.hs_views.specs.Accepted.{AreAccepted, Adds, at_slot, what_at}
 use Rattle.sb_chained.specs.Chained.{decides, drafts, offered, proposals, strings, strings_at, turn_strings, value_on, voted}
@@ -38,9 +39,6 @@ quiet-draft p t o alone quiet = subst (λ (z : Option Draft). AreDrafts p z []) 
 
 quiet-hashed : (t : Taken) (o : Outcome) → IsAlone o t → IsQuiet o → t.outcome.hashed ≡ []
 quiet-hashed t o alone quiet = ap (λ (z : Outcome). z.hashed) alone.outcome ∙ quiet.hashed
-
-none-within : (ds : List (Slot × Value)) (ss : List Slot) → ds ≡ [] → AllIn (slots_of ds) ss
-none-within ds ss h = subst (λ (z : List (Slot × Value)). AllIn (slots_of z) ss) (sym h) tt
 
 none-inside : (a : Option (Slot × Batch)) (ss : List Slot) → a ≡ None → IfSome a (λ x. In x.0 ss)
 none-inside a ss h = subst (λ (z : Option (Slot × Batch)). IfSome z (λ x. In x.0 ss)) (sym h) tt

@@ -7,22 +7,11 @@ use Rattle.iss_sb.specs.declared.effects.To.{To}
 use Rattle.iss_sb.specs.Calls.{AreToNodes}
 use Rattle.hs_tree.specs.declared.messages.Message.{Message}
 use Rattle.sb_chained.specs.declared.outcomes.Taken.{Taken}
-use Rattle.sb_chained.specs.declared.signing.Draft.{Draft}
-use Rattle.sb_chained.specs.Drafts.{AreDrafts, count_of}
+use Rattle.hs_views.specs.declared.drafts.Draft.{Draft}
+use Rattle.sb_chained.specs.Drafts.{AreDrafts}
+use Rattle.hs_views.specs.Drafts.{count_of}
 use Rattle.sb_chained.specs.Chained.{sign_all}
 use Rattle.sb_chained.specs.Internal.Instances.{IsSigned}
-
--- ---- The number of messages
-
-pub drafts-long : (p : Params) (d : Option Draft) (xs : List (To × Message)) → AreDrafts p d xs → count_of d ≡ length xs
-drafts-long p None xs h = ap (λ (z : List (To × Message)). length z) (sym h)
-drafts-long p (Some d) xs h = ap (λ (z : List (To × Message)). length z) (sym h.message)
-
-pub count-few : (d : Option Draft) → count_of d ≤ 1
-count-few None = omega arith
-count-few (Some d) = omega arith
-
--- ---- with the rest
 
 pub one-signed : (p : Params) (t : Taken) (before later : KeyState) (empty first : List (To × Message)) → empty ≡ [] → ((me : ℕ) (xs : List (To × Message)) → AreKeysOf me p.setup.keys before → AreDrafts p t.outcome.draft xs → first ≡ empty ++ sign_all p me before.used xs) →
     later ≡ record before { used = before.used + count_of t.outcome.draft } → AreToNodes p.setup.n first → IsSigned p t before later (record { sends = first; accepted = t.accepted; delivers = t.delivers; hashed = t.outcome.hashed })

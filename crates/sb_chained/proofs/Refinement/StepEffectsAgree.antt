@@ -20,29 +20,26 @@ use Rattle.iss_sb.specs.declared.content.Content.{Content}
 use Rattle.iss_sb.specs.declared.content.Content.TheVariants.{Nil, Holds, Mark}
 use Rattle.hs_tree.specs.declared.messages.Message.{Message}
 use Rattle.hs_tree.specs.Known.{values}
-use Rattle.hs_tree.specs.Tree.{filled, value_at_slot}
+use Rattle.hs_tree.specs.Tree.{chained as form, filled, value_at_slot}
 use Rattle.hs_tree.proofs.Branches.{length-values}
 use Rattle.sb_chained.specs.declared.chained.Chained.{Chained}
 use Rattle.sb_chained.specs.declared.outcomes.Taken.{Taken}
 use Rattle.hs_views.specs.Accepted.{AreAccepted, at_slot, what_at}
 use Rattle.sb_chained.specs.Chained.{asks, chained, decided, decides, drafts, state, strings}
 use Rattle.iss_sb.specs.Paired.{paired, value_with}
-use Rattle.sb_chained.specs.Drafts.{AreDrafts, count_of}
+use Rattle.sb_chained.specs.Drafts.{AreDrafts}
+use Rattle.hs_views.specs.Drafts.{count_of}
 use Rattle.sb_chained.specs.Internal.Instances.{Does, IsBranch, IsDelivered, IsSigned, Refines, Takes, asked_in}
 use Rattle.sb_chained.specs.Rules.{State, after, may_cast}
 use Rattle.sb_chained.specs.Refines.{RefinesState}
 use Rattle.iss_sb.proofs.Paired.{fresh-ascending}
 use Rattle.hs_views.proofs.DeliveredSlotsAgree.{branch-value, fresh-value, or-within, slots-more, value-fresh, value-some}
-use Rattle.sb_chained.proofs.Refinement.SignedMessagesAgree.{count-few, drafts-long}
+use Rattle.hs_views.proofs.DraftsAgree.{count-few, drafts-long}
 
 -- ---- Decisions are stable, so a slot is delivered if it is decided
 
-first-stays : (a b : Option Value) (x : Value) → a ≡ Some x → first_of a b ≡ Some x
-first-stays None b x h = absurd cc
-first-stays (Some y) b x h = h
-
 pub delivered-is : (p : Params) (me : ℕ) (xs : List (Item Message)) (n : ℕ) → delivered chained p me xs n ≡ decided p me xs n
-delivered-is p me xs n = delivered-decided chained p me (λ s. refl) (λ xs y s x h. first-stays (decided p me xs s) (decides p me (state p me xs) y.input s) x h) xs n
+delivered-is p me xs n = delivered-decided chained p me (λ s. refl) (λ xs y s x h. ap (λ (o : Option Value). first_of o (decides p me (state p me xs) y.input s)) h) xs n
 
 -- nothing is decided anew
 module _ (p : Params) (m : Chained) (i : Input Message) (e : Effects Message) (me : ℕ) (xs : List (Item Message)) (st : Refines m p me xs) (quiet : (k : ℕ) → decides p me (state p me xs) i k ≡ None) where
@@ -170,7 +167,7 @@ module _ (p : Params) (good : IsGoodParams chained p) (m n : Chained) (i : Input
     uses : later.used ≡ before.used + length (drafts p me s i)
     uses =
         let u = used-is in
-        let long = drafts-long p t.outcome.draft (drafts p me s i) drafted in
+        let long = drafts-long form p t.outcome.draft (drafts p me s i) drafted in
         omega (arith, u, long)
 
   pub true-step : IsTrueStep chained Refines p m n i before later e
@@ -204,9 +201,6 @@ what-inside Mark o ss h = tt
 
 -- ---- Whether a cast is valid
 
-no-some : (x : Slot × Batch) → ◌≡◌ {A = Option (Slot × Batch)} None (Some x) → ⊥
-no-some x h = cc
-
 pub casts-means : (p : Params) (m : Chained) (me : ℕ) (xs : List (Item Message)) → Refines m p me xs → (slot : Slot) (batch : Batch) (b : Bool) → ((s : State) → RefinesState p m.node s → b ≡ may_cast p m.node.me.0 s slot.0) →
     IsTrue b ↔ (asks p me xs (Cast slot batch) ≡ Some (slot, batch))
 casts-means p m me xs st slot batch b h = (
@@ -222,4 +216,4 @@ casts-means p m me xs st slot batch b h = (
 
     go : (t : Bool) → may_cast p me (state p me xs) slot.0 ≡ t → asks p me xs (Cast slot batch) ≡ Some (slot, batch) → t ≡ true
     go true e k = refl
-    go false e k = absurd (no-some (slot, batch) (sym (asked false e) ∙ k))
+    go false e k = absurd (none-some (slot, batch) (sym (asked false e) ∙ k))

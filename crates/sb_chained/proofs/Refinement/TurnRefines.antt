@@ -21,9 +21,9 @@ use Rattle.hs_tree.specs.Tree.{branch, filled, strings_of, value_of, viewed_stri
 use Rattle.hs_tree.proofs.Branches.{branch-path, filled-few}
 use Rattle.sb_chained.specs.declared.links.Nodes.{Nodes}
 use Rattle.sb_chained.specs.declared.outcomes.Outcome.{Outcome}
-use Rattle.sb_chained.specs.declared.signing.Draft.{Draft}
+use Rattle.hs_views.specs.declared.drafts.Draft.{Draft}
 use Rattle.sb_chained.specs.declared.state.Node.{Node}
-use Rattle.sb_chained.specs.declared.turns.Last.{Last}
+use Rattle.hs_views.specs.declared.turns.Last.{Last}
 use Rattle.sb_chained.specs.declared.turns.Turns.{Turns}
 use Rattle.sb_chained.specs.Chained.{strings_at}
 use Rattle.sb_chained.specs.Drafts.{AreDrafts, IsDraft}
@@ -31,7 +31,9 @@ use Rattle.sb_chained.specs.Links.{Holds}
 use Rattle.sb_chained.specs.Rules.{State, cast_turn, certificate, full_turn, is_full, is_marked, is_ready, next_turn, nil_or_mark, node_digest, node_of, slots_below, turn, turn_after, turn_on}
 use Rattle.hs_views.specs.Views.{Turn, round_of}
 use Rattle.sb_chained.specs.Refines.{AreLow, RefinesState, IsLow, IsQuiet, MayMake, Proposes, is_last_ready}
-use Rattle.sb_chained.specs.Tallies.{AreTurns, last_of, own_of}
+use Rattle.hs_views.specs.Turns.{last_of, own_of}
+use Rattle.hs_views.proofs.TurnsAgree.{Newest, newest, none-last}
+use Rattle.sb_chained.specs.Tallies.{AreTurns}
 use Rattle.hs_views.proofs.Tests.{if-some, is-same}
 
 -- no turn at all
@@ -208,22 +210,6 @@ module _ (p : Params) (m n : Node) (k : State) (o : Outcome) (t : Turn) (last : 
           other : (r : ℕ) → 1 ≤ r → (r == 0) ≡ false
           other r le = grind (arith, le)
 
--- ---- The newest turn
-
-none-last : (ts : List Turn) → last_of ts ≡ None → ts ≡ []
-none-last [] e = refl
-none-last (t ∷ ts) e = absurd cc
-
-record Newest (ts : List Turn) (last : Last) : Type 0 where
-  turn : Turn
-  rest : List Turn
-  list : ts ≡ turn ∷ rest
-  own : own_of turn ≡ last
-
-newest : (ts : List Turn) (last : Last) → last_of ts ≡ Some last → Newest ts last
-newest [] last e = absurd cc
-newest (t ∷ ts) last e = record { turn = t; rest = ts; list = refl; own = cc }
-
 module _ (p : Params) (m n : Node) (k : State) (o : Outcome) (h : RefinesState p m k) (found : Option Last) (found_is : found ≡ last_of k.turns) where
   first-test : found ≡ None → (x : Node) (b : Bool) → (round_of k.view == 0) ≡ b → Proposes p m x k (if b then cast_turn p 1 Root 0 (nth k.casts 0) else None) o → Proposes p m x k (next_turn p k k.turns) o
   first-test e x b hb d =
@@ -259,7 +245,7 @@ module _ (p : Params) (m n : Node) (k : State) (o : Outcome) (h : RefinesState p
     next-after b hb yet d =
         subst (λ (z : List Turn). Proposes p m n k (next_turn p k z) o) (sym new.list)
         (subst (λ (z : Bool). Proposes p m n k (if z then turn_after p k new.turn else None) o) (sym (ready-is b hb ∙ yet))
-        (d new.turn new.own (h.low last (h.turns.last ∙ sym found_is ∙ e)) h))
+        (d new.turn new.own (h.low last (h.turns.made.last ∙ sym found_is ∙ e)) h))
 
 -- ---- The first turn of a round
 

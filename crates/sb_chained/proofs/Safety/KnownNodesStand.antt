@@ -32,7 +32,7 @@ use Rattle.sb_chained.specs.Paths.{IsNode, IsTree}
 use Rattle.sb_chained.specs.declared.links.Lock.{Lock}
 use Rattle.sb_chained.specs.Rules.{State, cast_turn, certificate, find, first_high, full_turn, is_marked, is_ready, is_reached, is_usable, keeps_news, keeps_vote, kept, known_high, may_cast, may_end, may_prepare, next_turn, node_digest, node_of, node_on, noted, proposed, raised, shows, taken, turn, turn_after, turn_on, with_cast, with_news, with_node, with_round, with_shown, with_turn, with_vote}
 use Rattle.hs_views.specs.Views.{Kept, News, Turn, all_news, best, is_for, leader_of, news_of, round_of, vote_of, votes_of}
-use Rattle.sb_chained.proofs.Safety.OneVoteAView.{prepare-above, round-above, taken-view}
+use Rattle.sb_chained.proofs.Safety.OneVoteAView.{round-above, taken-view, tests}
 use Rattle.sb_chained.proofs.Safety.CertifiedNodes.{certified-at, certified-not-root}
 use Rattle.sb_chained.proofs.Safety.NodesHaveOneView.{found-is}
 use Rattle.sb_chained.proofs.ModuleLaws.SentMessagesDecode.{Fits, MayTurn, TurnFits, TurnsFit, digest-length, heard-is, kept-fits, proposed-new, state-fits}
@@ -290,7 +290,7 @@ module _ (p : Params) (w : World Message) (good : IsGoodParams chained p) (reach
         below r c l (inl q) = subst (λ (z : Certificate). view_of z < r * 65536) (sym q) (root-low r l)
         below r c l (inr q) = q
     taken-ok (Receive from (Prepare view what just sig)) e h = by-test Ok (may_prepare p s from.0 view what just) (with_node p s view what just) s (λ q.
-        let above = prepare-above p s from.0 view what just q in
+        let above = (tests p s from.0 view what just q).above in
         let le : s.view ≤ view = omega (arith, above) in
         let ps = parts p w good reached s from.0 view what just q in
         let j = just-why p w good reached me x xs view from (Prepare view what just sig) f e ps.fine.just_is in

@@ -2,8 +2,7 @@
 use Rattle.std.proofs.Common.{◌≡◌, ℕ, ◌||◌, Bool, true, false, if◌then◌else◌, List, [], ◌∷◌, ◌++◌, Some, append_assoc, refl, sym, ap, ◌∙◌, subst}
 use Rattle.iss_base.specs.Lists.{same_bytes}
 use Rattle.iss_base.proofs.Lists.{ends-same, same_bytes-is}
-use Rattle.iss_request.specs.Fields.{Good, IsReadAgain}
-use Rattle.iss_request.specs.Formats.{parse_value, spell_value, value_string}
+use Rattle.iss_request.specs.Formats.{value_string}
 use Rattle.iss_request.specs.declared.requests.Batch.{Batch}
 use Rattle.iss_request.specs.declared.requests.Value.TheVariants.{Batch as Value_batch}
 use Rattle.iss_sb.specs.Evidence.{Separate}
@@ -11,17 +10,11 @@ use Rattle.iss_sb.specs.Statements.{four_bytes}
 use Rattle.iss_sb.proofs.Statements.{wide-same}
 use Rattle.iss_sb.specs.declared.content.Content.{Content}
 use Rattle.iss_sb.specs.declared.content.Content.TheVariants.{Nil, Holds, Mark}
+use Rattle.hs_tree.proofs.Nodes.{value-same}
 use Rattle.hs_tree.specs.Tree.{Node, branch, chained as form, extends, is_known, kind_of, root, value_digest, value_of, what_bytes}
 use Rattle.iss_sb.proofs.Contents.{holds-value}
 use Rattle.sb_chained.specs.Paths.{Has, IsNode, IsTree, Path, hash}
 use Rattle.sb_chained.specs.Rules.{find}
-
--- values that are read again are told apart by their strings
-value-same : (version : ℕ) (b c : Batch) → IsReadAgain (spell_value version) (parse_value version) (Value_batch b) → IsReadAgain (spell_value version) (parse_value version) (Value_batch c) → value_string version (Value_batch b) ≡ value_string version (Value_batch c) → b ≡ c
-value-same version b c h g e =
-    let same : spell_value version (Value_batch b) ≡ spell_value version (Value_batch c) = cc in
-    let both : Good (Value_batch b) [] ≡ Good (Value_batch c) [] = sym (h []) ∙ ap (λ (x : List ℕ). parse_value version (x ++ [])) same ∙ g [] in
-    cc
 
 abbrev behind_first : List ℕ → List ℕ
 behind_first [] = []

@@ -20,10 +20,10 @@ use Rattle.hs_tree.specs.Statements.{own_statement, with_signature}
 use Rattle.hs_tree.specs.Tree.{chained as form}
 use Rattle.sb_chained.specs.Facts.{VotedIn}
 use Rattle.sb_chained.specs.Chained.{answers, answers_heard, drafts, chained, makes, proposals, sign_all, state, voted}
-use Rattle.sb_chained.specs.Rules.{State, after, heard, keeps_news, keeps_vote, kept, may_cast, may_end, may_prepare, node_digest, proposed, shows, taken, with_cast, with_news, with_node, with_round, with_turn, with_vote}
-use Rattle.hs_views.specs.Views.{Turn}
+use Rattle.sb_chained.specs.Rules.{State, after, heard, is_allowed, is_safe, is_usable, keeps_news, keeps_vote, kept, may_cast, may_end, may_prepare, node_digest, proposed, shows, slots_below, taken, with_cast, with_news, with_node, with_round, with_turn, with_vote}
+use Rattle.hs_views.specs.Views.{Turn, round_of}
 use Rattle.sb_chained.proofs.Safety.CertificatesShown.{shown-like}
-use Rattle.hs_views.proofs.Tests.{by-test}
+use Rattle.hs_views.proofs.Tests.{by-test, each-option}
 
 pub record IsFirst (p : Params) (s : State) (i : Input Message) (view : ℕ) (d : List ℕ) : Type 0 where
   pub from : NodeId
@@ -114,25 +114,29 @@ cause p me leaf xs i to view d sig h =
 abbrev Rises : ℕ → State → Type 0
 Rises v s = v ≤ s.view
 
-turn-view : (s : State) (o : Option Turn) → (with_turn s o).view ≡ s.view
-turn-view s None = refl
-turn-view s (Some t) = refl
-
 same : (v : ℕ) → v ≤ v
 same v = omega arith
 
-pub prepare-above : (p : Params) (s : State) (from view : ℕ) (what : Content) (just : Certificate) → may_prepare p s from view what just ≡ true → s.view < view
-prepare-above p s from view what just h =
+-- what the test of a proposal says
+pub record Tests (p : Params) (s : State) (from view : ℕ) (what : Content) (just : Certificate) : Type 0 where
+  pub usable_is : is_usable p s from view just ≡ true
+  pub above : s.view < view
+  pub safe : is_safe p s view what just ≡ true
+  pub allowed : is_allowed p (round_of view) (slots_below s just) what ≡ true
+
+pub tests : (p : Params) (s : State) (from view : ℕ) (what : Content) (just : Certificate) → may_prepare p s from view what just ≡ true → Tests p s from view what just
+tests p s from view what just h =
     let a = and-true _ _ h in
-    let b = and-true _ (nat_lt s.view view) a.0 in
-    ltb-true s.view view b.1
+    let b = and-true (is_usable p s from view just) (nat_lt s.view view) a.0 in
+    let c = and-true (is_safe p s view what just) _ a.1 in
+    record { usable_is = b.0; above = ltb-true s.view view b.1; safe = c.0; allowed = c.1 }
 
 pub round-above : (v : ℕ) → v ≤ suc (v / 65536) * 65536
 round-above v = omega arith
 
 heard-view : (p : Params) (me : ℕ) (s : State) (from : ℕ) (msg : Message) → Rises s.view (heard p me s from msg)
 heard-view p me s from (NewView round high sig) = by-test (Rises s.view) (keeps_news p me s from round high) (with_news s from round high) s (λ t. same s.view) (same s.view)
-heard-view p me s from (Prepare view what just sig) = by-test (Rises s.view) (may_prepare p s from view what just) (with_node p s view what just) s (λ t. let a = prepare-above p s from view what just t in omega (arith, a)) (same s.view)
+heard-view p me s from (Prepare view what just sig) = by-test (Rises s.view) (may_prepare p s from view what just) (with_node p s view what just) s (λ t. let a = (tests p s from view what just t).above in omega (arith, a)) (same s.view)
 heard-view p me s from (PreCommit view shown sig) = same s.view
 heard-view p me s from (Commit view shown sig) = same s.view
 heard-view p me s from (Decide view shown sig) = same s.view
@@ -147,7 +151,7 @@ taken-view p me s Timeout = by-test (Rises s.view) (may_end s) (with_round s) s 
 pub after-is : (p : Params) (me : ℕ) (s : State) (i : Input Message) → (after p me s i).view ≡ (taken p me s i).view
 after-is p me s i =
     let t = taken p me s i in
-    turn-view (kept p me s i) (proposed p me s (kept p me s i) i) ∙ (shown-like t (shows p me s t i)).view
+    each-option (λ (z : Option Turn). (with_turn (kept p me s i) z).view) (kept p me s i).view refl (λ t. refl) (proposed p me s (kept p me s i) i) ∙ (shown-like t (shows p me s t i)).view
 
 pub after-view : (p : Params) (me : ℕ) (s : State) (i : Input Message) → Rises s.view (after p me s i)
 after-view p me s i =
@@ -157,10 +161,10 @@ after-view p me s i =
 
 -- ---- A vote is of the view that the step enters or is in
 
-pub first-view : (p : Params) (me : ℕ) (s : State) (i : Input Message) (view : ℕ) (d : List ℕ) → IsFirst p s i view d → (s.view < view) × ((after p me s i).view ≡ view)
+pub first-view : (p : Params) (me : ℕ) (s : State) (i : Input Message) (view : ℕ) (d : List ℕ) → IsFirst p s i view d → (after p me s i).view ≡ view
 first-view p me s i view d f =
     let here : (taken p me s (Receive f.from (Prepare view f.what f.just f.sig))).view ≡ view = rw (f.may) refl in
-    (prepare-above p s f.from.0 view f.what f.just f.may, after-is p me s i ∙ subst (λ (z : Input Message). (taken p me s z).view ≡ view) (sym f.is) here)
+    after-is p me s i ∙ subst (λ (z : Input Message). (taken p me s z).view ≡ view) (sym f.is) here
 
 -- ---- In one history
 
@@ -180,7 +184,7 @@ pub voted-below : (p : Params) (me : ℕ) (xs : List (Item Message)) (x : Item M
 voted-below p me [] x view d made k v = absurd k
 voted-below p me (y ∷ xs) x view d made (inl e) v =
     let f = cause-new p me y xs view d made (subst (λ (z : Item Message). VotedIn z view d) e v) in
-    let l = (first-view p me (state p me xs) y.input view d f).1 in
+    let l = first-view p me (state p me xs) y.input view d f in
     omega (arith, l)
 voted-below p me (y ∷ xs) x view d made (inr k) v =
     let a = voted-below p me xs x view d made.1 k v in
@@ -190,7 +194,7 @@ voted-below p me (y ∷ xs) x view d made (inr k) v =
 pub votes-rise : (p : Params) (me : ℕ) (x y : Item Message) (before : List (Item Message)) (view v : ℕ) (d e : List ℕ) → AreMade chained p me (x ∷ before) → In y before → VotedIn x view d → VotedIn y v e → v < view
 votes-rise p me x y before view v d e made k a b =
     let f = cause-new p me x before view d made a in
-    let l = prepare-above p (state p me before) f.from.0 view f.what f.just f.may in
+    let l = (tests p (state p me before) f.from.0 view f.what f.just f.may).above in
     let m = voted-below p me before y v e made.1 k b in
     omega (arith, l, m)
 

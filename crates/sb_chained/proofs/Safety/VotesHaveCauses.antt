@@ -42,7 +42,7 @@ use Rattle.sb_chained.specs.Facts.{AreStanding, IsAt, IsCertified, IsVoted}
 use Rattle.sb_chained.specs.Rules.{State, is_allowed, is_good, is_just, is_safe, is_usable, may_prepare, node_digest, slots_below}
 use Rattle.hs_views.specs.Views.{leader_of, round_of, turn_of}
 use Rattle.sb_chained.proofs.Basics.{good-is}
-use Rattle.sb_chained.proofs.Safety.OneVoteAView.{IsFirst, cause-new, one-first, voted-below}
+use Rattle.sb_chained.proofs.Safety.OneVoteAView.{IsFirst, cause-new, one-first, tests, voted-below}
 use Rattle.sb_chained.proofs.ModuleLaws.StepsAreLawful.{chained-is-lawful}
 use Rattle.sb_chained.proofs.Safety.OwnVotesWereSent.{AreVoted, OwnVotes, own-before, voted-reached}
 use Rattle.sb_chained.proofs.ModuleLaws.SentMessagesDecode.{digest-length}
@@ -243,10 +243,8 @@ module _ (p : Params) (w : World Message) (good : IsGoodParams chained p) (reach
 
   pub parts : (s : State) (from view : ℕ) (what : Content) (just : Certificate) → may_prepare p s from view what just ≡ true → Parts s from view what just
   parts s from view what just h =
-      let a = and-true _ _ h in
-      let b = and-true (is_usable p s from view just) (nat_lt s.view view) a.0 in
-      let d = and-true (is_safe p s view what just) _ a.1 in
-      record { usable_is = b.0; fine = usable s from view just b.0; safe = d.0; allowed = d.1 }
+      let t = tests p s from view what just h in
+      record { usable_is = t.usable_is; fine = usable s from view just t.usable_is; safe = t.safe; allowed = t.allowed }
 
   -- ---- votes
 

@@ -24,7 +24,7 @@ use Rattle.sb_chained.specs.Facts.{AreSafeVotes, IsAt, IsCertified, IsCommitted,
 use Rattle.sb_chained.specs.declared.links.Lock.{Lock}
 use Rattle.sb_chained.specs.Rules.{State, after, committed_by, down, find, heard, if_next, keeps_news, keeps_vote, kept, may_cast, may_end, may_prepare, node_digest, noted, proposed, raised, shows, taken, with_cast, with_news, with_node, with_round, with_shown, with_turn, with_vote}
 use Rattle.hs_views.specs.Views.{Turn, leader_of, round_of}
-use Rattle.sb_chained.proofs.Safety.OneVoteAView.{IsFirst, cause-new, first-view, prepare-above, voted-below}
+use Rattle.sb_chained.proofs.Safety.OneVoteAView.{IsFirst, cause-new, first-view, tests, voted-below}
 use Rattle.sb_chained.proofs.Safety.CertifiedNodes.{below-it, certified-at, certified-not-root, certified-stands, falls, not-root, same-node}
 use Rattle.sb_chained.proofs.Safety.KnownNodesStand.{IsPlaced, MayHigh, Ok, found-ok, known-find, known-more, shows-of-ok, state-ok, taken-of-ok}
 use Rattle.sb_chained.proofs.Safety.NodesHaveOneView.{branch-is, extends-is, found-is}
@@ -183,7 +183,7 @@ module _ (p : Params) (w : World Message) (good : IsGoodParams chained p) (reach
       late q r =
           let low = voted-below p me (z ∷ xs) y v e made r b in
           let why = cause-new p me z xs u d made (subst (λ (i : Item Message). VotedIn i u d) q a) in
-          let here = (first-view p me (state p me xs) z.input u d why).1 in
+          let here = first-view p me (state p me xs) z.input u d why in
           omega (arith, low, here, lt)
 
       go : In x (z ∷ xs) → In y (z ∷ xs) → (In x xs → In y xs → Before me x y) → Before me x y
@@ -206,7 +206,7 @@ module _ (p : Params) (w : World Message) (good : IsGoodParams chained p) (reach
     s = state p i older
 
     above : s.view < v
-    above = prepare-above p s why.from.0 v why.what why.just why.may
+    above = (tests p s why.from.0 v why.what why.just why.may).above
 
     at : IsAt p w e v (digest_of why.just) why.what
     at = subst (λ (z : List ℕ). IsAt p w z v (digest_of why.just) why.what) (sym why.digest_is) (taken-at p w good reached i x older why.from v why.what why.just why.sig f why.is why.may)

@@ -26,7 +26,8 @@ use Rattle.sb_chained.specs.declared.state.Node.{Node}
 use Rattle.hs_views.specs.Accepted.{AreAccepted, Adds}
 use Rattle.sb_chained.specs.Chained.{asked_by, decided, decides, drafts, sign_all, state, strings, strings_at, value_on, voted}
 use Rattle.iss_sb.specs.Paired.{paired}
-use Rattle.sb_chained.specs.Drafts.{AreDrafts, count_of}
+use Rattle.sb_chained.specs.Drafts.{AreDrafts}
+use Rattle.hs_views.specs.Drafts.{count_of}
 use Rattle.sb_chained.specs.Links.{digest_at}
 use Rattle.sb_chained.specs.Rules.{State, after, committed_by, may_cast, node_digest, with_node, with_shown}
 use Rattle.sb_chained.specs.Refines.{RefinesState}

@@ -35,6 +35,7 @@ use Rattle.hs_tree.specs.Statements.{claims, own_statement, vote_statement}
 use Rattle.hs_tree.specs.Tree.{basic, plain_string, root}
 use Rattle.iss_sb.proofs.Contents.{batch-table}
 use Rattle.hs_tree.proofs.MessageGrammar.{spelled-read}
+use Rattle.hs_views.proofs.Tests.{AreStrings, each-string}
 use Rattle.sb_hotstuff.specs.HotStuff.{hotstuff, makes}
 use Rattle.sb_hotstuff.specs.Rules.{node_digest}
 use Rattle.sb_hotstuff.proofs.Examples.Runs.{b, node, setup, slot}
@@ -151,9 +152,6 @@ move-one xs ys input leaf may = record { node = 1; correct = refl; input = input
 abbrev IsRead : Message → Type 0
 IsRead msg = IsReadMessage hotstuff q msg
 
-shape : (k leaf : ℕ) (s : List ℕ) → is_signature (signature q k leaf s) ≡ true
-shape k leaf s = signature-shape hotstuff q good k leaf s
-
 shown-spelled : (phase leaf : ℕ) → 1 ≤ phase → phase ≤ 3 → IsSpelledCertificate 3 (shown phase leaf) (votes_row 1 phase d (vote phase leaf 0 ∷ vote phase leaf 1 ∷ vote phase leaf 3 ∷ []))
 shown-spelled phase leaf low high = record {
   view_low = omega arith;
@@ -162,23 +160,23 @@ shown-spelled phase leaf low high = record {
   phase_fits = high;
   digest_fits = length-sha256 _;
   count_fits = omega arith;
-  signers = (omega arith, shape 0 leaf (states phase), (omega arith, shape 1 leaf (states phase), (omega arith, shape 3 leaf (states phase), tt)));
+  signers = (omega arith, signature-shape hotstuff q good 0 leaf (states phase), (omega arith, signature-shape hotstuff q good 1 leaf (states phase), (omega arith, signature-shape hotstuff q good 3 leaf (states phase), tt)));
   row = refl;
 }
 
 read1 : IsRead m1
 read1 =
     let held = batch-table 1 b (batch-read 1 b (omega arith) (λ r h. absurd h)) in
-    spelled-read 3 1 m1 _ (record { view_fits = omega arith; behind = held.0; what_is = held.1; certificate = root_row; spelled = refl; signed = shape 3 3 (own_statement basic q (Prepare 1 (Holds b) Root [])); row = refl })
+    spelled-read 3 1 m1 _ (record { view_fits = omega arith; behind = held.0; what_is = held.1; certificate = root_row; spelled = refl; signed = signature-shape hotstuff q good 3 3 (own_statement basic q (Prepare 1 (Holds b) Root [])); row = refl })
 
 read2 : IsRead m2
-read2 = spelled-read 3 1 m2 _ (record { three = refl; view_fits = omega arith; certificate = _; spelled = shown-spelled 1 0 (omega arith) (omega arith); signed = shape 3 4 (own_statement basic q (PreCommit 1 (shown 1 0) [])); row = refl })
+read2 = spelled-read 3 1 m2 _ (record { three = refl; view_fits = omega arith; certificate = _; spelled = shown-spelled 1 0 (omega arith) (omega arith); signed = signature-shape hotstuff q good 3 4 (own_statement basic q (PreCommit 1 (shown 1 0) [])); row = refl })
 
 read3 : IsRead m3
-read3 = spelled-read 3 1 m3 _ (record { three = refl; view_fits = omega arith; certificate = _; spelled = shown-spelled 2 1 (omega arith) (omega arith); signed = shape 3 5 (own_statement basic q (Commit 1 (shown 2 1) [])); row = refl })
+read3 = spelled-read 3 1 m3 _ (record { three = refl; view_fits = omega arith; certificate = _; spelled = shown-spelled 2 1 (omega arith) (omega arith); signed = signature-shape hotstuff q good 3 5 (own_statement basic q (Commit 1 (shown 2 1) [])); row = refl })
 
 read4 : IsRead m4
-read4 = spelled-read 3 1 m4 _ (record { three = refl; view_fits = omega arith; certificate = _; spelled = shown-spelled 3 2 (omega arith) (omega arith); signed = shape 3 6 (own_statement basic q (Decide 1 (shown 3 2) [])); row = refl })
+read4 = spelled-read 3 1 m4 _ (record { three = refl; view_fits = omega arith; certificate = _; spelled = shown-spelled 3 2 (omega arith) (omega arith); signed = signature-shape hotstuff q good 3 6 (own_statement basic q (Decide 1 (shown 3 2) [])); row = refl })
 
 verifies : (k leaf : ℕ) (s : List ℕ) → k < 4 → leaf < 2 ^ 4 → Verifies q (claim k s (signature q k leaf s))
 verifies k leaf s below few = signature-verifies hotstuff q good k leaf s below few
@@ -187,9 +185,6 @@ verifies k leaf s below few = signature-verifies hotstuff q good k leaf s below 
 record AreSigned (w : World Message) (phase : ℕ) : Type 0 where
   zero_did : IsSigned hotstuff q w 0 (states phase)
   one_did : IsSigned hotstuff q w 1 (states phase)
-
-never : {C : Type 0} → is_correct setup 3 ≡ true → C
-never h = absurd (true≢false (sym h))
 
 -- three votes, and the leader's own signature
 abbrev four : ℕ → ℕ → ℕ → Message → List Claim
@@ -216,8 +211,8 @@ shows-come w phase leaf own msg few small read signed e = record { named = omega
         is_correct setup c.by.0 ≡ true → IsSigned hotstuff q w c.by.0 c.statement
     given c (inl k) r = subst (λ (z : Claim). IsSigned hotstuff q w z.by.0 z.statement) (sym k) signed.zero_did
     given c (inr (inl k)) r = subst (λ (z : Claim). IsSigned hotstuff q w z.by.0 z.statement) (sym k) signed.one_did
-    given c (inr (inr (inl k))) r = never (ap (λ (z : Claim). is_correct setup z.by.0) (sym k) ∙ r)
-    given c (inr (inr (inr (inl k)))) r = never (ap (λ (z : Claim). is_correct setup z.by.0) (sym k) ∙ r)
+    given c (inr (inr (inl k))) r = absurd (true≢false (sym (ap (λ (z : Claim). is_correct setup z.by.0) (sym k) ∙ r)))
+    given c (inr (inr (inr (inl k)))) r = absurd (true≢false (sym (ap (λ (z : Claim). is_correct setup z.by.0) (sym k) ∙ r)))
     given c (inr (inr (inr (inr k)))) r = absurd k
 
 -- the leader's proposal, which claims only its own signature
@@ -229,7 +224,7 @@ proposal-comes w = record { named = omega arith; read = read1; verified = check;
     check c (inr k) = absurd k
 
     given : (c : Claim) → In c (claims basic q 3 m1) → is_correct setup c.by.0 ≡ true → IsSigned hotstuff q w c.by.0 c.statement
-    given c (inl k) r = never (ap (λ (z : Claim). is_correct setup z.by.0) (sym k) ∙ r)
+    given c (inl k) r = absurd (true≢false (sym (ap (λ (z : Claim). is_correct setup z.by.0) (sym k) ∙ r)))
     given c (inr k) r = absurd k
 
 -- a vote in a replica's history was signed
@@ -328,19 +323,21 @@ strings4 me = refl
 abbrev IsOf : List ℕ → Type 0
 IsOf s = In s (value ∷ tree_node ∷ [])
 
-of-list : (me : ℕ) (x : Item Message) (s : List ℕ) → In x (list4 me) → In s x.made.strings → IsOf s
-of-list me x s (inl e) h = absurd (subst (λ (z : List (List ℕ)). In s z) (ap (λ (z : Item Message). z.made.strings) e ∙ strings4 me) h)
-of-list me x s (inr (inl e)) h = absurd (subst (λ (z : List (List ℕ)). In s z) (ap (λ (z : Item Message). z.made.strings) e ∙ strings3 me) h)
-of-list me x s (inr (inr (inl e))) h = absurd (subst (λ (z : List (List ℕ)). In s z) (ap (λ (z : Item Message). z.made.strings) e ∙ strings2 me) h)
-of-list me x s (inr (inr (inr (inl e)))) h = subst (λ (z : List (List ℕ)). In s z) (ap (λ (z : Item Message). z.made.strings) e ∙ strings1 me) h
-of-list me x s (inr (inr (inr (inr k)))) h = absurd k
+each-list : (me : ℕ) → AreStrings IsOf (list4 me)
+each-list me = (
+  (λ s h. absurd (subst (λ (z : List (List ℕ)). In s z) (strings4 me) h)),
+  (λ s h. absurd (subst (λ (z : List (List ℕ)). In s z) (strings3 me) h)),
+  (λ s h. absurd (subst (λ (z : List (List ℕ)). In s z) (strings2 me) h)),
+  (λ s h. subst (λ (z : List (List ℕ)). In s z) (strings1 me) h),
+  tt,
+)
 
 of-world : (s : List ℕ) → IsHashed w7 s → IsOf s
 of-world s h = go (eqb h.node 0) (eqb h.node 1) h.taken
   where
     go : (t u : Bool) → In h.item (cond t (list4 0) (cond u (list3 1) [])) → IsOf s
-    go true u k = of-list 0 h.item s k h.hashed
-    go false true k = of-list 1 h.item s (inr k) h.hashed
+    go true u k = each-string IsOf (list4 0) h.item s (each-list 0) k h.hashed
+    go false true k = each-string IsOf (list4 1) h.item s (each-list 1) (inr k) h.hashed
     go false false k = absurd k
 
 root-value : same_bytes (digest []) (digest value) ≡ false

@@ -27,6 +27,7 @@ use Rattle.hs_tree.specs.declared.messages.Message.TheVariants.{NewView, Prepare
 use Rattle.hs_tree.specs.Certificates.{digest_of}
 use Rattle.hs_tree.specs.Paths.{Has, hash}
 use Rattle.hs_tree.specs.Statements.{own_statement, with_signature}
+use Rattle.hs_tree.proofs.Claimed.{prepare-unsigned}
 use Rattle.hs_tree.specs.Tree.{basic, filled, is_known, root, weight}
 use Rattle.iss_sb.proofs.Contents.{content-table}
 use Rattle.sb_hotstuff.specs.Facts.{Leads}
@@ -40,14 +41,6 @@ use Rattle.sb_hotstuff.proofs.Safety.VotesHaveCauses.{AreVoted, acc, hashed-has}
 use Rattle.hs_views.proofs.Tests.{by-if, by-test, is-same}
 
 -- ---- Unsigned messages
-
-prepare-unsigned : (s t : List ℕ) (msg : Message) (view : ℕ) (what : Content) (just : Certificate) → Prepare view what just s ≡ with_signature t msg → (sig : List ℕ) × (msg ≡ Prepare view what just sig)
-prepare-unsigned s t (NewView round high old) view what just h = absurd cc
-prepare-unsigned s t (PreCommit v shown old) view what just h = absurd cc
-prepare-unsigned s t (Commit v shown old) view what just h = absurd cc
-prepare-unsigned s t (Decide v shown old) view what just h = absurd cc
-prepare-unsigned s t (Vote q v e old) view what just h = absurd cc
-prepare-unsigned s t (Prepare v c j old) view what just h = (old, (let a : v ≡ view = cc in let b : c ≡ what = cc in let d : j ≡ just = cc in cc))
 
 unsigned : (p : Params) (me leaf : ℕ) (ds : List (To × Message)) (to : To) (view : ℕ) (what : Content) (just : Certificate) (sig : List ℕ) → In {A = To × Message} (to, Prepare view what just sig) (sign_all p me leaf ds) →
     (old : List ℕ) × In {A = To × Message} (to, Prepare view what just old) ds

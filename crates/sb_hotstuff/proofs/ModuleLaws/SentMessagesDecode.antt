@@ -3,7 +3,6 @@ use Rattle.std.proofs.Common.{◌≡◌, ◌≤◌, ◌<◌, ℕ, zero, suc, ◌
 use Rattle.std.specs.Prelude.{nat_lt}
 use Rattle.std.proofs.lemmas.Bool.{ltb-true}
 use Rattle.std.proofs.lemmas.List.{length-append}
-use Rattle.sha2.proofs.Facts256.{length-sha256}
 use Rattle.iss_base.specs.Lists.{In, nth, same_bytes}
 use Rattle.iss_base.proofs.Lists.{and-true, in_append, nth-below, nth-in}
 use Rattle.iss_request.specs.Formats.{is_signature}
@@ -36,10 +35,8 @@ use Rattle.hs_tree.proofs.MessageGrammar.{read-spelled, spelled-read}
 use Rattle.sb_hotstuff.specs.HotStuff.{answers, answers_heard, drafts, hotstuff, makes, proposals, shows, sign_all, state, voted}
 use Rattle.sb_hotstuff.specs.Rules.{State, after, cast_turn, certificate, first_turn, heard, is_reached, is_ready, keeps_news, keeps_vote, kept, may_cast, may_end, may_prepare, may_second, may_third, next_turn, nil_or_mark, node_digest, proposed, slots_below, turn, turn_after, turn_on, with_cast, with_news, with_node, with_round, with_turn, with_vote}
 use Rattle.hs_views.specs.Views.{Kept, News, Turn, all_news, best, is_own_turn, news_of, round_of, turn_of, vote_of, votes_of}
+use Rattle.hs_tree.proofs.Claimed.{digest-long}
 use Rattle.hs_views.proofs.Tests.{by-if, by-test, is-same}
-
-digest-long : (p : Params) (view : ℕ) (what : Content) (just : Certificate) → length (node_digest p view what just) ≡ 32
-digest-long p view what just = length-sha256 _
 
 module _ (p : Params) (good : IsGoodParams hotstuff p) where
   -- ---- What has an encoding
@@ -201,7 +198,7 @@ module _ (p : Params) (good : IsGoodParams hotstuff p) where
   mark-spelled = (2 ∷ [], refl)
 
   turn-new : (view : ℕ) (just : Certificate) (what : Content) (slots : ℕ) → 1 ≤ view → round_of view ≤ 65535 → turn_of view ≤ suc (slots) → Spelled just → SpelledWhat what → NewTurn (turn p view just what slots)
-  turn-new view just what slots a b c h g = record { fits = record { some = a; round_fits = b; turn_fits = omega (arith, c); long = digest-long p view what just }; just = h; what = g }
+  turn-new view just what slots a b c h g = record { fits = record { some = a; round_fits = b; turn_fits = omega (arith, c); long = digest-long basic p view what just }; just = h; what = g }
 
   cast-new : (view : ℕ) (just : Certificate) (slots : ℕ) (casts : List Batch) (k : ℕ) → 1 ≤ view → round_of view ≤ 65535 → turn_of view ≤ suc slots → Spelled just → ReadAll casts → MayTurn (cast_turn p view just slots (nth casts k))
   cast-new view just slots casts k a b c h g = go (nth casts k) refl
@@ -223,7 +220,7 @@ module _ (p : Params) (good : IsGoodParams hotstuff p) where
           let l = nth-below s.casts t.view x q in
           let k = rises t.view t.slots (length s.casts) (length p.slots) l h.few slots-few f.turn_fits in
           record {
-            fits = record { some = omega arith; round_fits = k.0; turn_fits = k.1; long = digest-long p (suc t.view) (Holds x) (certificate p s 1 t.view t.digest) };
+            fits = record { some = omega arith; round_fits = k.0; turn_fits = k.1; long = digest-long basic p (suc t.view) (Holds x) (certificate p s 1 t.view t.digest) };
             just = c;
             what = batch-table p.setup.version x (h.casts x (nth-in s.casts t.view x q));
           }
@@ -231,7 +228,7 @@ module _ (p : Params) (good : IsGoodParams hotstuff p) where
   later-next : (s : State) (t : Turn) → TurnFits t → Spelled (certificate p s 1 t.view t.digest) → t.slots < length p.slots → NewTurn (turn p (suc t.view) (certificate p s 1 t.view t.digest) Nil t.slots)
   later-next s t f c l =
       let k = rises t.view t.slots (length p.slots) l slots-few f.turn_fits f.round_fits in
-      record { fits = record { some = omega arith; round_fits = k.0; turn_fits = k.1; long = digest-long p (suc t.view) Nil (certificate p s 1 t.view t.digest) }; just = c; what = nil-spelled }
+      record { fits = record { some = omega arith; round_fits = k.0; turn_fits = k.1; long = digest-long basic p (suc t.view) Nil (certificate p s 1 t.view t.digest) }; just = c; what = nil-spelled }
     where
       rises : (view slots m : ℕ) → slots < m → m ≤ 64 → view % 65536 ≤ suc slots → view / 65536 ≤ 65535 → (suc view / 65536 ≤ 65535) × (suc view % 65536 ≤ suc (1 + slots))
       rises view slots m a b d e = (omega (arith, a, b, d, e), omega (arith, a, b, d, e))
@@ -371,7 +368,7 @@ module _ (p : Params) (good : IsGoodParams hotstuff p) where
 
   answer-signs : (s k : State) (from : ℕ) (msg : Message) → SpelledAs msg → Fits s → Fits k → SignsAll (answers_heard p s k from msg)
   answer-signs s k from (NewView round high sig) m h g = tt
-  answer-signs s k from (Prepare view what just sig) m h g = by-if SignsAll (may_prepare p s from view what just) (voted p 1 view (node_digest p view what just)) [] (vote-signs 1 view (node_digest p view what just) (omega arith) (omega arith) m.1.view_fits (digest-long p view what just)) tt
+  answer-signs s k from (Prepare view what just sig) m h g = by-if SignsAll (may_prepare p s from view what just) (voted p 1 view (node_digest p view what just)) [] (vote-signs 1 view (node_digest p view what just) (omega arith) (omega arith) m.1.view_fits (digest-long basic p view what just)) tt
   answer-signs s k from (PreCommit view shown sig) m h g = by-if SignsAll (may_second p s view shown) (voted p 2 view (digest_of shown)) [] (vote-signs 2 view (digest_of shown) (omega arith) (omega arith) m.1.view_fits (digest-length shown (m.1.certificate, m.1.spelled))) tt
   answer-signs s k from (Commit view shown sig) m h g = by-if SignsAll (may_third p s view shown) (voted p 3 view (digest_of shown)) [] (vote-signs 3 view (digest_of shown) (omega arith) (omega arith) m.1.view_fits (digest-length shown (m.1.certificate, m.1.spelled))) tt
   answer-signs s k from (Decide view shown sig) m h g = tt

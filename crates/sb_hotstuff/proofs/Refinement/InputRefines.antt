@@ -14,7 +14,7 @@ use Rattle.hs_tree.specs.declared.certificates.Certificate.{Certificate}
 use Rattle.hs_tree.specs.declared.messages.Message.{Message}
 use Rattle.hs_tree.specs.declared.messages.Message.TheVariants.{NewView, Prepare, Vote}
 use Rattle.sb_hotstuff.specs.declared.outcomes.Outcome.{Outcome}
-use Rattle.sb_hotstuff.specs.declared.signing.Draft.{Draft}
+use Rattle.hs_views.specs.declared.drafts.Draft.{Draft}
 use Rattle.sb_hotstuff.specs.declared.state.Node.{Node}
 use Rattle.sb_hotstuff.specs.Drafts.{AreDrafts}
 use Rattle.sb_hotstuff.specs.HotStuff.{answers, proposals, shows, strings_at, taken_of, turn_strings, voted}

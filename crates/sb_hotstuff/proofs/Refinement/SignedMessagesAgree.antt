@@ -13,20 +13,14 @@ use Rattle.hs_tree.specs.declared.messages.Message.{Message}
 use Rattle.hs_tree.specs.Statements.{own_statement, with_signature}
 use Rattle.hs_tree.specs.Tree.{basic}
 use Rattle.sb_hotstuff.specs.declared.outcomes.Outcome.{Outcome}
-use Rattle.sb_hotstuff.specs.declared.signing.Draft.{Draft}
-use Rattle.sb_hotstuff.specs.Drafts.{AreDrafts, count_of}
+use Rattle.hs_views.specs.declared.drafts.Draft.{Draft}
+use Rattle.sb_hotstuff.specs.Drafts.{AreDrafts}
+use Rattle.hs_views.specs.Drafts.{count_of}
+use Rattle.hs_views.proofs.DraftsAgree.{count-few, drafts-long}
 use Rattle.sb_hotstuff.specs.HotStuff.{sign_all}
 use Rattle.sb_hotstuff.specs.Internal.Instances.{IsSigned}
 
 -- ---- The number of messages
-
-pub drafts-long : (p : Params) (d : Option Draft) (xs : List (To × Message)) → AreDrafts p d xs → count_of d ≡ length xs
-drafts-long p None xs h = ap (λ (z : List (To × Message)). length z) (sym h)
-drafts-long p (Some d) xs h = ap (λ (z : List (To × Message)). length z) (sym h.message)
-
-pub count-few : (d : Option Draft) → count_of d ≤ 1
-count-few None = omega arith
-count-few (Some d) = omega arith
 
 less : (n used c : ℕ) → 2 ≤ n - used → c ≤ 1 → 0 < n - (used + c)
 less n used c h few = omega (arith, h, few)
@@ -63,7 +57,7 @@ module _ (p : Params) (o : Outcome) (before mid later : KeyState) (empty first s
     (used : mid ≡ record before { used = before.used + count_of o.answer }) (again : later ≡ record mid { used = mid.used + count_of o.proposal }) where
   sends : (me : ℕ) (xs ys : List (To × Message)) → AreKeysOf me p.setup.keys before → AreDrafts p o.answer xs → AreDrafts p o.proposal ys → second ≡ sign_all p me before.used (xs ++ ys)
   sends me xs ys own dx dy =
-      let leaf : mid.used ≡ before.used + length xs = ap (λ (k : KeyState). k.used) used ∙ ap (λ (n : ℕ). before.used + n) (drafts-long p o.answer xs dx) in
+      let leaf : mid.used ≡ before.used + length xs = ap (λ (k : KeyState). k.used) used ∙ ap (λ (n : ℕ). before.used + n) (drafts-long basic p o.answer xs dx) in
       two me ys (same-owner me p.setup.keys before mid (count_of o.answer) used own) dy
       ∙ ap (λ (z : List (To × Message)). z ++ sign_all p me mid.used ys) (one me xs own dx ∙ ap (λ (z : List (To × Message)). z ++ sign_all p me before.used xs) e)
       ∙ ap (λ (n : ℕ). sign_all p me before.used xs ++ sign_all p me n ys) leaf

@@ -25,14 +25,15 @@ use Rattle.hs_tree.specs.declared.messages.Message.{Message}
 use Rattle.hs_tree.specs.declared.messages.Message.TheVariants.{Prepare, Decide}
 use Rattle.hs_tree.specs.Certificates.{digest_of}
 use Rattle.hs_tree.specs.Known.{Keeps, values}
-use Rattle.hs_tree.specs.Tree.{Node as Tree_node, branch, filled, is_known, value_at_slot}
+use Rattle.hs_tree.specs.Tree.{Node as Tree_node, basic, branch, filled, is_known, value_at_slot}
 use Rattle.hs_tree.proofs.Branches.{length-values}
 use Rattle.hs_views.specs.declared.accepted.Accepted.{Accepted}
 use Rattle.sb_hotstuff.specs.declared.hotstuff.HotStuff.{HotStuff}
 use Rattle.sb_hotstuff.specs.declared.state.Node.{Node}
 use Rattle.sb_hotstuff.specs.declared.outcomes.Outcome.{Outcome}
 use Rattle.iss_sb.specs.Paired.{paired, value_with}
-use Rattle.sb_hotstuff.specs.Drafts.{AreDrafts, count_of}
+use Rattle.sb_hotstuff.specs.Drafts.{AreDrafts}
+use Rattle.hs_views.specs.Drafts.{count_of}
 use Rattle.hs_views.specs.Accepted.{AreAccepted, Adds, at_slot, what_at}
 use Rattle.sb_hotstuff.specs.HotStuff.{answers, asks, decided, decides, drafts, hotstuff, offered, proposals, sign_all, state, strings, strings_at, voted}
 use Rattle.sb_hotstuff.specs.Internal.Instances.{IsSigned, Refines}
@@ -41,16 +42,13 @@ use Rattle.sb_hotstuff.specs.Refines.{RefinesState}
 use Rattle.sb_hotstuff.specs.Steps.{Does}
 use Rattle.iss_sb.proofs.Paired.{fresh-ascending, fresh-within}
 use Rattle.hs_views.proofs.DeliveredSlotsAgree.{branch-value, fresh-value, or-within, slots-more, value-fresh, value-some}
-use Rattle.sb_hotstuff.proofs.Refinement.SignedMessagesAgree.{count-few, drafts-long}
+use Rattle.hs_views.proofs.DraftsAgree.{count-few, drafts-long}
+use Rattle.hs_views.proofs.Tests.{none-within}
 
 -- ---- Decisions are stable, so a slot is delivered if it is decided
 
-first-stays : (a b : Option Value) (x : Value) → a ≡ Some x → first_of a b ≡ Some x
-first-stays None b x h = absurd cc
-first-stays (Some y) b x h = h
-
 pub delivered-is : (p : Params) (me : ℕ) (xs : List (Item Message)) (n : ℕ) → delivered hotstuff p me xs n ≡ decided p me xs n
-delivered-is p me xs n = delivered-decided hotstuff p me (λ s. refl) (λ xs y s x h. first-stays (decided p me xs s) (decides p (state p me xs) y.input s) x h) xs n
+delivered-is p me xs n = delivered-decided hotstuff p me (λ s. refl) (λ xs y s x h. ap (λ (o : Option Value). first_of o (decides p (state p me xs) y.input s)) h) xs n
 
 -- ---- A step whose rule has an outcome, which is signed
 
@@ -100,8 +98,8 @@ module _ (p : Params) (m n : HotStuff) (i : Input Message) (o : Outcome) (a : Op
     uses : later.used ≡ before.used + length (drafts p me s i)
     uses =
         let u = used-is in
-        let first = drafts-long p o.answer (answers p s (kept p me s i) i) answered in
-        let second = drafts-long p o.proposal (proposals (proposed p me s (kept p me s i) i)) proposes in
+        let first = drafts-long basic p o.answer (answers p s (kept p me s i) i) answered in
+        let second = drafts-long basic p o.proposal (proposals (proposed p me s (kept p me s i) i)) proposes in
         let both = length-append (answers p s (kept p me s i) i) (proposals (proposed p me s (kept p me s i) i)) in
         omega (arith, u, first, second, both)
 
@@ -276,9 +274,6 @@ module _ (p : Params) (m : HotStuff) (node : Node) (accepted : Accepted) (slot :
       (subst (λ (z : Option (Slot × Batch)). Adds m.accepted accepted (one_or_none z)) (sym is) adds)
       (subst (λ (z : Option (Slot × Batch)). IfSome z (λ x. In x.0 p.slots)) (sym is) (what-inside what slot p.slots within)) refl (λ s k. refl)
 
-none-within : (ds : List (Slot × Value)) (ss : List Slot) → ds ≡ [] → AllIn (slots_of ds) ss
-none-within ds ss h = subst (λ (z : List (Slot × Value)). AllIn (slots_of z) ss) (sym h) tt
-
 -- a proposal that does not pass its test
 pub unprepared-step : (p : Params) → IsGoodParams hotstuff p → (m : HotStuff) (keys : KeyState) (e : Effects Message) → 2 ≤ left_of keys → IsNothing e →
     (from : NodeId) (view : ℕ) (what : Content) (just : Certificate) (sig : List ℕ) (b : Bool) → b ≡ false → ((s : State) → RefinesState m.node s → b ≡ may_prepare p s from.0 view what just) →
@@ -347,9 +342,6 @@ module _ (p : Params) (good : IsGoodParams hotstuff p) (m : HotStuff) (keys : Ke
 
 -- ---- Whether a cast is valid
 
-no-some : (x : Slot × Batch) → ◌≡◌ {A = Option (Slot × Batch)} None (Some x) → ⊥
-no-some x h = cc
-
 pub casts-means : (p : Params) (m : HotStuff) (me : ℕ) (xs : List (Item Message)) → Refines m p me xs → (slot : Slot) (batch : Batch) (b : Bool) → ((s : State) → RefinesState m.node s → b ≡ may_cast p m.node.me.0 s slot.0) →
     IsTrue b ↔ (asks p me xs (Cast slot batch) ≡ Some (slot, batch))
 casts-means p m me xs st slot batch b h = (
@@ -365,4 +357,4 @@ casts-means p m me xs st slot batch b h = (
 
     go : (t : Bool) → may_cast p me (state p me xs) slot.0 ≡ t → asks p me xs (Cast slot batch) ≡ Some (slot, batch) → t ≡ true
     go true e k = refl
-    go false e k = absurd (no-some (slot, batch) (sym (asked false e) ∙ k))
+    go false e k = absurd (none-some (slot, batch) (sym (asked false e) ∙ k))

@@ -20,17 +20,18 @@ use Rattle.hs_tree.specs.Certificates.{digest_of}
 use Rattle.hs_tree.specs.Hashed.{IsHashed}
 use Rattle.hs_tree.specs.Tree.{filled, branch, is_known, strings_of, value_of, weight, what_bytes}
 use Rattle.sb_hotstuff.specs.declared.outcomes.Outcome.{Outcome}
-use Rattle.sb_hotstuff.specs.declared.signing.Draft.{Draft}
+use Rattle.hs_views.specs.declared.drafts.Draft.{Draft}
 use Rattle.sb_hotstuff.specs.declared.state.Node.{Node}
-use Rattle.sb_hotstuff.specs.declared.turns.Last.{Last}
-use Rattle.sb_hotstuff.specs.declared.turns.Turns.{Turns}
+use Rattle.hs_views.specs.declared.turns.Last.{Last}
+use Rattle.hs_views.specs.declared.turns.Turns.{Turns}
 use Rattle.sb_hotstuff.specs.Drafts.{AreDrafts, IsDraft}
 use Rattle.sb_hotstuff.specs.HotStuff.{strings_at}
 use Rattle.sb_hotstuff.specs.Rules.{State, cast_turn, certificate, first_turn, is_ready, next_turn, nil_or_mark, node_digest, slots_below, turn, turn_after, turn_on}
 use Rattle.hs_views.specs.Views.{Turn, all_news, best, round_of}
 use Rattle.sb_hotstuff.specs.Refines.{IsLow, RefinesState, is_last_ready}
 use Rattle.sb_hotstuff.specs.Steps.{IsQuiet, Proposes}
-use Rattle.sb_hotstuff.specs.Tallies.{AreTurns, last_of, own_of}
+use Rattle.hs_views.specs.Turns.{AreTurns, last_of, own_of}
+use Rattle.hs_views.proofs.TurnsAgree.{Newest, newest, none-last}
 
 -- no turn at all
 pub proposes-none : (p : Params) (m : Node) (k : State) (o : Outcome) → RefinesState m k → IsQuiet o → Proposes p m m k None o
@@ -138,22 +139,6 @@ module _ (p : Params) (m n : Node) (k : State) (o : Outcome) (t : Turn) (last : 
     where
       other : (r : ℕ) → 1 ≤ r → (r == 0) ≡ false
       other r le = grind (arith, le)
-
--- ---- The newest turn
-
-none-last : (ts : List Turn) → last_of ts ≡ None → ts ≡ []
-none-last [] e = refl
-none-last (t ∷ ts) e = absurd cc
-
-record Newest (ts : List Turn) (last : Last) : Type 0 where
-  turn : Turn
-  rest : List Turn
-  list : ts ≡ turn ∷ rest
-  own : own_of turn ≡ last
-
-newest : (ts : List Turn) (last : Last) → last_of ts ≡ Some last → Newest ts last
-newest [] last e = absurd cc
-newest (t ∷ ts) last e = record { turn = t; rest = ts; list = refl; own = cc }
 
 module _ (p : Params) (m n : Node) (k : State) (o : Outcome) (h : RefinesState m k) (found : Option Last) (found_is : found ≡ last_of k.turns) where
   pub next-cast : found ≡ None → (round : ℕ) → round ≡ m.view / 65536 → round ≡ 0 → Proposes p m n k (cast_turn p 1 Root 0 (nth k.casts 0)) o → Proposes p m n k (next_turn p k k.turns) o

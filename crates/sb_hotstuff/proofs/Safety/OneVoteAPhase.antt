@@ -25,7 +25,7 @@ use Rattle.sb_hotstuff.specs.HotStuff.{answers, answers_heard, drafts, hotstuff,
 use Rattle.sb_hotstuff.specs.Rules.{State, after, certificate, heard, is_reached, keeps_news, keeps_vote, kept, may_cast, may_end, may_prepare, may_second, may_third, node_digest, proposed, with_cast, with_news, with_node, with_round, with_turn, with_vote}
 use Rattle.hs_views.specs.Views.{Turn}
 use Rattle.sb_hotstuff.proofs.Basics.{second-is, third-is}
-use Rattle.hs_views.proofs.Tests.{by-test}
+use Rattle.hs_views.proofs.Tests.{by-test, each-option}
 
 pub record IsFirst (p : Params) (s : State) (i : Input Message) (view : ℕ) (d : List ℕ) : Type 0 where
   pub from : NodeId
@@ -165,10 +165,6 @@ cause p me leaf xs i to phase view d sig h =
 abbrev Rises : ℕ → State → Type 0
 Rises v s = v ≤ s.view
 
-turn-view : (s : State) (o : Option Turn) → (with_turn s o).view ≡ s.view
-turn-view s None = refl
-turn-view s (Some t) = refl
-
 same : (v : ℕ) → v ≤ v
 same v = omega arith
 
@@ -199,7 +195,7 @@ kept-view p me s Timeout = by-test (Rises s.view) (may_end s) (with_round s) s (
 pub after-view : (p : Params) (me : ℕ) (s : State) (i : Input Message) → Rises s.view (after p me s i)
 after-view p me s i =
     let a = kept-view p me s i in
-    let e = turn-view (kept p me s i) (proposed p me s (kept p me s i) i) in
+    let e = each-option (λ (z : Option Turn). (with_turn (kept p me s i) z).view) (kept p me s i).view refl (λ t. refl) (proposed p me s (kept p me s i) i) in
     omega (arith, a, e)
 
 -- ---- A vote is of the view that the step enters or is in

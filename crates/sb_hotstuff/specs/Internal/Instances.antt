@@ -14,7 +14,8 @@ use Rattle.hs_tree.specs.declared.messages.Message.{Message}
 use Rattle.sb_hotstuff.specs.declared.hotstuff.HotStuff.{HotStuff}
 use Rattle.sb_hotstuff.specs.declared.outcomes.Outcome.{Outcome}
 use Rattle.hs_views.specs.Accepted.{AreAccepted}
-use Rattle.sb_hotstuff.specs.Drafts.{AreDrafts, count_of}
+use Rattle.sb_hotstuff.specs.Drafts.{AreDrafts}
+use Rattle.hs_views.specs.Drafts.{count_of}
 use Rattle.sb_hotstuff.specs.HotStuff.{decided, sign_all, state}
 use Rattle.sb_hotstuff.specs.Refines.{RefinesState}
 
