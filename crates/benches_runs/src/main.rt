@@ -8,7 +8,7 @@ mod plans;
 mod schedules;
 
 use crate::digests::time_digests;
-use crate::plans::{HOTSTUFF, PBFT, Plan, with_large_batches};
+use crate::plans::{CHAINED, HOTSTUFF, PBFT, Plan, with_large_batches};
 use crate::schedules::text_of;
 use iss_cli::answers::respond;
 use iss_words::Order;
@@ -78,7 +78,9 @@ fn time_all(rt: &HostRuntime, rounds: u32) -> Result<(), Fail> {
     time_plan(rt, PBFT, rounds)?;
     time_plan(rt, with_large_batches(PBFT), rounds)?;
     time_plan(rt, HOTSTUFF, rounds)?;
-    time_plan(rt, with_large_batches(HOTSTUFF), rounds)
+    time_plan(rt, with_large_batches(HOTSTUFF), rounds)?;
+    time_plan(rt, CHAINED, rounds)?;
+    time_plan(rt, with_large_batches(CHAINED), rounds)
 }
 
 fn count_plan(rt: &HostRuntime, plan: Plan) -> Result<(), Fail> {
@@ -100,7 +102,8 @@ fn main(rt: HostRuntime) -> Result<(), Fail> {
         Some(rounds) => time_all(&rt, rounds.as_str().parse::<u32>()?),
         None => {
             count_plan(&rt, PBFT)?;
-            count_plan(&rt, HOTSTUFF)
+            count_plan(&rt, HOTSTUFF)?;
+            count_plan(&rt, CHAINED)
         }
     }
 }
