@@ -4,6 +4,7 @@ use Rattle.std.proofs.Common.{◌≡◌, ℕ, List, [], ◌∷◌, ◌++◌, len
 use Rattle.sha2.proofs.Facts256.{length-sha256}
 use Rattle.iss_base.specs.Lists.{In}
 use Rattle.iss_base.proofs.Lists.{in_append}
+use Rattle.iss_request.specs.Digest.{digest}
 use Rattle.iss_sb.specs.declared.content.Content.{Content}
 use Rattle.iss_sb.specs.declared.effects.Claim.{Claim}
 use Rattle.iss_sb.specs.declared.effects.Params.{Params}
@@ -13,11 +14,16 @@ use Rattle.hs_tree.specs.declared.certificates.Certificate.{Certificate}
 use Rattle.hs_tree.specs.declared.certificates.Certificate.TheVariants.{Root, Votes}
 use Rattle.hs_tree.specs.declared.messages.Message.{Message}
 use Rattle.hs_tree.specs.declared.messages.Message.TheVariants.{NewView, Prepare, PreCommit, Commit, Decide, Vote}
+use Rattle.hs_tree.specs.Certificates.{digest_of}
 use Rattle.hs_tree.specs.Statements.{certificate_claims, claims, inside, node_digest, own_statement, signature_of, vote_claims, with_signature}
 use Rattle.hs_tree.specs.Tree.{Form}
 
 pub digest-long : (form : Form) (p : Params) (view : ℕ) (what : Content) (just : Certificate) → length (node_digest form p view what just) ≡ 32
-digest-long form p view what just = length-sha256 _
+digest-long form p view what just = long (form.string p.setup.version view (digest_of just) what)
+  where
+    long : (s : List ℕ) → length (digest s) ≡ 32
+    long [] = refl
+    long (x ∷ xs) = length-sha256 _
 
 -- ---- Each claim names its instance
 

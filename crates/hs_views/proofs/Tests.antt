@@ -74,6 +74,6 @@ AreStrings Is [] = Unit {0}
 AreStrings Is (x ∷ xs) = ((s : List ℕ) → In s x.made.strings → Is s) × AreStrings Is xs
 
 pub each-string : {M : Type 0} (Is : List ℕ → Type 0) (xs : List (Item M)) (x : Item M) (s : List ℕ) → AreStrings Is xs → In x xs → In s x.made.strings → Is s
-each-string Is [] x s all k h = absurd k
-each-string Is (y ∷ ys) x s all (inl e) h = all.0 s (subst (λ z. In s z.made.strings) e h)
-each-string Is (y ∷ ys) x s all (inr k) h = each-string Is ys x s all.1 k h
+each-string {M} Is [] x s all k h = absurd k
+each-string {M} Is (y ∷ ys) x s all (inl e) h = all.0 s (subst (λ (z : Item M). In s z.made.strings) e h)
+each-string {M} Is (y ∷ ys) x s all (inr k) h = each-string Is ys x s all.1 k h

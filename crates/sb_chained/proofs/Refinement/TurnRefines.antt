@@ -90,7 +90,7 @@ module _ (p : Params) (m : Node) (k : State) (view slots : ℕ) (just : Certific
       casts = f.casts;
       turns = more;
       low = λ u e.
-          let both : Some (own_of t) ≡ Some u = sym more.last ∙ e in
+          let both : Some (own_of t) ≡ Some u = sym more.made.last ∙ e in
           let same : own_of t ≡ u = cc in
           subst (λ (z : Last). IsLow p z) (ap (λ (z : Turn). own_of z) (sym is) ∙ same) may.low;
       full = low-more p k.turns t f.full (subst (λ (z : Turn). full_turn p k.turns (round_of z.view) ≡ None → z.view % 65536 ≤ suc (length p.slots)) (sym is) may.fresh);
