@@ -1,8 +1,5 @@
-use Rattle.std.proofs.Common.{◌≡◌, ◌++◌, ◌^◌, ◌<◌, ◌∷◌, OnOk, List, ℕ, refl, sym, ap, ◌∙◌, arith}
+use Rattle.std.proofs.Common.{◌^◌, ◌<◌, arith}
 use Rattle.std.proofs.lemmas.Result.{on_ok_weaker}
-use Rattle.iss_request.specs.Fields.{and_bytes}
-use Rattle.iss_sb.proofs.Statements.{four-is}
-use Rattle.hs_tree.specs.Hashed.{start_of}
 use Rattle.hs_tree.proofs.Stated.{started}
 use Rattle.hs_tree.proofs.signing.put_start.Goals as goal
 

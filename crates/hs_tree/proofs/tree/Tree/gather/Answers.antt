@@ -1,4 +1,4 @@
-use Rattle.std.proofs.Common.{◌∙◌, List, sym, subst, arith}
+use Rattle.std.proofs.Common.{List, sym, subst, arith}
 use Rattle.iss_request.specs.declared.requests.Value.{Value}
 use Rattle.hs_tree.proofs.Branches.{Gathers, gathers-end, gathers-low, gathers-next, gathers-none, gathers-start}
 use Rattle.hs_tree.proofs.tree.Tree.gather.Goals as goal

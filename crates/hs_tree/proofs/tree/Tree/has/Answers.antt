@@ -1,5 +1,4 @@
-use Rattle.std.proofs.Common.{◌∙◌, refl, sym, ap, List, ℕ}
-use Rattle.iss_base.specs.Lists.{same_bytes}
+use Rattle.std.proofs.Common.{◌∙◌, sym}
 use Rattle.hs_tree.proofs.Branches.{has-there}
 use Rattle.hs_tree.proofs.tree.Tree.has.Goals as goal
 
