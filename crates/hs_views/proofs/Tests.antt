@@ -1,5 +1,5 @@
 -- Tests as records, options by cases, and lists that grow.
-use Rattle.std.proofs.Common.{◌≡◌, ℕ, zero, suc, ◌+◌, ◌==◌, ◌&&◌, Bool, true, false, if◌then◌else◌, List, [], ◌∷◌, ◌++◌, length, Option, Some, None, refl, sym, subst, inl, inr, true≢false}
+use Rattle.std.proofs.Common.{◌≡◌, ℕ, zero, suc, ◌==◌, ◌&&◌, Bool, true, false, if◌then◌else◌, List, [], ◌∷◌, ◌++◌, length, Option, Some, None, refl, sym, subst, inl, inr, true≢false}
 use Rattle.iss_base.specs.Lists.{In, nth}
 use Rattle.iss_base.proofs.Lists.{and-true}
 use Rattle.std.proofs.lemmas.Bool.Decides.{Decides-eqb}
