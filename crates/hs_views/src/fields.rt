@@ -13,7 +13,7 @@ pub struct Proposal {
 
 /// A vote: its phase and view, the digest of its node, and the voter's signature.
 #[derive(Drop)]
-pub struct Vote {
+pub struct SignedVote {
     pub phase: u8,
     pub view: u32,
     pub digest: [u8; 32],

@@ -17,7 +17,7 @@ pub use accepted::Accepted;
 pub use ballots::Ballots;
 pub use delivering::pair;
 pub use drafts::{Draft, Recipient, proposal_draft, round_draft, send, vote_draft};
-pub use fields::{Proposal, Vote};
+pub use fields::{Proposal, SignedVote};
 pub use news::Words;
 pub use placing::{free_slot, keep_at, keep_what};
 pub use turns::{Last, Turns};

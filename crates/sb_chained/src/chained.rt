@@ -17,7 +17,7 @@ use crate::accepting::{cast_slot, offered_slot};
 use crate::outcomes::{Outcome, Taken};
 use crate::state::{Node, PHASE};
 use hs_tree::{Certificate, Message, Protocol, claims};
-use hs_views::{Accepted, Proposal, Vote, keep_at, keep_what, pair};
+use hs_views::{Accepted, Proposal, SignedVote, keep_at, keep_what, pair};
 use iss_keys::Keys;
 use iss_request::{
     Batch, DecodeError, Fields, Kind, NoMemory, NodeId, Seq, Slot, Value, Writer, nodes_of_kind,
@@ -201,7 +201,7 @@ impl Chained {
         alloc: Global,
         p: &Params,
         from: NodeId,
-        vote: Vote,
+        vote: SignedVote,
     ) -> Result<Taken, NoMemory>
         requires { IsGoodParams chained p.now }
         ensures { IfOk result (λ t. Takes p.now self.old self.new
@@ -285,7 +285,7 @@ impl Chained {
                 digest,
                 sig,
             } => {
-                let vote = Vote {
+                let vote = SignedVote {
                     phase,
                     view,
                     digest,

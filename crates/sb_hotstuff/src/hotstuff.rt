@@ -14,7 +14,7 @@ ghost use Rattle.sb_hotstuff.specs.Refines.{RefinesState};
 use crate::accepting::{cast_slot, offered_slot};
 use crate::state::{Node, PHASES};
 use hs_tree::{Certificate, Message, Protocol, claims};
-use hs_views::{Accepted, Proposal, Vote, keep_at, keep_what, pair};
+use hs_views::{Accepted, Proposal, SignedVote, keep_at, keep_what, pair};
 use iss_keys::Keys;
 use iss_request::{
     Batch, DecodeError, Fields, Kind, NoMemory, NodeId, Seq, Slot, Writer, nodes_of_kind, quorum,
@@ -221,7 +221,7 @@ impl HotStuff {
         alloc: Global,
         p: &Params,
         from: NodeId,
-        vote: Vote,
+        vote: SignedVote,
         keys: &mut Keys,
     ) -> Result<Effects<Message>, NoMemory>
         requires good { IsGoodParams hotstuff p.now }
@@ -268,7 +268,7 @@ impl HotStuff {
                 digest,
                 sig,
             } => {
-                let vote = Vote {
+                let vote = SignedVote {
                     phase,
                     view,
                     digest,

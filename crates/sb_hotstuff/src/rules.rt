@@ -13,7 +13,7 @@ use crate::showing::shown_draft;
 use crate::state::Node;
 use hs_tree::signing::hash_node;
 use hs_tree::{Certificate, Protocol};
-use hs_views::{Vote, round_draft, round_of, vote_draft};
+use hs_views::{SignedVote, round_draft, round_of, vote_draft};
 use iss_request::{Batch, NoMemory, NodeId, Slot};
 use iss_sb::{Content, Input, Params};
 use std::alloc::Global;
@@ -126,7 +126,7 @@ impl Node {
         alloc: Global,
         p: &Params,
         from: NodeId,
-        vote: Vote,
+        vote: SignedVote,
     ) -> Result<Outcome, NoMemory>
         requires { IsGoodParams hotstuff p.now }
         ensures { IfOk result (λ o. (s : State) → RefinesState self.old s →
