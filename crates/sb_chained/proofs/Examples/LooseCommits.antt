@@ -13,13 +13,11 @@ use Rattle.sha2.specs.Sha256.{sha256, digest_bytes, hash_after, compress, rounds
 use Rattle.iss_base.specs.Lists.{In}
 use Rattle.iss_base.proofs.Lists.{eqb-other}
 use Rattle.iss_request.specs.Digest.{digest}
-use Rattle.iss_request.specs.Formats.{is_signature, spell_batch, spell_count, spell_value, value_string}
+use Rattle.iss_request.specs.Formats.{spell_batch, spell_count, spell_value, value_string}
 use Rattle.iss_request.specs.declared.requests.Value.{Value}
 use Rattle.iss_request.specs.declared.requests.Value.TheVariants.{Nil as Value_nil, Batch as Value_batch}
 use Rattle.iss_sb.specs.declared.effects.Claim.{Claim}
 use Rattle.iss_sb.specs.declared.effects.Input.{Input}
-use Rattle.iss_sb.specs.declared.effects.Params.{Params}
-use Rattle.iss_sb.specs.declared.effects.To.{To}
 use Rattle.iss_sb.specs.declared.effects.To.TheVariants.{One as To_one}
 use Rattle.iss_sb.specs.Calls.{IsGoodParams}
 use Rattle.iss_sb.specs.Evidence.{Item, World, IsCredible, IsReached, IsReadMessage, at_start, after, IsSigned, IsString, MayCome, Move, Separate, Verifies, and_then, delivered, empty_world, is_correct}

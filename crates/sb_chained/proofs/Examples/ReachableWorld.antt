@@ -5,37 +5,28 @@ use Rattle.sha2.specs.Sha256.{sha256, digest_bytes, hash_after, compress, rounds
 use Rattle.sha2.proofs.Facts256.{length-sha256}
 use Rattle.iss_base.specs.Lists.{In, same_bytes}
 use Rattle.iss_base.proofs.Lists.{and-true, eqb-other}
-use Rattle.iss_keys.specs.Directories.{directory_of}
 use Rattle.iss_request.specs.Digest.{digest}
-use Rattle.iss_request.specs.Formats.{is_signature, spell_batch, spell_count, spell_value, value_string}
-use Rattle.iss_request.specs.Setup.{IsGoodSetup}
+use Rattle.iss_request.specs.Formats.{spell_batch, spell_count, spell_value, value_string}
 use Rattle.iss_request.specs.declared.requests.Value.TheVariants.{Batch as Value_batch}
 use Rattle.iss_sb.specs.declared.effects.Claim.{Claim}
 use Rattle.iss_sb.specs.declared.effects.Input.{Input}
-use Rattle.iss_sb.specs.declared.effects.Input.TheVariants.{Receive}
 use Rattle.iss_sb.specs.declared.effects.Params.{Params}
-use Rattle.iss_sb.specs.declared.effects.To.{To}
 use Rattle.iss_sb.specs.declared.effects.To.TheVariants.{One as To_one}
 use Rattle.iss_sb.specs.Calls.{IsGoodParams}
 use Rattle.iss_sb.specs.Evidence.{Item, World, IsCredible, IsReached, IsReadMessage, at_start, after, IsSigned, IsString, MayCome, Move, Separate, Verifies, and_then, delivered, empty_world, is_correct}
 use Rattle.iss_sb.specs.Laws.{IsBroadcast}
 use Rattle.iss_sb.specs.Statements.{claim, signature, wide_bytes}
 use Rattle.iss_sb.proofs.Cases.{different}
-use Rattle.iss_sb.proofs.Read.{batch-read}
-use Rattle.iss_sb.proofs.Setups.{good-by}
 use Rattle.iss_sb.proofs.Signatures.{signature-shape, signature-verifies}
 use Rattle.iss_sb.specs.declared.content.Content.{Content}
 use Rattle.iss_sb.specs.declared.content.Content.TheVariants.{Holds, Mark}
-use Rattle.iss_sb.specs.Content.{IsSpelledContent}
 use Rattle.hs_tree.specs.declared.certificates.Certificate.{Certificate}
 use Rattle.hs_tree.specs.declared.certificates.Certificate.TheVariants.{Root, Votes}
-use Rattle.iss_sb.specs.declared.signers.Signed.{Signed}
 use Rattle.hs_tree.specs.declared.messages.Message.{Message}
 use Rattle.hs_tree.specs.declared.messages.Message.TheVariants.{Prepare, Vote}
 use Rattle.hs_tree.specs.Certificates.{IsSpelledCertificate, root_row, votes_row}
-use Rattle.hs_tree.specs.Statements.{claims, own_statement, vote_statement}
+use Rattle.hs_tree.specs.Statements.{claims, own_statement}
 use Rattle.hs_tree.specs.Tree.{chained as form, root, viewed_string}
-use Rattle.iss_sb.proofs.Contents.{batch-table}
 use Rattle.hs_tree.proofs.MessageGrammar.{spelled-read}
 use Rattle.sb_chained.specs.Chained.{chained, makes}
 use Rattle.sb_chained.specs.Rules.{node_digest}

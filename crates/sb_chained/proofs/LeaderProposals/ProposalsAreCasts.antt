@@ -25,10 +25,10 @@ use Rattle.hs_tree.specs.declared.certificates.Certificate.TheVariants.{Root}
 use Rattle.hs_tree.specs.declared.messages.Message.{Message}
 use Rattle.hs_tree.specs.declared.messages.Message.TheVariants.{NewView, Prepare, PreCommit, Commit, Decide, Vote}
 use Rattle.hs_tree.specs.Certificates.{digest_of}
-use Rattle.hs_tree.specs.Statements.{own_statement, with_signature}
+use Rattle.hs_tree.specs.Statements.{own_statement}
 use Rattle.hs_tree.proofs.Claimed.{prepare-unsigned}
 use Rattle.hs_tree.specs.Tree.{chained as form, filled, root, weight}
-use Rattle.sb_chained.specs.Chained.{answers, asks, chained, drafts, makes, proposals, sign_all, state, voted}
+use Rattle.sb_chained.specs.Chained.{answers, asks, chained, drafts, proposals, sign_all, state, voted}
 use Rattle.sb_chained.specs.Facts.{IsAt, Leads}
 use Rattle.sb_chained.specs.Rules.{State, cast_turn, certificate, first_high, full_turn, is_marked, is_ready, keeps_news, kept, may_cast, may_end, may_prepare, next_turn, nil_or_mark, node_digest, proposed, slots_below, turn, turn_after, turn_on, with_cast, with_round, with_turn}
 use Rattle.hs_views.specs.Views.{Turn, round_of}

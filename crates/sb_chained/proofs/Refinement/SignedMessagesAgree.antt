@@ -1,5 +1,5 @@
 -- An outcome's messages, each signed with the next leaf.
-use Rattle.std.proofs.Common.{◌≡◌, ℕ, ◌+◌, ◌≤◌, List, [], ◌++◌, length, Option, Some, None, refl, sym, ap, ◌∙◌, arith}
+use Rattle.std.proofs.Common.{◌≡◌, ℕ, ◌+◌, List, [], ◌++◌, refl, ap, ◌∙◌}
 use Rattle.iss_keys.specs.Directories.{AreKeysOf}
 use Rattle.iss_keys.specs.KeyStates.{KeyState}
 use Rattle.iss_sb.specs.declared.effects.Params.{Params}
@@ -7,7 +7,6 @@ use Rattle.iss_sb.specs.declared.effects.To.{To}
 use Rattle.iss_sb.specs.Calls.{AreToNodes}
 use Rattle.hs_tree.specs.declared.messages.Message.{Message}
 use Rattle.sb_chained.specs.declared.outcomes.Taken.{Taken}
-use Rattle.hs_views.specs.declared.drafts.Draft.{Draft}
 use Rattle.sb_chained.specs.Drafts.{AreDrafts}
 use Rattle.hs_views.specs.Drafts.{count_of}
 use Rattle.sb_chained.specs.Chained.{sign_all}
