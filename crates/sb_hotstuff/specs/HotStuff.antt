@@ -1,7 +1,7 @@
 -- HotStuff as a module: what a replica accepts, sends, hashes and decides, over the list of what it took. 3f+1
 -- replicas, 2f+1 decide.
-use Rattle.std.specs.Prelude.{ℕ, suc, ◌+◌, ◌==◌, ◌&&◌, false, List, [], ◌∷◌, ◌++◌, length, Option, Some, None, if◌then◌else◌}
-use Rattle.iss_base.specs.Lists.{first_of, nth}
+use Rattle.std.specs.Prelude.{ℕ, suc, ◌==◌, ◌&&◌, false, List, [], ◌∷◌, ◌++◌, length, Option, Some, None, if◌then◌else◌}
+use Rattle.iss_base.specs.Lists.{first_of}
 use Rattle.iss_request.specs.declared.ids.Slot.{Slot}
 use Rattle.iss_request.specs.declared.requests.Batch.{Batch}
 use Rattle.iss_request.specs.declared.requests.Value.{Value}

@@ -7,7 +7,7 @@ use Rattle.iss_base.specs.Lists.{In, same_bytes}
 use Rattle.iss_base.proofs.Lists.{eqb-other}
 use Rattle.iss_keys.specs.Directories.{directory_of}
 use Rattle.iss_request.specs.Digest.{digest}
-use Rattle.iss_request.specs.Formats.{is_signature, spell_batch, spell_count, spell_value, value_string}
+use Rattle.iss_request.specs.Formats.{spell_batch, spell_count, spell_value, value_string}
 use Rattle.iss_request.specs.Setup.{IsGoodSetup}
 use Rattle.iss_request.specs.declared.requests.Value.TheVariants.{Batch as Value_batch}
 use Rattle.iss_sb.specs.declared.effects.Claim.{Claim}

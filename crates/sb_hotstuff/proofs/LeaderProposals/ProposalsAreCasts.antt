@@ -26,7 +26,7 @@ use Rattle.hs_tree.specs.declared.messages.Message.{Message}
 use Rattle.hs_tree.specs.declared.messages.Message.TheVariants.{NewView, Prepare, PreCommit, Commit, Decide, Vote}
 use Rattle.hs_tree.specs.Certificates.{digest_of}
 use Rattle.hs_tree.specs.Paths.{Has, hash}
-use Rattle.hs_tree.specs.Statements.{own_statement, with_signature}
+use Rattle.hs_tree.specs.Statements.{own_statement}
 use Rattle.hs_tree.proofs.Claimed.{prepare-unsigned}
 use Rattle.hs_tree.specs.Tree.{basic, filled, is_known, root, weight}
 use Rattle.iss_sb.proofs.Contents.{content-table}

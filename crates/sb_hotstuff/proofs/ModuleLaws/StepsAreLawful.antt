@@ -1,13 +1,12 @@
 -- HotStuff meets the laws of single steps.
-use Rattle.std.proofs.Common.{◌≡◌, ◌≤◌, ◌<◌, ℕ, suc, ◌+◌, ◌*◌, ◌%◌, Bool, true, false, ◌==◌, ◌&&◌, List, [], ◌∷◌, ◌++◌, length, Option, Some, None, refl, sym, ap, ◌∙◌, subst, inl, inr, arith, if◌then◌else◌}
+use Rattle.std.proofs.Common.{◌≡◌, ◌≤◌, ◌<◌, ℕ, suc, ◌+◌, ◌*◌, ◌%◌, ◌&&◌, List, [], ◌∷◌, length, Option, Some, None, refl, sym, ap, subst, inl, inr, arith}
 use Rattle.std.proofs.lemmas.List.{length-append}
 use Rattle.iss_base.specs.Lists.{In, nth}
-use Rattle.iss_base.proofs.Lists.{and-true, first-cases, in_append}
+use Rattle.iss_base.proofs.Lists.{and-true, first-cases}
 use Rattle.iss_request.specs.declared.ids.NodeId.{NodeId}
 use Rattle.iss_request.specs.declared.ids.Slot.{Slot}
 use Rattle.iss_request.specs.declared.requests.Batch.{Batch}
 use Rattle.iss_request.specs.declared.requests.Value.{Value}
-use Rattle.iss_sb.specs.declared.effects.Claim.{Claim}
 use Rattle.iss_sb.specs.declared.effects.Input.{Input}
 use Rattle.iss_sb.specs.declared.effects.Input.TheVariants.{Cast, Receive, Timeout}
 use Rattle.iss_sb.specs.declared.effects.Params.{Params}
@@ -16,19 +15,12 @@ use Rattle.iss_sb.specs.declared.effects.To.TheVariants.{One as To_one}
 use Rattle.iss_sb.specs.Calls.{AreToNodes, IsToNode, is_slot}
 use Rattle.iss_sb.specs.Evidence.{Item, accepts}
 use Rattle.iss_sb.specs.Laws.{IsLawful}
-use Rattle.iss_sb.specs.Statements.{claim, four_bytes, statement_head}
-use Rattle.iss_sb.proofs.Slots.{slot-is, place-In}
-use Rattle.iss_sb.specs.declared.content.Content.{Content}
-use Rattle.iss_sb.specs.declared.content.Content.TheVariants.{Nil, Holds, Mark}
-use Rattle.hs_tree.specs.declared.certificates.Certificate.{Certificate}
-use Rattle.hs_tree.specs.declared.certificates.Certificate.TheVariants.{Root, Votes}
-use Rattle.iss_sb.specs.declared.signers.Signed.{Signed}
+use Rattle.iss_sb.proofs.Slots.{place-In}
 use Rattle.hs_tree.specs.declared.messages.Message.{Message}
 use Rattle.hs_tree.specs.declared.messages.Message.TheVariants.{NewView, Prepare, PreCommit, Commit, Decide, Vote}
 use Rattle.hs_tree.specs.Certificates.{digest_of}
-use Rattle.hs_tree.specs.Statements.{certificate_claims, claims, inside, own_statement, signature_of, vote_claims}
-use Rattle.hs_tree.specs.Tree.{basic, branch, is_known, value_at, value_at_slot}
-use Rattle.sb_hotstuff.specs.HotStuff.{answers, answers_heard, asked_by, asks, decided, decides, drafts, hotstuff, offered, proposals, sign_all, state, voted}
+use Rattle.hs_tree.specs.Tree.{basic, branch, is_known, value_at_slot}
+use Rattle.sb_hotstuff.specs.HotStuff.{answers, answers_heard, asks, decided, decides, drafts, hotstuff, offered, proposals, sign_all, state, voted}
 use Rattle.sb_hotstuff.specs.Rules.{State, is_good, is_reached, keeps_vote, kept, may_cast, may_end, may_prepare, may_second, may_third, node_digest, proposed, slots_below}
 use Rattle.hs_views.specs.Views.{Turn, round_of}
 use Rattle.sb_hotstuff.proofs.ModuleLaws.SentMessagesDecode.{sent-again}
@@ -36,7 +28,7 @@ use Rattle.hs_tree.proofs.Claimed.{named}
 use Rattle.hs_tree.proofs.Places.{value-In}
 use Rattle.hs_views.proofs.DraftsAgree.{to-append}
 use Rattle.hs_views.proofs.Inside.{AsksInside, DecidesInside, offered-In}
-use Rattle.hs_views.proofs.Tests.{IsIf, by-if, if-in, if-some, is-same}
+use Rattle.hs_views.proofs.Tests.{IsIf, by-if, if-in, if-some}
 
 -- ---- Batches that are offered
 
