@@ -55,8 +55,8 @@ impl<D: Disk> Journal<D> {
 
     /// Syncs and reads the file, and cuts off what follows its last gate. A file of at most one byte becomes an empty
     /// journal. The errors: `Damaged` if an open gate is not followed by a whole entry, `Failed` if the device fails,
-    /// `NoMemory` if out of memory. After an error the entries are those from before the call. A damaged file stays as it
-    /// is, byte for byte, so that it is damaged at each later call too.
+    /// `NoMemory` if out of memory. After an error the entries are those from before the call. A damaged file stays as
+    /// it is, byte for byte, so that it is damaged at each later call too.
     pub fn attach(&mut self) -> Result<(), AttachError>
         requires sound { IsSound D.history D.room self.old }
         ensures entries { OnOk result (IfTold (D.history (disk_of self.old))
