@@ -1,5 +1,5 @@
 //! The log that a core exports after a schedule's run, and the audit of such a text.
-ghost use Rattle.std.specs.Prelude.{◌≡◌, ◌<◌, IfOk, List};
+ghost use Rattle.std.specs.Prelude.{◌≡◌, ◌<◌, ℕ, IfOk, List};
 ghost use Rattle.iss_audit.specs.Exports.{IsCertifiedText};
 ghost use Rattle.iss_audit.specs.declared.exports.Export.{Export as ModelExport};
 ghost use Rattle.iss_cli.specs.Answers.{IsAudited, IsOfSchedule};
