@@ -714,32 +714,61 @@ this-one a s x (inl e) = subst IsOne (sym e) x
 this-one a s x (inr k) = absurd k
 
 each-0 : AreStrings IsOne l0_6
-each-0 =
-    ((λ s h. this-one s_a s one-s-a (subst (λ (z : List (List ℕ)). In s z) strings-0-a h)),
-    ((λ s h. this-one s_x s one-s-x (subst (λ (z : List (List ℕ)). In s z) strings-0-x h)),
-    ((λ s h. one-of-two nil s_y s one-nil one-s-y (subst (λ (z : List (List ℕ)). In s z) strings-0-y h)),
-    ((λ s h. one-of-two nil s_z s one-nil one-s-z (subst (λ (z : List (List ℕ)). In s z) strings-0-z h)),
-    ((λ s h. one-of-two nil s_u s one-nil one-s-u (subst (λ (z : List (List ℕ)). In s z) strings-0-u h)),
-    ((λ s h. one-of-two value s_h s one-value one-s-h (subst (λ (z : List (List ℕ)). In s z) strings-0-h h)), tt))))))
+each-0 = (
+  (λ s h. this-one s_a s one-s-a (subst (λ (z : List (List ℕ)). In s z) strings-0-a h)),
+  (
+    (λ s h. this-one s_x s one-s-x (subst (λ (z : List (List ℕ)). In s z) strings-0-x h)),
+    (
+      (λ s h. one-of-two nil s_y s one-nil one-s-y (subst (λ (z : List (List ℕ)). In s z) strings-0-y h)),
+      (
+        (λ s h. one-of-two nil s_z s one-nil one-s-z (subst (λ (z : List (List ℕ)). In s z) strings-0-z h)),
+        (
+          (λ s h. one-of-two nil s_u s one-nil one-s-u (subst (λ (z : List (List ℕ)). In s z) strings-0-u h)),
+          ((λ s h. one-of-two value s_h s one-value one-s-h (subst (λ (z : List (List ℕ)). In s z) strings-0-h h)), tt),
+        ),
+      ),
+    ),
+  ),
+)
 
 each-1 : AreStrings IsOne l1_7
-each-1 =
-    ((λ s h. this-one s_t s one-s-t (subst (λ (z : List (List ℕ)). In s z) strings-1-t h)),
-    ((λ s h. this-one s_s s one-s-s (subst (λ (z : List (List ℕ)). In s z) strings-1-s h)),
-    ((λ s h. this-one s_x s one-s-x (subst (λ (z : List (List ℕ)). In s z) strings-1-x h)),
-    ((λ s h. one-of-two nil s_y s one-nil one-s-y (subst (λ (z : List (List ℕ)). In s z) strings-1-y h)),
-    ((λ s h. one-of-two nil s_u s one-nil one-s-u (subst (λ (z : List (List ℕ)). In s z) strings-1-u h)),
-    ((λ s h. one-of-two nil s_z s one-nil one-s-z (subst (λ (z : List (List ℕ)). In s z) strings-1-z h)),
-    ((λ s h. one-of-two value s_h s one-value one-s-h (subst (λ (z : List (List ℕ)). In s z) strings-1-h h)), tt)))))))
+each-1 = (
+  (λ s h. this-one s_t s one-s-t (subst (λ (z : List (List ℕ)). In s z) strings-1-t h)),
+  (
+    (λ s h. this-one s_s s one-s-s (subst (λ (z : List (List ℕ)). In s z) strings-1-s h)),
+    (
+      (λ s h. this-one s_x s one-s-x (subst (λ (z : List (List ℕ)). In s z) strings-1-x h)),
+      (
+        (λ s h. one-of-two nil s_y s one-nil one-s-y (subst (λ (z : List (List ℕ)). In s z) strings-1-y h)),
+        (
+          (λ s h. one-of-two nil s_u s one-nil one-s-u (subst (λ (z : List (List ℕ)). In s z) strings-1-u h)),
+          (
+            (λ s h. one-of-two nil s_z s one-nil one-s-z (subst (λ (z : List (List ℕ)). In s z) strings-1-z h)),
+            ((λ s h. one-of-two value s_h s one-value one-s-h (subst (λ (z : List (List ℕ)). In s z) strings-1-h h)), tt),
+          ),
+        ),
+      ),
+    ),
+  ),
+)
 
 each-2 : AreStrings IsOne l2_6
-each-2 =
-    ((λ s h. this-one s_v s one-s-v (subst (λ (z : List (List ℕ)). In s z) strings-2-v h)),
-    ((λ s h. this-one s_t s one-s-t (subst (λ (z : List (List ℕ)). In s z) strings-2-t h)),
-    ((λ s h. this-one s_s s one-s-s (subst (λ (z : List (List ℕ)). In s z) strings-2-s h)),
-    ((λ s h. one-of-two nil s_u s one-nil one-s-u (subst (λ (z : List (List ℕ)). In s z) strings-2-u h)),
-    ((λ s h. one-of-two nil s_z s one-nil one-s-z (subst (λ (z : List (List ℕ)). In s z) strings-2-z h)),
-    ((λ s h. one-of-two value s_h s one-value one-s-h (subst (λ (z : List (List ℕ)). In s z) strings-2-h h)), tt))))))
+each-2 = (
+  (λ s h. this-one s_v s one-s-v (subst (λ (z : List (List ℕ)). In s z) strings-2-v h)),
+  (
+    (λ s h. this-one s_t s one-s-t (subst (λ (z : List (List ℕ)). In s z) strings-2-t h)),
+    (
+      (λ s h. this-one s_s s one-s-s (subst (λ (z : List (List ℕ)). In s z) strings-2-s h)),
+      (
+        (λ s h. one-of-two nil s_u s one-nil one-s-u (subst (λ (z : List (List ℕ)). In s z) strings-2-u h)),
+        (
+          (λ s h. one-of-two nil s_z s one-nil one-s-z (subst (λ (z : List (List ℕ)). In s z) strings-2-z h)),
+          ((λ s h. one-of-two value s_h s one-value one-s-h (subst (λ (z : List (List ℕ)). In s z) strings-2-h h)), tt),
+        ),
+      ),
+    ),
+  ),
+)
 
 abbrev last : World Message
 last = world l0_6 l1_7 l2_6
