@@ -1,10 +1,10 @@
 -- A module with another rule for what is decided reaches the same worlds: its messages are the same.
-use Rattle.std.proofs.Common.{◌≡◌, ℕ, Bool, true, false, List, Option}
+use Rattle.std.proofs.Common.{ℕ, Bool, true, false, List, Option}
 use Rattle.iss_request.specs.declared.requests.Value.{Value}
 use Rattle.iss_sb.specs.declared.effects.Input.{Input}
 use Rattle.iss_sb.specs.declared.effects.Input.TheVariants.{Cast, Receive, Timeout}
 use Rattle.iss_sb.specs.declared.effects.Params.{Params}
-use Rattle.iss_sb.specs.Evidence.{Item, Module, World, IsCredible, IsReached, IsSigned, MayArrive, MayCome, Move, Verifies, at_start, after}
+use Rattle.iss_sb.specs.Evidence.{Item, Module, World, IsReached, IsSigned, MayArrive, MayCome, Move, at_start, after}
 
 abbrev Rule : Type 0 → Type 0
 Rule M = Params → ℕ → List (Item M) → ℕ → Option Value

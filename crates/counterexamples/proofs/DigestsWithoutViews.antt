@@ -148,62 +148,62 @@ m_v = proposal 262154 Mark c_t
 
 -- ---- What the replicas take, by their numbers
 
-abbrev l0_1 : List (Item Message)
-l0_1 = and_then without_views q 0 [] (told m_h) 0
+abbrev took0_1 : List (Item Message)
+took0_1 = and_then without_views q 0 [] (told m_h) 0
 
-abbrev l0_2 : List (Item Message)
-l0_2 = and_then without_views q 0 l0_1 (told m_u) 1
+abbrev took0_2 : List (Item Message)
+took0_2 = and_then without_views q 0 took0_1 (told m_u) 1
 
-abbrev l0_3 : List (Item Message)
-l0_3 = and_then without_views q 0 l0_2 (told m_z2) 2
+abbrev took0_3 : List (Item Message)
+took0_3 = and_then without_views q 0 took0_2 (told m_z2) 2
 
-abbrev l0_4 : List (Item Message)
-l0_4 = and_then without_views q 0 l0_3 (told m_y) 3
+abbrev took0_4 : List (Item Message)
+took0_4 = and_then without_views q 0 took0_3 (told m_y) 3
 
-abbrev l0_5 : List (Item Message)
-l0_5 = and_then without_views q 0 l0_4 (told m_x) 4
+abbrev took0_5 : List (Item Message)
+took0_5 = and_then without_views q 0 took0_4 (told m_x) 4
 
-abbrev l0_6 : List (Item Message)
-l0_6 = and_then without_views q 0 l0_5 (told m_a) 5
+abbrev took0_6 : List (Item Message)
+took0_6 = and_then without_views q 0 took0_5 (told m_a) 5
 
-abbrev l1_1 : List (Item Message)
-l1_1 = and_then without_views q 1 [] (told m_h) 0
+abbrev took1_1 : List (Item Message)
+took1_1 = and_then without_views q 1 [] (told m_h) 0
 
-abbrev l1_2 : List (Item Message)
-l1_2 = and_then without_views q 1 l1_1 (told m_z) 1
+abbrev took1_2 : List (Item Message)
+took1_2 = and_then without_views q 1 took1_1 (told m_z) 1
 
-abbrev l1_3 : List (Item Message)
-l1_3 = and_then without_views q 1 l1_2 (told m_u) 2
+abbrev took1_3 : List (Item Message)
+took1_3 = and_then without_views q 1 took1_2 (told m_u) 2
 
-abbrev l1_4 : List (Item Message)
-l1_4 = and_then without_views q 1 l1_3 (told m_y) 3
+abbrev took1_4 : List (Item Message)
+took1_4 = and_then without_views q 1 took1_3 (told m_y) 3
 
-abbrev l1_5 : List (Item Message)
-l1_5 = and_then without_views q 1 l1_4 (told m_x) 4
+abbrev took1_5 : List (Item Message)
+took1_5 = and_then without_views q 1 took1_4 (told m_x) 4
 
-abbrev l1_6 : List (Item Message)
-l1_6 = and_then without_views q 1 l1_5 (told m_s) 5
+abbrev took1_6 : List (Item Message)
+took1_6 = and_then without_views q 1 took1_5 (told m_s) 5
 
-abbrev l1_7 : List (Item Message)
-l1_7 = and_then without_views q 1 l1_6 (told m_t) 6
+abbrev took1_7 : List (Item Message)
+took1_7 = and_then without_views q 1 took1_6 (told m_t) 6
 
-abbrev l2_1 : List (Item Message)
-l2_1 = and_then without_views q 2 [] (told m_h) 0
+abbrev took2_1 : List (Item Message)
+took2_1 = and_then without_views q 2 [] (told m_h) 0
 
-abbrev l2_2 : List (Item Message)
-l2_2 = and_then without_views q 2 l2_1 (told m_z) 1
+abbrev took2_2 : List (Item Message)
+took2_2 = and_then without_views q 2 took2_1 (told m_z) 1
 
-abbrev l2_3 : List (Item Message)
-l2_3 = and_then without_views q 2 l2_2 (told m_u2) 2
+abbrev took2_3 : List (Item Message)
+took2_3 = and_then without_views q 2 took2_2 (told m_u2) 2
 
-abbrev l2_4 : List (Item Message)
-l2_4 = and_then without_views q 2 l2_3 (told m_s) 3
+abbrev took2_4 : List (Item Message)
+took2_4 = and_then without_views q 2 took2_3 (told m_s) 3
 
-abbrev l2_5 : List (Item Message)
-l2_5 = and_then without_views q 2 l2_4 (told m_t) 4
+abbrev took2_5 : List (Item Message)
+took2_5 = and_then without_views q 2 took2_4 (told m_t) 4
 
-abbrev l2_6 : List (Item Message)
-l2_6 = and_then without_views q 2 l2_5 (told m_v) 5
+abbrev took2_6 : List (Item Message)
+took2_6 = and_then without_views q 2 took2_5 (told m_v) 5
 
 votes-1-h : (makes q 1 [] (told m_h) 0).sends ≡ sent 1 1 d_h 0
 unfolding sha256 digest_bytes hash_after compress rounds schedule first_words spell_batch spell_count spell_value wide_bytes
@@ -213,59 +213,59 @@ votes-2-h : (makes q 2 [] (told m_h) 0).sends ≡ sent 2 1 d_h 0
 unfolding sha256 digest_bytes hash_after compress rounds schedule first_words spell_batch spell_count spell_value wide_bytes
 votes-2-h = refl
 
-votes-1-z : (makes q 1 l1_1 (told m_z) 1).sends ≡ sent 1 262145 d_z 1
+votes-1-z : (makes q 1 took1_1 (told m_z) 1).sends ≡ sent 1 262145 d_z 1
 unfolding sha256 digest_bytes hash_after compress rounds schedule first_words spell_batch spell_count spell_value wide_bytes
 votes-1-z = refl
 
-votes-2-z : (makes q 2 l2_1 (told m_z) 1).sends ≡ sent 2 262145 d_z 1
+votes-2-z : (makes q 2 took2_1 (told m_z) 1).sends ≡ sent 2 262145 d_z 1
 unfolding sha256 digest_bytes hash_after compress rounds schedule first_words spell_batch spell_count spell_value wide_bytes
 votes-2-z = refl
 
-votes-0-u : (makes q 0 l0_1 (told m_u) 1).sends ≡ sent 0 262146 d_u 1
+votes-0-u : (makes q 0 took0_1 (told m_u) 1).sends ≡ sent 0 262146 d_u 1
 unfolding sha256 digest_bytes hash_after compress rounds schedule first_words spell_batch spell_count spell_value wide_bytes
 votes-0-u = refl
 
-votes-1-u : (makes q 1 l1_2 (told m_u) 2).sends ≡ sent 1 262146 d_u 2
+votes-1-u : (makes q 1 took1_2 (told m_u) 2).sends ≡ sent 1 262146 d_u 2
 unfolding sha256 digest_bytes hash_after compress rounds schedule first_words spell_batch spell_count spell_value wide_bytes
 votes-1-u = refl
 
-votes-0-y : (makes q 0 l0_3 (told m_y) 3).sends ≡ sent 0 262148 d_y 3
+votes-0-y : (makes q 0 took0_3 (told m_y) 3).sends ≡ sent 0 262148 d_y 3
 unfolding sha256 digest_bytes hash_after compress rounds schedule first_words spell_batch spell_count spell_value wide_bytes
 votes-0-y = refl
 
-votes-1-y : (makes q 1 l1_3 (told m_y) 3).sends ≡ sent 1 262148 d_y 3
+votes-1-y : (makes q 1 took1_3 (told m_y) 3).sends ≡ sent 1 262148 d_y 3
 unfolding sha256 digest_bytes hash_after compress rounds schedule first_words spell_batch spell_count spell_value wide_bytes
 votes-1-y = refl
 
-votes-0-x : (makes q 0 l0_4 (told m_x) 4).sends ≡ sent 0 262149 d_x 4
+votes-0-x : (makes q 0 took0_4 (told m_x) 4).sends ≡ sent 0 262149 d_x 4
 unfolding sha256 digest_bytes hash_after compress rounds schedule first_words spell_batch spell_count spell_value wide_bytes
 votes-0-x = refl
 
-votes-1-x : (makes q 1 l1_4 (told m_x) 4).sends ≡ sent 1 262149 d_x 4
+votes-1-x : (makes q 1 took1_4 (told m_x) 4).sends ≡ sent 1 262149 d_x 4
 unfolding sha256 digest_bytes hash_after compress rounds schedule first_words spell_batch spell_count spell_value wide_bytes
 votes-1-x = refl
 
-votes-1-s : (makes q 1 l1_5 (told m_s) 5).sends ≡ sent 1 262152 d_s 5
+votes-1-s : (makes q 1 took1_5 (told m_s) 5).sends ≡ sent 1 262152 d_s 5
 unfolding sha256 digest_bytes hash_after compress rounds schedule first_words spell_batch spell_count spell_value wide_bytes
 votes-1-s = refl
 
-votes-2-s : (makes q 2 l2_3 (told m_s) 3).sends ≡ sent 2 262152 d_s 3
+votes-2-s : (makes q 2 took2_3 (told m_s) 3).sends ≡ sent 2 262152 d_s 3
 unfolding sha256 digest_bytes hash_after compress rounds schedule first_words spell_batch spell_count spell_value wide_bytes
 votes-2-s = refl
 
-votes-1-t : (makes q 1 l1_6 (told m_t) 6).sends ≡ sent 1 262153 d_t 6
+votes-1-t : (makes q 1 took1_6 (told m_t) 6).sends ≡ sent 1 262153 d_t 6
 unfolding sha256 digest_bytes hash_after compress rounds schedule first_words spell_batch spell_count spell_value wide_bytes
 votes-1-t = refl
 
-votes-2-t : (makes q 2 l2_4 (told m_t) 4).sends ≡ sent 2 262153 d_t 4
+votes-2-t : (makes q 2 took2_4 (told m_t) 4).sends ≡ sent 2 262153 d_t 4
 unfolding sha256 digest_bytes hash_after compress rounds schedule first_words spell_batch spell_count spell_value wide_bytes
 votes-2-t = refl
 
-delivers-0 : delivered without_views q 0 l0_6 0 ≡ Some Value_nil
+delivers-0 : delivered without_views q 0 took0_6 0 ≡ Some Value_nil
 unfolding sha256 digest_bytes hash_after compress rounds schedule first_words spell_batch spell_count spell_value wide_bytes
 delivers-0 = refl
 
-delivers-2 : delivered without_views q 2 l2_6 0 ≡ Some (Value_batch b)
+delivers-2 : delivered without_views q 2 took2_6 0 ≡ Some (Value_batch b)
 unfolding sha256 digest_bytes hash_after compress rounds schedule first_words spell_batch spell_count spell_value wide_bytes
 delivers-2 = refl
 
@@ -385,116 +385,116 @@ signed-by w k x view d leaf h e = record {
 come-1 : Comes empty_world m_h
 come-1 = first-comes empty_world m_h (own 1 (Holds b) Root) read-h refl
 
-reached-1 : IsReached without_views q (world l0_1 [] [])
+reached-1 : IsReached without_views q (world took0_1 [] [])
 reached-1 = after at_start (first-move (told m_h) 0 come-1)
 
-come-2 : Comes (world l0_1 [] []) m_h
-come-2 = first-comes (world l0_1 [] []) m_h (own 1 (Holds b) Root) read-h refl
+come-2 : Comes (world took0_1 [] []) m_h
+come-2 = first-comes (world took0_1 [] []) m_h (own 1 (Holds b) Root) read-h refl
 
-reached-2 : IsReached without_views q (world l0_1 l1_1 [])
-reached-2 = after reached-1 (move-one l0_1 [] [] (told m_h) 0 come-2)
+reached-2 : IsReached without_views q (world took0_1 took1_1 [])
+reached-2 = after reached-1 (move-one took0_1 [] [] (told m_h) 0 come-2)
 
-come-3 : Comes (world l0_1 l1_1 []) m_h
-come-3 = first-comes (world l0_1 l1_1 []) m_h (own 1 (Holds b) Root) read-h refl
+come-3 : Comes (world took0_1 took1_1 []) m_h
+come-3 = first-comes (world took0_1 took1_1 []) m_h (own 1 (Holds b) Root) read-h refl
 
-reached-3 : IsReached without_views q (world l0_1 l1_1 l2_1)
-reached-3 = after reached-2 (move-two l0_1 l1_1 [] (told m_h) 0 come-3)
+reached-3 : IsReached without_views q (world took0_1 took1_1 took2_1)
+reached-3 = after reached-2 (move-two took0_1 took1_1 [] (told m_h) 0 come-3)
 
-come-4 : Comes (world l0_1 l1_1 l2_1) m_z
-come-4 = first-comes (world l0_1 l1_1 l2_1) m_z (own 262145 Nil Root) read-z refl
+come-4 : Comes (world took0_1 took1_1 took2_1) m_z
+come-4 = first-comes (world took0_1 took1_1 took2_1) m_z (own 262145 Nil Root) read-z refl
 
-reached-4 : IsReached without_views q (world l0_1 l1_2 l2_1)
-reached-4 = after reached-3 (move-one l0_1 l1_1 l2_1 (told m_z) 1 come-4)
+reached-4 : IsReached without_views q (world took0_1 took1_2 took2_1)
+reached-4 = after reached-3 (move-one took0_1 took1_1 took2_1 (told m_z) 1 come-4)
 
-come-5 : Comes (world l0_1 l1_2 l2_1) m_z
-come-5 = first-comes (world l0_1 l1_2 l2_1) m_z (own 262145 Nil Root) read-z refl
+come-5 : Comes (world took0_1 took1_2 took2_1) m_z
+come-5 = first-comes (world took0_1 took1_2 took2_1) m_z (own 262145 Nil Root) read-z refl
 
-reached-5 : IsReached without_views q (world l0_1 l1_2 l2_2)
-reached-5 = after reached-4 (move-two l0_1 l1_2 l2_1 (told m_z) 1 come-5)
+reached-5 : IsReached without_views q (world took0_1 took1_2 took2_2)
+reached-5 = after reached-4 (move-two took0_1 took1_2 took2_1 (told m_z) 1 come-5)
 
-come-6 : Comes (world l0_1 l1_2 l2_2) m_u
-come-6 = shows-come (world l0_1 l1_2 l2_2) 1 d_h 1 0 2 0 m_u (own 262146 Nil c_h) (omega arith) (omega arith) (omega arith) (omega arith) read-u (signed-by (world l0_1 l1_2 l2_2) 1 _ 1 d_h 0 (inr (inl refl)) votes-1-h) (signed-by (world l0_1 l1_2 l2_2) 2 _ 1 d_h 0 (inr (inl refl)) votes-2-h) refl
+come-6 : Comes (world took0_1 took1_2 took2_2) m_u
+come-6 = shows-come (world took0_1 took1_2 took2_2) 1 d_h 1 0 2 0 m_u (own 262146 Nil c_h) (omega arith) (omega arith) (omega arith) (omega arith) read-u (signed-by (world took0_1 took1_2 took2_2) 1 _ 1 d_h 0 (inr (inl refl)) votes-1-h) (signed-by (world took0_1 took1_2 took2_2) 2 _ 1 d_h 0 (inr (inl refl)) votes-2-h) refl
 
-reached-6 : IsReached without_views q (world l0_2 l1_2 l2_2)
-reached-6 = after reached-5 (move-zero l0_1 l1_2 l2_2 (told m_u) 1 come-6)
+reached-6 : IsReached without_views q (world took0_2 took1_2 took2_2)
+reached-6 = after reached-5 (move-zero took0_1 took1_2 took2_2 (told m_u) 1 come-6)
 
-come-7 : Comes (world l0_2 l1_2 l2_2) m_u
-come-7 = shows-come (world l0_2 l1_2 l2_2) 1 d_h 1 0 2 0 m_u (own 262146 Nil c_h) (omega arith) (omega arith) (omega arith) (omega arith) read-u (signed-by (world l0_2 l1_2 l2_2) 1 _ 1 d_h 0 (inr (inl refl)) votes-1-h) (signed-by (world l0_2 l1_2 l2_2) 2 _ 1 d_h 0 (inr (inl refl)) votes-2-h) refl
+come-7 : Comes (world took0_2 took1_2 took2_2) m_u
+come-7 = shows-come (world took0_2 took1_2 took2_2) 1 d_h 1 0 2 0 m_u (own 262146 Nil c_h) (omega arith) (omega arith) (omega arith) (omega arith) read-u (signed-by (world took0_2 took1_2 took2_2) 1 _ 1 d_h 0 (inr (inl refl)) votes-1-h) (signed-by (world took0_2 took1_2 took2_2) 2 _ 1 d_h 0 (inr (inl refl)) votes-2-h) refl
 
-reached-7 : IsReached without_views q (world l0_2 l1_3 l2_2)
-reached-7 = after reached-6 (move-one l0_2 l1_2 l2_2 (told m_u) 2 come-7)
+reached-7 : IsReached without_views q (world took0_2 took1_3 took2_2)
+reached-7 = after reached-6 (move-one took0_2 took1_2 took2_2 (told m_u) 2 come-7)
 
-come-8 : Comes (world l0_2 l1_3 l2_2) m_z2
-come-8 = first-comes (world l0_2 l1_3 l2_2) m_z2 (own 262147 Nil Root) read-z2 refl
+come-8 : Comes (world took0_2 took1_3 took2_2) m_z2
+come-8 = first-comes (world took0_2 took1_3 took2_2) m_z2 (own 262147 Nil Root) read-z2 refl
 
-reached-8 : IsReached without_views q (world l0_3 l1_3 l2_2)
-reached-8 = after reached-7 (move-zero l0_2 l1_3 l2_2 (told m_z2) 2 come-8)
+reached-8 : IsReached without_views q (world took0_3 took1_3 took2_2)
+reached-8 = after reached-7 (move-zero took0_2 took1_3 took2_2 (told m_z2) 2 come-8)
 
-come-9 : Comes (world l0_3 l1_3 l2_2) m_y
-come-9 = shows-come (world l0_3 l1_3 l2_2) 262145 d_z 1 1 2 1 m_y (own 262148 Nil c_z) (omega arith) (omega arith) (omega arith) (omega arith) read-y (signed-by (world l0_3 l1_3 l2_2) 1 _ 262145 d_z 1 (inr (inl refl)) votes-1-z) (signed-by (world l0_3 l1_3 l2_2) 2 _ 262145 d_z 1 (inl refl) votes-2-z) refl
+come-9 : Comes (world took0_3 took1_3 took2_2) m_y
+come-9 = shows-come (world took0_3 took1_3 took2_2) 262145 d_z 1 1 2 1 m_y (own 262148 Nil c_z) (omega arith) (omega arith) (omega arith) (omega arith) read-y (signed-by (world took0_3 took1_3 took2_2) 1 _ 262145 d_z 1 (inr (inl refl)) votes-1-z) (signed-by (world took0_3 took1_3 took2_2) 2 _ 262145 d_z 1 (inl refl) votes-2-z) refl
 
-reached-9 : IsReached without_views q (world l0_4 l1_3 l2_2)
-reached-9 = after reached-8 (move-zero l0_3 l1_3 l2_2 (told m_y) 3 come-9)
+reached-9 : IsReached without_views q (world took0_4 took1_3 took2_2)
+reached-9 = after reached-8 (move-zero took0_3 took1_3 took2_2 (told m_y) 3 come-9)
 
-come-10 : Comes (world l0_4 l1_3 l2_2) m_y
-come-10 = shows-come (world l0_4 l1_3 l2_2) 262145 d_z 1 1 2 1 m_y (own 262148 Nil c_z) (omega arith) (omega arith) (omega arith) (omega arith) read-y (signed-by (world l0_4 l1_3 l2_2) 1 _ 262145 d_z 1 (inr (inl refl)) votes-1-z) (signed-by (world l0_4 l1_3 l2_2) 2 _ 262145 d_z 1 (inl refl) votes-2-z) refl
+come-10 : Comes (world took0_4 took1_3 took2_2) m_y
+come-10 = shows-come (world took0_4 took1_3 took2_2) 262145 d_z 1 1 2 1 m_y (own 262148 Nil c_z) (omega arith) (omega arith) (omega arith) (omega arith) read-y (signed-by (world took0_4 took1_3 took2_2) 1 _ 262145 d_z 1 (inr (inl refl)) votes-1-z) (signed-by (world took0_4 took1_3 took2_2) 2 _ 262145 d_z 1 (inl refl) votes-2-z) refl
 
-reached-10 : IsReached without_views q (world l0_4 l1_4 l2_2)
-reached-10 = after reached-9 (move-one l0_4 l1_3 l2_2 (told m_y) 3 come-10)
+reached-10 : IsReached without_views q (world took0_4 took1_4 took2_2)
+reached-10 = after reached-9 (move-one took0_4 took1_3 took2_2 (told m_y) 3 come-10)
 
-come-11 : Comes (world l0_4 l1_4 l2_2) m_x
-come-11 = shows-come (world l0_4 l1_4 l2_2) 262148 d_y 0 3 1 3 m_x (own 262149 Mark c_y) (omega arith) (omega arith) (omega arith) (omega arith) read-x (signed-by (world l0_4 l1_4 l2_2) 0 _ 262148 d_y 3 (inl refl) votes-0-y) (signed-by (world l0_4 l1_4 l2_2) 1 _ 262148 d_y 3 (inl refl) votes-1-y) refl
+come-11 : Comes (world took0_4 took1_4 took2_2) m_x
+come-11 = shows-come (world took0_4 took1_4 took2_2) 262148 d_y 0 3 1 3 m_x (own 262149 Mark c_y) (omega arith) (omega arith) (omega arith) (omega arith) read-x (signed-by (world took0_4 took1_4 took2_2) 0 _ 262148 d_y 3 (inl refl) votes-0-y) (signed-by (world took0_4 took1_4 took2_2) 1 _ 262148 d_y 3 (inl refl) votes-1-y) refl
 
-reached-11 : IsReached without_views q (world l0_5 l1_4 l2_2)
-reached-11 = after reached-10 (move-zero l0_4 l1_4 l2_2 (told m_x) 4 come-11)
+reached-11 : IsReached without_views q (world took0_5 took1_4 took2_2)
+reached-11 = after reached-10 (move-zero took0_4 took1_4 took2_2 (told m_x) 4 come-11)
 
-come-12 : Comes (world l0_5 l1_4 l2_2) m_x
-come-12 = shows-come (world l0_5 l1_4 l2_2) 262148 d_y 0 3 1 3 m_x (own 262149 Mark c_y) (omega arith) (omega arith) (omega arith) (omega arith) read-x (signed-by (world l0_5 l1_4 l2_2) 0 _ 262148 d_y 3 (inr (inl refl)) votes-0-y) (signed-by (world l0_5 l1_4 l2_2) 1 _ 262148 d_y 3 (inl refl) votes-1-y) refl
+come-12 : Comes (world took0_5 took1_4 took2_2) m_x
+come-12 = shows-come (world took0_5 took1_4 took2_2) 262148 d_y 0 3 1 3 m_x (own 262149 Mark c_y) (omega arith) (omega arith) (omega arith) (omega arith) read-x (signed-by (world took0_5 took1_4 took2_2) 0 _ 262148 d_y 3 (inr (inl refl)) votes-0-y) (signed-by (world took0_5 took1_4 took2_2) 1 _ 262148 d_y 3 (inl refl) votes-1-y) refl
 
-reached-12 : IsReached without_views q (world l0_5 l1_5 l2_2)
-reached-12 = after reached-11 (move-one l0_5 l1_4 l2_2 (told m_x) 4 come-12)
+reached-12 : IsReached without_views q (world took0_5 took1_5 took2_2)
+reached-12 = after reached-11 (move-one took0_5 took1_4 took2_2 (told m_x) 4 come-12)
 
-come-13 : Comes (world l0_5 l1_5 l2_2) m_a
-come-13 = shows-come (world l0_5 l1_5 l2_2) 262149 d_x 0 4 1 4 m_a (own 262150 Mark c_x) (omega arith) (omega arith) (omega arith) (omega arith) read-a (signed-by (world l0_5 l1_5 l2_2) 0 _ 262149 d_x 4 (inl refl) votes-0-x) (signed-by (world l0_5 l1_5 l2_2) 1 _ 262149 d_x 4 (inl refl) votes-1-x) refl
+come-13 : Comes (world took0_5 took1_5 took2_2) m_a
+come-13 = shows-come (world took0_5 took1_5 took2_2) 262149 d_x 0 4 1 4 m_a (own 262150 Mark c_x) (omega arith) (omega arith) (omega arith) (omega arith) read-a (signed-by (world took0_5 took1_5 took2_2) 0 _ 262149 d_x 4 (inl refl) votes-0-x) (signed-by (world took0_5 took1_5 took2_2) 1 _ 262149 d_x 4 (inl refl) votes-1-x) refl
 
-reached-13 : IsReached without_views q (world l0_6 l1_5 l2_2)
-reached-13 = after reached-12 (move-zero l0_5 l1_5 l2_2 (told m_a) 5 come-13)
+reached-13 : IsReached without_views q (world took0_6 took1_5 took2_2)
+reached-13 = after reached-12 (move-zero took0_5 took1_5 took2_2 (told m_a) 5 come-13)
 
-come-14 : Comes (world l0_6 l1_5 l2_2) m_u2
-come-14 = shows-come (world l0_6 l1_5 l2_2) 1 d_h 1 0 2 0 m_u2 (own 262151 Nil c_h) (omega arith) (omega arith) (omega arith) (omega arith) read-u2 (signed-by (world l0_6 l1_5 l2_2) 1 _ 1 d_h 0 (inr (inr (inr (inr (inl refl))))) votes-1-h) (signed-by (world l0_6 l1_5 l2_2) 2 _ 1 d_h 0 (inr (inl refl)) votes-2-h) refl
+come-14 : Comes (world took0_6 took1_5 took2_2) m_u2
+come-14 = shows-come (world took0_6 took1_5 took2_2) 1 d_h 1 0 2 0 m_u2 (own 262151 Nil c_h) (omega arith) (omega arith) (omega arith) (omega arith) read-u2 (signed-by (world took0_6 took1_5 took2_2) 1 _ 1 d_h 0 (inr (inr (inr (inr (inl refl))))) votes-1-h) (signed-by (world took0_6 took1_5 took2_2) 2 _ 1 d_h 0 (inr (inl refl)) votes-2-h) refl
 
-reached-14 : IsReached without_views q (world l0_6 l1_5 l2_3)
-reached-14 = after reached-13 (move-two l0_6 l1_5 l2_2 (told m_u2) 2 come-14)
+reached-14 : IsReached without_views q (world took0_6 took1_5 took2_3)
+reached-14 = after reached-13 (move-two took0_6 took1_5 took2_2 (told m_u2) 2 come-14)
 
-come-15 : Comes (world l0_6 l1_5 l2_3) m_s
-come-15 = shows-come (world l0_6 l1_5 l2_3) 262146 d_u 0 1 1 2 m_s (own 262152 Mark c_u) (omega arith) (omega arith) (omega arith) (omega arith) read-s (signed-by (world l0_6 l1_5 l2_3) 0 _ 262146 d_u 1 (inr (inr (inr (inr (inl refl))))) votes-0-u) (signed-by (world l0_6 l1_5 l2_3) 1 _ 262146 d_u 2 (inr (inr (inl refl))) votes-1-u) refl
+come-15 : Comes (world took0_6 took1_5 took2_3) m_s
+come-15 = shows-come (world took0_6 took1_5 took2_3) 262146 d_u 0 1 1 2 m_s (own 262152 Mark c_u) (omega arith) (omega arith) (omega arith) (omega arith) read-s (signed-by (world took0_6 took1_5 took2_3) 0 _ 262146 d_u 1 (inr (inr (inr (inr (inl refl))))) votes-0-u) (signed-by (world took0_6 took1_5 took2_3) 1 _ 262146 d_u 2 (inr (inr (inl refl))) votes-1-u) refl
 
-reached-15 : IsReached without_views q (world l0_6 l1_6 l2_3)
-reached-15 = after reached-14 (move-one l0_6 l1_5 l2_3 (told m_s) 5 come-15)
+reached-15 : IsReached without_views q (world took0_6 took1_6 took2_3)
+reached-15 = after reached-14 (move-one took0_6 took1_5 took2_3 (told m_s) 5 come-15)
 
-come-16 : Comes (world l0_6 l1_6 l2_3) m_s
-come-16 = shows-come (world l0_6 l1_6 l2_3) 262146 d_u 0 1 1 2 m_s (own 262152 Mark c_u) (omega arith) (omega arith) (omega arith) (omega arith) read-s (signed-by (world l0_6 l1_6 l2_3) 0 _ 262146 d_u 1 (inr (inr (inr (inr (inl refl))))) votes-0-u) (signed-by (world l0_6 l1_6 l2_3) 1 _ 262146 d_u 2 (inr (inr (inr (inl refl)))) votes-1-u) refl
+come-16 : Comes (world took0_6 took1_6 took2_3) m_s
+come-16 = shows-come (world took0_6 took1_6 took2_3) 262146 d_u 0 1 1 2 m_s (own 262152 Mark c_u) (omega arith) (omega arith) (omega arith) (omega arith) read-s (signed-by (world took0_6 took1_6 took2_3) 0 _ 262146 d_u 1 (inr (inr (inr (inr (inl refl))))) votes-0-u) (signed-by (world took0_6 took1_6 took2_3) 1 _ 262146 d_u 2 (inr (inr (inr (inl refl)))) votes-1-u) refl
 
-reached-16 : IsReached without_views q (world l0_6 l1_6 l2_4)
-reached-16 = after reached-15 (move-two l0_6 l1_6 l2_3 (told m_s) 3 come-16)
+reached-16 : IsReached without_views q (world took0_6 took1_6 took2_4)
+reached-16 = after reached-15 (move-two took0_6 took1_6 took2_3 (told m_s) 3 come-16)
 
-come-17 : Comes (world l0_6 l1_6 l2_4) m_t
-come-17 = shows-come (world l0_6 l1_6 l2_4) 262152 d_s 1 5 2 3 m_t (own 262153 Mark c_s) (omega arith) (omega arith) (omega arith) (omega arith) read-t (signed-by (world l0_6 l1_6 l2_4) 1 _ 262152 d_s 5 (inl refl) votes-1-s) (signed-by (world l0_6 l1_6 l2_4) 2 _ 262152 d_s 3 (inl refl) votes-2-s) refl
+come-17 : Comes (world took0_6 took1_6 took2_4) m_t
+come-17 = shows-come (world took0_6 took1_6 took2_4) 262152 d_s 1 5 2 3 m_t (own 262153 Mark c_s) (omega arith) (omega arith) (omega arith) (omega arith) read-t (signed-by (world took0_6 took1_6 took2_4) 1 _ 262152 d_s 5 (inl refl) votes-1-s) (signed-by (world took0_6 took1_6 took2_4) 2 _ 262152 d_s 3 (inl refl) votes-2-s) refl
 
-reached-17 : IsReached without_views q (world l0_6 l1_7 l2_4)
-reached-17 = after reached-16 (move-one l0_6 l1_6 l2_4 (told m_t) 6 come-17)
+reached-17 : IsReached without_views q (world took0_6 took1_7 took2_4)
+reached-17 = after reached-16 (move-one took0_6 took1_6 took2_4 (told m_t) 6 come-17)
 
-come-18 : Comes (world l0_6 l1_7 l2_4) m_t
-come-18 = shows-come (world l0_6 l1_7 l2_4) 262152 d_s 1 5 2 3 m_t (own 262153 Mark c_s) (omega arith) (omega arith) (omega arith) (omega arith) read-t (signed-by (world l0_6 l1_7 l2_4) 1 _ 262152 d_s 5 (inr (inl refl)) votes-1-s) (signed-by (world l0_6 l1_7 l2_4) 2 _ 262152 d_s 3 (inl refl) votes-2-s) refl
+come-18 : Comes (world took0_6 took1_7 took2_4) m_t
+come-18 = shows-come (world took0_6 took1_7 took2_4) 262152 d_s 1 5 2 3 m_t (own 262153 Mark c_s) (omega arith) (omega arith) (omega arith) (omega arith) read-t (signed-by (world took0_6 took1_7 took2_4) 1 _ 262152 d_s 5 (inr (inl refl)) votes-1-s) (signed-by (world took0_6 took1_7 took2_4) 2 _ 262152 d_s 3 (inl refl) votes-2-s) refl
 
-reached-18 : IsReached without_views q (world l0_6 l1_7 l2_5)
-reached-18 = after reached-17 (move-two l0_6 l1_7 l2_4 (told m_t) 4 come-18)
+reached-18 : IsReached without_views q (world took0_6 took1_7 took2_5)
+reached-18 = after reached-17 (move-two took0_6 took1_7 took2_4 (told m_t) 4 come-18)
 
-come-19 : Comes (world l0_6 l1_7 l2_5) m_v
-come-19 = shows-come (world l0_6 l1_7 l2_5) 262153 d_t 1 6 2 4 m_v (own 262154 Mark c_t) (omega arith) (omega arith) (omega arith) (omega arith) read-v (signed-by (world l0_6 l1_7 l2_5) 1 _ 262153 d_t 6 (inl refl) votes-1-t) (signed-by (world l0_6 l1_7 l2_5) 2 _ 262153 d_t 4 (inl refl) votes-2-t) refl
+come-19 : Comes (world took0_6 took1_7 took2_5) m_v
+come-19 = shows-come (world took0_6 took1_7 took2_5) 262153 d_t 1 6 2 4 m_v (own 262154 Mark c_t) (omega arith) (omega arith) (omega arith) (omega arith) read-v (signed-by (world took0_6 took1_7 took2_5) 1 _ 262153 d_t 6 (inl refl) votes-1-t) (signed-by (world took0_6 took1_7 took2_5) 2 _ 262153 d_t 4 (inl refl) votes-2-t) refl
 
-reached-19 : IsReached without_views q (world l0_6 l1_7 l2_6)
-reached-19 = after reached-18 (move-two l0_6 l1_7 l2_5 (told m_v) 5 come-19)
+reached-19 : IsReached without_views q (world took0_6 took1_7 took2_6)
+reached-19 = after reached-18 (move-two took0_6 took1_7 took2_5 (told m_v) 5 come-19)
 
 -- ---- SHA-256 does not collide on its strings: two values' and nine nodes'
 
@@ -632,23 +632,23 @@ strings-0-h : (makes q 0 [] (told m_h) 0).strings ≡ value ∷ s_h ∷ []
 unfolding sha256 digest_bytes hash_after compress rounds schedule first_words spell_batch spell_count spell_value wide_bytes
 strings-0-h = refl
 
-strings-0-u : (makes q 0 l0_1 (told m_u) 1).strings ≡ nil ∷ s_u ∷ []
+strings-0-u : (makes q 0 took0_1 (told m_u) 1).strings ≡ nil ∷ s_u ∷ []
 unfolding sha256 digest_bytes hash_after compress rounds schedule first_words spell_batch spell_count spell_value wide_bytes
 strings-0-u = refl
 
-strings-0-z : (makes q 0 l0_2 (told m_z2) 2).strings ≡ nil ∷ s_z ∷ []
+strings-0-z : (makes q 0 took0_2 (told m_z2) 2).strings ≡ nil ∷ s_z ∷ []
 unfolding sha256 digest_bytes hash_after compress rounds schedule first_words spell_batch spell_count spell_value wide_bytes
 strings-0-z = refl
 
-strings-0-y : (makes q 0 l0_3 (told m_y) 3).strings ≡ nil ∷ s_y ∷ []
+strings-0-y : (makes q 0 took0_3 (told m_y) 3).strings ≡ nil ∷ s_y ∷ []
 unfolding sha256 digest_bytes hash_after compress rounds schedule first_words spell_batch spell_count spell_value wide_bytes
 strings-0-y = refl
 
-strings-0-x : (makes q 0 l0_4 (told m_x) 4).strings ≡ s_x ∷ []
+strings-0-x : (makes q 0 took0_4 (told m_x) 4).strings ≡ s_x ∷ []
 unfolding sha256 digest_bytes hash_after compress rounds schedule first_words spell_batch spell_count spell_value wide_bytes
 strings-0-x = refl
 
-strings-0-a : (makes q 0 l0_5 (told m_a) 5).strings ≡ s_a ∷ []
+strings-0-a : (makes q 0 took0_5 (told m_a) 5).strings ≡ s_a ∷ []
 unfolding sha256 digest_bytes hash_after compress rounds schedule first_words spell_batch spell_count spell_value wide_bytes
 strings-0-a = refl
 
@@ -656,27 +656,27 @@ strings-1-h : (makes q 1 [] (told m_h) 0).strings ≡ value ∷ s_h ∷ []
 unfolding sha256 digest_bytes hash_after compress rounds schedule first_words spell_batch spell_count spell_value wide_bytes
 strings-1-h = refl
 
-strings-1-z : (makes q 1 l1_1 (told m_z) 1).strings ≡ nil ∷ s_z ∷ []
+strings-1-z : (makes q 1 took1_1 (told m_z) 1).strings ≡ nil ∷ s_z ∷ []
 unfolding sha256 digest_bytes hash_after compress rounds schedule first_words spell_batch spell_count spell_value wide_bytes
 strings-1-z = refl
 
-strings-1-u : (makes q 1 l1_2 (told m_u) 2).strings ≡ nil ∷ s_u ∷ []
+strings-1-u : (makes q 1 took1_2 (told m_u) 2).strings ≡ nil ∷ s_u ∷ []
 unfolding sha256 digest_bytes hash_after compress rounds schedule first_words spell_batch spell_count spell_value wide_bytes
 strings-1-u = refl
 
-strings-1-y : (makes q 1 l1_3 (told m_y) 3).strings ≡ nil ∷ s_y ∷ []
+strings-1-y : (makes q 1 took1_3 (told m_y) 3).strings ≡ nil ∷ s_y ∷ []
 unfolding sha256 digest_bytes hash_after compress rounds schedule first_words spell_batch spell_count spell_value wide_bytes
 strings-1-y = refl
 
-strings-1-x : (makes q 1 l1_4 (told m_x) 4).strings ≡ s_x ∷ []
+strings-1-x : (makes q 1 took1_4 (told m_x) 4).strings ≡ s_x ∷ []
 unfolding sha256 digest_bytes hash_after compress rounds schedule first_words spell_batch spell_count spell_value wide_bytes
 strings-1-x = refl
 
-strings-1-s : (makes q 1 l1_5 (told m_s) 5).strings ≡ s_s ∷ []
+strings-1-s : (makes q 1 took1_5 (told m_s) 5).strings ≡ s_s ∷ []
 unfolding sha256 digest_bytes hash_after compress rounds schedule first_words spell_batch spell_count spell_value wide_bytes
 strings-1-s = refl
 
-strings-1-t : (makes q 1 l1_6 (told m_t) 6).strings ≡ s_t ∷ []
+strings-1-t : (makes q 1 took1_6 (told m_t) 6).strings ≡ s_t ∷ []
 unfolding sha256 digest_bytes hash_after compress rounds schedule first_words spell_batch spell_count spell_value wide_bytes
 strings-1-t = refl
 
@@ -684,23 +684,23 @@ strings-2-h : (makes q 2 [] (told m_h) 0).strings ≡ value ∷ s_h ∷ []
 unfolding sha256 digest_bytes hash_after compress rounds schedule first_words spell_batch spell_count spell_value wide_bytes
 strings-2-h = refl
 
-strings-2-z : (makes q 2 l2_1 (told m_z) 1).strings ≡ nil ∷ s_z ∷ []
+strings-2-z : (makes q 2 took2_1 (told m_z) 1).strings ≡ nil ∷ s_z ∷ []
 unfolding sha256 digest_bytes hash_after compress rounds schedule first_words spell_batch spell_count spell_value wide_bytes
 strings-2-z = refl
 
-strings-2-u : (makes q 2 l2_2 (told m_u2) 2).strings ≡ nil ∷ s_u ∷ []
+strings-2-u : (makes q 2 took2_2 (told m_u2) 2).strings ≡ nil ∷ s_u ∷ []
 unfolding sha256 digest_bytes hash_after compress rounds schedule first_words spell_batch spell_count spell_value wide_bytes
 strings-2-u = refl
 
-strings-2-s : (makes q 2 l2_3 (told m_s) 3).strings ≡ s_s ∷ []
+strings-2-s : (makes q 2 took2_3 (told m_s) 3).strings ≡ s_s ∷ []
 unfolding sha256 digest_bytes hash_after compress rounds schedule first_words spell_batch spell_count spell_value wide_bytes
 strings-2-s = refl
 
-strings-2-t : (makes q 2 l2_4 (told m_t) 4).strings ≡ s_t ∷ []
+strings-2-t : (makes q 2 took2_4 (told m_t) 4).strings ≡ s_t ∷ []
 unfolding sha256 digest_bytes hash_after compress rounds schedule first_words spell_batch spell_count spell_value wide_bytes
 strings-2-t = refl
 
-strings-2-v : (makes q 2 l2_5 (told m_v) 5).strings ≡ s_v ∷ []
+strings-2-v : (makes q 2 took2_5 (told m_v) 5).strings ≡ s_v ∷ []
 unfolding sha256 digest_bytes hash_after compress rounds schedule first_words spell_batch spell_count spell_value wide_bytes
 strings-2-v = refl
 
@@ -713,45 +713,74 @@ this-one : (a s : List ℕ) → IsOne a → In s (a ∷ []) → IsOne s
 this-one a s x (inl e) = subst IsOne (sym e) x
 this-one a s x (inr k) = absurd k
 
-each-0 : AreStrings IsOne l0_6
-each-0 =
-    ((λ s h. this-one s_a s one-s-a (subst (λ (z : List (List ℕ)). In s z) strings-0-a h)),
-    ((λ s h. this-one s_x s one-s-x (subst (λ (z : List (List ℕ)). In s z) strings-0-x h)),
-    ((λ s h. one-of-two nil s_y s one-nil one-s-y (subst (λ (z : List (List ℕ)). In s z) strings-0-y h)),
-    ((λ s h. one-of-two nil s_z s one-nil one-s-z (subst (λ (z : List (List ℕ)). In s z) strings-0-z h)),
-    ((λ s h. one-of-two nil s_u s one-nil one-s-u (subst (λ (z : List (List ℕ)). In s z) strings-0-u h)),
-    ((λ s h. one-of-two value s_h s one-value one-s-h (subst (λ (z : List (List ℕ)). In s z) strings-0-h h)), tt))))))
+each-0 : AreStrings IsOne took0_6
+each-0 = (
+  (λ s h. this-one s_a s one-s-a (subst (λ (z : List (List ℕ)). In s z) strings-0-a h)),
+  (
+    (λ s h. this-one s_x s one-s-x (subst (λ (z : List (List ℕ)). In s z) strings-0-x h)),
+    (
+      (λ s h. one-of-two nil s_y s one-nil one-s-y (subst (λ (z : List (List ℕ)). In s z) strings-0-y h)),
+      (
+        (λ s h. one-of-two nil s_z s one-nil one-s-z (subst (λ (z : List (List ℕ)). In s z) strings-0-z h)),
+        (
+          (λ s h. one-of-two nil s_u s one-nil one-s-u (subst (λ (z : List (List ℕ)). In s z) strings-0-u h)),
+          ((λ s h. one-of-two value s_h s one-value one-s-h (subst (λ (z : List (List ℕ)). In s z) strings-0-h h)), tt),
+        ),
+      ),
+    ),
+  ),
+)
 
-each-1 : AreStrings IsOne l1_7
-each-1 =
-    ((λ s h. this-one s_t s one-s-t (subst (λ (z : List (List ℕ)). In s z) strings-1-t h)),
-    ((λ s h. this-one s_s s one-s-s (subst (λ (z : List (List ℕ)). In s z) strings-1-s h)),
-    ((λ s h. this-one s_x s one-s-x (subst (λ (z : List (List ℕ)). In s z) strings-1-x h)),
-    ((λ s h. one-of-two nil s_y s one-nil one-s-y (subst (λ (z : List (List ℕ)). In s z) strings-1-y h)),
-    ((λ s h. one-of-two nil s_u s one-nil one-s-u (subst (λ (z : List (List ℕ)). In s z) strings-1-u h)),
-    ((λ s h. one-of-two nil s_z s one-nil one-s-z (subst (λ (z : List (List ℕ)). In s z) strings-1-z h)),
-    ((λ s h. one-of-two value s_h s one-value one-s-h (subst (λ (z : List (List ℕ)). In s z) strings-1-h h)), tt)))))))
+each-1 : AreStrings IsOne took1_7
+each-1 = (
+  (λ s h. this-one s_t s one-s-t (subst (λ (z : List (List ℕ)). In s z) strings-1-t h)),
+  (
+    (λ s h. this-one s_s s one-s-s (subst (λ (z : List (List ℕ)). In s z) strings-1-s h)),
+    (
+      (λ s h. this-one s_x s one-s-x (subst (λ (z : List (List ℕ)). In s z) strings-1-x h)),
+      (
+        (λ s h. one-of-two nil s_y s one-nil one-s-y (subst (λ (z : List (List ℕ)). In s z) strings-1-y h)),
+        (
+          (λ s h. one-of-two nil s_u s one-nil one-s-u (subst (λ (z : List (List ℕ)). In s z) strings-1-u h)),
+          (
+            (λ s h. one-of-two nil s_z s one-nil one-s-z (subst (λ (z : List (List ℕ)). In s z) strings-1-z h)),
+            ((λ s h. one-of-two value s_h s one-value one-s-h (subst (λ (z : List (List ℕ)). In s z) strings-1-h h)), tt),
+          ),
+        ),
+      ),
+    ),
+  ),
+)
 
-each-2 : AreStrings IsOne l2_6
-each-2 =
-    ((λ s h. this-one s_v s one-s-v (subst (λ (z : List (List ℕ)). In s z) strings-2-v h)),
-    ((λ s h. this-one s_t s one-s-t (subst (λ (z : List (List ℕ)). In s z) strings-2-t h)),
-    ((λ s h. this-one s_s s one-s-s (subst (λ (z : List (List ℕ)). In s z) strings-2-s h)),
-    ((λ s h. one-of-two nil s_u s one-nil one-s-u (subst (λ (z : List (List ℕ)). In s z) strings-2-u h)),
-    ((λ s h. one-of-two nil s_z s one-nil one-s-z (subst (λ (z : List (List ℕ)). In s z) strings-2-z h)),
-    ((λ s h. one-of-two value s_h s one-value one-s-h (subst (λ (z : List (List ℕ)). In s z) strings-2-h h)), tt))))))
+each-2 : AreStrings IsOne took2_6
+each-2 = (
+  (λ s h. this-one s_v s one-s-v (subst (λ (z : List (List ℕ)). In s z) strings-2-v h)),
+  (
+    (λ s h. this-one s_t s one-s-t (subst (λ (z : List (List ℕ)). In s z) strings-2-t h)),
+    (
+      (λ s h. this-one s_s s one-s-s (subst (λ (z : List (List ℕ)). In s z) strings-2-s h)),
+      (
+        (λ s h. one-of-two nil s_u s one-nil one-s-u (subst (λ (z : List (List ℕ)). In s z) strings-2-u h)),
+        (
+          (λ s h. one-of-two nil s_z s one-nil one-s-z (subst (λ (z : List (List ℕ)). In s z) strings-2-z h)),
+          ((λ s h. one-of-two value s_h s one-value one-s-h (subst (λ (z : List (List ℕ)). In s z) strings-2-h h)), tt),
+        ),
+      ),
+    ),
+  ),
+)
 
 abbrev last : World Message
-last = world l0_6 l1_7 l2_6
+last = world took0_6 took1_7 took2_6
 
 of-world : (s : List ℕ) → IsString last s → IsOne s
 of-world s (inl e) = subst IsOne (sym e) one-empty
 of-world s (inr h) = go (eqb h.node 0) (eqb h.node 1) (eqb h.node 2) h.taken
   where
-    go : (t u r : Bool) → In h.item (cond t l0_6 (cond u l1_7 (cond r l2_6 []))) → IsOne s
-    go true u r k = each-string IsOne l0_6 h.item s each-0 k h.hashed
-    go false true r k = each-string IsOne l1_7 h.item s each-1 k h.hashed
-    go false false true k = each-string IsOne l2_6 h.item s each-2 k h.hashed
+    go : (t u r : Bool) → In h.item (cond t took0_6 (cond u took1_7 (cond r took2_6 []))) → IsOne s
+    go true u r k = each-string IsOne took0_6 h.item s each-0 k h.hashed
+    go false true r k = each-string IsOne took1_7 h.item s each-1 k h.hashed
+    go false false true k = each-string IsOne took2_6 h.item s each-2 k h.hashed
     go false false false k = absurd k
 
 separate : Separate (IsString last)

@@ -2,13 +2,11 @@
 -- In view 0 replica 1 prepares the batch of replica 0, so replica 3 can make a certificate of it. View 1 begins with nil,
 -- which replica 2 delivers; replicas 1 and 2 have certificates of it. Replica 3 starts view 3 with these and its own, which
 -- is lower. So replicas 0 and 1 commit the batch there, and replica 0 delivers it.
-use Rattle.std.proofs.Common.{◌≡◌, ◌⊎◌, ◌<◌, ◌^◌, ◌&&◌, ℕ, Bool, true, false, cond, eqb, List, [], ◌∷◌, length, Option, Some, refl, sym, ap, ◌∙◌, subst, inl, inr, arith, true≢false}
-use Rattle.std.specs.Prelude.{◌==◌, ◌≢◌}
-use Rattle.std.proofs.lemmas.Bool.{eq-eqb}
+use Rattle.std.proofs.Common.{◌≡◌, ◌<◌, ◌^◌, ℕ, Bool, true, false, cond, eqb, List, [], ◌∷◌, Option, Some, refl, sym, ap, subst, inl, inr, arith, true≢false}
 use Rattle.sha2.specs.Sha256.{sha256, digest_bytes, hash_after, compress, rounds, schedule, first_words}
 use Rattle.iss_base.specs.Lists.{In}
 use Rattle.iss_base.proofs.Lists.{both, eqb-other}
-use Rattle.iss_request.specs.Formats.{is_signature, spell_batch, spell_count, spell_value}
+use Rattle.iss_request.specs.Formats.{spell_batch, spell_count, spell_value}
 use Rattle.iss_request.specs.declared.requests.Value.{Value}
 use Rattle.iss_request.specs.declared.requests.Value.TheVariants.{Nil as Value_nil, Batch as Value_batch}
 use Rattle.iss_sb.specs.declared.effects.Claim.{Claim}
@@ -26,13 +24,11 @@ use Rattle.pbft_wire.specs.declared.messages.Message.{Message}
 use Rattle.pbft_wire.specs.declared.messages.Message.TheVariants.{PrePrepare, Prepare, Commit, NewView}
 use Rattle.pbft_wire.specs.Certificates.{fits_certificate}
 use Rattle.pbft_wire.specs.Messages.{fits}
-use Rattle.pbft_wire.specs.Statements.{state_at, state_change, state_new, string_of}
+use Rattle.pbft_wire.specs.Statements.{state_at, state_change, state_new}
 use Rattle.pbft_wire.proofs.MessageGrammar.{fits-again}
-use Rattle.pbft_views.proofs.Statements.{digest-length}
-use Rattle.sb_pbft.specs.Pbft.{pbft}
 use Rattle.sb_pbft.proofs.Examples.FourReplicas.{b, change, d, from, give_up, nil, node, p, setup, sig, slot}
 use Rattle.sb_pbft.proofs.Examples.ByzantineRun.{Items, by_key, b-read, d-fit, empty-fit, good-setup, shape, world}
-use Rattle.sb_pbft.proofs.Examples.PremisesAreMet.{EachOf, OneOf, each-of, one-string}
+use Rattle.sb_pbft.proofs.Examples.PremisesAreMet.{EachOf, OneOf, each-of}
 use Rattle.counterexamples.proofs.PbftStrings.{nil-fit, two-are-separate}
 use Rattle.counterexamples.specs.Pbft.{by_the_lowest, claims_seen, makes_seen}
 

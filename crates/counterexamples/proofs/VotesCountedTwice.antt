@@ -2,21 +2,16 @@
 -- batch. Replica 1 hears the Prepare of replica 3 twice and its Commit three times, and delivers. Replica 1 itself sent
 -- no Commit and shows no certificate, so view 1 begins with nil. There replica 2 hears the votes of replica 3 again and
 -- again, and delivers nil.
-use Rattle.std.proofs.Common.{◌≡◌, ◌⊎◌, ◌<◌, ◌^◌, ◌&&◌, ℕ, Bool, true, false, cond, eqb, List, [], ◌∷◌, ◌++◌, length, Option, Some, refl, sym, ap, ◌∙◌, subst, inl, inr, arith, true≢false}
-use Rattle.std.specs.Prelude.{◌==◌}
-use Rattle.std.proofs.lemmas.Bool.{eq-eqb}
+use Rattle.std.proofs.Common.{◌≡◌, ℕ, Bool, true, false, cond, eqb, List, [], ◌∷◌, Option, Some, refl, ap, inl, inr, arith, true≢false}
 use Rattle.sha2.specs.Sha256.{sha256, digest_bytes, hash_after, compress, rounds, schedule, first_words}
 use Rattle.iss_base.specs.Lists.{In}
 use Rattle.iss_base.proofs.Lists.{both}
-use Rattle.iss_request.specs.Formats.{is_signature, spell_batch, spell_count, spell_value}
+use Rattle.iss_request.specs.Formats.{spell_batch, spell_count, spell_value}
 use Rattle.iss_request.specs.declared.requests.Value.{Value}
 use Rattle.iss_request.specs.declared.requests.Value.TheVariants.{Nil as Value_nil, Batch as Value_batch}
-use Rattle.iss_sb.specs.declared.effects.Claim.{Claim}
 use Rattle.iss_sb.specs.declared.effects.Input.TheVariants.{Cast, Timeout}
-use Rattle.iss_sb.specs.declared.effects.To.{To}
-use Rattle.iss_sb.specs.declared.effects.To.TheVariants.{All as To_all}
 use Rattle.iss_sb.specs.Calls.{IsGoodParams}
-use Rattle.iss_sb.specs.Evidence.{Item, Made, World, IsHashed, IsReached, IsSigned, IsString, Separate, at_start, after, delivered}
+use Rattle.iss_sb.specs.Evidence.{Item, World, IsHashed, IsReached, IsSigned, IsString, Separate, at_start, after, delivered}
 use Rattle.iss_sb.specs.Laws.{IsSafe}
 use Rattle.iss_sb.specs.Statements.{signature}
 use Rattle.pbft_wire.specs.declared.messages.Message.{Message}
@@ -24,12 +19,11 @@ use Rattle.pbft_wire.specs.declared.messages.Message.TheVariants.{Prepare, Commi
 use Rattle.pbft_wire.specs.Messages.{fits}
 use Rattle.pbft_wire.specs.Statements.{state_at, state_change, state_new, string_of}
 use Rattle.pbft_views.specs.Claims.{claims}
-use Rattle.pbft_views.proofs.Statements.{digest-length}
 use Rattle.sb_pbft.specs.Makes.{makes}
 use Rattle.sb_pbft.specs.Pbft.{pbft}
-use Rattle.sb_pbft.proofs.Examples.FourReplicas.{b, change, commit, d, from, give_up, next, nil, p, prepare, proposal, said, setup, sig, slot}
-use Rattle.sb_pbft.proofs.Examples.ByzantineRun.{AreSigned, Items, by_key, by-leaf, b-read, cast, commit-fit, credible, empty-fit, first-move, good-setup, move-one, move-two, of-three, one-claim, prepare-fit, proposal-fit, sent-claim, shape, signed-proposal, world, z1}
-use Rattle.sb_pbft.proofs.Examples.PremisesAreMet.{EachOf, OneOf, each-of, one-string}
+use Rattle.sb_pbft.proofs.Examples.FourReplicas.{b, change, commit, d, from, give_up, next, nil, p, prepare, proposal, said, sig, slot}
+use Rattle.sb_pbft.proofs.Examples.ByzantineRun.{AreSigned, Items, by_key, by-leaf, b-read, commit-fit, credible, empty-fit, first-move, good-setup, move-one, move-two, of-three, one-claim, prepare-fit, proposal-fit, sent-claim, shape, signed-proposal, world, z1}
+use Rattle.sb_pbft.proofs.Examples.PremisesAreMet.{EachOf, OneOf, each-of}
 use Rattle.counterexamples.proofs.PbftStrings.{nil-fit, two-are-separate}
 use Rattle.counterexamples.specs.Pbft.{counting_votes, decided_by_votes}
 use Rattle.counterexamples.proofs.Deciding.{reached-too}

@@ -324,11 +324,16 @@ abbrev IsOf : List ℕ → Type 0
 IsOf s = In s (value ∷ tree_node ∷ [])
 
 each-list : (me : ℕ) → AreStrings IsOf (list4 me)
-each-list me =
-    ((λ s h. absurd (subst (λ (z : List (List ℕ)). In s z) (strings4 me) h)),
-    ((λ s h. absurd (subst (λ (z : List (List ℕ)). In s z) (strings3 me) h)),
-    ((λ s h. absurd (subst (λ (z : List (List ℕ)). In s z) (strings2 me) h)),
-    ((λ s h. subst (λ (z : List (List ℕ)). In s z) (strings1 me) h), tt))))
+each-list me = (
+  (λ s h. absurd (subst (λ (z : List (List ℕ)). In s z) (strings4 me) h)),
+  (
+    (λ s h. absurd (subst (λ (z : List (List ℕ)). In s z) (strings3 me) h)),
+    (
+      (λ s h. absurd (subst (λ (z : List (List ℕ)). In s z) (strings2 me) h)),
+      ((λ s h. subst (λ (z : List (List ℕ)). In s z) (strings1 me) h), tt),
+    ),
+  ),
+)
 
 of-world : (s : List ℕ) → IsHashed w7 s → IsOf s
 of-world s h = go (eqb h.node 0) (eqb h.node 1) h.taken
