@@ -51,13 +51,17 @@ refused_epoch epoch why = record {
 }
 
 -- What an auditor may conclude who trusts more nodes than are outside a quorum. In each run with the export's header,
--- under the module that it names, one of these nodes signed each epoch, and its log continues the exported one. Or the
--- two logs show two strings of one digest.
-abbrev pub AreOfRuns : Export → Type 0
-AreOfRuns x = Under x.setup.module (λ Msg M. (events : List Event) → AreAtCores x.setup events →
+-- under this module, one of these nodes signed each epoch, and its log continues the exported one. Or the two logs show
+-- two strings of one digest.
+abbrev pub AreOfRunsUnder : Export → (Msg : Type 0) → Module Msg → Type 0
+AreOfRunsUnder x Msg M = (events : List Event) → AreAtCores x.setup events →
     (trusted : List ℕ) → AreEnough x.setup trusted →
     AreTrusted x.setup (held_after x.setup M events) trusted x.epochs →
-    EachEpoch (IsOfRun x.setup M (held_after x.setup M events) trusted) [] x.epochs)
+    EachEpoch (IsOfRun x.setup M (held_after x.setup M events) trusted) [] x.epochs
+
+-- The same under the module that the header names.
+abbrev pub AreOfRuns : Export → Type 0
+AreOfRuns x = Under x.setup.module (AreOfRunsUnder x)
 
 -- The answer shows the certified log of which the input is the text. Quorums signed each of its epochs.
 pub record IsCertifiedAnswer (input : List ℕ) (a : Answer) : Type 0 where
