@@ -13,11 +13,13 @@ use Rattle.iss_schedule.specs.BadLines.{IsBadLine}
 use Rattle.iss_schedule.specs.declared.errors.LineFault.{LineFault}
 use Rattle.iss_cli.specs.Answers.{IsAnswer, IsAudited, IsOfReplies, IsOfSchedule, Reads, refused_words}
 use Rattle.iss_cli.specs.Calls.{Ends, IsAnswerTo, IsAnswered, Prints}
-use Rattle.iss_cli.specs.Ends.{IfTold, IsDrained}
+use Rattle.iss_cli.specs.Ends.{Drains, IfTold, IsDrained}
 use Rattle.iss_cli.specs.Views.{IsShown}
 use Rattle.iss_cli.specs.declared.status.Status.{Status}
 use Rattle.iss_cli.specs.declared.status.Status.TheVariants.{Answered, NoMemory, SourceFailed, SinkFailed}
-use Rattle.iss_cli.specs.declared.views.View.TheVariants.{Full}
+use Rattle.iss_cli.specs.declared.views.View.TheVariants.{Full, Replied}
+use Rattle.iss_cli.specs.Auditing.{IsOfCore}
+use Rattle.iss_cli.specs.Believing.{AreReplied}
 use Rattle.iss_words.specs.declared.orders.WordsError.{WordsError}
 use Rattle.iss_words.specs.declared.orders.WordsError.TheVariants.{Refused}
 
@@ -44,6 +46,10 @@ answer_unread order left input a unread is =
       right = same_answer order input any.0 a unread is;
       drained = λ reads. absurd (unread reads);
     }
+
+pub drains_nothing : (left : Option (List ℕ)) → Drains 16777217 left left
+drains_nothing None = refl
+drains_nothing (Some bytes) = (0, omega arith, refl)
 
 -- ---- an order that reads the input
 
@@ -104,9 +110,9 @@ audited_of_front most all a h answer = go (at_most_or_more (length all) most_byt
 answer_of_front : (order : Order) (most : ℕ) (all : List ℕ) (a : Answer) → most_bytes < most → IsAnswer order (take most all) a → IsAnswer order all a
 answer_of_front Replay most all a h is = schedule_of_front (IsShown Full) most all a h is
 answer_of_front (Lab number events) most all a h is = is
-answer_of_front Replies most all a h is = schedule_of_front _ most all a h is
+answer_of_front Replies most all a h is = schedule_of_front (λ s answer. IsShown Replied s answer × AreReplied s) most all a h is
 answer_of_front Answers most all a h is = replies_of_front most all a h is
-answer_of_front (Export core) most all a h is = schedule_of_front _ most all a h is
+answer_of_front (Export core) most all a h is = schedule_of_front (IsOfCore core) most all a h is
 answer_of_front Audit most all a h is = audited_of_front most all a h is
 
 pub answer_read : (order : Order) (left left_now : Option (List ℕ)) (bytes : List ℕ) (a : Answer) → IfTold left (λ all. bytes ≡ take 16777217 all) →
