@@ -10,8 +10,8 @@ ghost use Rattle.iss_answers.specs.Refusals.{IsBadText};
 ghost use Rattle.iss_answers.specs.Texts.{IsTold};
 ghost use Rattle.iss_answers.specs.declared.told.Told.{Told};
 
-/// Each answer that a client accepts is the log's, if at most f nodes are faulty and each reply that verifies for a
-/// correct node is that node's reply to a request of the log.
+/// Each answer that a client accepts is the log's, under two conditions. At most f nodes are faulty, and each reply
+/// that verifies for a correct node is that node's reply to a request of the log.
 pub fn accepted_answers_are_the_logs()
     ensures { (s : Setup) (correct : ℕ → Bool) (log : List Value) (replies : List Reply) →
         AreHonest s correct log replies → AreBelieved log (cluster_of s) replies }

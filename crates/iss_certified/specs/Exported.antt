@@ -1,6 +1,6 @@
--- What a core exports after a run: the epochs of its log from 0, each with the certificate that the core keeps, up to
--- the first whose certificate it does not keep or whose slots are not all in its log. A core that shows no
--- certificate exports no epoch.
+-- What a core exports after a run: the epochs of its log from 0, each with the certificate that the core keeps. It
+-- stops at the first epoch whose certificate it does not keep or whose slots are not all in its log. A core that shows
+-- no certificate exports no epoch.
 use Rattle.std.specs.Prelude.{◌≡◌, ◌⊎◌, ℕ, ◌<◌, ◌≤◌, Bool, cond, List, [], ◌++◌, length, Option, Some, None}
 use Rattle.iss_audit.specs.Exports.{AreBytes, EachEpoch, IsCertifiedText, IsRangedCert, log_of, slots_of, text_of}
 use Rattle.iss_audit.specs.declared.exports.CertifiedEpoch.{CertifiedEpoch}

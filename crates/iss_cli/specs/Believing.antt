@@ -18,8 +18,8 @@ abbrev pub outcome_of_short : Option ReqId → Outcome
 outcome_of_short None = Done
 outcome_of_short (Some id) = Unconfirmed
 
--- What a new client makes of the replies is printed. Each accepted answer is that of a log, if at most f nodes are
--- faulty and each reply that verifies for a correct node is that node's reply to a request of this log.
+-- What a new client makes of the replies is printed. Each accepted answer is that of a log, under two conditions. At
+-- most f nodes are faulty, and each reply that verifies for a correct node is that node's reply to a request of it.
 pub record IsBelieved (t : Told) (a : Answer) : Type 0 where
   pub made : Printed
   pub printed : IsPrinted t.setup t.replies made

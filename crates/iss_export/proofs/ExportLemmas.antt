@@ -94,13 +94,6 @@ put-none s c log old =
 pub told-silent : (silent stale : Bool) (events : List Event) (a b : Option (ℕ × End)) (i : ℕ) → silent ≡ (stale || was_given events a i) → a ≡ b → silent ≡ (stale || was_given events b i)
 told-silent silent stale events a b i is same = subst (λ (o : Option (ℕ × End)). silent ≡ (stale || was_given events o i)) same is
 
-or-left : (a b : Bool) → a ≡ true → (a || b) ≡ true
-or-left a b is = ap (λ (x : Bool). x || b) is
-
-pub or-neither : (a b : Bool) → (a || b) ≡ false → a ≡ false
-or-neither true b is = is
-or-neither false b is = refl
-
 or-none : (a b : Bool) → b ≡ false → (a || b) ≡ a
 or-none true b is = refl
 or-none false b is = is
@@ -128,7 +121,7 @@ module _ {M Msg : Type 0} (m : Module Msg) (refines : Relation M Msg) (v : World
   pub silent-is : (s : Setup) (me : ℕ) (silent : Bool) → RefinesRun m refines v p → RefinesOrRetreated m refines s me g (p.machines.held.net.cores i) (p.machines.disks i) →
       ((w : Machines Msg) → WorldRefinesMachines m refines v w → RefinesMachine m refines g (w.held.net.cores i) (w.disks i)) → silent ≡ (g.stale || was_given events p.ended i) → IsSilent events p i silent
   silent-is s me silent st left goes is = record {
-    failed = λ failed. is ∙ or-left g.stale (was_given events p.ended i) (failed-stale m refines g (p.machines.held.net.cores i) s me (p.machines.disks i) left failed);
+    failed = λ failed. is ∙ or_left g.stale (was_given events p.ended i) (failed-stale m refines g (p.machines.held.net.cores i) s me (p.machines.disks i) left failed);
     given = λ given. is ∙ or_right_true g.stale (was_given events p.ended i) given;
     goes_on = λ none.
         let here = goes p.machines (subst (λ (o : Option (ℕ × End)). RefinesRunUntil m refines v p.machines o) none st) in

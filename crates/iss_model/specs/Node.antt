@@ -166,8 +166,8 @@ claims_of_input M p (Cast slot batch) = []
 claims_of_input M p (Receive from msg) = M.claims p from.0 msg
 claims_of_input M p Timeout = []
 
--- Steps the instance of leader l, unless (in this order) l does not lead this epoch, a claimed signature is invalid,
--- too few leaves are left, or the judge refuses the batch.
+-- Steps the instance of leader l. The input is dropped, in this order, if l does not lead this epoch, a claimed
+-- signature is invalid, too few leaves are left, or the judge refuses the batch.
 -- rule: Acceptance: An instance takes an input if it leads, its claims verify, leaves are left, no refusal
 abbrev pub try_step : {Msg : Type 0} → Formats Msg → Rules → Module Msg → ℕ → Core Msg → ℕ → Input Msg → Stepped Msg
 try_step F R M me c l input =
@@ -390,8 +390,8 @@ adopts_piece R M me c p =
       strings = R.hashes before p.values ++ grown_strings R (log_of R M me c.past) (log_of R M me past);
     }
 
--- State transfer: a piece is adopted, unless (in this order) its epoch is past, its epoch is ahead, its shape is wrong,
--- its certificate is invalid, or its values do not lead to the certified log.
+-- State transfer: a piece is adopted. It is dropped, in this order, if its epoch is past, its epoch is ahead, its
+-- shape is wrong, its certificate is invalid, or its values do not lead to the certified log.
 -- rule: Transfer: An adopted piece of the own epoch fills the empty slots and ends the epoch without a vote
 abbrev pub takes_piece : {Msg : Type 0} → Formats Msg → Rules → Module Msg → ℕ → Core Msg → Sent_piece → Stepped Msg
 takes_piece F R M me c p =

@@ -1,4 +1,4 @@
--- What a client believes. It counts one reply of each node to each request's identity, and believes an answer as soon
+-- What a client believes. It counts one reply of each node to each request's identity. It believes an answer as soon
 -- as f + 1 of them state the same epoch, number and answer (PBFT). One of these nodes is correct.
 use Rattle.std.specs.Prelude.{◌≡◌, ℕ, ◌+◌, ◌≤◌, nat_lt, ◌==◌, ◌&&◌, ◌||◌, not, Bool, true, false, if◌then◌else◌, List, [], ◌∷◌, ◌++◌, Some, slice_get, unwrap_or}
 use Rattle.std.specs.Map.{lookup}

@@ -9,6 +9,7 @@ pub mod ids;
 pub mod requests;
 pub mod seqs;
 pub mod setups;
+pub mod sums;
 pub mod values;
 pub mod versions;
 
@@ -19,6 +20,7 @@ pub use ids::{Epoch, NodeId, ReqId, Slot};
 pub use requests::{Batch, Request, Value};
 pub use seqs::Seq;
 pub use setups::{Kind, Nodes, Policy, Setup, nodes_of_kind, quorum};
+pub use sums::sum;
 pub use values::{
     batch_digest, batch_string, decode_value, digest_of, encode_value, formats_are_exact,
     has_shape, is_spellable, read_batch_value, read_request, read_signature, read_value,

@@ -15,8 +15,8 @@ use Rattle.iss_rules.specs.declared.events.Refusal.{Refusal}
 use Rattle.iss_rules.specs.declared.events.Refusal.TheVariants.{TooLarge, ForeignBucket, BadSignature, OutOfWindow, Ordered, Marked}
 use Rattle.iss_rules.specs.Rules.{Rules}
 
--- A request is valid in an epoch if its client exists and signed it, its number is inside the client's window there,
--- and the log before the epoch does not hold it (ISS, request validity).
+-- When a request is valid in an epoch (ISS, request validity). Its client exists and signed it, its number is inside
+-- the client's window there, and the log before the epoch does not hold it.
 -- rule: Acceptance: An accepted request is signed, inside its client's window, and of no earlier epoch
 pub record IsValid (R : Rules) (before : List Value) (e : ℕ) (q : Request) : Type 0 where
   pub signed : R.signed q ≡ true

@@ -10,9 +10,9 @@ ghost use Rattle.iss_theorems.specs.Recovery.{course_after};
 use iss_sb::Sequenced;
 
 /// No leaf of a node's keys signs two statements, whatever events the node takes. Each signature of its own that a node
-/// sends is by a leaf over that leaf's one statement, or the node had received it (`node`). In each run, over all
-/// restarts, the packets of a core and the book's statements of a correct node are those of the events in its journal,
-/// and each of these statements is that of one leaf (`runs`).
+/// sends is by a leaf over that leaf's one statement, or the node had received it (`node`). Each run counts over all
+/// its restarts (`runs`): the packets of a core are those of the events in its journal. So are the book's statements of
+/// a correct node, and each of these is that of one leaf.
 pub fn leaves_sign_once<M: Sequenced>()
     ensures node { (s : Setup) → IsSetupOf M.spec s → (me : ℕ) (deeds : List (Deed M.Msg)) →
         IsLife (frame_of s M.spec) me deeds → SignsOnceEach (frame_of s M.spec) me deeds }

@@ -1,7 +1,7 @@
 -- The rules of chained HotStuff (Yin and others, 2019: Chained HotStuff). Each proposal carries the certificate of its
--- parent, so one round of votes serves as the first phase of one node, the second of its parent and the third of its
--- grandparent. A certificate that is seen raises the highest one; the justification of its node raises the lock; and
--- three nodes of consecutive views, each the parent of the next, decide the lowest. A node's digest covers its view.
+-- parent. So one round of votes is the first phase of one node, the second of its parent, the third of its grandparent.
+-- A certificate that is seen raises the highest one; the justification of its node raises the lock. Three nodes of
+-- consecutive views, each the parent of the next, decide the lowest. A node's digest covers its view.
 -- Round 0 proposes batches, later rounds nil. Marks follow a full branch, so its last nodes can be decided.
 use Rattle.std.specs.Prelude.{ℕ, suc, ◌+◌, ◌*◌, ◌==◌, ◌&&◌, ◌||◌, Bool, true, false, not, nat_lt, nat_le, List, [], ◌∷◌, ◌++◌, length, Option, Some, None, is_some, if◌then◌else◌}
 use Rattle.iss_base.specs.Lists.{first_of, nth, same_bytes}

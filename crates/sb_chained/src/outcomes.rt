@@ -42,7 +42,7 @@ impl Outcome {
     }
 }
 
-/// What an input comes to: the outcome of its rule, the batch that is accepted, and what is delivered.
+/// The effect of an input: the outcome of its rule, the batch that is accepted, and what is delivered.
 #[derive(Drop)]
 pub struct Taken {
     pub outcome: Outcome,

@@ -1,4 +1,4 @@
--- What each kind of input comes to, as the code takes it.
+-- What the code does with each kind of input.
 use Rattle.std.proofs.Common.{◌≡◌, ℕ, ◌&&◌, Bool, true, false, if◌then◌else◌, List, [], Option, Some, None, refl, sym, ap, ◌∙◌, subst, inl, append-nil}
 use Rattle.std.specs.Prelude.{IfSome, nat_lt}
 use Rattle.iss_base.specs.Lists.{In}

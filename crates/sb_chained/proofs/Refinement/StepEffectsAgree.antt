@@ -107,7 +107,7 @@ module _ (p : Params) (good : IsGoodParams chained p) (m : Chained) (i : Input M
           let was = sym (delivered-is p me xs t.0) ∙ none in
           value-fresh m.delivered t x p.slots (values cs) (first-new (old t.0) _ x was (sym (now-is t.0) ∙ h)) (sym (st.reached t.0) ∙ ap (λ (r : Option Value). is_some r) was)
 
--- ---- a step: what the input comes to, signed
+-- ---- a step: the effect of the input, signed
 
 asked-is : (p : Params) (me : ℕ) (xs : List (Item Message)) (i : Input Message) → asked_in p me (state p me xs) (accepts xs) i ≡ asks p me xs i
 asked-is p me xs (Cast slot batch) = refl

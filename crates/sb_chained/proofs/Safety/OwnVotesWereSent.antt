@@ -1,4 +1,4 @@
--- What a correct node signed as a vote it sent, and what comes to a node of its own votes it sent before.
+-- What a correct node signed as a vote it sent, and what a node receives of its own votes it sent before.
 use Rattle.std.proofs.Common.{◌≡◌, ℕ, true, List, [], ◌∷◌, refl, ap, ◌∙◌, subst}
 use Rattle.iss_base.specs.Lists.{In}
 use Rattle.iss_sb.specs.declared.effects.Claim.{Claim}

@@ -157,7 +157,7 @@ module _ (p : Params) (w : World Message) (good : IsGoodParams chained p) (reach
   pub came : (me : ℕ) (x : Item Message) (from : NodeId) (msg : Message) → In x (w me) → x.input ≡ Receive from msg → Came p w from.0 msg
   came me x from msg k e = subst (λ (z : Input Message). MayCome chained p w me z) e (legal.came me x k)
 
-  -- a vote of the node's own that comes to it is of no view above its own
+  -- a vote of the node's own that it receives is of no view above its own
   pub own-low : (me : ℕ) (x : Item Message) (xs : List (Item Message)) (from : NodeId) (msg : Message) (view : ℕ) (d : List ℕ) (c : Claim) → Part me (x ∷ xs) → x.input ≡ Receive from msg → In c (chained.claims p from.0 msg) →
       c.by.0 ≡ me → c.statement ≡ vote_statement form p 1 view d → view ≤ (state p me xs).view
   own-low me x xs from msg view d c f e h by is =

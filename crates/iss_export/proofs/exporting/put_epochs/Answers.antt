@@ -6,7 +6,7 @@ use Rattle.iss_request.specs.declared.requests.Value.{Value}
 use Rattle.iss_request.specs.declared.setups.Setup.{Setup}
 use Rattle.iss_theorems.specs.Headline.{shown}
 use Rattle.iss_export.specs.Exporting.{HasPut, was_given}
-use Rattle.iss_export.proofs.ExportLemmas.{log-shown, or-neither, put-none, refines-core, silent-is, told-silent}
+use Rattle.iss_export.proofs.ExportLemmas.{log-shown, put-none, refines-core, silent-is, told-silent}
 use Rattle.iss_export.proofs.exporting.put_epochs.Goals as goal
 
 pub returns-then-is_silent : goal.returns-then-is_silent
@@ -36,7 +36,7 @@ returns g c =
     let is = told-silent c.is_silent.result node.stale c.args.events.now _ p.ended i c.is_silent.ensures r.end_is in
     let quiet = sym c.if-is_silent.false ∙ is in
     let left = c.node-node.ensures.left p r.refined in
-    let put = h k (refines-core m g.M.Sequenced.refines node k s (node_of s i) (p.machines.disks i) left (or-neither node.stale (was_given c.args.events.now p.ended i) (sym quiet))) in
+    let put = h k (refines-core m g.M.Sequenced.refines node k s (node_of s i) (p.machines.disks i) left (or_parts node.stale (was_given c.args.events.now p.ended i) (sym quiet)).0) in
     let at = subst (λ (t : Setup). HasPut t (certs_shown k false) c.entries.result.now out c.put_kept.new.out.items) c.setup.ensures.same put in
     record {
       silent = false;
