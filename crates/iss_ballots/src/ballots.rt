@@ -9,7 +9,7 @@ ghost use Rattle.iss_rules.specs.Votes.{cert_on, keeping};
 use iss_checkpoint::checking::is_signed;
 use iss_checkpoint::{Added, Cert, Refusal, Tally, Vote, vote_statement};
 use iss_keys::SharedDirectory;
-use iss_request::{Epoch, NoMemory, Setup};
+use iss_request::{Epoch, NoMemory, Setup, sum};
 use std::alloc::Global;
 use std::marker::Model;
 
@@ -123,16 +123,14 @@ impl Ballots {
         }
     }
 
-    // Extends the vector up to this epoch. `NoMemory` also if the length would exceed 2^64 - 1.
+    // Extends the vector up to this epoch.
     fn reach(&mut self, epoch: Epoch) -> Result<(), NoMemory>
         ensures there { OnOk result (epoch.0 < length self.new.all) }
         ensures kept { (votes : List Voted) (certs : List Certificate) → AreKept self.old votes certs →
             AreKept self.new votes certs }
         ensures voters { self.new.voters ≡ self.old.voters }
     {
-        let Some(end) = epoch.0.checked_add(1) else {
-            return Err(NoMemory);
-        };
+        let end = sum(epoch.0, 1)?;
         for next in self.all.len() as u64..end {
             let directory = self.directory.share();
             let tally = Tally::new(self.alloc, &self.setup, directory, Epoch(next));

@@ -8,7 +8,7 @@ ghost use Rattle.iss_buckets.specs.Internal.Filed.{AreFiled, AreQueued, kept_at,
 ghost use Rattle.iss_buckets.specs.Waiting.{waits};
 
 use crate::queues::{Queues, bucket_of};
-use iss_request::{NoMemory, ReqId, Request};
+use iss_request::{NoMemory, ReqId, Request, sum};
 use std::alloc::Global;
 use std::collections::{BTreeMap, HashMap};
 use std::marker::Model;
@@ -75,7 +75,7 @@ impl Shelf {
     {
         let id = request.id;
         let number = self.next;
-        let next = number.checked_add(1).ok_or(NoMemory)?;
+        let next = sum(number, 1)?;
         self.numbers.reserve(1)?;
         self.requests.insert(number, request)?;
         if self.numbers.insert(id, number).is_err() {

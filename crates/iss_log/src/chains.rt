@@ -7,7 +7,7 @@ ghost use Rattle.iss_log.specs.Chains.{IsChainOf, chain_of, link_string, next_en
 
 use crate::log::size;
 use iss_keys::Directory;
-use iss_request::{Bytes, NoMemory, Seq, Value, value_string};
+use iss_request::{Bytes, NoMemory, Seq, Value, sum, value_string};
 use std::alloc::Global;
 use std::marker::Model;
 
@@ -138,7 +138,7 @@ pub fn link(
     ensures end { IfOk result (λ end. end ≡ next_end version before.now value.now) }
     ensures hashed { OnOk result (hashed.new ≡ hashed.old ++ strings_of version before.now.chain value.now) }
 {
-    let requests = before.requests.checked_add(size(value)).ok_or(NoMemory)?;
+    let requests = sum(before.requests, size(value))?;
     let string = value_string(alloc, version, value)?;
     let digest = digest_of(directory, &string);
     let link = link_of(alloc, &before.chain, &digest)?;

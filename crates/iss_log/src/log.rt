@@ -3,7 +3,7 @@ ghost use Rattle.std.specs.Prelude.{◌≡◌, ◌≤◌, ◌+◌, take, ◌++�
 ghost use Rattle.iss_request.specs.Log.{requests, size_of};
 ghost use Rattle.iss_log.specs.LogState.{empty_log, value_at, ahead_at, first_number_of, IsFill, IsAdvanced, GoesOn, IsWithout};
 
-use iss_request::{NoMemory, Slot, Value};
+use iss_request::{NoMemory, Slot, Value, sum};
 use std::alloc::Global;
 use std::collections::BTreeMap;
 use std::marker::Model;
@@ -153,7 +153,7 @@ impl Log {
         ensures ok { OnOk result (self.new ≡ record self.old { entries = self.old.entries ++ value ∷ [] }) }
         ensures err { OnErr result (self.new ≡ self.old) }
     {
-        let count = self.count.checked_add(size(&value)).ok_or(NoMemory)?;
+        let count = sum(self.count, size(&value))?;
         self.firsts.reserve(1)?;
         self.values.push(value)?;
         if self.firsts.push(self.count).is_err() {

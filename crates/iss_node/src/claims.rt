@@ -14,7 +14,7 @@ ghost use Rattle.iss_sb.specs.declared.effects.Claim.{Claim as SaidToSign};
 ghost use Rattle.iss_segment.specs.Instance.{SegmentState};
 
 use crate::answers::Outcome;
-use crate::parcels::pack;
+use crate::parcels::{Origin, pack};
 use crate::state::NodeState;
 use iss_keys::Directory;
 use iss_request::{Bytes, NoMemory, NodeId, Seq};
@@ -77,7 +77,13 @@ impl<M: Sequenced> NodeState<M> {
         ensures { IfOk result (IsHandedOut M.spec self.now leader.0 sends.now hashed) }
     {
         let own = self.own_in(alloc, leader, sends)?;
-        let packets = pack::<M>(alloc, &self.setup, self.epoch, self.me, leader, sends)?;
+        let (node, epoch) = (self.me, self.epoch);
+        let origin = Origin {
+            node,
+            epoch,
+            leader,
+        };
+        let packets = pack::<M>(alloc, &self.setup, origin, sends)?;
         Ok(Outcome {
             sends: packets,
             own,

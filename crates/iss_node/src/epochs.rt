@@ -17,7 +17,7 @@ use crate::starting::start_segments;
 use crate::state::NodeState;
 use iss_layout::Layout;
 use iss_log::Log;
-use iss_request::{Epoch, NoMemory, ReqId, Seq, Slot};
+use iss_request::{Epoch, NoMemory, ReqId, Seq, Slot, sum};
 use iss_sb::{Claim, Input, Sequenced};
 use iss_window::{Ids, Windows};
 use std::alloc::Global;
@@ -146,20 +146,15 @@ impl<M: Sequenced> NodeState<M> {
     }
 
     /// Ends the epoch and starts the next one with fresh instances. Returns the messages that arrived early for it.
-    /// `NoMemory` also if slots would exceed 2^64 - 1.
     // rule: Epochs: An epoch ends when the log holds all of it, and the next begins with fresh instances
     pub(crate) fn next_epoch(&mut self, alloc: Global) -> Result<Vec<Early<M::Msg>>, NoMemory>
         ensures next { IfOk result (λ early. IsNextEpoch M.refines self.old self.new early.items) }
         ensures from { IfOk result (λ early. AreFrom self.new.setup.n early.items) }
         ensures later { IsLater self.old self.new }
     {
-        let Some(epoch) = self.epoch.0.checked_add(1) else {
-            return Err(NoMemory);
-        };
+        let epoch = sum(self.epoch.0, 1)?;
         let start = self.layout.first().0 + self.setup.epoch;
-        if start >= u64::MAX - self.setup.epoch {
-            return Err(NoMemory);
-        }
+        let _end = sum(start, self.setup.epoch)?;
         self.close(alloc)?;
         self.open(alloc, Epoch(epoch), start)?;
         Ok(mem::replace(&mut self.early, Vec::new(alloc)))

@@ -189,21 +189,28 @@ fn read_request(alloc: Global, version: u8, bytes: &Bytes) -> Result<Option<Requ
     }
 }
 
+/// Who sends a module's message: a node, in the instance of this epoch and leader.
+#[derive(Clone, Copy)]
+pub struct Origin {
+    pub node: NodeId,
+    pub epoch: Epoch,
+    pub leader: NodeId,
+}
+
 /// The messages of a step as packets, in order.
 pub fn pack<M: Sequenced>(
     alloc: Global,
     setup: &Setup,
-    epoch: Epoch,
-    me: NodeId,
-    leader: NodeId,
+    origin: Origin,
     sends: &[(To, M::Msg)],
 ) -> Result<Seq<(To, Bytes)>, NoMemory>
-    ensures { IfOk result (λ packets. packets ≡ packed (formats_of setup.now M.spec) me.0 epoch.0 leader.0 sends.now) }
+    ensures { IfOk result (λ packets. packets ≡
+        packed (formats_of setup.now M.spec) origin.node.0 origin.epoch.0 origin.leader.0 sends.now) }
 {
     let version = setup.version;
     let mut packets = Seq::new(alloc);
     for (to, msg) in sends {
-        packets.push((*to, wrap::<M>(alloc, version, epoch, me, leader, msg)?))?;
+        packets.push((*to, wrap::<M>(alloc, version, origin, msg)?))?;
     }
     Ok(packets)
 }
@@ -212,22 +219,20 @@ pub fn pack<M: Sequenced>(
 fn wrap<M: Sequenced>(
     alloc: Global,
     version: u8,
-    epoch: Epoch,
-    me: NodeId,
-    leader: NodeId,
+    origin: Origin,
     msg: &M::Msg,
 ) -> Result<Bytes, NoMemory>
     ensures { IfOk result (λ bytes. (s : Setup) → s.version ≡ version →
         bytes ≡ (formats_of s M.spec).wrap
-        (record { from = me.0; epoch = epoch.0; body = OfModule leader.0 msg.now })) }
+        (record { from = origin.node.0; epoch = origin.epoch.0; body = OfModule origin.leader.0 msg.now })) }
 {
     let mut out = Writer::new(alloc, version);
     M::encode(msg, &mut out)?;
     let packet = Packet {
         kind: PacketKind::Message,
-        from: me.0,
-        epoch,
-        leader: leader.0,
+        from: origin.node.0,
+        epoch: origin.epoch,
+        leader: origin.leader.0,
         body: out.into_bytes(),
     };
     packet.encode(alloc, version)

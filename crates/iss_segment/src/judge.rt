@@ -14,33 +14,32 @@ ghost use Rattle.iss_window.specs.Window.{is_inside, place_of};
 use crate::signatures::is_signed;
 use iss_keys::Directory;
 use iss_layout::Layout;
-use iss_request::{NodeId, ReqId, Request, Setup};
+use iss_request::{NodeId, ReqId, Request};
 use iss_rules::Refusal;
+use iss_sb::Params;
 use iss_window::{Ids, Place, Windows};
 
-/// The first reason to refuse a batch in this leader's segment. `None` if the batch is accepted. `marked` are the
-/// identities that the segment accepted earlier. (ISS: valid requests, from the leader's buckets, neither accepted in
-/// this epoch nor delivered before.)
+/// The first reason to refuse a batch in the segment of these parameters. `None` if the batch is accepted. `marked` are
+/// the identities that the segment accepted earlier. (ISS: valid requests, from the leader's buckets, neither accepted
+/// in this epoch nor delivered before.)
 // rule: Acceptance: A batch is refused for its first fault: size, bucket, signature, window, ordered, marked
 // rule: Acceptance: An accepted request is signed, inside its client's window, and of no earlier epoch
 pub fn refusal(
-    setup: &Setup,
-    directory: &Directory,
+    params: &Params,
     layout: &Layout,
     windows: &Windows,
-    leader: NodeId,
     marked: &Ids,
     batch: &[Request],
 ) -> Option<Refusal>
-    requires { directory.now ≡ keys_of setup.now }
-    ensures { (before : List Value) (e : ℕ) → RestsOn setup.now before e layout.now windows.now →
-        result ≡ judge (rules_of setup.now) before e leader.0 marked.now batch.now }
+    requires { params.now.directory ≡ keys_of params.now.setup }
+    ensures { (before : List Value) (e : ℕ) → RestsOn params.now.setup before e layout.now windows.now →
+        result ≡ judge (rules_of params.now.setup) before e params.now.leader.0 marked.now batch.now }
 {
-    if batch.len() as u64 > setup.batch as u64 {
+    if batch.len() as u64 > params.setup.batch as u64 {
         Some(Refusal::TooLarge)
-    } else if is_any_foreign(layout, leader, batch) {
+    } else if is_any_foreign(layout, params.leader, batch) {
         Some(Refusal::ForeignBucket)
-    } else if is_any_unsigned(directory, batch) {
+    } else if is_any_unsigned(params.directory.directory(), batch) {
         Some(Refusal::BadSignature)
     } else if is_any_outside(windows, batch) {
         Some(Refusal::OutOfWindow)

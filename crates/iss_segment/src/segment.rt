@@ -108,15 +108,8 @@ impl<M: Sequenced> Segment<M> {
             result ≡ judge (rules_of self.now.params.setup) before self.now.params.epoch.0 self.now.params.leader.0
             self.now.marked batch.now }
     {
-        refusal(
-            &self.params.setup,
-            self.params.directory.directory(),
-            layout,
-            windows,
-            self.params.leader,
-            &self.marked,
-            batch.as_slice(),
-        )
+        let (params, marked) = (&self.params, &self.marked);
+        refusal(params, layout, windows, marked, batch.as_slice())
     }
 
     /// Takes an input. If the input asks to accept a batch, the batch must be valid. A refused input changes nothing.

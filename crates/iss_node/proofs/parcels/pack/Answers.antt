@@ -10,5 +10,5 @@ loop-to-preserved g c =
     let F = formats_of c.args.setup.now g.M.Sequenced.spec in
     c.in_ok-push.ensures.ok
     ∙ ap (λ b. c.loop-to.packets ++ (c.loop-to-item.result.0, b) ∷ []) (c.in_ok-wrap.ensures c.args.setup.now refl)
-    ∙ ap (λ zs. zs ++ (c.loop-to-item.result.0, F.wrap (record { from = c.args.me.0; epoch = c.args.epoch.0; body = OfModule c.args.leader.0 c.loop-to-item.result.1 })) ∷ []) c.loop-to.invariant
-    ∙ packed-next F c.args.me.0 c.args.epoch.0 c.args.leader.0 c.args.sends.now c.loop-to.to-index c.loop-to-item.result lt c.loop-to-item.is
+    ∙ ap (λ zs. zs ++ (c.loop-to-item.result.0, F.wrap (record { from = c.args.origin.node.0; epoch = c.args.origin.epoch.0; body = OfModule c.args.origin.leader.0 c.loop-to-item.result.1 })) ∷ []) c.loop-to.invariant
+    ∙ packed-next F c.args.origin.node.0 c.args.origin.epoch.0 c.args.origin.leader.0 c.args.sends.now c.loop-to.to-index c.loop-to-item.result lt c.loop-to-item.is
