@@ -4,6 +4,7 @@ ghost use Rattle.std.specs.Prelude.{◌<◌, ◌≤◌, ◌^◌};
 ghost use Rattle.iss_base.specs.Heights.{IsHeight};
 
 use super::vectors::{known, root_2, root_4, root_client_2, root_node_0};
+use crate::damage::{cut, flip_byte};
 use iss_keys::{Directory, Keys, PublicKey, SignError, verify};
 use sha2::{Digest, Sha256};
 use std::alloc::Global;
@@ -31,25 +32,10 @@ fn directory(alloc: Global, nodes: u32, clients: u32) -> Result<Directory, Fail>
     Ok(Directory::make(alloc, nodes, clients, 2)?)
 }
 
-// All bytes but the last.
-fn cut(bytes: &[u8]) -> &[u8] {
-    match bytes.len() {
-        0 => bytes,
-        count => &bytes[..count - 1],
-    }
-}
-
 // Sets the byte at a place.
 fn set_byte(bytes: &mut [u8], at: usize, value: u8) {
     if let Some(byte) = bytes.get_mut(at) {
         *byte = value;
-    }
-}
-
-// Changes the byte at a place; doing it twice restores it.
-fn flip_byte(bytes: &mut [u8], at: usize) {
-    if let Some(byte) = bytes.get_mut(at) {
-        *byte ^= 1;
     }
 }
 

@@ -2,6 +2,7 @@
 ghost use Rattle.iss_base.specs.Heights.{IsHeight};
 
 use super::vectors::{root_13, signature_13_at_0, signature_13_at_1024};
+use crate::damage::flip_byte;
 use iss_keys::{Keys, PublicKey, verify};
 use sha2::{Digest, Sha256};
 use std::alloc::Global;
@@ -52,13 +53,6 @@ fn the_signature_after_a_bottom_tree_is_by_the_next(rt: HostRuntime) -> Result<(
     assert!(rt; is_signature(&public, &later, [13, 0, 0, 4, 0], signature_13_at_1024()));
     assert_eq!(rt; keys.left(), 7167);
     Ok(())
-}
-
-// Changes the byte at a place.
-fn flip_byte(bytes: &mut [u8], at: usize) {
-    if let Some(byte) = bytes.get_mut(at) {
-        *byte ^= 1;
-    }
 }
 
 // At which of some bytes of all fields a change leaves a valid signature.
