@@ -56,7 +56,7 @@ loop-next-preserved c =
     }
 
 pub returns-clause-there : goal.returns-clause-there
-returns-clause-there c = let places = c.loop-next.invariant.places in omega (arith, c.loop-next-test.false, places, c.in-Some.ensures)
+returns-clause-there c = let places = c.loop-next.invariant.places in omega (arith, c.loop-next-test.false, places, c.in_ok-end.ensures.sum)
 
 pub returns-clause-kept : goal.returns-clause-kept
 returns-clause-kept c = c.loop-next.invariant.kept
