@@ -102,7 +102,8 @@ fn main(rt: HostRuntime) -> Result<(), Fail> {
         Some(rounds) => time_all(&rt, rounds.as_str().parse::<u32>()?),
         None => {
             count_plan(&rt, PBFT)?;
-            count_plan(&rt, HOTSTUFF)
+            count_plan(&rt, HOTSTUFF)?;
+            count_plan(&rt, CHAINED)
         }
     }
 }
