@@ -13,7 +13,8 @@ use Rattle.iss_model.specs.Courses.{begin_machines}
 use Rattle.iss_sb.specs.Calls.{Relation}
 use Rattle.iss_sb.specs.Evidence.{Module}
 use Rattle.iss_world.specs.Books.{AreHashed, AreSigned}
-use Rattle.iss_world.specs.Internal.Shape.{AreForCores, IsSimulation}
+use Rattle.iss_world.specs.Internal.Shape.{IsSimulation}
+use Rattle.iss_world.specs.State.{AreBetweenCores}
 use Rattle.iss_world.specs.Refines.{AreFresh, IsFresh, RefinesMachines}
 
 ascending-at : (from n : ℕ) (xs : List NodeId) (j : ℕ) (d : NodeId) → AreAscendingBelow from n xs → j < length xs → (slice_index_or xs j d).0 < n
@@ -58,7 +59,7 @@ module _ {M Msg : Type 0} (m : Module Msg) (refines : Relation M Msg) where
         count = h.count;
         network = record {
           held = ap (λ (u : Network). length u.held) here ∙ length-replicate (cores_of s) false;
-          packets = subst (λ (u : Network). AreForCores (cores_of s) u.packets) (sym here) tt;
+          packets = subst (λ (u : Network). AreBetweenCores (cores_of s) u.packets) (sym here) tt;
         };
         setups = λ i g at. (h.each i g at).setup;
         places = λ i g at. (h.each i g at).place;

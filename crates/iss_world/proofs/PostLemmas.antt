@@ -13,21 +13,22 @@ use Rattle.iss_network.specs.Network.{Network, posted}
 use Rattle.iss_network.specs.declared.packets.Sent.{Sent}
 use Rattle.iss_sb.specs.declared.effects.To.{To}
 use Rattle.iss_sb.specs.Calls.{AreToNodes, IsToNode}
-use Rattle.iss_world.specs.Internal.Shape.{AreForCores, IsNetworkOf}
+use Rattle.iss_world.specs.Internal.Shape.{IsNetworkOf}
+use Rattle.iss_world.specs.State.{AreBetweenCores}
 
-for-more : (n : ℕ) (ps : List Sent) (p : Sent) → AreForCores n ps → p.to < n → AreForCores n (ps ++ p ∷ [])
-for-more n [] p h lt = (lt, tt)
-for-more n (q ∷ qs) p h lt = (h.0, for-more n qs p h.1 lt)
+between-more : (n : ℕ) (ps : List Sent) (p : Sent) → AreBetweenCores n ps → p.from < n → p.to < n → AreBetweenCores n (ps ++ p ∷ [])
+between-more n [] p h from to = (from, to, tt)
+between-more n (q ∷ qs) p h from to = (h.0, h.1, between-more n qs p h.2 from to)
 
-pub for-at : (n : ℕ) (ps : List Sent) (k : ℕ) (p : Sent) → AreForCores n ps → nth ps k ≡ Some p → p.to < n
+pub for-at : (n : ℕ) (ps : List Sent) (k : ℕ) (p : Sent) → AreBetweenCores n ps → nth ps k ≡ Some p → p.to < n
 for-at n [] k p h e = absurd cc
-for-at n (q ∷ qs) zero p h e = let is : q ≡ p = cc in subst (λ (x : Sent). x.to < n) is h.0
-for-at n (q ∷ qs) (suc k) p h e = for-at n qs k p h.1 e
+for-at n (q ∷ qs) zero p h e = let is : q ≡ p = cc in subst (λ (x : Sent). x.to < n) is h.1
+for-at n (q ∷ qs) (suc k) p h e = for-at n qs k p h.2 e
 
--- Posting a packet for one of n cores keeps the network well formed.
-pub between-posted : (b : Bool) (n : ℕ) (w : Network) (p : Sent) → IsNetworkOf n w → p.to < n → IsNetworkOf n (if b then posted w p else w)
-between-posted true n w p h lt = record { held = h.held; packets = for-more n w.packets p h.packets lt }
-between-posted false n w p h lt = h
+-- Posting a packet between two of n cores keeps the network well formed.
+pub between-posted : (b : Bool) (n : ℕ) (w : Network) (p : Sent) → IsNetworkOf n w → p.from < n → p.to < n → IsNetworkOf n (if b then posted w p else w)
+between-posted true n w p h from to = record { held = h.held; packets = between-more n w.packets p h.packets from to }
+between-posted false n w p h from to = h
 
 posted_to-append : (w : Network) (from : ℕ) (b : List ℕ) (xs ys : List ℕ) → posted_to w from b (xs ++ ys) ≡ posted_to (posted_to w from b xs) from b ys
 posted_to-append w from b [] ys = refl

@@ -275,6 +275,9 @@ module _ {M Msg : Type 0} (m : Module Msg) (refines : Relation M Msg) where
     ];
   }
 
+  pub network-shown : (v : SimulationState M Msg) (w : Machines Msg) → RefinesOrShows m refines v w → v.network ≡ w.held.net.network
+  network-shown v w k = elim k [ inl h ↦ h.network | inr h ↦ h.network ]
+
   pub same-network : (v : SimulationState M Msg) → IsSimulation m v → IsNetworkOf (length v.nodes) v.network
   same-network v h = subst (λ (k : ℕ). IsNetworkOf k v.network) (sym h.count) h.network
 

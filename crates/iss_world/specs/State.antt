@@ -1,7 +1,8 @@
 -- What is seen of a world: set-up, kept nodes over their disks, network, books, why the run ended, and whether memory
 -- ran out.
-use Rattle.std.specs.Prelude.{ℕ, Bool, List, Option}
+use Rattle.std.specs.Prelude.{ℕ, ◌<◌, Bool, List, [], ◌∷◌, Option}
 use Rattle.iss_network.specs.Network.{Network}
+use Rattle.iss_network.specs.declared.packets.Sent.{Sent}
 use Rattle.iss_disk.specs.declared.memory.MemoryDisk.{MemoryDisk}
 use Rattle.iss_keep.specs.State.{KeptState}
 use Rattle.iss_request.specs.declared.setups.Setup.{Setup}
@@ -23,3 +24,8 @@ pub record WorldState (M Msg : Type 0) : Type 0 where
   pub ended : Option Evidence
   -- Memory ran out in an event, so nothing is known about the rest.
   pub stale : Bool
+
+-- All packets go between cores below n.
+abbrev pub AreBetweenCores : ℕ → List Sent → Type 0
+AreBetweenCores n [] = Unit {0}
+AreBetweenCores n (p ∷ ps) = (p.from < n) × (p.to < n) × AreBetweenCores n ps

@@ -23,6 +23,7 @@ pub fn post_all(
 ) -> Result<(), NoMemory>
     requires good { IsGoodSetup setup.now }
     requires between { IsNetworkOf (cores_of setup.now) network.old }
+    requires from { from < cores_of setup.now }
     requires addressed { AreToNodes setup.now.n sends.now }
     ensures posted { OnOk result (network.new ≡ posted_all setup.now network.old from sends.now) }
     ensures between { IsNetworkOf (cores_of setup.now) network.new }
@@ -43,6 +44,7 @@ fn post_send(
 ) -> Result<(), NoMemory>
     requires good { IsGoodSetup setup.now }
     requires between { IsNetworkOf (cores_of setup.now) network.old }
+    requires from { from < cores_of setup.now }
     requires addressed { IsToNode setup.now.n send.now.0 }
     ensures posted { OnOk result
         (network.new ≡ posted_to network.old from send.now.1 (addressees setup.now send.now.0)) }
@@ -56,7 +58,8 @@ fn post_send(
 
 // Posts a packet to each core, ascending.
 fn post_to_each(network: &mut Network, n: u32, from: u32, bytes: &Bytes) -> Result<(), NoMemory>
-    requires { IsNetworkOf n network.old }
+    requires between { IsNetworkOf n network.old }
+    requires from { from < n }
     ensures posted { OnOk result (network.new ≡ posted_to network.old from bytes.now (below n)) }
     ensures between { IsNetworkOf n network.new }
 {
@@ -76,6 +79,7 @@ fn post_to_node(
 ) -> Result<(), NoMemory>
     requires good { IsGoodSetup setup.now }
     requires between { IsNetworkOf (cores_of setup.now) network.old }
+    requires from { from < cores_of setup.now }
     requires addressed { node.0 < setup.now.n }
     ensures posted { OnOk result (network.new ≡
         posted_to network.old from bytes.now
@@ -101,6 +105,7 @@ fn post_if_runs(
 ) -> Result<(), NoMemory>
     requires good { IsGoodSetup setup.now }
     requires between { IsNetworkOf (cores_of setup.now) network.old }
+    requires from { from < cores_of setup.now }
     requires core { core < cores_of setup.now }
     ensures posted { OnOk result
         (network.new ≡ posted_to network.old from bytes.now (filter (λ c. node_of setup.now c == node.0) (core ∷ []))) }
@@ -122,6 +127,7 @@ fn post_to(
     bytes: &Bytes,
 ) -> Result<(), NoMemory>
     requires between { IsNetworkOf n network.old }
+    requires from { from < n }
     requires core { core < n }
     ensures posted { OnOk result
         (network.new ≡ posted network.old (record { from = from; to = core; bytes = bytes.now })) }

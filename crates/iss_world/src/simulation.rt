@@ -10,6 +10,7 @@ ghost use Rattle.iss_rules.specs.Setups.{IsSetupOf};
 ghost use Rattle.iss_network.specs.Network.{cleared, due, held_to};
 ghost use Rattle.iss_schedule.specs.Events.{IsInRange};
 ghost use Rattle.iss_world.specs.Refines.{HasChanged, RefinesMachines, RefinesOrShows, RefinesSome, ShowsCore, log_at};
+ghost use Rattle.iss_world.specs.State.{AreBetweenCores};
 
 use crate::claims::Claims;
 use crate::cores::{cores_of, directory_of, make_anew, start_cores};
@@ -20,7 +21,7 @@ use iss_disk::MemoryDisk;
 use iss_keep::Kept;
 use iss_keys::SharedDirectory;
 use iss_log::Log;
-use iss_network::Network;
+use iss_network::{Network, Sent};
 use iss_request::{Bytes, Epoch, Kind, NoMemory, ReqId, Setup, Value};
 use iss_rules::{NodeEvent, Why};
 use iss_sb::Sequenced;
@@ -317,6 +318,15 @@ impl<M: Sequenced> Simulation<M> {
         ensures good { IsSetupOf M.spec result.now }
     {
         &self.setup
+    }
+
+    /// The packets that were sent, by number.
+    pub fn packets(&self) -> &[Sent]
+        ensures shown { (w : Machines M.Msg) → RefinesOrShows M.spec M.refines self.now w →
+            result.now ≡ w.held.net.network.packets }
+        ensures between { AreBetweenCores (cores_of self.now.setup) result.now }
+    {
+        self.network.packets()
     }
 
     /// The kept node that a core runs.

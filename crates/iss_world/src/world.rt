@@ -10,12 +10,14 @@ ghost use Rattle.iss_schedule.specs.declared.schedules.Event.{Event as ScheduleE
 ghost use Rattle.iss_world.specs.Headline.{IsAnswered, IsHeadline, RefinesEvents};
 ghost use Rattle.iss_world.specs.Internal.Shape.{IsWorld};
 ghost use Rattle.iss_world.specs.Refines.{HasHappened, IsOverOr, IsStaleOr, RefinesMachine, RefinesOrRetreated, RefinesRun, RefinesSome, WorldRefinesMachines, awake, log_at, result_of};
+ghost use Rattle.iss_world.specs.State.{AreBetweenCores};
 
 use crate::ends::{EventOutcome, Evidence};
 use crate::simulation::Simulation;
 use iss_disk::MemoryDisk;
 use iss_keep::{Kept, leaves_are_of_one_statement};
 use iss_log::Log;
+use iss_network::Sent;
 use iss_request::{Bytes, Epoch, NoMemory, NodeId, Setup, Value};
 use iss_rules::Why;
 use iss_sb::Sequenced;
@@ -145,6 +147,16 @@ impl<M: Sequenced> World<M> {
             × (result.now.me.0 ≡ node_of self.now.simulation.setup core) }
     {
         self.simulation.node(core)
+    }
+
+    /// The packets that were sent, by number: each with the core that sent it, the core that it is for, and its bytes.
+    /// Evidence leaves those from before its event.
+    pub fn packets(&self) -> &[Sent]
+        ensures refines { (p : Course M.Msg) → RefinesRun M.spec M.refines self.now p →
+            result.now ≡ p.machines.held.net.network.packets }
+        ensures between { AreBetweenCores (cores_of self.now.simulation.setup) result.now }
+    {
+        self.simulation.packets()
     }
 
     /// The log of a core.

@@ -4,23 +4,17 @@ use Rattle.std.specs.Prelude.{◌≡◌, ◌<◌, ℕ, false, List, [], ◌∷�
 use Rattle.iss_model.specs.Run.{cores_of, node_of}
 use Rattle.iss_rules.specs.Setups.{IsSetupOf}
 use Rattle.iss_network.specs.Network.{Network}
-use Rattle.iss_network.specs.declared.packets.Sent.{Sent}
 use Rattle.iss_disk.specs.declared.memory.MemoryDisk.{MemoryDisk}
 use Rattle.iss_keep.specs.State.{KeptState}
 use Rattle.iss_sb.specs.Evidence.{Module}
-use Rattle.iss_world.specs.State.{SimulationState, WorldState}
+use Rattle.iss_world.specs.State.{AreBetweenCores, SimulationState, WorldState}
 use Rattle.iss_world.specs.Refines.{RefinesSome}
 use Rattle.iss_sb.specs.Calls.{Relation}
-
--- All packets are for cores below n.
-abbrev pub AreForCores : ℕ → List Sent → Type 0
-AreForCores n [] = Unit {0}
-AreForCores n (p ∷ ps) = (p.to < n) × AreForCores n ps
 
 -- A network between n cores.
 pub record IsNetworkOf (n : ℕ) (w : Network) : Type 0 where
   pub held : length w.held ≡ n
-  pub packets : AreForCores n w.packets
+  pub packets : AreBetweenCores n w.packets
 
 pub record IsSimulation {M Msg : Type 0} (m : Module Msg) (v : SimulationState M Msg) : Type 0 where
   pub good : IsSetupOf m v.setup
