@@ -1,8 +1,8 @@
 -- Pairs of digits are the bytes that they were read as, and no other word is that of bytes.
-use Rattle.std.proofs.Common.{◌≡◌, ◌≢◌, ◌∙◌, ℕ, zero, suc, ◌+◌, ◌*◌, ◌/◌, ◌%◌, ◌<◌, ◌==◌, Bool, true, false, ◌&&◌, inl, inr, List, [], ◌∷◌, ◌++◌, length, take, drop, slice_index, codes, slice_set, ◌≤◌, refl, sym, ap, subst, arith, append_assoc}
+use Rattle.std.proofs.Common.{◌≡◌, ◌≢◌, ◌∙◌, ℕ, zero, suc, ◌+◌, ◌*◌, ◌/◌, ◌%◌, ◌-◌, ◌<◌, ◌==◌, Bool, true, false, ◌&&◌, inl, inr, List, [], ◌∷◌, ◌++◌, length, take, drop, slice_index, codes, slice_set, ◌≤◌, refl, sym, ap, subst, arith, append_assoc}
 use Rattle.std.specs.Prelude.{nat_lt, if◌then◌else◌}
 use Rattle.std.proofs.lemmas.Bool.{and_parts, cases_lt, eqb-true}
-use Rattle.std.proofs.lemmas.List.{append-nil, drop_all, take_all, take_more_set}
+use Rattle.std.proofs.lemmas.List.{append-nil, drop_all, length-drop, take_all, take_more_set}
 use Rattle.hex.specs.Hex.{IsBytes, encode_lower, encode_with, lower_digits}
 use Rattle.hex.proofs.HexLemmas.{length-encode_with}
 use Rattle.hex.proofs.Pairs.{drop-pair}
@@ -57,6 +57,7 @@ digit-read c is = go (is_digit c) is (are_read-at 103 c refl (below c is))
   where
     below : (n : ℕ) → is_digit n ≡ true → n < 103
     below n h = grind (arith, h)
+
     go : (b : Bool) → b ≡ true → (if b then nat_lt (value c) 16 && (slice_index lower_digits (value c) == c) else true) ≡ true → (value c < 16) × (slice_index lower_digits (value c) ≡ c)
     go true h test =
         let parts = and_parts (nat_lt (value c) 16) (slice_index lower_digits (value c) == c) test in
@@ -82,23 +83,34 @@ encode-pair : (t : List ℕ) (b x y high low : ℕ) → b / 16 ≡ high → b % 
 unfolding encode_with
 encode-pair t b x y high low up down is are = rw (up, down, is, are) refl
 
+-- the rest of the word, as a slice from this pair on
+pair-seen : (word : List ℕ) (place : ℕ) → 2 * place + 1 < length word → take (length word - 2 * place) (drop (2 * place) word) ≡ slice_index word (2 * place) ∷ slice_index word (2 * place + 1) ∷ drop (2 * (place + 1)) word
+pair-seen word place fits =
+    let long = length-drop (2 * place) word in
+    take_all (length word - 2 * place) (drop (2 * place) word) (omega (arith, long)) ∙ drop-pair word place fits
+
+pub first-seen : (word : List ℕ) (place : ℕ) → 2 * place + 1 < length word → slice_index (take (length word - 2 * place) (drop (2 * place) word)) 0 ≡ slice_index word (2 * place)
+first-seen word place fits = ap (λ (r : List ℕ). slice_index r 0) (pair-seen word place fits)
+
+pub second-seen : (word : List ℕ) (place : ℕ) → 2 * place + 1 < length word → slice_index (take (length word - 2 * place) (drop (2 * place) word)) 1 ≡ slice_index word (2 * place + 1)
+second-seen word place fits = ap (λ (r : List ℕ). slice_index r 1) (pair-seen word place fits)
+
 -- one byte more is written
-pub decode-step : (word bytes : List ℕ) (place x y high low : ℕ) → 2 * place + 1 < length word → place < length bytes → slice_index (drop (2 * place) word) 0 ≡ x → slice_index (drop (2 * place) word) 1 ≡ y →
-    high < 16 → low < 16 → slice_index lower_digits high ≡ x → slice_index lower_digits low ≡ y → IsDecoded word bytes place → IsDecoded word (slice_set bytes place (high * 16 + low)) (place + 1)
-decode-step word bytes place x y high low fits room is are small little digit other before =
+pub decode-step : (word bytes : List ℕ) (place high low : ℕ) → 2 * place + 1 < length word → place < length bytes → high < 16 → low < 16 →
+    slice_index lower_digits high ≡ slice_index word (2 * place) → slice_index lower_digits low ≡ slice_index word (2 * place + 1) →
+    IsDecoded word bytes place → IsDecoded word (slice_set bytes place (high * 16 + low)) (place + 1)
+decode-step word bytes place high low fits room small little first second before =
     let b : ℕ = high * 16 + low in
     let up : b / 16 ≡ high = omega arith in
     let down : b % 16 ≡ low = omega arith in
-    let whole = drop-pair word place fits in
-    let first : slice_index word (2 * place) ≡ x = sym (ap (λ (r : List ℕ). slice_index r 0) whole) ∙ is in
-    let second : slice_index word (2 * place + 1) ≡ y = sym (ap (λ (r : List ℕ). slice_index r 1) whole) ∙ are in
+    let x : ℕ = slice_index word (2 * place) in
+    let y : ℕ = slice_index word (2 * place + 1) in
     let rest : List ℕ = drop (2 * (place + 1)) word in
     let front : List ℕ = encode_lower (take place bytes) in
-    let pair = encode-pair lower_digits b x y high low up down digit other in
+    let pair = encode-pair lower_digits b x y high low up down first second in
     let more : encode_lower (take (place + 1) (slice_set bytes place b)) ≡ front ++ x ∷ y ∷ [] =
     ap encode_lower (take_more_set bytes place b room) ∙ encode-append lower_digits (take place bytes) (b ∷ []) ∙ ap (λ (r : List ℕ). front ++ r) pair in
-    let left : drop (2 * place) word ≡ x ∷ y ∷ rest = whole ∙ ap (λ (k : ℕ). k ∷ slice_index word (2 * place + 1) ∷ rest) first ∙ ap (λ (k : ℕ). x ∷ k ∷ rest) second in
-    ap (λ (r : List ℕ). r ++ rest) more ∙ append_assoc front (x ∷ y ∷ []) rest ∙ ap (λ (r : List ℕ). front ++ r) (sym left) ∙ before
+    ap (λ (r : List ℕ). r ++ rest) more ∙ append_assoc front (x ∷ y ∷ []) rest ∙ ap (λ (r : List ℕ). front ++ r) (sym (drop-pair word place fits)) ∙ before
 
 -- all bytes are written
 pub decode-done : (word bytes : List ℕ) (place : ℕ) → length bytes ≤ place → length word ≤ 2 * place → IsDecoded word bytes place → word ≡ encode_lower bytes

@@ -1,6 +1,6 @@
 //! Bytes in lower-case hexadecimal. An audit reads millions of digits, so the loops are such that a processor takes many
 //! digits at a time.
-ghost use Rattle.std.specs.Prelude.{◌≡◌, ◌<◌, ◌*◌, ◌↔◌, length, slice_index, true, IfOk, IsTrue};
+ghost use Rattle.std.specs.Prelude.{◌≡◌, ◌<◌, ◌*◌, ◌↔◌, codes, length, slice_index, true, IfOk, IsTrue};
 ghost use Rattle.hex.specs.Hex.{IsBytes, encode_lower, lower_digits};
 ghost use Rattle.iss_schedule.specs.Reads.{Reads};
 ghost use Rattle.iss_schedule.specs.Words.{word_of};
@@ -56,11 +56,18 @@ fn decode(word: &[u8], bytes: &mut [u8])
     }
 }
 
+// Whether the word stands for no bytes.
+fn is_minus(word: &[u8]) -> bool
+    ensures { IsTrue result ↔ (word.now ≡ codes "-") }
+{
+    word == b"-".as_slice()
+}
+
 /// The bytes in a word.
 pub fn bytes_in(alloc: Global, word: &[u8]) -> Result<Option<Bytes>, NoMemory>
     ensures { IfOk result (Reads word_of IsBytes word.now) }
 {
-    if word == b"-".as_slice() {
+    if is_minus(word) {
         return Ok(Some(Bytes::new(alloc)));
     }
     if !are_pairs(word) {
