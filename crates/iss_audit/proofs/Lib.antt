@@ -1,3 +1,4 @@
+pub mod DigitLemmas
 mod Examples
 pub mod EpochLemmas
 pub mod LineLemmas

@@ -1,6 +1,6 @@
 -- A line encodes at most one value or certificate, and what was decoded from it.
-use Rattle.std.specs.Prelude.{IfSome, IfNone}
-use Rattle.std.proofs.Common.{append-nil, ◌≡◌, ◌≢◌, ℕ, List, [], ◌∷◌, ◌++◌, Option, Some, None, refl, sym, ap, ◌∙◌, subst}
+use Rattle.std.specs.Prelude.{IfOk}
+use Rattle.std.proofs.Common.{append-nil, ◌≡◌, ◌≢◌, ℕ, List, [], ◌∷◌, ◌++◌, Option, Some, None, Result, Ok, Err, refl, sym, ap, ◌∙◌, subst}
 use Rattle.std.proofs.lemmas.List.{append_cancel_left}
 use Rattle.hex.specs.Hex.{IsBytes}
 use Rattle.iss_request.specs.Fields.{Parsed, Good, Bad}
@@ -15,14 +15,14 @@ use Rattle.iss_audit.specs.Exports.{hex_line}
 pub same-word : (name x y : List ℕ) → name ++ 32 ∷ x ≡ name ++ 32 ∷ y → x ≡ y
 same-word name x y e = let both = append_cancel_left name (32 ∷ x) (32 ∷ y) e in cc
 
+-- bytes in the word behind a name are those of the line
+pub reads-behind : {E : Type 0} (name line word : List ℕ) (r : Result (Option (List ℕ)) E) → line ≡ name ++ 32 ∷ word → IfOk r (Reads word_of IsBytes word) → IfOk r (Reads (hex_line name) IsBytes line)
+reads-behind name line word (Ok (Some bytes)) is h = (is ∙ ap (λ (w : List ℕ). name ++ 32 ∷ w) h.0, h.1)
+reads-behind name line word (Ok None) is h = λ bytes fits e. h bytes fits (same-word name word (word_of bytes) (sym is ∙ e))
+reads-behind name line word (Err e) is h = tt
+
 pub same-bytes : (name xs ys : List ℕ) → IsBytes xs → IsBytes ys → hex_line name xs ≡ hex_line name ys → xs ≡ ys
 same-bytes name xs ys fits fit e = word_injective xs ys fits fit (same-word name (word_of xs) (word_of ys) e)
-
-pub some-of : {A : Type 0} (P : A → Type 0) (o : Option A) (a : A) → o ≡ Some a → IfSome o P → P a
-some-of {A} P o a is h = subst (λ (p : Option A). IfSome p P) is h
-
-pub none-of : {A : Type 0} (P : Type 0) (o : Option A) → o ≡ None → IfNone o P → P
-none-of {A} P o is h = subst (λ (p : Option A). IfNone p P) is h
 
 pub read-some : {A : Type 0} (spell : A → List ℕ) (Is : A → Type 0) (text : List ℕ) (o : Option A) (a : A) → o ≡ Some a → Reads spell Is text o → (text ≡ spell a) × Is a
 read-some {A} spell Is text o a is h = subst (λ (p : Option A). Reads spell Is text p) is h

@@ -5,6 +5,7 @@
 
 pub mod auditing;
 pub mod checking;
+mod digits;
 pub mod errors;
 pub mod exports;
 pub mod laws;

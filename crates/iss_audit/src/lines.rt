@@ -8,9 +8,10 @@ ghost use Rattle.iss_schedule.specs.Reads.{Reads};
 ghost use Rattle.iss_schedule.specs.Words.{Lacks};
 ghost use Rattle.iss_audit.specs.Exports.{IsCertOf, IsValue, cert_line, hex_line, value_line};
 
+use crate::digits::bytes_in;
 use iss_checkpoint::{Cert, read_cert};
 use iss_request::{Bytes, DecodeError, Epoch, Fields, NoMemory, Value, decode_value};
-use iss_schedule::{behind, bytes_from, bytes_of};
+use iss_schedule::behind;
 use std::alloc::Global;
 
 // The bytes in hexadecimal after a name and a space.
@@ -21,10 +22,7 @@ fn bytes_behind(alloc: Global, line: &[u8], name: &[u8]) -> Result<Option<Bytes>
     let Some(word) = behind(line, name) else {
         return Ok(None);
     };
-    let Some(bytes) = bytes_of(alloc, word)? else {
-        return Ok(None);
-    };
-    Ok(Some(bytes_from(bytes)))
+    bytes_in(alloc, word)
 }
 
 /// The value in a line.
