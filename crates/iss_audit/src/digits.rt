@@ -1,5 +1,5 @@
-//! Bytes in lower-case hexadecimal. An audit reads millions of digits, so the loops are such that a processor takes many
-//! digits at a time.
+//! Bytes in lower-case hexadecimal. An audit reads millions of digits, so the loops let a processor take many digits at
+//! a time.
 ghost use Rattle.std.specs.Prelude.{◌≡◌, ◌<◌, ◌*◌, ◌↔◌, codes, length, slice_index, true, IfOk, IsTrue};
 ghost use Rattle.hex.specs.Hex.{IsBytes, encode_lower, lower_digits};
 ghost use Rattle.iss_schedule.specs.Reads.{Reads};
