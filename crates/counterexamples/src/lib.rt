@@ -4,7 +4,9 @@
 #![tactic(auto)]
 
 pub mod chained;
+pub mod hotstuff;
 pub mod pbft;
 
 pub use chained::chained_needs_views_in_digests;
+pub use hotstuff::hotstuff_needs_the_safe_test;
 pub use pbft::{pbft_needs_distinct_voters, pbft_needs_the_highest_certificate};

@@ -4,5 +4,6 @@ pub mod DeliveredSlotsAgree
 pub mod DraftsAgree
 pub mod Inside
 pub mod SlotsOfBranches
+pub mod SmallWorlds
 pub mod Tests
 pub mod TurnsAgree

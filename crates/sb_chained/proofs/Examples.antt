@@ -1,4 +1,5 @@
 pub mod ByzantineLeader
+pub mod LaterRound
 pub mod LooseCommits
 pub mod ReachableWorld
 pub mod Runs

@@ -1,2 +1,5 @@
+pub mod FourReplicas
+pub mod LaterRound
 pub mod ReachableWorld
+pub mod RoundChange
 pub mod Runs

@@ -1,12 +1,11 @@
--- What the examples share in which the Byzantine replica 3 leads the rounds 0 and 4: its votes and certificates, worlds
--- of the replicas 0, 1 and 2, and strings that are told apart by their digests.
-use Rattle.std.proofs.Common.{◌≡◌, ◌<◌, ◌≤◌, ◌^◌, ◌&&◌, ℕ, Bool, true, false, cond, eqb, not, List, [], ◌∷◌, length, refl, sym, ap, ◌∙◌, inl, inr, arith, true≢false}
-use Rattle.iss_base.specs.Lists.{In, same_bytes}
-use Rattle.iss_base.proofs.Lists.{and-true}
+-- What the examples share in which the Byzantine replica 3 leads the rounds 0 and 4: votes, certificates, and messages
+-- that may arrive.
+use Rattle.std.proofs.Common.{◌≡◌, ◌<◌, ◌≤◌, ◌^◌, ℕ, List, [], ◌∷◌, length, refl, sym, arith, true≢false}
+use Rattle.iss_base.specs.Lists.{In}
 use Rattle.iss_keys.specs.Directories.{directory_of}
-use Rattle.iss_request.specs.Digest.{digest}
 use Rattle.iss_request.specs.Setup.{IsGoodSetup}
 use Rattle.iss_sb.specs.declared.content.Content.TheVariants.{Holds}
+use Rattle.iss_sb.specs.declared.effects.Claim.{Claim}
 use Rattle.iss_sb.specs.declared.effects.Input.{Input}
 use Rattle.iss_sb.specs.declared.effects.Input.TheVariants.{Receive}
 use Rattle.iss_sb.specs.declared.effects.Params.{Params}
@@ -15,20 +14,20 @@ use Rattle.iss_sb.specs.declared.effects.To.TheVariants.{One as To_one}
 use Rattle.iss_sb.specs.declared.signers.Signed.{Signed}
 use Rattle.iss_sb.specs.Calls.{IsGoodParams}
 use Rattle.iss_sb.specs.Content.{IsSpelledContent}
-use Rattle.iss_sb.specs.Evidence.{Item, World, IsString, Separate}
-use Rattle.iss_sb.specs.Statements.{signature}
-use Rattle.iss_sb.proofs.Cases.{different}
+use Rattle.iss_sb.specs.Evidence.{Item, Module, World, IsCredible, IsReadMessage, IsSigned, Verifies}
+use Rattle.iss_sb.specs.Statements.{claim, signature}
 use Rattle.iss_sb.proofs.Contents.{batch-table}
 use Rattle.iss_sb.proofs.Read.{batch-read}
 use Rattle.iss_sb.proofs.Setups.{good-by}
-use Rattle.iss_sb.proofs.Signatures.{signature-shape}
+use Rattle.iss_sb.proofs.Signatures.{signature-shape, signature-verifies}
 use Rattle.hs_tree.specs.declared.certificates.Certificate.{Certificate}
 use Rattle.hs_tree.specs.declared.certificates.Certificate.TheVariants.{Votes}
 use Rattle.hs_tree.specs.declared.messages.Message.{Message}
 use Rattle.hs_tree.specs.declared.messages.Message.TheVariants.{Vote}
 use Rattle.hs_tree.specs.Certificates.{IsSpelledCertificate, votes_row}
-use Rattle.hs_tree.specs.Statements.{vote_statement}
+use Rattle.hs_tree.specs.Statements.{own_statement, vote_statement, with_signature}
 use Rattle.hs_tree.specs.Tree.{chained as form}
+use Rattle.hs_views.proofs.SmallWorlds.{IsFair, comes, sent-alone}
 use Rattle.sb_chained.specs.Chained.{chained}
 use Rattle.sb_chained.proofs.Examples.Runs.{b, node, setup, slot}
 
@@ -88,54 +87,41 @@ shown-spelled view d i at j other low high long less few = record {
 pub batch_held : (behind : List ℕ) × IsSpelledContent 1 (Holds b) behind
 batch_held = batch-table 1 b (batch-read 1 b (omega arith) (λ r h. absurd h))
 
--- ---- Worlds in which the replicas 0, 1 and 2 took some input
+-- ---- Messages that may arrive
 
-abbrev pub world : List (Item Message) → List (Item Message) → List (Item Message) → World Message
-world xs ys zs i = cond (eqb i 0) xs (cond (eqb i 1) ys (cond (eqb i 2) zs []))
+-- the message, signed by replica k with this leaf
+abbrev pub by : ℕ → ℕ → Message → Message
+by k leaf msg = with_signature (signature q k leaf (own_statement form q msg)) msg
 
-pub none : (a c e : Bool) → ◌≡◌ {A = List (Item Message)} (cond a [] (cond c [] (cond e [] []))) []
-none true c e = refl
-none false true e = refl
-none false false true = refl
-none false false false = refl
+abbrev pub signs : ℕ → ℕ → List ℕ → Claim
+signs k leaf statement = claim k statement (signature q k leaf statement)
 
--- ---- Strings told apart by their digests
+-- the claims of a certificate by the replicas i, j and 3, and the sender's own
+abbrev pub and_own : ℕ → List ℕ → ℕ → ℕ → ℕ → ℕ → Claim → List Claim
+and_own view d i at j other own =
+    signs i at (states view d) ∷ signs j other (states view d) ∷ signs 3 0 (states view d) ∷ own ∷ []
 
-abbrev pub differs : List ℕ → List (List ℕ × List ℕ) → Bool
-differs d [] = true
-differs d (x ∷ xs) = not (same_bytes d x.1) && differs d xs
+module _ (m : Module Message) (w : World Message) where
+  abbrev pub Arrives : ℕ → Message → Type 0
+  Arrives from msg = IsCredible m q (Verifies q) (IsSigned m q w) from msg
 
-abbrev pub all_differ : List (List ℕ × List ℕ) → Bool
-all_differ [] = true
-all_differ (x ∷ xs) = differs x.1 xs && all_differ xs
+  -- replica 3 may claim what it likes
+  pub liar : (statement : List ℕ) → IsFair m q w (signs 3 0 statement)
+  liar statement = record { valid = signature-verifies chained q good-q 3 0 statement (omega arith) (omega arith); signed = λ h. absurd (true≢false (sym h)) }
 
-not-same : (d e : List ℕ) → not (same_bytes d e) ≡ true → d ≡ e → ⊥
-not-same d e h k = different d e (go (same_bytes d e) h) k
-  where
-    go : (t : Bool) → not t ≡ true → t ≡ false
-    go true k = absurd (true≢false (sym k))
-    go false k = refl
+  pub honest : (k leaf : ℕ) (statement : List ℕ) → k < 4 → leaf < 2 ^ 4 → IsSigned m q w k statement → IsFair m q w (signs k leaf statement)
+  honest k leaf statement is few h = record { valid = signature-verifies chained q good-q k leaf statement is few; signed = λ c. h }
 
-from-first : (d : List ℕ) (y : List ℕ × List ℕ) (xs : List (List ℕ × List ℕ)) → differs d xs ≡ true → In y xs → d ≡ y.1 → ⊥
-from-first d y [] h k e = k
-from-first d y (x ∷ xs) h (inl k) e = not-same d x.1 (and-true _ (differs d xs) h).0 (e ∙ ap (λ (z : List ℕ × List ℕ). z.1) k)
-from-first d y (x ∷ xs) h (inr k) e = from-first d y xs (and-true _ (differs d xs) h).1 k e
+  -- a message without votes
+  pub alone : (k : ℕ) (msg : Message) (own : Claim) → k < 4 → IsReadMessage m q msg → m.claims q k msg ≡ own ∷ [] → IsFair m q w own → Arrives k msg
+  alone k msg own few read e fair = comes m q w k msg (own ∷ []) few read e (fair, tt)
 
-same-of : (xs : List (List ℕ × List ℕ)) (y z : List ℕ × List ℕ) → all_differ xs ≡ true → In y xs → In z xs → y.1 ≡ z.1 → y.0 ≡ z.0
-same-of [] y z h k j e = absurd k
-same-of (x ∷ xs) y z h (inl k) (inl j) e = ap (λ (r : List ℕ × List ℕ). r.0) (k ∙ sym j)
-same-of (x ∷ xs) y z h (inl k) (inr j) e = absurd (from-first x.1 z xs (and-true (differs x.1 xs) _ h).0 j (ap (λ (r : List ℕ × List ℕ). r.1) (sym k) ∙ e))
-same-of (x ∷ xs) y z h (inr k) (inl j) e = absurd (from-first x.1 y xs (and-true (differs x.1 xs) _ h).0 k (ap (λ (r : List ℕ × List ℕ). r.1) (sym j) ∙ sym e))
-same-of (x ∷ xs) y z h (inr k) (inr j) e = same-of xs y z (and-true (differs x.1 xs) _ h).1 k j e
+  -- a message with a certificate by the replicas i, j and 3
+  pub cites : (view : ℕ) (d : List ℕ) (i at j other : ℕ) → i < 4 → at < 2 ^ 4 → j < 4 → other < 2 ^ 4 → IsSigned m q w i (states view d) → IsSigned m q w j (states view d) → (k : ℕ) (msg : Message) (own : Claim) → k < 4 → IsReadMessage m q msg →
+      m.claims q k msg ≡ and_own view d i at j other own → IsFair m q w own → Arrives k msg
+  cites view d i at j other li la lj lo si sj k msg own few read e fair =
+      comes m q w k msg (and_own view d i at j other own) few read e (honest i at (states view d) li la si, (honest j other (states view d) lj lo sj, (liar (states view d), (fair, tt))))
 
--- one of these strings, with its digest
-pub record IsOneOf (pairs : List (List ℕ × List ℕ)) (s : List ℕ) : Type 0 where
-  pub digest_of : List ℕ
-  pub one : In {A = List ℕ × List ℕ} (s, digest_of) pairs
-  pub is : digest s ≡ digest_of
-
-pub separate-by : (pairs : List (List ℕ × List ℕ)) → all_differ pairs ≡ true → (w : World Message) → ((s : List ℕ) → IsString w s → IsOneOf pairs s) → Separate (IsString w)
-separate-by pairs apart w of x y k j e =
-    let a = of x k in
-    let c = of y j in
-    same-of pairs (x, a.digest_of) (y, c.digest_of) apart a.one c.one (sym a.is ∙ e ∙ c.is)
+  -- replica k cast a vote in a step that sent nothing else
+  pub voted : (k view : ℕ) (d : List ℕ) (leaf : ℕ) (x : Item Message) → In x (w k) → x.made.sends ≡ sent k view d leaf → In (signs k leaf (states view d)) (m.claims q k (Vote 1 view d (signature q k leaf (states view d)))) → IsSigned m q w k (states view d)
+  voted k view d leaf x h e c = sent-alone m q w k x (To_one (node 3)) (Vote 1 view d (signature q k leaf (states view d))) (signs k leaf (states view d)) h e c refl
