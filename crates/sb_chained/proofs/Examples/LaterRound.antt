@@ -5,7 +5,7 @@
 -- Replica 0 leads round 1 by the NewViews of 0, 1 and 3, of which its own has the highest certificate, that of the third
 -- node. It proposes a mark on this node, which gets the votes of 0, 1 and 3. Replica 1 delivers the batch by its
 -- justification.
-use Rattle.std.proofs.Common.{◌≡◌, ◌==◌, ℕ, zero, suc, Bool, true, false, cond, eqb, not, List, [], ◌∷◌, Some, None, refl, sym, subst, inl, inr, arith, true≢false}
+use Rattle.std.proofs.Common.{◌≡◌, ℕ, zero, suc, Bool, true, false, cond, eqb, List, [], ◌∷◌, Some, None, refl, sym, subst, inl, inr, arith, true≢false}
 use Rattle.sha2.specs.Sha256.{sha256, digest_bytes, hash_after, compress, rounds, schedule, first_words}
 use Rattle.sha2.proofs.Facts256.{length-sha256}
 use Rattle.iss_base.specs.Lists.{In}
@@ -265,7 +265,11 @@ separate = separate-by pairs these-differ last of-world
 
 -- votes of 0, 1 and 3 are a certificate
 abbrev voters : ℕ → Bool
-voters k = not (k == 2)
+voters zero = true
+voters (suc zero) = true
+voters (suc (suc zero)) = false
+voters (suc (suc (suc zero))) = true
+voters (suc (suc (suc (suc k)))) = false
 
 certified-by : (view : ℕ) (d : List ℕ) → IsVoted last 0 view d → IsVoted last 1 view d → IsCertified q last view d
 certified-by view d h g = record { test = voters; many = omega arith; each = each }
@@ -274,7 +278,8 @@ certified-by view d h g = record { test = voters; many = omega arith; each = eac
     each zero t c = h
     each (suc zero) t c = g
     each (suc (suc zero)) t c = absurd (true≢false (sym t))
-    each (suc (suc (suc k))) t c = absurd (true≢false (sym c))
+    each (suc (suc (suc zero))) t c = absurd (true≢false (sym c))
+    each (suc (suc (suc (suc k)))) t c = absurd (true≢false (sym t))
 
 vote-in : (k view leaf leader : ℕ) (d : List ℕ) (x : Item Message) → In x (last k) → x.made.sends ≡ (To_one (node leader), Vote 1 view d (signature q k leaf (states view d))) ∷ [] → IsVoted last k view d
 vote-in k view leaf leader d x h is = record { item = x; taken = h; vote = record { to = To_one (node leader); sig = signature q k leaf (states view d); sent = rw is (inl refl) } }

@@ -201,8 +201,8 @@ module _ (m : Module Message) (like : IsLike m) (l : ℕ) (below : l < 4) (w : W
   pub cites : (from leaf : ℕ) (msg : Message) (r : Poll) (phase : ℕ) → IsPoll r → phase ≤ 3 → from < 4 → IsReadMessage hotstuff q msg → claims basic q from msg ≡ and_own q r phase (signs q from leaf (own_statement basic q msg)) → AreCast m q w r phase → IsFair m q w (signs q from leaf (own_statement basic q msg)) → IsCredible m q (Verifies q) (IsSigned m q w) from msg
   cites from leaf msg r phase is high named read e h own =
       let st = states q r.view r.digest phase in
-      let one = honest r.one (r.one_behind + phase) st (omega (is.ascending, is.few)) (omega (is.one_left, high)) h.one_did in
-      let other = honest r.other (r.other_behind + phase) st (omega is.few) (omega (is.other_left, high)) h.other_did in
+      let one = honest r.one (r.one_behind + phase) st (omega (arith, is.ascending, is.few)) (omega (arith, is.one_left, high)) h.one_did in
+      let other = honest r.other (r.other_behind + phase) st (omega (arith, is.few)) (omega (arith, is.other_left, high)) h.other_did in
       arrives from msg _ named read e (one, (other, (liar st, (own, tt))))
 
   pub pre-commit-comes : (r : Poll) → IsPoll r → AreCast m q w r 1 → IsCredible m q (Verifies q) (IsSigned m q w) 3 (pre_commit q r)

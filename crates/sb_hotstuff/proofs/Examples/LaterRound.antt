@@ -1,6 +1,6 @@
 -- The premises of the laws and facts are met across the change of round of `RoundChange`: it is reached, its strings are
 -- separate, and two replicas deliver a slot by certificates of different views.
-use Rattle.std.proofs.Common.{◌≡◌, ◌==◌, ℕ, zero, suc, Bool, true, false, cond, eqb, not, List, [], ◌∷◌, Some, refl, sym, subst, inl, inr, arith, true≢false}
+use Rattle.std.proofs.Common.{◌≡◌, ℕ, zero, suc, Bool, true, false, cond, eqb, List, [], ◌∷◌, Some, refl, sym, subst, inl, inr, arith, true≢false}
 use Rattle.sha2.specs.Sha256.{sha256, digest_bytes, hash_after, compress, rounds, schedule, first_words}
 use Rattle.iss_base.specs.Lists.{In}
 use Rattle.iss_request.specs.Digest.{digest}
@@ -254,7 +254,11 @@ vote-in k phase leaf leader r x h is = record { item = x; taken = h; vote = reco
 
 -- votes of 0, 1 and 3 are a certificate
 abbrev voters : ℕ → Bool
-voters k = not (k == 2)
+voters zero = true
+voters (suc zero) = true
+voters (suc (suc zero)) = false
+voters (suc (suc (suc zero))) = true
+voters (suc (suc (suc (suc k)))) = false
 
 certified-by : (phase view : ℕ) (d : List ℕ) → IsVoted last 0 phase view d → IsVoted last 1 phase view d → IsCertified q last phase view d
 certified-by phase view d h g = record { test = voters; many = omega arith; each = each }
@@ -263,7 +267,8 @@ certified-by phase view d h g = record { test = voters; many = omega arith; each
     each zero t c = h
     each (suc zero) t c = g
     each (suc (suc zero)) t c = absurd (true≢false (sym t))
-    each (suc (suc (suc k))) t c = absurd (true≢false (sym c))
+    each (suc (suc (suc zero))) t c = absurd (true≢false (sym c))
+    each (suc (suc (suc (suc k)))) t c = absurd (true≢false (sym t))
 
 
 -- The premises of the laws and of the facts that speak of a lock or of a later view.
