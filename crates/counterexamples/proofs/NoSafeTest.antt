@@ -14,7 +14,6 @@ use Rattle.sha2.proofs.Facts256.{length-sha256}
 use Rattle.iss_base.specs.Lists.{In}
 use Rattle.iss_request.specs.Digest.{digest}
 use Rattle.iss_request.specs.Formats.{spell_batch, spell_count, spell_value, value_string}
-use Rattle.iss_request.specs.declared.requests.Value.{Value}
 use Rattle.iss_request.specs.declared.requests.Value.TheVariants.{Nil as Value_nil, Batch as Value_batch}
 use Rattle.iss_sb.specs.declared.content.Content.TheVariants.{Nil, Holds}
 use Rattle.iss_sb.specs.Calls.{IsGoodParams}
@@ -29,13 +28,14 @@ use Rattle.hs_tree.specs.Tree.{basic, plain_string, root}
 use Rattle.hs_views.proofs.SmallWorlds.{IsOneOf, all_differ, each-of, one-takes, separate-by, starts, two-takes, world, zero-takes}
 use Rattle.hs_views.proofs.Tests.{AreStrings, each-string}
 use Rattle.sb_chained.specs.Variants.{IsNotSafe}
+use Rattle.sb_chained.proofs.Examples.LooseCommits.{batch-no-nil}
 use Rattle.sb_hotstuff.specs.HotStuff.{hotstuff}
 use Rattle.sb_hotstuff.specs.Rules.{node_digest}
 use Rattle.sb_hotstuff.specs.Rules as Rules
 use Rattle.sb_hotstuff.proofs.Examples.FourReplicas.{AreCast, IsLike, IsPoll, Poll, arrives, by, commit, commit-comes, decide, decide-comes, good as good_for_hotstuff, liar, pre-commit-comes, pre_commit, prepare-read, sent, signs, states, told, voted}
 use Rattle.sb_hotstuff.proofs.Examples.ReachableWorld.{d, first, first-is, proposal, proposal-read, q}
 use Rattle.sb_hotstuff.proofs.Examples.Runs.{b}
-use Rattle.counterexamples.specs.Hotstuff.{makes, state, without_safe_test as loose}
+use Rattle.counterexamples.specs.Hotstuff.{state, without_safe_test as loose}
 
 good : IsGoodParams loose q
 good = let g = good_for_hotstuff 3 (omega arith) in record {
@@ -109,39 +109,39 @@ fresh3 = took 2 fresh2 (commit q second) 3
 abbrev fresh4 : List (Item Message)
 fresh4 = took 2 fresh3 (decide q second) 4
 
-early-vote-1 : (me : ℕ) → (makes q me [] (told 3 proposal) 1).sends ≡ sent q first 1 1 me 3
+early-vote-1 : (me : ℕ) → (loose.makes q me [] (told 3 proposal) 1).sends ≡ sent q first 1 1 me 3
 unfolding sha256 digest_bytes hash_after compress rounds schedule first_words spell_batch spell_count spell_value
 early-vote-1 me = refl
 
-early-vote-2 : (me : ℕ) → (makes q me (early1 me) (told 3 (pre_commit q first)) 2).sends ≡ sent q first 2 2 me 3
+early-vote-2 : (me : ℕ) → (loose.makes q me (early1 me) (told 3 (pre_commit q first)) 2).sends ≡ sent q first 2 2 me 3
 unfolding sha256 digest_bytes hash_after compress rounds schedule first_words spell_batch spell_count spell_value
 early-vote-2 me = refl
 
-early-vote-3 : (me : ℕ) → (makes q me (early2 me) (told 3 (commit q first)) 3).sends ≡ sent q first 3 3 me 3
+early-vote-3 : (me : ℕ) → (loose.makes q me (early2 me) (told 3 (commit q first)) 3).sends ≡ sent q first 3 3 me 3
 unfolding sha256 digest_bytes hash_after compress rounds schedule first_words spell_batch spell_count spell_value
 early-vote-3 me = refl
 
-later-vote-1 : (makes q 1 (early3 1) (told 3 against) 4).sends ≡ sent q second 1 4 1 3
+later-vote-1 : (loose.makes q 1 (early3 1) (told 3 against) 4).sends ≡ sent q second 1 4 1 3
 unfolding sha256 digest_bytes hash_after compress rounds schedule first_words spell_batch spell_count spell_value
 later-vote-1 = refl
 
-later-vote-2 : (makes q 1 later1 (told 3 (pre_commit q second)) 5).sends ≡ sent q second 2 5 1 3
+later-vote-2 : (loose.makes q 1 later1 (told 3 (pre_commit q second)) 5).sends ≡ sent q second 2 5 1 3
 unfolding sha256 digest_bytes hash_after compress rounds schedule first_words spell_batch spell_count spell_value
 later-vote-2 = refl
 
-later-vote-3 : (makes q 1 later2 (told 3 (commit q second)) 6).sends ≡ sent q second 3 6 1 3
+later-vote-3 : (loose.makes q 1 later2 (told 3 (commit q second)) 6).sends ≡ sent q second 3 6 1 3
 unfolding sha256 digest_bytes hash_after compress rounds schedule first_words spell_batch spell_count spell_value
 later-vote-3 = refl
 
-fresh-vote-1 : (makes q 2 [] (told 3 against) 1).sends ≡ sent q second 1 1 2 3
+fresh-vote-1 : (loose.makes q 2 [] (told 3 against) 1).sends ≡ sent q second 1 1 2 3
 unfolding sha256 digest_bytes hash_after compress rounds schedule first_words spell_batch spell_count spell_value
 fresh-vote-1 = refl
 
-fresh-vote-2 : (makes q 2 fresh1 (told 3 (pre_commit q second)) 2).sends ≡ sent q second 2 2 2 3
+fresh-vote-2 : (loose.makes q 2 fresh1 (told 3 (pre_commit q second)) 2).sends ≡ sent q second 2 2 2 3
 unfolding sha256 digest_bytes hash_after compress rounds schedule first_words spell_batch spell_count spell_value
 fresh-vote-2 = refl
 
-fresh-vote-3 : (makes q 2 fresh2 (told 3 (commit q second)) 3).sends ≡ sent q second 3 3 2 3
+fresh-vote-3 : (loose.makes q 2 fresh2 (told 3 (commit q second)) 3).sends ≡ sent q second 3 3 2 3
 unfolding sha256 digest_bytes hash_after compress rounds schedule first_words spell_batch spell_count spell_value
 fresh-vote-3 = refl
 
@@ -334,15 +334,15 @@ one-a = record { digest_of = _; one = inr (inr (inr (inl refl))); is = refl }
 one-z : IsOne node_z
 one-z = record { digest_of = _; one = inr (inr (inr (inr (inl refl)))); is = refl }
 
-early-strings : (me : ℕ) → (makes q me [] (told 3 proposal) 1).strings ≡ batch ∷ node_a ∷ []
+early-strings : (me : ℕ) → (loose.makes q me [] (told 3 proposal) 1).strings ≡ batch ∷ node_a ∷ []
 unfolding sha256 digest_bytes hash_after compress rounds schedule first_words spell_batch spell_count spell_value
 early-strings me = refl
 
-later-strings : (makes q 1 (early3 1) (told 3 against) 4).strings ≡ nil ∷ node_z ∷ []
+later-strings : (loose.makes q 1 (early3 1) (told 3 against) 4).strings ≡ nil ∷ node_z ∷ []
 unfolding sha256 digest_bytes hash_after compress rounds schedule first_words spell_batch spell_count spell_value
 later-strings = refl
 
-fresh-strings : (makes q 2 [] (told 3 against) 1).strings ≡ nil ∷ node_z ∷ []
+fresh-strings : (loose.makes q 2 [] (told 3 against) 1).strings ≡ nil ∷ node_z ∷ []
 unfolding sha256 digest_bytes hash_after compress rounds schedule first_words spell_batch spell_count spell_value
 fresh-strings = refl
 
@@ -372,9 +372,6 @@ separate : Separate (IsString last)
 separate = separate-by pairs these-differ last of-world
 
 -- ---- Two correct replicas differ
-
-batch-no-nil : ◌≡◌ {A = Value} (Value_batch b) Value_nil → ⊥
-batch-no-nil h = absurd cc
 
 no-broadcast : IsBroadcast loose q last → ⊥
 no-broadcast h = batch-no-nil (h.agreement 0 2 0 (Value_batch b) Value_nil refl refl delivers-batch delivers-nil)

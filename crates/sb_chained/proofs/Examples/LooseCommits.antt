@@ -627,7 +627,7 @@ separate = separate-by pairs these-differ last of-world
 
 -- ---- Two correct replicas differ
 
-batch-no-nil : ◌≡◌ {A = Value} (Value_batch b) Value_nil → ⊥
+pub batch-no-nil : ◌≡◌ {A = Value} (Value_batch b) Value_nil → ⊥
 batch-no-nil h = absurd cc
 
 no-broadcast : IsBroadcast loose q last → ⊥

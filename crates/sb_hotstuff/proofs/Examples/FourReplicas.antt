@@ -1,6 +1,6 @@
 -- What the examples share in which replica 3 is Byzantine: parameters, votes and certificates, messages that have an
 -- encoding, and valid claims. A certificate has the votes of two correct replicas and of replica 3.
-use Rattle.std.proofs.Common.{◌≡◌, ◌<◌, ◌≤◌, ◌^◌, ℕ, ◌+◌, true, List, [], ◌∷◌, length, refl, sym, ap, ◌∙◌, subst, inl, arith, true≢false}
+use Rattle.std.proofs.Common.{◌≡◌, ◌<◌, ◌≤◌, ◌^◌, ℕ, ◌+◌, List, [], ◌∷◌, length, refl, sym, ap, ◌∙◌, subst, inl, arith, true≢false}
 use Rattle.iss_base.specs.Lists.{In}
 use Rattle.iss_keys.specs.Directories.{directory_of}
 use Rattle.iss_request.specs.Fields.{IsReadAgain, Parsed}

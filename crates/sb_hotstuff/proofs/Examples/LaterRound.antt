@@ -20,7 +20,7 @@ use Rattle.hs_views.proofs.SmallWorlds.{AreAll, IsOneOf, all_differ, each-of, on
 use Rattle.hs_views.proofs.Tests.{AreStrings, each-string}
 use Rattle.sb_hotstuff.specs.Facts.{IsCertified, IsVoted}
 use Rattle.sb_hotstuff.specs.HotStuff.{hotstuff, makes, state}
-use Rattle.sb_hotstuff.proofs.Examples.FourReplicas.{Poll, by, commit, decide, good, pre_commit, sent, shown, states, told}
+use Rattle.sb_hotstuff.proofs.Examples.FourReplicas.{Poll, commit, decide, good, pre_commit, sent, shown, states, told}
 use Rattle.sb_hotstuff.proofs.Examples.Runs.{b, node, slot}
 use Rattle.sb_hotstuff.proofs.Safety.WorldsAreBroadcasts.{hotstuff-safe}
 use Rattle.sb_hotstuff.proofs.Examples.RoundChange.{Items, a, again, again-comes, against, against-comes, blank, blank-comes, e, ended, ended-comes, first, first-decides, first-locks, first-shown, first-vote, lie-comes, one-1, one-10, one-2, one-3, one-4, one-7, one-8, one-9, one1, one10, one11, one2, one3, one4, one5, one6, one7, one8, one9, proposal, proposal-comes, q, second, second-decides, second-locks, second-shown, second-vote, two-1, two1, zero-1, zero-2, zero-3, zero-4, zero-6, zero-7, zero-8, zero1, zero2, zero3, zero4, zero5, zero6, zero7, zero8, zero9}
@@ -269,7 +269,6 @@ certified-by phase view d h g = record { test = voters; many = omega arith; each
     each (suc (suc zero)) t c = absurd (true≢false (sym t))
     each (suc (suc (suc zero))) t c = absurd (true≢false (sym c))
     each (suc (suc (suc (suc k)))) t c = absurd (true≢false (sym t))
-
 
 -- The premises of the laws and of the facts that speak of a lock or of a later view.
 record ArePremisesMet : Type 0 where
