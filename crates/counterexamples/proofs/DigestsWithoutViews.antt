@@ -9,36 +9,33 @@
 -- z is certified in view 1 and u in view 2. Replica 0 takes z in view 3 only, and replica 2 takes u in view 7 only, since
 -- a node that is proposed again is the same node. So each sees three nodes of consecutive views. Replica 1 votes for x,
 -- which locks it on z by the certificate of view 1; that of u is of a higher view, so s is safe for it.
-use Rattle.std.proofs.Common.{◌≡◌, ◌<◌, ◌^◌, ℕ, Bool, true, false, cond, eqb, List, [], ◌∷◌, replicate, Some, refl, sym, ap, ◌∙◌, subst, inl, inr, arith, true≢false}
+use Rattle.std.proofs.Common.{◌≡◌, ◌<◌, ◌^◌, ℕ, Bool, true, false, cond, eqb, List, [], ◌∷◌, replicate, Some, refl, sym, subst, inl, inr, arith}
 use Rattle.sha2.specs.Sha256.{sha256, digest_bytes, hash_after, compress, rounds, schedule, first_words}
 use Rattle.iss_base.specs.Lists.{In}
-use Rattle.iss_base.proofs.Lists.{eqb-other}
 use Rattle.iss_request.specs.Digest.{digest}
 use Rattle.iss_request.specs.Formats.{spell_batch, spell_count, spell_value, value_string}
 use Rattle.iss_request.specs.declared.requests.Value.{Value}
 use Rattle.iss_request.specs.declared.requests.Value.TheVariants.{Nil as Value_nil, Batch as Value_batch}
-use Rattle.iss_sb.specs.declared.effects.Claim.{Claim}
-use Rattle.iss_sb.specs.declared.effects.Input.{Input}
-use Rattle.iss_sb.specs.declared.effects.To.TheVariants.{One as To_one}
 use Rattle.iss_sb.specs.Calls.{IsGoodParams}
-use Rattle.iss_sb.specs.Evidence.{Item, World, IsCredible, IsReached, IsReadMessage, at_start, after, IsSigned, IsString, MayCome, Move, Separate, Verifies, and_then, delivered, empty_world, is_correct}
+use Rattle.iss_sb.specs.Evidence.{Item, World, IsCredible, IsReached, IsReadMessage, IsSigned, IsString, Separate, Verifies, and_then, delivered, empty_world}
 use Rattle.iss_sb.specs.Laws.{IsBroadcast}
-use Rattle.iss_sb.specs.Statements.{claim, signature, wide_bytes}
-use Rattle.iss_sb.proofs.Signatures.{signature-shape, signature-verifies}
+use Rattle.iss_sb.specs.Statements.{signature, wide_bytes}
+use Rattle.iss_sb.proofs.Signatures.{signature-shape}
 use Rattle.iss_sb.specs.declared.content.Content.{Content}
 use Rattle.iss_sb.specs.declared.content.Content.TheVariants.{Nil, Holds, Mark}
 use Rattle.hs_tree.specs.declared.certificates.Certificate.{Certificate}
 use Rattle.hs_tree.specs.declared.certificates.Certificate.TheVariants.{Root}
 use Rattle.hs_tree.specs.declared.messages.Message.{Message}
-use Rattle.hs_tree.specs.declared.messages.Message.TheVariants.{Prepare, Vote}
+use Rattle.hs_tree.specs.declared.messages.Message.TheVariants.{Prepare}
 use Rattle.hs_tree.specs.Certificates.{root_row}
 use Rattle.hs_tree.specs.Statements.{own_statement}
 use Rattle.hs_tree.specs.Tree.{plain_string, root}
 use Rattle.hs_tree.proofs.MessageGrammar.{spelled-read}
+use Rattle.hs_views.proofs.SmallWorlds.{IsOneOf, all_differ, one-takes, separate-by, starts, two-takes, world, zero-takes}
 use Rattle.hs_views.proofs.Tests.{AreStrings, each-string}
 use Rattle.sb_chained.specs.Variants.{IsNotSafe}
-use Rattle.sb_chained.proofs.Examples.ByzantineLeader.{IsOneOf, all_differ, batch_held, good-setup, none, q, sent, separate-by, shown, shown-spelled, states, told, world}
-use Rattle.sb_chained.proofs.Examples.Runs.{b, node, setup}
+use Rattle.sb_chained.proofs.Examples.ByzantineLeader.{and_own, alone, batch_held, cites, good-setup, liar, q, sent, shown, shown-spelled, signs, states, told, voted}
+use Rattle.sb_chained.proofs.Examples.Runs.{b, setup}
 use Rattle.counterexamples.specs.Chained.{makes, viewless, without_views}
 
 good : IsGoodParams without_views q
@@ -269,20 +266,6 @@ delivers-2 : delivered without_views q 2 took2_6 0 ≡ Some (Value_batch b)
 unfolding sha256 digest_bytes hash_after compress rounds schedule first_words spell_batch spell_count spell_value wide_bytes
 delivers-2 = refl
 
--- ---- Moves of the replicas 0, 1 and 2
-
-first-move : (input : Input Message) (leaf : ℕ) → MayCome without_views q empty_world 0 input → Move without_views q empty_world (world (and_then without_views q 0 [] input leaf) [] [])
-first-move input leaf may = record { node = 0; correct = refl; input = input; may = may; leaf = leaf; takes = refl; others = λ i ne. rw (eqb-other i 0 ne) (none false (eqb i 1) (eqb i 2)) }
-
-move-zero : (xs ys zs : List (Item Message)) (input : Input Message) (leaf : ℕ) → MayCome without_views q (world xs ys zs) 0 input → Move without_views q (world xs ys zs) (world (and_then without_views q 0 xs input leaf) ys zs)
-move-zero xs ys zs input leaf may = record { node = 0; correct = refl; input = input; may = may; leaf = leaf; takes = refl; others = λ i ne. rw (eqb-other i 0 ne) refl }
-
-move-one : (xs ys zs : List (Item Message)) (input : Input Message) (leaf : ℕ) → MayCome without_views q (world xs ys zs) 1 input → Move without_views q (world xs ys zs) (world xs (and_then without_views q 1 ys input leaf) zs)
-move-one xs ys zs input leaf may = record { node = 1; correct = refl; input = input; may = may; leaf = leaf; takes = refl; others = λ i ne. rw (eqb-other i 1 ne) refl }
-
-move-two : (xs ys zs : List (Item Message)) (input : Input Message) (leaf : ℕ) → MayCome without_views q (world xs ys zs) 2 input → Move without_views q (world xs ys zs) (world xs ys (and_then without_views q 2 zs input leaf))
-move-two xs ys zs input leaf may = record { node = 2; correct = refl; input = input; may = may; leaf = leaf; takes = refl; others = λ i ne. rw (eqb-other i 2 ne) refl }
-
 -- ---- The messages can be decoded, and their signatures are valid
 
 abbrev IsRead : Message → Type 0
@@ -321,64 +304,22 @@ read-t = spelled-read 1 1 m_t _ (record { view_fits = omega arith; behind = _; w
 read-v : IsRead m_v
 read-v = spelled-read 1 1 m_v _ (record { view_fits = omega arith; behind = _; what_is = refl; certificate = _; spelled = shown-spelled 262153 d_t 1 6 2 4 (omega arith) (omega arith) refl (omega arith) (omega arith); signed = signature-shape without_views q good 3 0 (own 262154 Mark c_t); row = refl })
 
-verifies : (k leaf : ℕ) (s : List ℕ) → k < 4 → leaf < 2 ^ 4 → Verifies q (claim k s (signature q k leaf s))
-verifies k leaf s below few = signature-verifies without_views q good k leaf s below few
-
--- the votes of two correct replicas and of the Byzantine one, and its own signature
-abbrev four : ℕ → List ℕ → ℕ → ℕ → ℕ → ℕ → List ℕ → List Claim
-four view d i at j other statement =
-    claim i (states view d) (signature q i at (states view d)) ∷
-    claim j (states view d) (signature q j other (states view d)) ∷
-    claim 3 (states view d) (signature q 3 0 (states view d)) ∷
-    claim 3 statement (signature q 3 0 statement) ∷ []
-
 abbrev Comes : World Message → Message → Type 0
 Comes w msg = IsCredible without_views q (Verifies q) (IsSigned without_views q w) 3 msg
 
 -- a proposal on a certificate, once its votes are signed
 shows-come : (w : World Message) (view : ℕ) (d : List ℕ) (i at j other : ℕ) (msg : Message) (statement : List ℕ) → i < 4 → at < 2 ^ 4 → j < 4 → other < 2 ^ 4 → IsRead msg →
-    IsSigned without_views q w i (states view d) → IsSigned without_views q w j (states view d) → without_views.claims q 3 msg ≡ four view d i at j other statement → Comes w msg
-shows-come w view d i at j other msg statement li la lj lo read si sj e = record { named = omega arith; read = read; verified = λ c h. check c (rw e at h); signed = λ c h. given c (rw e at h) }
-  where
-    check : (c : Claim) → In c (four view d i at j other statement) → Verifies q c
-    check c (inl k) = subst (λ (z : Claim). Verifies q z) (sym k) (verifies i at (states view d) li la)
-    check c (inr (inl k)) = subst (λ (z : Claim). Verifies q z) (sym k) (verifies j other (states view d) lj lo)
-    check c (inr (inr (inl k))) = subst (λ (z : Claim). Verifies q z) (sym k) (verifies 3 0 (states view d) (omega arith) (omega arith))
-    check c (inr (inr (inr (inl k)))) = subst (λ (z : Claim). Verifies q z) (sym k) (verifies 3 0 statement (omega arith) (omega arith))
-    check c (inr (inr (inr (inr k)))) = absurd k
-
-    given : (c : Claim) → In c (four view d i at j other statement) → is_correct setup c.by.0 ≡ true → IsSigned without_views q w c.by.0 c.statement
-    given c (inl k) r = subst (λ (z : Claim). IsSigned without_views q w z.by.0 z.statement) (sym k) si
-    given c (inr (inl k)) r = subst (λ (z : Claim). IsSigned without_views q w z.by.0 z.statement) (sym k) sj
-    given c (inr (inr (inl k))) r = absurd (true≢false (sym (ap (λ (z : Claim). is_correct setup z.by.0) (sym k) ∙ r)))
-    given c (inr (inr (inr (inl k)))) r = absurd (true≢false (sym (ap (λ (z : Claim). is_correct setup z.by.0) (sym k) ∙ r)))
-    given c (inr (inr (inr (inr k)))) r = absurd k
+    IsSigned without_views q w i (states view d) → IsSigned without_views q w j (states view d) → without_views.claims q 3 msg ≡ and_own view d i at j other (signs 3 0 statement) → Comes w msg
+shows-come w view d i at j other msg statement li la lj lo read si sj e =
+    cites without_views w view d i at j other li la lj lo si sj 3 msg (signs 3 0 statement) (omega arith) read e (liar without_views w statement)
 
 -- a proposal on the root, which claims only its own signature
-first-comes : (w : World Message) (msg : Message) (statement : List ℕ) → IsRead msg → without_views.claims q 3 msg ≡ claim 3 statement (signature q 3 0 statement) ∷ [] → Comes w msg
-first-comes w msg statement read e = record { named = omega arith; read = read; verified = λ c h. check c (rw e at h); signed = λ c h. given c (rw e at h) }
-  where
-    check : (c : Claim) → In c (claim 3 statement (signature q 3 0 statement) ∷ []) → Verifies q c
-    check c (inl k) = subst (λ (z : Claim). Verifies q z) (sym k) (verifies 3 0 statement (omega arith) (omega arith))
-    check c (inr k) = absurd k
-
-    given : (c : Claim) → In c (claim 3 statement (signature q 3 0 statement) ∷ []) → is_correct setup c.by.0 ≡ true → IsSigned without_views q w c.by.0 c.statement
-    given c (inl k) r = absurd (true≢false (sym (ap (λ (z : Claim). is_correct setup z.by.0) (sym k) ∙ r)))
-    given c (inr k) r = absurd k
+first-comes : (w : World Message) (msg : Message) (statement : List ℕ) → IsRead msg → without_views.claims q 3 msg ≡ signs 3 0 statement ∷ [] → Comes w msg
+first-comes w msg statement read e = alone without_views w 3 msg (signs 3 0 statement) (omega arith) read e (liar without_views w statement)
 
 -- a vote in a replica's history was signed
 signed-by : (w : World Message) (k : ℕ) (x : Item Message) (view : ℕ) (d : List ℕ) (leaf : ℕ) → In x (w k) → x.made.sends ≡ sent k view d leaf → IsSigned without_views q w k (states view d)
-signed-by w k x view d leaf h e = record {
-  item = x;
-  taken = h;
-  to = To_one (node 3);
-  msg = Vote 1 view d (signature q k leaf (states view d));
-  sent = rw e (inl refl);
-  claim = claim k (states view d) (signature q k leaf (states view d));
-  made = inl refl;
-  by = refl;
-  is = refl;
-}
+signed-by w k x view d leaf h e = voted without_views w k view d leaf x h e (inl refl)
 
 -- ---- The run
 
@@ -386,115 +327,115 @@ come-1 : Comes empty_world m_h
 come-1 = first-comes empty_world m_h (own 1 (Holds b) Root) read-h refl
 
 reached-1 : IsReached without_views q (world took0_1 [] [])
-reached-1 = after at_start (first-move (told m_h) 0 come-1)
+reached-1 = starts without_views q refl (told m_h) 0 come-1
 
 come-2 : Comes (world took0_1 [] []) m_h
 come-2 = first-comes (world took0_1 [] []) m_h (own 1 (Holds b) Root) read-h refl
 
 reached-2 : IsReached without_views q (world took0_1 took1_1 [])
-reached-2 = after reached-1 (move-one took0_1 [] [] (told m_h) 0 come-2)
+reached-2 = one-takes without_views q took0_1 [] [] reached-1 (told m_h) 0 refl come-2
 
 come-3 : Comes (world took0_1 took1_1 []) m_h
 come-3 = first-comes (world took0_1 took1_1 []) m_h (own 1 (Holds b) Root) read-h refl
 
 reached-3 : IsReached without_views q (world took0_1 took1_1 took2_1)
-reached-3 = after reached-2 (move-two took0_1 took1_1 [] (told m_h) 0 come-3)
+reached-3 = two-takes without_views q took0_1 took1_1 [] reached-2 (told m_h) 0 refl come-3
 
 come-4 : Comes (world took0_1 took1_1 took2_1) m_z
 come-4 = first-comes (world took0_1 took1_1 took2_1) m_z (own 262145 Nil Root) read-z refl
 
 reached-4 : IsReached without_views q (world took0_1 took1_2 took2_1)
-reached-4 = after reached-3 (move-one took0_1 took1_1 took2_1 (told m_z) 1 come-4)
+reached-4 = one-takes without_views q took0_1 took1_1 took2_1 reached-3 (told m_z) 1 refl come-4
 
 come-5 : Comes (world took0_1 took1_2 took2_1) m_z
 come-5 = first-comes (world took0_1 took1_2 took2_1) m_z (own 262145 Nil Root) read-z refl
 
 reached-5 : IsReached without_views q (world took0_1 took1_2 took2_2)
-reached-5 = after reached-4 (move-two took0_1 took1_2 took2_1 (told m_z) 1 come-5)
+reached-5 = two-takes without_views q took0_1 took1_2 took2_1 reached-4 (told m_z) 1 refl come-5
 
 come-6 : Comes (world took0_1 took1_2 took2_2) m_u
 come-6 = shows-come (world took0_1 took1_2 took2_2) 1 d_h 1 0 2 0 m_u (own 262146 Nil c_h) (omega arith) (omega arith) (omega arith) (omega arith) read-u (signed-by (world took0_1 took1_2 took2_2) 1 _ 1 d_h 0 (inr (inl refl)) votes-1-h) (signed-by (world took0_1 took1_2 took2_2) 2 _ 1 d_h 0 (inr (inl refl)) votes-2-h) refl
 
 reached-6 : IsReached without_views q (world took0_2 took1_2 took2_2)
-reached-6 = after reached-5 (move-zero took0_1 took1_2 took2_2 (told m_u) 1 come-6)
+reached-6 = zero-takes without_views q took0_1 took1_2 took2_2 reached-5 (told m_u) 1 refl come-6
 
 come-7 : Comes (world took0_2 took1_2 took2_2) m_u
 come-7 = shows-come (world took0_2 took1_2 took2_2) 1 d_h 1 0 2 0 m_u (own 262146 Nil c_h) (omega arith) (omega arith) (omega arith) (omega arith) read-u (signed-by (world took0_2 took1_2 took2_2) 1 _ 1 d_h 0 (inr (inl refl)) votes-1-h) (signed-by (world took0_2 took1_2 took2_2) 2 _ 1 d_h 0 (inr (inl refl)) votes-2-h) refl
 
 reached-7 : IsReached without_views q (world took0_2 took1_3 took2_2)
-reached-7 = after reached-6 (move-one took0_2 took1_2 took2_2 (told m_u) 2 come-7)
+reached-7 = one-takes without_views q took0_2 took1_2 took2_2 reached-6 (told m_u) 2 refl come-7
 
 come-8 : Comes (world took0_2 took1_3 took2_2) m_z2
 come-8 = first-comes (world took0_2 took1_3 took2_2) m_z2 (own 262147 Nil Root) read-z2 refl
 
 reached-8 : IsReached without_views q (world took0_3 took1_3 took2_2)
-reached-8 = after reached-7 (move-zero took0_2 took1_3 took2_2 (told m_z2) 2 come-8)
+reached-8 = zero-takes without_views q took0_2 took1_3 took2_2 reached-7 (told m_z2) 2 refl come-8
 
 come-9 : Comes (world took0_3 took1_3 took2_2) m_y
 come-9 = shows-come (world took0_3 took1_3 took2_2) 262145 d_z 1 1 2 1 m_y (own 262148 Nil c_z) (omega arith) (omega arith) (omega arith) (omega arith) read-y (signed-by (world took0_3 took1_3 took2_2) 1 _ 262145 d_z 1 (inr (inl refl)) votes-1-z) (signed-by (world took0_3 took1_3 took2_2) 2 _ 262145 d_z 1 (inl refl) votes-2-z) refl
 
 reached-9 : IsReached without_views q (world took0_4 took1_3 took2_2)
-reached-9 = after reached-8 (move-zero took0_3 took1_3 took2_2 (told m_y) 3 come-9)
+reached-9 = zero-takes without_views q took0_3 took1_3 took2_2 reached-8 (told m_y) 3 refl come-9
 
 come-10 : Comes (world took0_4 took1_3 took2_2) m_y
 come-10 = shows-come (world took0_4 took1_3 took2_2) 262145 d_z 1 1 2 1 m_y (own 262148 Nil c_z) (omega arith) (omega arith) (omega arith) (omega arith) read-y (signed-by (world took0_4 took1_3 took2_2) 1 _ 262145 d_z 1 (inr (inl refl)) votes-1-z) (signed-by (world took0_4 took1_3 took2_2) 2 _ 262145 d_z 1 (inl refl) votes-2-z) refl
 
 reached-10 : IsReached without_views q (world took0_4 took1_4 took2_2)
-reached-10 = after reached-9 (move-one took0_4 took1_3 took2_2 (told m_y) 3 come-10)
+reached-10 = one-takes without_views q took0_4 took1_3 took2_2 reached-9 (told m_y) 3 refl come-10
 
 come-11 : Comes (world took0_4 took1_4 took2_2) m_x
 come-11 = shows-come (world took0_4 took1_4 took2_2) 262148 d_y 0 3 1 3 m_x (own 262149 Mark c_y) (omega arith) (omega arith) (omega arith) (omega arith) read-x (signed-by (world took0_4 took1_4 took2_2) 0 _ 262148 d_y 3 (inl refl) votes-0-y) (signed-by (world took0_4 took1_4 took2_2) 1 _ 262148 d_y 3 (inl refl) votes-1-y) refl
 
 reached-11 : IsReached without_views q (world took0_5 took1_4 took2_2)
-reached-11 = after reached-10 (move-zero took0_4 took1_4 took2_2 (told m_x) 4 come-11)
+reached-11 = zero-takes without_views q took0_4 took1_4 took2_2 reached-10 (told m_x) 4 refl come-11
 
 come-12 : Comes (world took0_5 took1_4 took2_2) m_x
 come-12 = shows-come (world took0_5 took1_4 took2_2) 262148 d_y 0 3 1 3 m_x (own 262149 Mark c_y) (omega arith) (omega arith) (omega arith) (omega arith) read-x (signed-by (world took0_5 took1_4 took2_2) 0 _ 262148 d_y 3 (inr (inl refl)) votes-0-y) (signed-by (world took0_5 took1_4 took2_2) 1 _ 262148 d_y 3 (inl refl) votes-1-y) refl
 
 reached-12 : IsReached without_views q (world took0_5 took1_5 took2_2)
-reached-12 = after reached-11 (move-one took0_5 took1_4 took2_2 (told m_x) 4 come-12)
+reached-12 = one-takes without_views q took0_5 took1_4 took2_2 reached-11 (told m_x) 4 refl come-12
 
 come-13 : Comes (world took0_5 took1_5 took2_2) m_a
 come-13 = shows-come (world took0_5 took1_5 took2_2) 262149 d_x 0 4 1 4 m_a (own 262150 Mark c_x) (omega arith) (omega arith) (omega arith) (omega arith) read-a (signed-by (world took0_5 took1_5 took2_2) 0 _ 262149 d_x 4 (inl refl) votes-0-x) (signed-by (world took0_5 took1_5 took2_2) 1 _ 262149 d_x 4 (inl refl) votes-1-x) refl
 
 reached-13 : IsReached without_views q (world took0_6 took1_5 took2_2)
-reached-13 = after reached-12 (move-zero took0_5 took1_5 took2_2 (told m_a) 5 come-13)
+reached-13 = zero-takes without_views q took0_5 took1_5 took2_2 reached-12 (told m_a) 5 refl come-13
 
 come-14 : Comes (world took0_6 took1_5 took2_2) m_u2
 come-14 = shows-come (world took0_6 took1_5 took2_2) 1 d_h 1 0 2 0 m_u2 (own 262151 Nil c_h) (omega arith) (omega arith) (omega arith) (omega arith) read-u2 (signed-by (world took0_6 took1_5 took2_2) 1 _ 1 d_h 0 (inr (inr (inr (inr (inl refl))))) votes-1-h) (signed-by (world took0_6 took1_5 took2_2) 2 _ 1 d_h 0 (inr (inl refl)) votes-2-h) refl
 
 reached-14 : IsReached without_views q (world took0_6 took1_5 took2_3)
-reached-14 = after reached-13 (move-two took0_6 took1_5 took2_2 (told m_u2) 2 come-14)
+reached-14 = two-takes without_views q took0_6 took1_5 took2_2 reached-13 (told m_u2) 2 refl come-14
 
 come-15 : Comes (world took0_6 took1_5 took2_3) m_s
 come-15 = shows-come (world took0_6 took1_5 took2_3) 262146 d_u 0 1 1 2 m_s (own 262152 Mark c_u) (omega arith) (omega arith) (omega arith) (omega arith) read-s (signed-by (world took0_6 took1_5 took2_3) 0 _ 262146 d_u 1 (inr (inr (inr (inr (inl refl))))) votes-0-u) (signed-by (world took0_6 took1_5 took2_3) 1 _ 262146 d_u 2 (inr (inr (inl refl))) votes-1-u) refl
 
 reached-15 : IsReached without_views q (world took0_6 took1_6 took2_3)
-reached-15 = after reached-14 (move-one took0_6 took1_5 took2_3 (told m_s) 5 come-15)
+reached-15 = one-takes without_views q took0_6 took1_5 took2_3 reached-14 (told m_s) 5 refl come-15
 
 come-16 : Comes (world took0_6 took1_6 took2_3) m_s
 come-16 = shows-come (world took0_6 took1_6 took2_3) 262146 d_u 0 1 1 2 m_s (own 262152 Mark c_u) (omega arith) (omega arith) (omega arith) (omega arith) read-s (signed-by (world took0_6 took1_6 took2_3) 0 _ 262146 d_u 1 (inr (inr (inr (inr (inl refl))))) votes-0-u) (signed-by (world took0_6 took1_6 took2_3) 1 _ 262146 d_u 2 (inr (inr (inr (inl refl)))) votes-1-u) refl
 
 reached-16 : IsReached without_views q (world took0_6 took1_6 took2_4)
-reached-16 = after reached-15 (move-two took0_6 took1_6 took2_3 (told m_s) 3 come-16)
+reached-16 = two-takes without_views q took0_6 took1_6 took2_3 reached-15 (told m_s) 3 refl come-16
 
 come-17 : Comes (world took0_6 took1_6 took2_4) m_t
 come-17 = shows-come (world took0_6 took1_6 took2_4) 262152 d_s 1 5 2 3 m_t (own 262153 Mark c_s) (omega arith) (omega arith) (omega arith) (omega arith) read-t (signed-by (world took0_6 took1_6 took2_4) 1 _ 262152 d_s 5 (inl refl) votes-1-s) (signed-by (world took0_6 took1_6 took2_4) 2 _ 262152 d_s 3 (inl refl) votes-2-s) refl
 
 reached-17 : IsReached without_views q (world took0_6 took1_7 took2_4)
-reached-17 = after reached-16 (move-one took0_6 took1_6 took2_4 (told m_t) 6 come-17)
+reached-17 = one-takes without_views q took0_6 took1_6 took2_4 reached-16 (told m_t) 6 refl come-17
 
 come-18 : Comes (world took0_6 took1_7 took2_4) m_t
 come-18 = shows-come (world took0_6 took1_7 took2_4) 262152 d_s 1 5 2 3 m_t (own 262153 Mark c_s) (omega arith) (omega arith) (omega arith) (omega arith) read-t (signed-by (world took0_6 took1_7 took2_4) 1 _ 262152 d_s 5 (inr (inl refl)) votes-1-s) (signed-by (world took0_6 took1_7 took2_4) 2 _ 262152 d_s 3 (inl refl) votes-2-s) refl
 
 reached-18 : IsReached without_views q (world took0_6 took1_7 took2_5)
-reached-18 = after reached-17 (move-two took0_6 took1_7 took2_4 (told m_t) 4 come-18)
+reached-18 = two-takes without_views q took0_6 took1_7 took2_4 reached-17 (told m_t) 4 refl come-18
 
 come-19 : Comes (world took0_6 took1_7 took2_5) m_v
 come-19 = shows-come (world took0_6 took1_7 took2_5) 262153 d_t 1 6 2 4 m_v (own 262154 Mark c_t) (omega arith) (omega arith) (omega arith) (omega arith) read-v (signed-by (world took0_6 took1_7 took2_5) 1 _ 262153 d_t 6 (inl refl) votes-1-t) (signed-by (world took0_6 took1_7 took2_5) 2 _ 262153 d_t 4 (inl refl) votes-2-t) refl
 
 reached-19 : IsReached without_views q (world took0_6 took1_7 took2_6)
-reached-19 = after reached-18 (move-two took0_6 took1_7 took2_5 (told m_v) 5 come-19)
+reached-19 = two-takes without_views q took0_6 took1_7 took2_5 reached-18 (told m_v) 5 refl come-19
 
 -- ---- SHA-256 does not collide on its strings: two values' and nine nodes'
 
