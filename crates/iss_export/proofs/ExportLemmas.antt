@@ -1,6 +1,7 @@
 -- The epochs that a core exports are written one after another, and the text is whole.
 use Rattle.std.proofs.Common.{◌≡◌, ◌∙◌, inl, inr, ℕ, ◌+◌, ◌<◌, ◌≤◌, Bool, true, false, List, [], ◌∷◌, ◌++◌, length, map, take, drop, reverse, Option, Some, None, append_assoc, append-nil, length-append, refl, sym, ap, subst}
 use Rattle.std.specs.Prelude.{◌||◌}
+use Rattle.std.proofs.lemmas.Bool.{or_left}
 use Rattle.std.proofs.lemmas.List.{length-take-le, reverse-reverse, take-append-drop}
 use Rattle.iss_audit.specs.Exports.{AreBytes, IsCertifiedText, IsRangedCert, EachEpoch, cert_line, epoch_lines, lines_of, log_of, text_of, value_line}
 use Rattle.iss_audit.specs.declared.exports.CertifiedEpoch.{CertifiedEpoch}

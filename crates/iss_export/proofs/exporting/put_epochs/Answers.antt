@@ -1,4 +1,5 @@
 use Rattle.std.proofs.Common.{◌∙◌, true, false, List, sym, subst}
+use Rattle.std.proofs.lemmas.Bool.{or_parts}
 use Rattle.std.proofs.lemmas.Result.{on_ok_weaker}
 use Rattle.iss_certified.specs.Exported.{certs_shown}
 use Rattle.iss_model.specs.Run.{node_of}
