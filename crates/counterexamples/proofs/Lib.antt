@@ -1,7 +1,5 @@
 pub mod Deciding
 pub mod DigestsWithoutViews
 pub mod LowestCertificate
-pub mod NoSafeTest
-pub mod OlderTermsCounted
 pub mod PbftStrings
 pub mod VotesCountedTwice

@@ -1,4 +1,2 @@
 pub mod Chained
-pub mod Hotstuff
 pub mod Pbft
-pub mod Raft
