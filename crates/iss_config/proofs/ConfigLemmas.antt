@@ -1,19 +1,23 @@
 -- What a table holds, and the configuration that it is.
-use Rattle.std.proofs.Common.{◌≡◌, ◌∙◌, ◌≢◌, ℕ, ℤ, suc, pos, ◌≤◌, ◌==◌, Bool, true, false, List, [], ◌∷◌, length, Option, Some, None, String, Global, refl, sym, ap, subst, arith, inl, inr, codes, option_and_then}
+use Rattle.std.proofs.Common.{◌≡◌, ℕ, ℤ, suc, pos, ◌≤◌, List, [], ◌∷◌, length, Option, Some, None, String, Global, refl, sym, ap, subst, arith, inl, inr, codes, option_and_then}
 use Rattle.std.proofs.lemmas.Option.{same_Some}
+use Rattle.std.specs.Option.{IfNone}
 use Rattle.std.specs.List.Sorted.{IsStrictlySortedBy}
 use Rattle.std.specs.Map.{keys_of}
 use Rattle.std.specs.String.{string_cmp}
 use Rattle.toml.specs.Data.{Data, Members, as_integer, as_str, get_member, integer, string, float, boolean, datetime, array, table}
 use Rattle.toml.specs.View.{members_view}
 use Rattle.toml.specs.declared.value.Value.{Value}
-use Rattle.iss_request.specs.Setup.{IsFewFaulty, IsGoodSetup}
+use Rattle.iss_request.specs.Setup.{IsFewFaulty}
 use Rattle.iss_request.specs.declared.setups.Kind.{Kind}
 use Rattle.iss_request.specs.declared.setups.Kind.TheVariants.{Byzantine, Stopping}
 use Rattle.iss_schedule.specs.Headers.{IsOneOf, module_rows, row_of}
 use Rattle.iss_schedule.specs.Schedules.{IsKnown}
 use Rattle.iss_config.specs.Configs.{IsInRange, entries_of, members_of, setup_of, whole}
-use Rattle.iss_config.specs.Internal.{HasNumber, Holds, IsTableOf, count_of}
+use Rattle.iss_config.specs.Internal.{HasNumber, Holds, HoldsProtocol, HoldsSizes, HoldsWork, IsTableOf, count_of, integer_at, protocol_of, sizes_of, work_of}
+use Rattle.iss_config.specs.declared.parts.Protocol.{Protocol}
+use Rattle.iss_config.specs.declared.parts.Sizes.{Sizes}
+use Rattle.iss_config.specs.declared.parts.Work.{Work}
 use Rattle.iss_config.specs.declared.configs.Config.{Config}
 use Rattle.iss_config.proofs.TableLemmas.{AreAt, is_table}
 
@@ -67,8 +71,8 @@ relay_stands m f h e = let few : f ≤ (row_of 1).most_faults = subst (λ (x : �
 
 pub known_by : (ms : Members) (c : Config) → Holds ms c → IsKnown (setup_of c)
 known_by ms c h =
-    let most = h.f_is.most in
-    let bound = few_faults c.module h.module_is.0 in
+    let most = h.protocol.f_is.most in
+    let bound = few_faults c.module h.protocol.module_is.0 in
     record {
       good = record {
         version = refl;
@@ -77,21 +81,21 @@ known_by ms c h =
         relay_kind = λ e. ap (λ (x : ℕ). (row_of x).kind) e;
         nodes = refl;
         majority = refl;
-        epoch_low = h.epoch_is.least;
-        epoch_high = h.epoch_is.most;
-        buckets_low = h.buckets_is.least;
-        buckets_high = h.buckets_is.most;
-        batch_low = h.batch_is.least;
-        batch_high = h.batch_is.most;
-        window_low = h.window_is.least;
-        window_high = h.window_is.most;
-        clients_low = h.clients_is.least;
-        clients_high = h.clients_is.most;
-        keys_height = (h.keys_is.least, h.keys_is.most);
+        epoch_low = h.protocol.epoch_is.least;
+        epoch_high = h.protocol.epoch_is.most;
+        buckets_low = h.sizes.buckets_is.least;
+        buckets_high = h.sizes.buckets_is.most;
+        batch_low = h.sizes.batch_is.least;
+        batch_high = h.sizes.batch_is.most;
+        window_low = h.sizes.window_is.least;
+        window_high = h.sizes.window_is.most;
+        clients_low = h.sizes.clients_is.least;
+        clients_high = h.sizes.clients_is.most;
+        keys_height = (h.sizes.keys_is.least, h.sizes.keys_is.most);
         few_faulty = none_faulty (row_of c.module).kind c.f;
         ascending_faulty = tt;
       };
-      known = h.module_is.0;
+      known = h.protocol.module_is.0;
       kind = refl;
       faults = most;
       tag = refl;
@@ -100,18 +104,37 @@ known_by ms c h =
 -- ---- tables
 
 values_at : (ms : Members) (c : Config) → Holds ms c → AreAt (entries_of c) ms
-values_at ms c h =
-    (number_is ms (codes "batch") _ _ c.batch h.batch_is,
-    (number_is ms (codes "buckets") _ _ c.buckets h.buckets_is,
-    (number_is ms (codes "clients") _ _ c.clients h.clients_is,
-    (number_is ms (codes "epoch") _ _ c.epoch h.epoch_is,
-    (number_is ms (codes "f") _ _ c.f h.f_is,
-    (number_is ms (codes "keys") _ _ c.keys h.keys_is,
-    (text_is (get_member (codes "module") ms) _ h.module_is.1,
-    (text_is (get_member (codes "policy") ms) _ h.policy_is,
-    (number_is ms (codes "requests") _ _ c.requests h.requests_is,
-    (number_is ms (codes "turns") _ _ c.turns h.turns_is,
-    (number_is ms (codes "window") _ _ c.window h.window_is, tt)))))))))))
+values_at ms c h = (
+  number_is ms (codes "batch") _ _ c.batch h.sizes.batch_is,
+  (
+    number_is ms (codes "buckets") _ _ c.buckets h.sizes.buckets_is,
+    (
+      number_is ms (codes "clients") _ _ c.clients h.sizes.clients_is,
+      (
+        number_is ms (codes "epoch") _ _ c.epoch h.protocol.epoch_is,
+        (
+          number_is ms (codes "f") _ _ c.f h.protocol.f_is,
+          (
+            number_is ms (codes "keys") _ _ c.keys h.sizes.keys_is,
+            (
+              text_is (get_member (codes "module") ms) _ h.protocol.module_is.1,
+              (
+                text_is (get_member (codes "policy") ms) _ h.protocol.policy_is,
+                (
+                  number_is ms (codes "requests") _ _ c.requests h.work.requests_is,
+                  (
+                    number_is ms (codes "turns") _ _ c.turns h.work.turns_is,
+                    (number_is ms (codes "window") _ _ c.window h.sizes.window_is, tt),
+                  ),
+                ),
+              ),
+            ),
+          ),
+        ),
+      ),
+    ),
+  ),
+)
 
 -- a table with eleven keys that holds the values of a configuration is its table
 pub table_of_held : (es : List (String Global × Value)) (c : Config) → IsStrictlySortedBy string_cmp (keys_of es)
@@ -120,36 +143,40 @@ table_of_held es c sorted count h = record {
   same = is_table (entries_of c) es refl sorted (values_at (members_view es) c h) count;
   range = record {
     setup = known_by (members_view es) c h;
-    requests_high = h.requests_is.most;
-    requests_in_windows = h.in_windows;
-    requests_have_leaves = h.have_leaves;
-    turns_low = h.turns_is.least;
-    turns_high = h.turns_is.most;
+    requests_high = h.work.requests_is.most;
+    requests_in_windows = h.work.in_windows;
+    requests_have_leaves = h.work.have_leaves;
+    turns_low = h.work.turns_is.least;
+    turns_high = h.work.turns_is.most;
   };
 }
 
--- the table of a configuration has eleven keys and holds its values
-pub count_of_table : (ms : Members) (c : Config) → IsTableOf ms c → count_of ms ≡ 11
-count_of_table ms c h = ap count_of h.same
+-- ---- tables that hold no configuration
 
-held_in_own : (c : Config) → IsInRange c → Holds (members_of (entries_of c)) c
-held_in_own c r =
-    let good = r.setup.good in
-    record {
-      module_is = (r.setup.known, refl);
-      policy_is = refl;
-      f_is = record { is = refl; least = omega arith; most = r.setup.faults; };
-      epoch_is = record { is = refl; least = good.epoch_low; most = good.epoch_high; };
-      buckets_is = record { is = refl; least = good.buckets_low; most = good.buckets_high; };
-      batch_is = record { is = refl; least = good.batch_low; most = good.batch_high; };
-      window_is = record { is = refl; least = good.window_low; most = good.window_high; };
-      clients_is = record { is = refl; least = good.clients_low; most = good.clients_high; };
-      keys_is = record { is = refl; least = good.keys_height.0; most = good.keys_height.1; };
-      requests_is = record { is = refl; least = omega arith; most = r.requests_high; };
-      turns_is = record { is = refl; least = r.turns_low; most = r.turns_high; };
-      in_windows = r.requests_in_windows;
-      have_leaves = r.requests_have_leaves;
-    }
+pub none_anyway : {T : Type 0} (r : Option T) (P : Type 0) → P → IfNone r P
+none_anyway None P p = p
+none_anyway (Some x) P p = tt
 
-pub held_in_table : (ms : Members) (c : Config) → IsTableOf ms c → Holds ms c
-held_in_table ms c h = subst (λ (x : Members). Holds x c) (sym h.same) (held_in_own c h.range)
+same_whole : (o : Option ℤ) (n m : ℕ) → o ≡ Some (pos n) → o ≡ Some (pos m) → n ≡ m
+same_whole o n m a b = cc
+
+same_number : (ms : Members) (key : List ℕ) (low high n m : ℕ) → HasNumber ms key low high n → HasNumber ms key low high m → n ≡ m
+same_number ms key low high n m a b = same_whole (integer_at key ms) n m a.is b.is
+
+pub no_protocol : (ms : Members) → ((p : Protocol) → HoldsProtocol ms p → ⊥) → (c : Config) → Holds ms c → ⊥
+no_protocol ms none c h = none (protocol_of c) h.protocol
+
+pub no_sizes : (ms : Members) → ((s : Sizes) → HoldsSizes ms s → ⊥) → (c : Config) → Holds ms c → ⊥
+no_sizes ms none c h = none (sizes_of c) h.sizes
+
+pub no_work : (ms : Members) (s : Sizes) → HoldsSizes ms s → ((w : Work) → HoldsWork ms s w → ⊥) → (c : Config) → Holds ms c → ⊥
+no_work ms s held none c h =
+    let e : c.clients ≡ s.clients = same_number ms (codes "clients") 1 256 c.clients s.clients h.sizes.clients_is held.clients_is in
+    let w : c.window ≡ s.window = same_number ms (codes "window") 1 64 c.window s.window h.sizes.window_is held.window_is in
+    let k : c.keys ≡ s.keys = same_number ms (codes "keys") 2 20 c.keys s.keys h.sizes.keys_is held.keys_is in
+    none (work_of c) (record {
+      requests_is = h.work.requests_is;
+      turns_is = h.work.turns_is;
+      in_windows = rw (← e, ← w) h.work.in_windows;
+      have_leaves = rw (← e, ← k) h.work.have_leaves;
+    })

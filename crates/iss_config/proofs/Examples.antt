@@ -9,8 +9,17 @@ use Rattle.iss_config.specs.declared.configs.Config.{Config}
 -- four nodes under PBFT
 abbrev pbft : Config
 pbft = record {
-  «module» = 3; policy = Blacklist; f = 1; epoch = 8; buckets = 4; batch = 8; window = 16; clients = 4; keys = 6;
-  requests = 20; turns = 100;
+  «module» = 3;
+  policy = Blacklist;
+  f = 1;
+  epoch = 8;
+  buckets = 4;
+  batch = 8;
+  window = 16;
+  clients = 4;
+  keys = 6;
+  requests = 20;
+  turns = 100;
 }
 
 abbrev text : List ℕ

@@ -70,12 +70,14 @@ untagged c = counted (record {
 })
 
 -- the set-up of the cluster, whose tag is that of the header of its schedules
+-- rule: Loopback: A configuration's set-up has its values, no faulty node, and the tag of its own header
 abbrev pub setup_of : Config → Setup
 setup_of c = record (untagged c) { tag = cluster_tag (untagged c) }
 
 -- The set-up is one that a schedule may have. The requests are in the clients' windows and have leaves to sign them:
 -- the last one has the number `(requests - 1) / clients`, and a client has `2 ^ keys` leaves.
 -- rule: Loopback: A configuration's numbers are in the ranges of a schedule's header
+-- rule: Loopback: Requests lie in the clients' windows, and have leaves that sign them
 pub record IsInRange (c : Config) : Type 0 where
   pub setup : IsKnown (setup_of c)
   pub requests_high : c.requests ≤ 16384

@@ -4,6 +4,7 @@
 pub mod configs;
 pub mod errors;
 mod modules;
+mod parts;
 mod reading;
 mod setups;
 mod tables;

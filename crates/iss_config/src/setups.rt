@@ -14,6 +14,7 @@ use std::alloc::Global;
 impl Config {
     /// The set-up of the cluster: the values of the configuration, and no faulty node. Its tag is that of the header
     /// of a schedule with these values. The only error is out of memory.
+    // rule: Loopback: A configuration's set-up has its values, no faulty node, and the tag of its own header
     pub fn setup(&self, alloc: Global) -> Result<Setup, NoMemory>
         requires { IsInRange self.now }
         ensures value { IfOk result (λ s. s ≡ setup_of self.now) }

@@ -6,4 +6,4 @@ pub returns-clause-some : goal.returns-clause-some
 returns-clause-some c =
     let all = c.has_all_keys.ensures.all.0 c.if-not-has_all_keys.false in
     IfSome_then c.config_at.result c.config_at.ensures.some (λ config held.
-        table_of_held c.args.table.now.entries config c.has_all_keys.ensures.ascending all held)
+    table_of_held c.args.table.now.entries config c.has_all_keys.ensures.ascending all held)
