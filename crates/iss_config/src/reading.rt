@@ -79,6 +79,7 @@ fn config_at(table: &Table) -> Option<Config>
     })
 }
 
+// The protocol that a table names.
 // rule: Loopback: A configuration's numbers are in the ranges of a schedule's header
 fn protocol_at(table: &Table) -> Option<Protocol>
     ensures some { IfSome result (HoldsProtocol (table_view table.now)) }
@@ -96,6 +97,7 @@ fn protocol_at(table: &Table) -> Option<Protocol>
     })
 }
 
+// The sizes that a table holds.
 // rule: Loopback: A configuration's numbers are in the ranges of a schedule's header
 fn sizes_at(table: &Table) -> Option<Sizes>
     ensures some { IfSome result (HoldsSizes (table_view table.now)) }
@@ -115,6 +117,7 @@ fn sizes_at(table: &Table) -> Option<Sizes>
     })
 }
 
+// What a table says of the loop of a cluster with these sizes.
 // rule: Loopback: Requests lie in the clients' windows, and have leaves that sign them
 fn work_at(table: &Table, sizes: Sizes) -> Option<Work>
     requires { HoldsSizes (table_view table.now) sizes }
