@@ -1,0 +1,3 @@
+mod Examples
+pub mod ConfigLemmas
+pub mod TableLemmas
