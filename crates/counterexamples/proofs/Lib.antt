@@ -1,5 +1,6 @@
 pub mod Deciding
 pub mod DigestsWithoutViews
+pub mod HotstuffMessages
 pub mod LowestCertificate
 pub mod NoSafeTest
 pub mod OlderTermsCounted

@@ -16,43 +16,39 @@ use Rattle.iss_request.specs.Digest.{digest}
 use Rattle.iss_request.specs.Formats.{spell_batch, spell_count, spell_value, value_string}
 use Rattle.iss_request.specs.declared.requests.Value.TheVariants.{Nil as Value_nil, Batch as Value_batch}
 use Rattle.iss_sb.specs.declared.content.Content.TheVariants.{Nil, Holds}
-use Rattle.iss_sb.specs.Calls.{IsGoodParams}
-use Rattle.iss_sb.specs.Evidence.{Item, World, IsCredible, IsReached, IsReadMessage, IsSigned, IsString, Separate, Verifies, and_then, delivered, empty_world}
+use Rattle.iss_sb.specs.Evidence.{Item, World, IsReached, IsReadMessage, IsString, Separate, and_then, delivered, empty_world}
 use Rattle.iss_sb.specs.Laws.{IsBroadcast}
 use Rattle.hs_tree.specs.declared.certificates.Certificate.TheVariants.{Root}
 use Rattle.hs_tree.specs.declared.messages.Message.{Message}
 use Rattle.hs_tree.specs.declared.messages.Message.TheVariants.{Prepare}
-use Rattle.hs_tree.specs.Certificates.{root_row}
-use Rattle.hs_tree.specs.Statements.{claims}
-use Rattle.hs_tree.specs.Tree.{basic, plain_string, root}
+use Rattle.hs_tree.specs.Tree.{plain_string, root}
 use Rattle.hs_views.proofs.SmallWorlds.{IsOneOf, all_differ, each-of, one-takes, separate-by, starts, two-takes, world, zero-takes}
 use Rattle.hs_views.proofs.Tests.{AreStrings, each-string}
 use Rattle.sb_chained.specs.Variants.{IsNotSafe}
 use Rattle.sb_chained.proofs.Examples.LooseCommits.{batch-no-nil}
-use Rattle.sb_hotstuff.specs.HotStuff.{hotstuff}
+use Rattle.sb_chained.proofs.Examples.ByzantineLeader.{batch_held}
+use Rattle.sb_chained.proofs.Examples.Runs.{b}
 use Rattle.sb_hotstuff.specs.Rules.{node_digest}
 use Rattle.sb_hotstuff.specs.Rules as Rules
-use Rattle.sb_hotstuff.proofs.Examples.FourReplicas.{AreCast, IsLike, IsPoll, Poll, arrives, by, commit, commit-comes, decide, decide-comes, good as good_for_hotstuff, liar, pre-commit-comes, pre_commit, prepare-read, sent, signs, states, told, voted}
-use Rattle.sb_hotstuff.proofs.Examples.ReachableWorld.{d, first, first-is, proposal, proposal-read, q}
-use Rattle.sb_hotstuff.proofs.Examples.Runs.{b}
 use Rattle.counterexamples.specs.Hotstuff.{state, without_safe_test as loose}
+use Rattle.counterexamples.proofs.HotstuffMessages.{AreCast, Arrives, IsPoll, Poll, alone, by, commit, commit-comes, decide, decide-comes, good, pre-commit-comes, pre_commit, prepare-read, q, sent, told, voted}
 
-good : IsGoodParams loose q
-good = let g = good_for_hotstuff 3 (omega arith) in record {
-  setup = g.setup;
-  kind = refl;
-  nodes = refl;
-  majority = refl;
-  leader = g.leader;
-  some = g.some;
-  few = g.few;
-  ascending = g.ascending;
-  slots_low = g.slots_low;
-  directory = g.directory;
-}
+-- ---- The first proposal, and the votes for it
 
-like : IsLike loose
-like = record { spell = refl; parse = refl; claims = refl }
+abbrev d : List ℕ
+d = node_digest q 1 (Holds b) Root
+
+abbrev first : Poll
+first = record { view = 1; digest = d; one = 0; one_behind = 0; other = 1; other_behind = 0 }
+
+first-is : IsPoll first
+first-is = record { low = omega arith; high = omega arith; long = length-sha256 _; ascending = omega arith; few = omega arith; one_left = omega arith; other_left = omega arith }
+
+abbrev proposal : Message
+proposal = by (Prepare 1 (Holds b) Root [])
+
+proposal-read : IsReadMessage loose q proposal
+proposal-read = prepare-read 1 (Holds b) batch_held.0 (omega arith) batch_held.1
 
 -- ---- The second proposal, and the votes for it
 
@@ -66,82 +62,82 @@ second-is : IsPoll second
 second-is = record { low = omega arith; high = omega arith; long = length-sha256 _; ascending = omega arith; few = omega arith; one_left = omega arith; other_left = omega arith }
 
 abbrev against : Message
-against = by q 3 0 (Prepare 262145 Nil Root [])
+against = by (Prepare 262145 Nil Root [])
 
-against-read : IsReadMessage hotstuff q against
-against-read = prepare-read 3 (omega arith) 3 0 262145 Nil Root _ root_row (omega arith) refl refl
+against-read : IsReadMessage loose q against
+against-read = prepare-read 262145 Nil _ (omega arith) refl
 
 -- ---- What the replicas take: 0 and 1 in round 0, replica 1 after it, and replica 2
 
 abbrev took : ℕ → List (Item Message) → Message → ℕ → List (Item Message)
-took me xs msg leaf = and_then loose q me xs (told 3 msg) leaf
+took me xs msg leaf = and_then loose q me xs (told msg) leaf
 
 abbrev early1 : ℕ → List (Item Message)
 early1 me = took me [] proposal 1
 
 abbrev early2 : ℕ → List (Item Message)
-early2 me = took me (early1 me) (pre_commit q first) 2
+early2 me = took me (early1 me) (pre_commit first) 2
 
 abbrev early3 : ℕ → List (Item Message)
-early3 me = took me (early2 me) (commit q first) 3
+early3 me = took me (early2 me) (commit first) 3
 
 abbrev done : List (Item Message)
-done = took 0 (early3 0) (decide q first) 4
+done = took 0 (early3 0) (decide first) 4
 
 abbrev later1 : List (Item Message)
 later1 = took 1 (early3 1) against 4
 
 abbrev later2 : List (Item Message)
-later2 = took 1 later1 (pre_commit q second) 5
+later2 = took 1 later1 (pre_commit second) 5
 
 abbrev later3 : List (Item Message)
-later3 = took 1 later2 (commit q second) 6
+later3 = took 1 later2 (commit second) 6
 
 abbrev fresh1 : List (Item Message)
 fresh1 = took 2 [] against 1
 
 abbrev fresh2 : List (Item Message)
-fresh2 = took 2 fresh1 (pre_commit q second) 2
+fresh2 = took 2 fresh1 (pre_commit second) 2
 
 abbrev fresh3 : List (Item Message)
-fresh3 = took 2 fresh2 (commit q second) 3
+fresh3 = took 2 fresh2 (commit second) 3
 
 abbrev fresh4 : List (Item Message)
-fresh4 = took 2 fresh3 (decide q second) 4
+fresh4 = took 2 fresh3 (decide second) 4
 
-early-vote-1 : (me : ℕ) → (loose.makes q me [] (told 3 proposal) 1).sends ≡ sent q first 1 1 me 3
+early-vote-1 : (me : ℕ) → (loose.makes q me [] (told proposal) 1).sends ≡ sent first 1 1 me
 unfolding sha256 digest_bytes hash_after compress rounds schedule first_words spell_batch spell_count spell_value
 early-vote-1 me = refl
 
-early-vote-2 : (me : ℕ) → (loose.makes q me (early1 me) (told 3 (pre_commit q first)) 2).sends ≡ sent q first 2 2 me 3
+early-vote-2 : (me : ℕ) → (loose.makes q me (early1 me) (told (pre_commit first)) 2).sends ≡ sent first 2 2 me
 unfolding sha256 digest_bytes hash_after compress rounds schedule first_words spell_batch spell_count spell_value
 early-vote-2 me = refl
 
-early-vote-3 : (me : ℕ) → (loose.makes q me (early2 me) (told 3 (commit q first)) 3).sends ≡ sent q first 3 3 me 3
+early-vote-3 : (me : ℕ) → (loose.makes q me (early2 me) (told (commit first)) 3).sends ≡ sent first 3 3 me
 unfolding sha256 digest_bytes hash_after compress rounds schedule first_words spell_batch spell_count spell_value
 early-vote-3 me = refl
 
-later-vote-1 : (loose.makes q 1 (early3 1) (told 3 against) 4).sends ≡ sent q second 1 4 1 3
+later-vote-1 : (loose.makes q 1 (early3 1) (told against) 4).sends ≡ sent second 1 4 1
 unfolding sha256 digest_bytes hash_after compress rounds schedule first_words spell_batch spell_count spell_value
 later-vote-1 = refl
 
-later-vote-2 : (loose.makes q 1 later1 (told 3 (pre_commit q second)) 5).sends ≡ sent q second 2 5 1 3
+later-vote-2 : (loose.makes q 1 later1 (told (pre_commit second)) 5).sends ≡ sent second 2 5 1
 unfolding sha256 digest_bytes hash_after compress rounds schedule first_words spell_batch spell_count spell_value
 later-vote-2 = refl
 
-later-vote-3 : (loose.makes q 1 later2 (told 3 (commit q second)) 6).sends ≡ sent q second 3 6 1 3
+later-vote-3 : (loose.makes q 1 later2 (told (commit second)) 6).sends ≡ sent second 3 6 1
 unfolding sha256 digest_bytes hash_after compress rounds schedule first_words spell_batch spell_count spell_value
 later-vote-3 = refl
 
-fresh-vote-1 : (loose.makes q 2 [] (told 3 against) 1).sends ≡ sent q second 1 1 2 3
+fresh-vote-1 : (loose.makes q 2 [] (told against) 1).sends ≡ sent second 1 1 2
 unfolding sha256 digest_bytes hash_after compress rounds schedule first_words spell_batch spell_count spell_value
 fresh-vote-1 = refl
 
-fresh-vote-2 : (loose.makes q 2 fresh1 (told 3 (pre_commit q second)) 2).sends ≡ sent q second 2 2 2 3
+fresh-vote-2 : (loose.makes q 2 fresh1 (told (pre_commit second)) 2).sends ≡ sent second 2 2 2
 unfolding sha256 digest_bytes hash_after compress rounds schedule first_words spell_batch spell_count spell_value
 fresh-vote-2 = refl
 
-fresh-vote-3 : (loose.makes q 2 fresh2 (told 3 (commit q second)) 3).sends ≡ sent q second 3 3 2 3
+fresh-vote-3 : (loose.makes q 2 fresh2 (told (commit second)) 3).sends ≡ sent second 3 3 2
 unfolding sha256 digest_bytes hash_after compress rounds schedule first_words spell_batch spell_count spell_value
 fresh-vote-3 = refl
 
@@ -160,128 +156,116 @@ refused = refl
 
 -- ---- The run
 
-abbrev Arrives : World Message → Message → Type 0
-Arrives w msg = IsCredible loose q (Verifies q) (IsSigned loose q w) 3 msg
-
-alone : (w : World Message) (msg : Message) → IsReadMessage hotstuff q msg → (st : List ℕ) → claims basic q 3 msg ≡ signs q 3 0 st ∷ [] → Arrives w msg
-alone w msg read st e = arrives loose like 3 (omega arith) w 3 msg _ (omega arith) read e (liar loose like 3 (omega arith) w st, tt)
-
-first-vote : (w : World Message) (k phase : ℕ) (x : Item Message) → In x (w k) → x.made.sends ≡ sent q first phase phase k 3 → IsSigned loose q w k (states q 1 d phase)
-first-vote w k phase x h e = voted loose like 3 (omega arith) w first phase phase k 3 x h e
-
-second-vote : (w : World Message) (k phase leaf : ℕ) (x : Item Message) → In x (w k) → x.made.sends ≡ sent q second phase leaf k 3 → IsSigned loose q w k (states q 262145 z phase)
-second-vote w k phase leaf x h e = voted loose like 3 (omega arith) w second phase leaf k 3 x h e
-
 module _ (w : World Message) where
   proposal-comes : Arrives w proposal
-  proposal-comes = alone w proposal proposal-read _ refl
+  proposal-comes = alone w proposal proposal-read refl
 
   against-comes : Arrives w against
-  against-comes = alone w against against-read _ refl
+  against-comes = alone w against against-read refl
 
-  shows-1 : AreCast loose q w first 1 → Arrives w (pre_commit q first)
-  shows-1 h = pre-commit-comes loose like 3 (omega arith) w first first-is h
+  shows-1 : AreCast w first 1 → Arrives w (pre_commit first)
+  shows-1 h = pre-commit-comes w first first-is h
 
-  shows-2 : AreCast loose q w first 2 → Arrives w (commit q first)
-  shows-2 h = commit-comes loose like 3 (omega arith) w first first-is h
+  shows-2 : AreCast w first 2 → Arrives w (commit first)
+  shows-2 h = commit-comes w first first-is h
 
-  shows-3 : AreCast loose q w first 3 → Arrives w (decide q first)
-  shows-3 h = decide-comes loose like 3 (omega arith) w first first-is h
+  shows-3 : AreCast w first 3 → Arrives w (decide first)
+  shows-3 h = decide-comes w first first-is h
 
-  again-1 : AreCast loose q w second 1 → Arrives w (pre_commit q second)
-  again-1 h = pre-commit-comes loose like 3 (omega arith) w second second-is h
+  again-1 : AreCast w second 1 → Arrives w (pre_commit second)
+  again-1 h = pre-commit-comes w second second-is h
 
-  again-2 : AreCast loose q w second 2 → Arrives w (commit q second)
-  again-2 h = commit-comes loose like 3 (omega arith) w second second-is h
+  again-2 : AreCast w second 2 → Arrives w (commit second)
+  again-2 h = commit-comes w second second-is h
 
-  again-3 : AreCast loose q w second 3 → Arrives w (decide q second)
-  again-3 h = decide-comes loose like 3 (omega arith) w second second-is h
+  again-3 : AreCast w second 3 → Arrives w (decide second)
+  again-3 h = decide-comes w second second-is h
 
 abbrev Reaches : List (Item Message) → List (Item Message) → List (Item Message) → Type 0
 Reaches xs ys zs = IsReached loose q (world xs ys zs)
 
 r1 : Reaches (early1 0) [] []
-r1 = starts loose q refl (told 3 proposal) 1 (proposal-comes empty_world)
+r1 = starts loose q refl (told proposal) 1 (proposal-comes empty_world)
 
 r2 : Reaches (early1 0) (early1 1) []
-r2 = one-takes loose q (early1 0) [] [] r1 (told 3 proposal) 1 refl (proposal-comes (world (early1 0) [] []))
+r2 = one-takes loose q (early1 0) [] [] r1 (told proposal) 1 refl (proposal-comes (world (early1 0) [] []))
 
 r3 : Reaches (early2 0) (early1 1) []
 r3 =
     let w : World Message = world (early1 0) (early1 1) [] in
-    zero-takes loose q (early1 0) (early1 1) [] r2 (told 3 (pre_commit q first)) 2 refl (shows-1 w (record {
-      one_did = first-vote w 0 1 _ (inl refl) (early-vote-1 0);
-      other_did = first-vote w 1 1 _ (inl refl) (early-vote-1 1);
+    zero-takes loose q (early1 0) (early1 1) [] r2 (told (pre_commit first)) 2 refl (shows-1 w (record {
+      one_did = voted w first 1 1 0 _ (inl refl) (early-vote-1 0);
+      other_did = voted w first 1 1 1 _ (inl refl) (early-vote-1 1);
     }))
 
 r4 : Reaches (early2 0) (early2 1) []
 r4 =
     let w : World Message = world (early2 0) (early1 1) [] in
-    one-takes loose q (early2 0) (early1 1) [] r3 (told 3 (pre_commit q first)) 2 refl (shows-1 w (record {
-      one_did = first-vote w 0 1 _ (inr (inl refl)) (early-vote-1 0);
-      other_did = first-vote w 1 1 _ (inl refl) (early-vote-1 1);
+    one-takes loose q (early2 0) (early1 1) [] r3 (told (pre_commit first)) 2 refl (shows-1 w (record {
+      one_did = voted w first 1 1 0 _ (inr (inl refl)) (early-vote-1 0);
+      other_did = voted w first 1 1 1 _ (inl refl) (early-vote-1 1);
     }))
 
 r5 : Reaches (early3 0) (early2 1) []
 r5 =
     let w : World Message = world (early2 0) (early2 1) [] in
-    zero-takes loose q (early2 0) (early2 1) [] r4 (told 3 (commit q first)) 3 refl (shows-2 w (record {
-      one_did = first-vote w 0 2 _ (inl refl) (early-vote-2 0);
-      other_did = first-vote w 1 2 _ (inl refl) (early-vote-2 1);
+    zero-takes loose q (early2 0) (early2 1) [] r4 (told (commit first)) 3 refl (shows-2 w (record {
+      one_did = voted w first 2 2 0 _ (inl refl) (early-vote-2 0);
+      other_did = voted w first 2 2 1 _ (inl refl) (early-vote-2 1);
     }))
 
 r6 : Reaches (early3 0) (early3 1) []
 r6 =
     let w : World Message = world (early3 0) (early2 1) [] in
-    one-takes loose q (early3 0) (early2 1) [] r5 (told 3 (commit q first)) 3 refl (shows-2 w (record {
-      one_did = first-vote w 0 2 _ (inr (inl refl)) (early-vote-2 0);
-      other_did = first-vote w 1 2 _ (inl refl) (early-vote-2 1);
+    one-takes loose q (early3 0) (early2 1) [] r5 (told (commit first)) 3 refl (shows-2 w (record {
+      one_did = voted w first 2 2 0 _ (inr (inl refl)) (early-vote-2 0);
+      other_did = voted w first 2 2 1 _ (inl refl) (early-vote-2 1);
     }))
 
 r7 : Reaches done (early3 1) []
 r7 =
     let w : World Message = world (early3 0) (early3 1) [] in
-    zero-takes loose q (early3 0) (early3 1) [] r6 (told 3 (decide q first)) 4 refl (shows-3 w (record {
-      one_did = first-vote w 0 3 _ (inl refl) (early-vote-3 0);
-      other_did = first-vote w 1 3 _ (inl refl) (early-vote-3 1);
+    zero-takes loose q (early3 0) (early3 1) [] r6 (told (decide first)) 4 refl (shows-3 w (record {
+      one_did = voted w first 3 3 0 _ (inl refl) (early-vote-3 0);
+      other_did = voted w first 3 3 1 _ (inl refl) (early-vote-3 1);
     }))
 
 r8 : Reaches done later1 []
-r8 = one-takes loose q done (early3 1) [] r7 (told 3 against) 4 refl (against-comes (world done (early3 1) []))
+r8 = one-takes loose q done (early3 1) [] r7 (told against) 4 refl (against-comes (world done (early3 1) []))
 
 r9 : Reaches done later1 fresh1
-r9 = two-takes loose q done later1 [] r8 (told 3 against) 1 refl (against-comes (world done later1 []))
+r9 = two-takes loose q done later1 [] r8 (told against) 1 refl (against-comes (world done later1 []))
 
 r10 : Reaches done later2 fresh1
 r10 =
     let w : World Message = world done later1 fresh1 in
-    one-takes loose q done later1 fresh1 r9 (told 3 (pre_commit q second)) 5 refl (again-1 w (record {
-      one_did = second-vote w 1 1 4 _ (inl refl) later-vote-1;
-      other_did = second-vote w 2 1 1 _ (inl refl) fresh-vote-1;
+    one-takes loose q done later1 fresh1 r9 (told (pre_commit second)) 5 refl (again-1 w (record {
+      one_did = voted w second 1 4 1 _ (inl refl) later-vote-1;
+      other_did = voted w second 1 1 2 _ (inl refl) fresh-vote-1;
     }))
 
 r11 : Reaches done later2 fresh2
 r11 =
     let w : World Message = world done later2 fresh1 in
-    two-takes loose q done later2 fresh1 r10 (told 3 (pre_commit q second)) 2 refl (again-1 w (record {
-      one_did = second-vote w 1 1 4 _ (inr (inl refl)) later-vote-1;
-      other_did = second-vote w 2 1 1 _ (inl refl) fresh-vote-1;
+    two-takes loose q done later2 fresh1 r10 (told (pre_commit second)) 2 refl (again-1 w (record {
+      one_did = voted w second 1 4 1 _ (inr (inl refl)) later-vote-1;
+      other_did = voted w second 1 1 2 _ (inl refl) fresh-vote-1;
     }))
 
 r12 : Reaches done later3 fresh2
 r12 =
     let w : World Message = world done later2 fresh2 in
-    one-takes loose q done later2 fresh2 r11 (told 3 (commit q second)) 6 refl (again-2 w (record {
-      one_did = second-vote w 1 2 5 _ (inl refl) later-vote-2;
-      other_did = second-vote w 2 2 2 _ (inl refl) fresh-vote-2;
+    one-takes loose q done later2 fresh2 r11 (told (commit second)) 6 refl (again-2 w (record {
+      one_did = voted w second 2 5 1 _ (inl refl) later-vote-2;
+      other_did = voted w second 2 2 2 _ (inl refl) fresh-vote-2;
     }))
 
 r13 : Reaches done later3 fresh3
 r13 =
     let w : World Message = world done later3 fresh2 in
-    two-takes loose q done later3 fresh2 r12 (told 3 (commit q second)) 3 refl (again-2 w (record {
-      one_did = second-vote w 1 2 5 _ (inr (inl refl)) later-vote-2;
-      other_did = second-vote w 2 2 2 _ (inl refl) fresh-vote-2;
+    two-takes loose q done later3 fresh2 r12 (told (commit second)) 3 refl (again-2 w (record {
+      one_did = voted w second 2 5 1 _ (inr (inl refl)) later-vote-2;
+      other_did = voted w second 2 2 2 _ (inl refl) fresh-vote-2;
     }))
 
 abbrev last : World Message
@@ -290,9 +274,9 @@ last = world done later3 fresh4
 reached : IsReached loose q last
 reached =
     let w : World Message = world done later3 fresh3 in
-    two-takes loose q done later3 fresh3 r13 (told 3 (decide q second)) 4 refl (again-3 w (record {
-      one_did = second-vote w 1 3 6 _ (inl refl) later-vote-3;
-      other_did = second-vote w 2 3 3 _ (inl refl) fresh-vote-3;
+    two-takes loose q done later3 fresh3 r13 (told (decide second)) 4 refl (again-3 w (record {
+      one_did = voted w second 3 6 1 _ (inl refl) later-vote-3;
+      other_did = voted w second 3 3 2 _ (inl refl) fresh-vote-3;
     }))
 
 -- ---- SHA-256 does not collide on its strings: two values' and two nodes'
@@ -334,15 +318,15 @@ one-a = record { digest_of = _; one = inr (inr (inr (inl refl))); is = refl }
 one-z : IsOne node_z
 one-z = record { digest_of = _; one = inr (inr (inr (inr (inl refl)))); is = refl }
 
-early-strings : (me : ℕ) → (loose.makes q me [] (told 3 proposal) 1).strings ≡ batch ∷ node_a ∷ []
+early-strings : (me : ℕ) → (loose.makes q me [] (told proposal) 1).strings ≡ batch ∷ node_a ∷ []
 unfolding sha256 digest_bytes hash_after compress rounds schedule first_words spell_batch spell_count spell_value
 early-strings me = refl
 
-later-strings : (loose.makes q 1 (early3 1) (told 3 against) 4).strings ≡ nil ∷ node_z ∷ []
+later-strings : (loose.makes q 1 (early3 1) (told against) 4).strings ≡ nil ∷ node_z ∷ []
 unfolding sha256 digest_bytes hash_after compress rounds schedule first_words spell_batch spell_count spell_value
 later-strings = refl
 
-fresh-strings : (loose.makes q 2 [] (told 3 against) 1).strings ≡ nil ∷ node_z ∷ []
+fresh-strings : (loose.makes q 2 [] (told against) 1).strings ≡ nil ∷ node_z ∷ []
 unfolding sha256 digest_bytes hash_after compress rounds schedule first_words spell_batch spell_count spell_value
 fresh-strings = refl
 

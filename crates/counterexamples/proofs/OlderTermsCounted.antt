@@ -7,12 +7,15 @@
 --     term 4   node 1 leads by node 2's vote, since nil's term is higher, replaces the batch at node 2, and delivers nil
 use Rattle.std.proofs.Common.{◌≡◌, Bool, true, false, cond, eqb, List, [], ◌∷◌, Some, ℕ, refl, sym, ap, ◌∙◌, subst, inl, inr, arith}
 use Rattle.iss_base.specs.Lists.{In}
+use Rattle.iss_keys.specs.Directories.{directory_of}
 use Rattle.iss_request.specs.Formats.{count_field, parse_batch, parse_count, parse_rest, parse_value, spell_batch, spell_count, spell_value}
 use Rattle.iss_request.specs.Parsing.{◌>>=◌, byte, done, such_that, times}
 use Rattle.iss_request.specs.declared.requests.Value.TheVariants.{Batch as Value_batch, Nil as Value_nil}
-use Rattle.iss_sb.specs.declared.content.Content.TheVariants.{Mark, Nil}
+use Rattle.iss_request.specs.declared.setups.Kind.TheVariants.{Stopping}
+use Rattle.iss_request.specs.declared.setups.Setup.{Setup}
+use Rattle.iss_sb.specs.declared.content.Content.TheVariants.{Holds, Mark, Nil}
 use Rattle.iss_sb.specs.declared.effects.Input.{Input}
-use Rattle.iss_sb.specs.declared.effects.Input.TheVariants.{Cast, Timeout}
+use Rattle.iss_sb.specs.declared.effects.Input.TheVariants.{Cast, Receive, Timeout}
 use Rattle.iss_sb.specs.declared.effects.Params.{Params}
 use Rattle.iss_sb.specs.declared.effects.To.TheVariants.{One as To_one}
 use Rattle.iss_sb.specs.Calls.{IsGoodParams}
@@ -26,16 +29,25 @@ use Rattle.hs_views.proofs.SmallWorlds.{one-takes, starts, two-takes, world, zer
 use Rattle.sb_chained.specs.Variants.{IsNotSafe}
 use Rattle.sb_chained.proofs.Examples.LooseCommits.{batch-no-nil}
 use Rattle.sb_raft.specs.Logs.{entry}
-use Rattle.sb_raft.proofs.Examples.Runs.{b, e1, node, p as both_slots, slot, tell}
+use Rattle.sb_chained.proofs.Examples.Runs.{b, node, setup as chained_setup, slot}
 use Rattle.counterexamples.specs.Raft.{counting_older_terms as loose}
 
--- node 0 leads slot 0
+-- three nodes, of which one may stop; node 0 leads slot 0
+abbrev setup : Setup
+setup = record chained_setup { «module» = 2; faulty = []; n = 3; quorum = 2; kind = Stopping }
+
 abbrev p : Params
-p = record both_slots { slots = slot 0 ∷ [] }
+p = record { setup = setup; epoch = record { 0 = 2 }; leader = node 0; slots = slot 0 ∷ []; directory = directory_of 3 1 4 }
+
+abbrev tell : ℕ → Message → Input Message
+tell k msg = Receive (node k) msg
+
+abbrev e1 : Entry
+e1 = entry 1 (Holds b)
 
 good : IsGoodParams loose p
 good = record {
-  setup = good-by p.setup refl;
+  setup = good-by setup refl;
   kind = refl;
   nodes = refl;
   majority = refl;
