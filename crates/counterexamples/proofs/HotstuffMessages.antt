@@ -1,7 +1,7 @@
 -- Messages of HotStuff without the safe test, where the Byzantine replica 3 leads the slots 0 and 4: votes and
 -- certificates, what has an encoding, and what may arrive. A certificate has the votes of two correct replicas and of
 -- replica 3.
-use Rattle.std.proofs.Common.{◌≡◌, ◌<◌, ◌≤◌, ◌^◌, ℕ, ◌+◌, true, List, [], ◌∷◌, length, refl, sym, inl, arith, true≢false}
+use Rattle.std.proofs.Common.{◌≡◌, ◌<◌, ◌≤◌, ◌^◌, ℕ, ◌+◌, List, [], ◌∷◌, length, refl, sym, inl, arith, true≢false}
 use Rattle.iss_base.specs.Lists.{In}
 use Rattle.iss_keys.specs.Directories.{directory_of}
 use Rattle.iss_request.specs.declared.setups.Setup.{Setup}
