@@ -35,7 +35,7 @@ use Rattle.hs_views.proofs.SmallWorlds.{IsOneOf, all_differ, one-takes, separate
 use Rattle.hs_views.proofs.Tests.{AreStrings, each-string}
 use Rattle.sb_chained.specs.Variants.{IsNotSafe}
 use Rattle.sb_chained.proofs.Examples.ByzantineLeader.{and_own, alone, batch_held, cites, good-setup, liar, q, sent, shown, shown-spelled, signs, states, told, voted}
-use Rattle.sb_chained.proofs.Examples.Runs.{b, setup}
+use Rattle.sb_chained.proofs.Examples.Runs.{b}
 use Rattle.counterexamples.specs.Chained.{makes, viewless, without_views}
 
 good : IsGoodParams without_views q

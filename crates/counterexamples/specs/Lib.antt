@@ -1,2 +1,4 @@
 pub mod Chained
+pub mod Hotstuff
 pub mod Pbft
+pub mod Raft
