@@ -17,6 +17,7 @@ use Rattle.iss_config.specs.Configs.{IsInRange, entries_of, members_of, setup_of
 use Rattle.iss_config.specs.Internal.{HasNumber, Holds, HoldsProtocol, HoldsSizes, HoldsWork, IsTableOf, count_of, integer_at, protocol_of, sizes_of, work_of}
 use Rattle.iss_config.specs.declared.parts.Protocol.{Protocol}
 use Rattle.iss_config.specs.declared.parts.Sizes.{Sizes}
+use Rattle.iss_base.proofs.Lists.{none-some}
 use Rattle.iss_config.specs.declared.parts.Work.{Work}
 use Rattle.iss_config.specs.declared.configs.Config.{Config}
 use Rattle.iss_config.proofs.TableLemmas.{AreAt, is_table}
@@ -27,28 +28,25 @@ count_of_view (e ∷ es) = ap suc (count_of_view es)
 
 -- ---- values
 
-other : {A : Type 0} (x : A) → None ≡ Some x → ⊥
-other {A} x e = absurd cc
-
 integer_is : (o : Option Data) (z : ℤ) → option_and_then as_integer o ≡ Some z → o ≡ Some (integer z)
-integer_is None z e = absurd (other z e)
+integer_is None z e = absurd (none-some z e)
 integer_is (Some (integer y)) z e = ap (λ (x : ℤ). Some (integer x)) (same_Some y z e)
-integer_is (Some (string s)) z e = absurd (other z e)
-integer_is (Some (float x)) z e = absurd (other z e)
-integer_is (Some (boolean b)) z e = absurd (other z e)
-integer_is (Some (datetime t)) z e = absurd (other z e)
-integer_is (Some (array xs)) z e = absurd (other z e)
-integer_is (Some (table ms)) z e = absurd (other z e)
+integer_is (Some (string s)) z e = absurd (none-some z e)
+integer_is (Some (float x)) z e = absurd (none-some z e)
+integer_is (Some (boolean b)) z e = absurd (none-some z e)
+integer_is (Some (datetime t)) z e = absurd (none-some z e)
+integer_is (Some (array xs)) z e = absurd (none-some z e)
+integer_is (Some (table ms)) z e = absurd (none-some z e)
 
 text_is : (o : Option Data) (w : List ℕ) → option_and_then as_str o ≡ Some w → o ≡ Some (string w)
-text_is None w e = absurd (other w e)
+text_is None w e = absurd (none-some w e)
 text_is (Some (string s)) w e = ap (λ (x : List ℕ). Some (string x)) (same_Some s w e)
-text_is (Some (integer y)) w e = absurd (other w e)
-text_is (Some (float x)) w e = absurd (other w e)
-text_is (Some (boolean b)) w e = absurd (other w e)
-text_is (Some (datetime t)) w e = absurd (other w e)
-text_is (Some (array xs)) w e = absurd (other w e)
-text_is (Some (table ms)) w e = absurd (other w e)
+text_is (Some (integer y)) w e = absurd (none-some w e)
+text_is (Some (float x)) w e = absurd (none-some w e)
+text_is (Some (boolean b)) w e = absurd (none-some w e)
+text_is (Some (datetime t)) w e = absurd (none-some w e)
+text_is (Some (array xs)) w e = absurd (none-some w e)
+text_is (Some (table ms)) w e = absurd (none-some w e)
 
 number_is : (ms : Members) (key : List ℕ) (low high n : ℕ) → HasNumber ms key low high n → get_member key ms ≡ Some (whole n)
 number_is ms key low high n h = integer_is (get_member key ms) (pos n) h.is
