@@ -1,0 +1,5 @@
+mod IndexLemmas
+mod LoopLemmas
+mod NodeLemmas
+mod TakeLemmas
+mod TraceLemmas

@@ -1,0 +1,11 @@
+use Rattle.std.proofs.Common.{rules, ◌≡◌, ◌∙◌, sym, refl, ap, List, Option, Some, ℕ, Vec, Global, option_map}
+use Rattle.std.proofs.lemmas.Result.{on_ok_weaker}
+use Rattle.iss_loops.proofs.NodeLemmas.{received}
+use Rattle.iss_loops.proofs.node_loop.receive.Goals as goal
+
+pub returns-in-Some-clause-goes : goal.returns-in-Some-clause-goes
+returns-in-Some-clause-goes g c =
+    on_ok_weaker c.take.result (λ h. received (g.N.JournaledNode.behavior c.args.node.now) c.me-me.result c.args.most c.in-Some.packet.items (g.N.JournaledNode.events c.args.node.now) (g.N.JournaledNode.events c.take.new.node)
+    (g.L.Links.ends c.args.links.now) (g.L.Links.ends c.take_packet.new.links) (g.L.Links.ends c.take.new.links) c.args.progress.now _ c.take.new.progress c.me-me.ensures.me refl
+    (λ es is. ap (option_map (λ (v : Vec ℕ Global). v.items)) (sym c.in-Some.is) ∙ c.in_ok-packet.ensures.packet es is) c.in_ok-packet.ensures.ends
+    (rw c.of.ensures at h)) c.take.ensures.goes

@@ -1,0 +1,28 @@
+use Rattle.std.proofs.Common.{rules, ◌≡◌, ◌∙◌, sym, ap, subst, get_or}
+use Rattle.iss_rules.specs.declared.events.NodeEvent.TheVariants.{Timeout}
+use Rattle.iss_loops.specs.NodeBehavior.{NodeBehavior}
+use Rattle.iss_loops.specs.NodeLoop.{NodeState, takes}
+use Rattle.iss_loops.specs.NodeLoop.{IsAt}
+use Rattle.iss_request.specs.declared.ids.NodeId.{NodeId}
+use Rattle.iss_loops.proofs.LoopLemmas.{leader-at}
+use Rattle.iss_loops.proofs.NodeLemmas.{Comes, times-out-more}
+use Rattle.iss_loops.proofs.node_loop.time_out.Goals as goal
+
+pub take-requires-clause-names : goal.take-requires-clause-names
+take-requires-clause-names g c =
+    leader-at (g.N.JournaledNode.behavior c.loop-leader.node).nodes c.args.leaders.now c.loop-leader.leader-index _
+    (rw c.loop-leader.invariant.kept.same c.requires.leaders) c.loop-leader-test.true
+
+pub loop-leader-preserved : goal.loop-leader-preserved
+loop-leader-preserved g c =
+    let goes : (w : NodeState) → IsAt (g.N.JournaledNode.events c.loop-leader.node) (g.L.Links.ends c.loop-leader.links) c.loop-leader.progress w
+    → IsAt (g.N.JournaledNode.events c.take.new.node) (g.L.Links.ends c.take.new.links) c.take.new.progress (takes (g.N.JournaledNode.behavior c.args.node.now) (Timeout (get_or c.args.leaders.now c.loop-leader.leader-index (record { 0 = 0 }))) w) =
+    λ w at. (let Q : NodeBehavior → Type 0 = λ B. IsAt (g.N.JournaledNode.events c.take.new.node) (g.L.Links.ends c.take.new.links) c.take.new.progress (takes B (Timeout (get_or c.args.leaders.now c.loop-leader.leader-index (record { 0 = 0 }))) w) in subst Q c.loop-leader.invariant.kept.same (c.in_ok-take.ensures.goes w at)) in
+    record {
+      links = search rules;
+      disk = search rules;
+      kept = search rules;
+      idle_turns = search rules;
+      goes = λ w at. times-out-more (g.N.JournaledNode.behavior c.args.node.now) c.args.leaders.now c.loop-leader.leader-index (record { 0 = 0 }) (g.N.JournaledNode.events c.loop-leader.node) (g.N.JournaledNode.events c.take.new.node) (g.L.Links.ends c.loop-leader.links) (g.L.Links.ends c.take.new.links) c.loop-leader.progress c.take.new.progress _
+          c.loop-leader-test.true (c.loop-leader.invariant.goes w at) goes;
+    }

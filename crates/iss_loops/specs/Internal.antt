@@ -1,0 +1,2 @@
+-- Relations that only contracts of this crate's own types use.
+pub mod PacketIndex

@@ -1,0 +1,9 @@
+pub mod Behavior
+pub mod Errors
+pub mod Internal
+pub mod Loop
+pub mod NodeBehavior
+pub mod NodeLoop
+pub mod Plans
+pub mod Progress
+pub mod Traces

@@ -1,0 +1,116 @@
+-- Which events the loop of one node makes, as a function of what the node does, of the events that its journal held,
+-- and of what its links hold at the start.
+use Rattle.std.specs.Prelude.{◌≡◌, ℕ, zero, suc, ◌+◌, ◌==◌, nat_lt, Bool, true, false, List, [], ◌∷◌, ◌++◌, Option, Some, None, if◌then◌else◌}
+use Rattle.iss_links.specs.Ends.{End, after_send}
+use Rattle.iss_loops.specs.Loop.{packet_at, peer_of}
+use Rattle.iss_loops.specs.NodeBehavior.{NodeBehavior}
+use Rattle.iss_loops.specs.declared.node_loop.NodeProgress.{NodeProgress}
+use Rattle.iss_request.specs.declared.ids.NodeId.{NodeId}
+use Rattle.iss_rules.specs.declared.events.NodeEvent.{NodeEvent}
+use Rattle.iss_rules.specs.declared.events.NodeEvent.TheVariants.{Packet, Propose, Timeout, AskFrom}
+use Rattle.iss_sb.specs.declared.effects.To.{To}
+use Rattle.iss_sb.specs.declared.effects.To.TheVariants.{All, One}
+
+-- how far the loop has come
+pub record NodeState : Type 0 where
+  -- the events that the node has accepted, oldest first: first those that its journal held
+  pub events : List NodeEvent
+  -- how many packets it has sent since the loop began
+  pub count : ℕ
+  -- what the links hold
+  pub ends : List End
+  -- it has not proposed in this turn, and no packet has arrived
+  pub idle : Bool
+  -- how many turns in a row before this one were idle
+  pub idle_turns : ℕ
+
+-- ---- one event
+
+-- a packet goes to nodes 0 to n - 1, each time under the next number
+abbrev pub send_below : ℕ → ℕ → ℕ → List ℕ → List End → List End
+send_below me count zero bytes ends = ends
+send_below me count (suc n) bytes ends = after_send me (count + n) n bytes (send_below me count n bytes ends)
+
+abbrev pub copies : ℕ → To → ℕ
+copies nodes All = nodes
+copies nodes (One node) = 1
+
+abbrev pub send_to : ℕ → ℕ → ℕ → To → List ℕ → List End → List End
+send_to nodes me count All bytes ends = send_below me count nodes bytes ends
+send_to nodes me count (One node) bytes ends = after_send me count node.0 bytes ends
+
+-- rule: Loopback: A node sends what its accepted events made, each packet under its own count
+abbrev pub send_each : NodeBehavior → List (To × List ℕ) → NodeState → NodeState
+send_each B [] w = w
+send_each B (s ∷ sends) w =
+    send_each B sends (record w {
+      count = w.count + copies B.nodes s.0;
+      ends = send_to B.nodes B.me w.count s.0 s.1 w.ends;
+    })
+
+-- the node takes an event: if it accepts the event, what it sends goes to the links
+abbrev pub takes : NodeBehavior → NodeEvent → NodeState → NodeState
+takes B e w =
+    if B.accepts w.events e then send_each B (B.sends w.events e) (record w { events = w.events ++ e ∷ [] }) else w
+
+-- ---- one turn
+
+abbrev pub proposes : NodeBehavior → NodeState → NodeState
+proposes B w = if B.castable w.events then takes B Propose (record w { idle = false }) else w
+
+abbrev pub arrives : NodeBehavior → Option (List ℕ) → NodeState → NodeState
+arrives B None w = w
+arrives B (Some bytes) w = takes B (Packet bytes) (record w { idle = false })
+
+-- rule: Loopback: A node takes each packet that arrives whole, whoever sent it
+abbrev pub receives : NodeBehavior → ℕ → NodeState → NodeState
+receives B frames w = let taken = packet_at B.me frames w.ends in arrives B taken.0 (record w { ends = taken.1 })
+
+abbrev pub times_out : NodeBehavior → List NodeId → NodeState → NodeState
+times_out B [] w = w
+times_out B (leader ∷ leaders) w = times_out B leaders (takes B (Timeout leader) w)
+
+abbrev pub asks : NodeBehavior → NodeState → NodeState
+asks B w = if nat_lt 1 B.nodes then takes B (AskFrom (peer_of B.nodes B.me)) w else w
+
+-- the node wakes up: it times out for each leader whose segment it had not filled before, and asks the next node
+abbrev pub wakes : NodeBehavior → NodeState → NodeState
+wakes B w = asks B (times_out B (B.unfilled w.events) w)
+
+abbrev pub rests : NodeBehavior → ℕ → NodeState → NodeState
+rests B patience w =
+    if w.idle then
+    (if w.idle_turns + 1 == patience then wakes B (record w { idle_turns = 0 })
+    else record w { idle_turns = w.idle_turns + 1 })
+    else record w { idle_turns = 0 }
+
+abbrev pub turn : NodeBehavior → ℕ → ℕ → NodeState → NodeState
+turn B frames patience w = rests B patience (receives B frames (proposes B (record w { idle = true })))
+
+abbrev pub turns : NodeBehavior → ℕ → ℕ → ℕ → NodeState → NodeState
+turns B frames patience zero w = w
+turns B frames patience (suc n) w = turn B frames patience (turns B frames patience n w)
+
+abbrev pub begins : List NodeEvent → List End → NodeState
+begins held ends = record { events = held; count = 0; ends = ends; idle = true; idle_turns = 0 }
+
+-- the whole loop, from the events that the journal held
+-- rule: Loopback: A node goes on from the events of its journal, and ends after its turns
+abbrev pub node_loop_of : NodeBehavior → (frames patience n : ℕ) → List NodeEvent → List End → NodeState
+node_loop_of B frames patience n held ends = turns B frames patience n (begins held ends)
+
+-- ---- the code
+
+-- The node has accepted these events, the links hold this, and the progress is that of the loop. Links that record no
+-- frames are at no state of a loop.
+pub record IsAt (events : List NodeEvent) (ends : Option (List End)) (progress : NodeProgress) (w : NodeState) : Type 0 where
+  pub events_are : events ≡ w.events
+  pub ends_are : ends ≡ Some w.ends
+  pub count : progress.count ≡ w.count
+  pub idle : progress.idle ≡ w.idle
+  pub idle_turns : progress.idle_turns ≡ w.idle_turns
+
+-- these are the loop's events, and the links hold what it leaves there
+pub record HasRun (w : NodeState) (events : List NodeEvent) (ends : Option (List End)) : Type 0 where
+  pub events_are : events ≡ w.events
+  pub ends_are : ends ≡ Some w.ends

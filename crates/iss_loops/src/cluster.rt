@@ -1,0 +1,74 @@
+// What a loop sees of a cluster.
+ghost use Rattle.std.specs.Prelude.{◌≡◌, ◌<◌, ◌++◌, ◌∷◌, [], true, false, Bool, List, IfOk, OnOk};
+ghost use Rattle.iss_loops.specs.Behavior.{AreNodes, Behavior, HaveEnds, StaysFresh};
+ghost use Rattle.iss_loops.specs.Loop.{number_from};
+ghost use Rattle.iss_loops.specs.Traces.{IsOfLoop, is_within_limits};
+ghost use Rattle.iss_request.specs.Setup.{IsGoodSetup};
+ghost use Rattle.iss_schedule.specs.Events.{IsInRange};
+ghost use Rattle.iss_schedule.specs.declared.schedules.Event.{Event as ScheduleEvent};
+
+use iss_network::Sent;
+use iss_request::{NoMemory, NodeId, Seq, Setup};
+use iss_schedule::Event;
+
+/// A cluster to which events happen, and the trace of these events. Once it ran out of memory it must not be used.
+pub trait TracedCluster {
+    /// What it does, as functions of the events that happened to it.
+    ghost behavior: { Self → Behavior };
+
+    /// The events that happened to it, oldest first.
+    ghost events: { Self → List ScheduleEvent };
+
+    /// It ran out of memory.
+    ghost stale: { Self → Bool };
+
+    /// Its set-up.
+    fn setup(&self) -> &Setup
+        ensures same { result.now ≡ (behavior self.now).setup }
+        ensures good { IsGoodSetup result.now };
+
+    /// Whether the trace stays within its limits with this event.
+    fn fits(&self, event: &Event) -> bool
+        ensures { result ≡ is_within_limits (behavior self.now).setup (events self.now ++ event.now ∷ []) };
+
+    /// The event happens.
+    fn event(&mut self, event: Event) -> Result<(), NoMemory>
+        requires fresh { stale self.old ≡ false }
+        requires range { IsInRange (behavior self.old).setup event }
+        requires kind { IsOfLoop event }
+        requires limits { is_within_limits (behavior self.old).setup (events self.old ++ event ∷ []) ≡ true }
+        requires no_evidence { (behavior self.old).has_evidence (events self.old) ≡ false }
+        ensures happened { OnOk result (events self.new ≡ events self.old ++ event ∷ []) }
+        ensures kept { OnOk result (StaysFresh (behavior self.old) (behavior self.new) (stale self.new)) };
+
+    /// Whether an event showed evidence: a forged claim or a collision.
+    fn has_evidence(&self) -> bool
+        requires { stale self.now ≡ false }
+        ensures { result ≡ (behavior self.now).has_evidence (events self.now) };
+
+    /// Whether a core leads its epoch and has a free slot to propose at.
+    fn castable(&self, core: u32) -> bool
+        requires fresh { stale self.now ≡ false }
+        requires core { core < (behavior self.now).setup.n }
+        requires no_evidence { (behavior self.now).has_evidence (events self.now) ≡ false }
+        ensures { result ≡ (behavior self.now).castable (events self.now) core };
+
+    /// The leaders whose segments a core has not filled, ascending.
+    fn unfilled(&self, core: u32) -> Result<Seq<NodeId>, NoMemory>
+        requires fresh { stale self.now ≡ false }
+        requires core { core < (behavior self.now).setup.n }
+        requires no_evidence { (behavior self.now).has_evidence (events self.now) ≡ false }
+        ensures leaders { IfOk result (λ leaders. leaders ≡ (behavior self.now).unfilled (events self.now) core) }
+        ensures nodes { IfOk result (λ leaders. AreNodes (behavior self.now).setup.n leaders) };
+
+    /// The packets that were sent, by number.
+    fn packets(&self) -> &[Sent]
+        requires { stale self.now ≡ false }
+        ensures sent { result.now ≡ (behavior self.now).packets (events self.now) }
+        ensures ends { HaveEnds result.now };
+
+    /// The number of the first packet that was sent to a core with these bytes.
+    fn number_of(&self, core: u32, packet: &[u8]) -> Option<u64>
+        requires { stale self.now ≡ false }
+        ensures { result ≡ number_from 0 core packet.now ((behavior self.now).packets (events self.now)) };
+}
