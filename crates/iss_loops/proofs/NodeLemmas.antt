@@ -1,5 +1,5 @@
 -- A node's loop, step by step.
-use Rattle.std.proofs.Common.{◌≡◌, ◌∙◌, ℕ, zero, suc, ◌+◌, ◌<◌, ◌==◌, Bool, List, [], ◌∷◌, ◌++◌, true, false, length, get_or, drop, Option, Some, refl, ap, sym, subst, arith}
+use Rattle.std.proofs.Common.{◌≡◌, ◌∙◌, inl, inr, ℕ, zero, suc, ◌+◌, ◌<◌, ◌==◌, Bool, List, [], ◌∷◌, ◌++◌, true, false, length, get_or, drop, Option, Some, refl, ap, sym, subst, arith}
 use Rattle.std.proofs.lemmas.Bool.{eq-eqb}
 use Rattle.std.proofs.lemmas.List.{drop_more}
 use Rattle.iss_rules.specs.declared.events.NodeEvent.{NodeEvent}
@@ -12,6 +12,7 @@ use Rattle.iss_loops.specs.declared.node.NodeStep.TheVariants.{Taken}
 use Rattle.iss_loops.specs.NodeLoop.{NodeState, arrives, copies, takes, proposes, receives, rests, send_each, send_to, times_out, turn, wakes}
 use Rattle.iss_loops.specs.NodeLoop.{IsAt}
 use Rattle.iss_loops.specs.declared.node_loop.NodeProgress.{NodeProgress}
+use Rattle.iss_base.specs.Lists.{In}
 use Rattle.iss_sb.specs.Calls.{AreToNodes, IsToNode}
 use Rattle.iss_sb.specs.declared.effects.To.{To}
 
@@ -113,14 +114,17 @@ newest B later event events after sends released was same are = record {
   made = are ∙ was.2 ∙ ap (λ (x : NodeBehavior). x.sends events event) (sym same);
 }
 
--- each of the sends goes to a node
-to-at : (n : ℕ) (sends : List (To × List ℕ)) (i : ℕ) (d : To × List ℕ) → AreToNodes n sends → i < length sends → IsToNode n (get_or sends i d).0
-to-at n [] i d h low = absurd (omega (arith, low))
-to-at n (s ∷ sends) zero d h low = h.0
-to-at n (s ∷ sends) (suc i) d h low = to-at n sends i d h.1 (omega (arith, low))
+-- what is read at a place of the sends is one of them
+pub send-in : (sends : List (To × List ℕ)) (i : ℕ) (s : To × List ℕ) → i < length sends → s ≡ get_or sends i s → In s sends
+send-in [] i s low is = absurd (omega (arith, low))
+send-in (x ∷ xs) zero s low is = inl is
+send-in (x ∷ xs) (suc i) s low is = inr (send-in xs i s (omega (arith, low)) is)
 
-pub to-node : (n : ℕ) (sends : List (To × List ℕ)) (i : ℕ) (s : To × List ℕ) → AreToNodes n sends → i < length sends → s ≡ get_or sends i s → IsToNode n s.0
-to-node n sends i s h low is = subst (λ (x : To × List ℕ). IsToNode n x.0) (sym is) (to-at n sends i s h low)
+-- each of the sends goes to a node
+pub goes-to-node : (n : ℕ) (sends : List (To × List ℕ)) (s : To × List ℕ) → AreToNodes n sends → In s sends → IsToNode n s.0
+goes-to-node n [] s h none = absurd none
+goes-to-node n (x ∷ xs) s h (inl is) = subst (λ (y : To × List ℕ). IsToNode n y.0) (sym is) h.0
+goes-to-node n (x ∷ xs) s h (inr behind) = goes-to-node n xs s h.1 behind
 
 -- one call after the other
 pub stays-open : (B0 B1 B2 : NodeBehavior) (e0 e1 e2 : List NodeEvent) (s1 s2 : Bool) → StaysOpen B0 B1 e0 e1 s1 → StaysOpen B1 B2 e1 e2 s2 → StaysOpen B0 B2 e0 e2 s2

@@ -36,18 +36,15 @@ of-nothing : (ws : List Fragment) (partials : List Partial) (ends : List End) (l
 of-nothing [] partials ends later is = refl
 of-nothing (f ∷ fs) partials ends later is = absurd (or-nothing (completed_by f partials) is)
 
-more : (most k : ℕ) → k < most → most - k ≡ suc (most - (k + 1))
-more most k low = omega (arith, low)
-
 -- one frame more was taken
 pub next-got : (at most k : ℕ) (now : List End) (v : Vec ℕ Global) → k < most → IsArrival at now (Got v) → packet_at at (most - k) now ≡ (Some v.items, after_take at now)
-next-got at most k now v low is = rw (more most k low) (of-got (end_at now at).waiting (end_at now at).partials v (after_take at now) (packet_at at (most - (k + 1)) (after_take at now)) is)
+next-got at most k now v low is = let more : most - k ≡ suc (most - (k + 1)) = omega (arith, low) in rw more (of-got (end_at now at).waiting (end_at now at).partials v (after_take at now) (packet_at at (most - (k + 1)) (after_take at now)) is)
 
 pub next-part : (at most k : ℕ) (now : List End) → k < most → IsArrival at now Part → packet_at at (most - k) now ≡ packet_at at (most - (k + 1)) (after_take at now)
-next-part at most k now low is = rw (more most k low) (of-part (end_at now at).waiting (end_at now at).partials (after_take at now) (packet_at at (most - (k + 1)) (after_take at now)) is)
+next-part at most k now low is = let more : most - k ≡ suc (most - (k + 1)) = omega (arith, low) in rw more (of-part (end_at now at).waiting (end_at now at).partials (after_take at now) (packet_at at (most - (k + 1)) (after_take at now)) is)
 
 pub next-nothing : (at most k : ℕ) (now : List End) → k < most → IsArrival at now Nothing → packet_at at (most - k) now ≡ (None, after_take at now)
-next-nothing at most k now low is = rw (more most k low) (of-nothing (end_at now at).waiting (end_at now at).partials (after_take at now) (packet_at at (most - (k + 1)) (after_take at now)) is)
+next-nothing at most k now low is = let more : most - k ≡ suc (most - (k + 1)) = omega (arith, low) in rw more (of-nothing (end_at now at).waiting (end_at now at).partials (after_take at now) (packet_at at (most - (k + 1)) (after_take at now)) is)
 
 -- what a call says of ends that are told
 told-arrival : (at : ℕ) (ends : Option (List End)) (now : List End) (a : Arrival) → ends ≡ Some now → IfTold ends (λ (es : List End). IsArrival at es a) → IsArrival at now a

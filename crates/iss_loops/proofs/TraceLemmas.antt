@@ -7,7 +7,7 @@ use Rattle.hex.proofs.HexLemmas.{length-encode_with}
 use Rattle.hex.specs.Hex.{lower_digits}
 use Rattle.iss_loops.specs.Traces.{is_within_limits, most_trace_bytes, most_trace_events, text_length}
 use Rattle.iss_request.specs.declared.setups.Setup.{Setup}
-use Rattle.iss_schedule.proofs.BadLines.PrefixesAreRead.{ended-append}
+use Rattle.iss_schedule.proofs.BadLines.PrefixesAreRead.{ended-append, map_push}
 use Rattle.iss_schedule.specs.Events.{spell_event}
 use Rattle.iss_schedule.specs.Schedules.{header_lines}
 use Rattle.iss_schedule.specs.Words.{ended, word_of}
@@ -17,14 +17,10 @@ pub word-length : (bytes : List ℕ) → length bytes ≢ 0 → length (word_of 
 word-length [] some = absurd (some refl)
 word-length (b ∷ bs) some = length-encode_with lower_digits (b ∷ bs)
 
-lines-append : (xs : List Event) (e : Event) → map spell_event (xs ++ e ∷ []) ≡ map spell_event xs ++ spell_event e ∷ []
-lines-append [] e = refl
-lines-append (x ∷ xs) e = ap (λ (ls : List (List ℕ)). spell_event x ∷ ls) (lines-append xs e)
-
 pub text-more : (s : Setup) (events : List Event) (e : Event) → text_length s (events ++ e ∷ []) ≡ text_length s events + (length (spell_event e) + 1)
 text-more s events e =
     let front : List (List ℕ) = header_lines s ++ map spell_event events in
-    let all = ap (λ (ls : List (List ℕ)). header_lines s ++ ls) (lines-append events e) ∙ sym (append_assoc (header_lines s) (map spell_event events) (spell_event e ∷ [])) in
+    let all = ap (λ (ls : List (List ℕ)). header_lines s ++ ls) (map_push events e) ∙ sym (append_assoc (header_lines s) (map spell_event events) (spell_event e ∷ [])) in
     ap (λ (ls : List (List ℕ)). length (ended ls)) all
     ∙ ap (λ (xs : List ℕ). length xs) (ended-append front (spell_event e ∷ []))
     ∙ length-append (ended front) (ended (spell_event e ∷ []))

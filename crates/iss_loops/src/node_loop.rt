@@ -287,7 +287,7 @@ fn wake<N: JournaledNode, L: Links>(
     ask(node, links, progress)
 }
 
-// An idle turn is counted, and after so many in a row the node wakes up.
+// An idle turn is counted. After `patience` idle turns in a row the node wakes up.
 fn rest<N: JournaledNode, L: Links>(
     node: &mut N,
     links: &mut L,

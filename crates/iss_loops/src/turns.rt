@@ -78,7 +78,7 @@ fn wake_all<C: TracedCluster, L: Links>(
     Ok(())
 }
 
-// An idle turn is counted, and after so many in a row the cores wake up.
+// An idle turn is counted. After `patience` idle turns in a row the cores wake up.
 // rule: Loopback: After 64 idle turns in a row the count begins anew, and each core wakes up
 fn rest<C: TracedCluster, L: Links>(
     cluster: &mut C,

@@ -1,9 +1,9 @@
 use Rattle.std.proofs.Common.{rules, ◌≡◌}
-use Rattle.iss_loops.proofs.NodeLemmas.{Comes, sends-more, to-node}
+use Rattle.iss_loops.proofs.NodeLemmas.{Comes, goes-to-node, send-in, sends-more}
 use Rattle.iss_loops.proofs.node_loop.send_each.Goals as goal
 
 pub send_one-requires-clause-to : goal.send_one-requires-clause-to
-send_one-requires-clause-to g c = to-node c.args.nodes c.args.sends.now c.loop-send.send-index _ c.requires.to c.loop-send-test.true c.send-item.is
+send_one-requires-clause-to g c = goes-to-node c.args.nodes c.args.sends.now _ c.requires.to (send-in c.args.sends.now c.loop-send.send-index _ c.loop-send-test.true c.send-item.is)
 
 pub loop-send-preserved : goal.loop-send-preserved
 loop-send-preserved g c = record {
