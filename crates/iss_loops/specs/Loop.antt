@@ -35,7 +35,7 @@ pub record LoopState : Type 0 where
   -- the next event would have passed the limits of the trace
   pub full : Bool
 
--- rule: Loopback: A loop ends after an event that shows evidence, and before one that would pass the limits of the trace
+-- rule: Loopback: A loop ends after an event that shows evidence, and before one that would pass a trace's limits
 abbrev pub has_ended : Behavior → LoopState → Bool
 has_ended B l = l.full || B.has_evidence l.events
 
@@ -81,7 +81,7 @@ abbrev pub packet_of : List Fragment → List Partial → List End → Option (L
 packet_of [] partials ends later = (None, ends)
 packet_of (f ∷ fs) partials ends later = packet_or (completed_by f partials) ends later
 
--- takes at most so many frames at an end, until one completes a packet or none waits: the packet, and the ends
+-- takes frames at an end, up to a number, until one completes a packet or none waits: the packet, and the ends
 -- rule: Loopback: A core takes frames until a packet is complete, none waits, or it took as many as it may in a turn
 abbrev pub packet_at : ℕ → ℕ → List End → Option (List ℕ) × List End
 packet_at at zero ends = (None, ends)
@@ -153,7 +153,7 @@ requests B i core l = step B (request_at B.setup.clients i core) l
 abbrev pub hands_out : Behavior → ℕ → LoopState → LoopState
 hands_out B i l = each_below (requests B i) B.setup.n l
 
--- after a turn: an idle one is counted, and after so many in a row the cores wake up
+-- after a turn: an idle one is counted, and after `patience` in a row the cores wake up
 -- rule: Loopback: After 64 idle turns in a row the count begins anew, and each core wakes up
 abbrev pub rests : Behavior → ℕ → LoopState → LoopState
 rests B patience l =

@@ -39,7 +39,7 @@ abbrev pub send_to : ℕ → ℕ → ℕ → To → List ℕ → List End → Li
 send_to nodes me count All bytes ends = send_below me count nodes bytes ends
 send_to nodes me count (One node) bytes ends = after_send me count node.0 bytes ends
 
--- rule: Loopback: A node sends what its accepted events made, each packet under its own count
+-- A node sends what its accepted events made, each packet under its own count
 abbrev pub send_each : NodeBehavior → List (To × List ℕ) → NodeState → NodeState
 send_each B [] w = w
 send_each B (s ∷ sends) w =
@@ -62,7 +62,7 @@ abbrev pub arrives : NodeBehavior → Option (List ℕ) → NodeState → NodeSt
 arrives B None w = w
 arrives B (Some bytes) w = takes B (Packet bytes) (record w { idle = false })
 
--- rule: Loopback: A node takes each packet that arrives whole, whoever sent it
+-- A node takes each packet that arrives whole, whoever sent it
 abbrev pub receives : NodeBehavior → ℕ → NodeState → NodeState
 receives B frames w = let taken = packet_at B.me frames w.ends in arrives B taken.0 (record w { ends = taken.1 })
 
@@ -95,7 +95,7 @@ abbrev pub begins : List NodeEvent → List End → NodeState
 begins held ends = record { events = held; count = 0; ends = ends; idle = true; idle_turns = 0 }
 
 -- the whole loop, from the events that the journal held
--- rule: Loopback: A node goes on from the events of its journal, and ends after its turns
+-- A node goes on from the events of its journal, and ends after its turns
 abbrev pub node_loop_of : NodeBehavior → (frames patience n : ℕ) → List NodeEvent → List End → NodeState
 node_loop_of B frames patience n held ends = turns B frames patience n (begins held ends)
 
@@ -103,7 +103,8 @@ node_loop_of B frames patience n held ends = turns B frames patience n (begins h
 
 -- The node has accepted these events, the links hold this, and the progress is that of the loop. Links that record no
 -- frames are at no state of a loop.
-pub record IsAt (events : List NodeEvent) (ends : Option (List End)) (progress : NodeProgress) (w : NodeState) : Type 0 where
+pub record IsAt (events : List NodeEvent) (ends : Option (List End)) (progress : NodeProgress) (w : NodeState)
+    : Type 0 where
   pub events_are : events ≡ w.events
   pub ends_are : ends ≡ Some w.ends
   pub count : progress.count ≡ w.count

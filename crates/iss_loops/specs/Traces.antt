@@ -49,6 +49,6 @@ pub record IsNext (B : Behavior) (before : List Event) (e : Event) : Type 0 wher
   pub no_evidence : B.has_evidence before ≡ false
 
 -- So of each event. An event that shows evidence is the last one.
--- rule: Loopback: An event that shows evidence is the last of a trace
+-- An event that shows evidence is the last of a trace
 abbrev pub IsTrace : Behavior → List Event → Type 0
 IsTrace B events = (before later : List Event) (e : Event) → events ≡ before ++ e ∷ later → IsNext B before e

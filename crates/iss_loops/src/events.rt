@@ -25,7 +25,7 @@ pub(crate) fn nodes_of<C: TracedCluster>(cluster: &C) -> u32
 }
 
 // Whether the loop has ended.
-// rule: Loopback: A loop ends after an event that shows evidence, and before one that would pass the limits of the trace
+// rule: Loopback: A loop ends after an event that shows evidence, and before one that would pass a trace's limits
 pub(crate) fn has_ended<C: TracedCluster>(cluster: &C, progress: &Progress) -> bool
     requires { C.stale cluster.now ≡ false }
     ensures { result ≡ (progress.now.full || (C.behavior cluster.now).has_evidence (C.events cluster.now)) }

@@ -64,7 +64,7 @@ fn send_below<L: Links>(
 }
 
 // Sends a packet to whom it is for. A count past 2^64 - 1 counts as out of memory.
-// rule: Loopback: A node sends what its accepted events made, each packet under its own count
+// A node sends what its accepted events made, each packet under its own count
 fn send_one<L: Links>(
     links: &mut L,
     progress: &mut NodeProgress,
@@ -191,7 +191,7 @@ fn propose<N: JournaledNode, L: Links>(
 }
 
 // The node takes what its end hands out, at most one packet.
-// rule: Loopback: A node takes each packet that arrives whole, whoever sent it
+// A node takes each packet that arrives whole, whoever sent it
 fn receive<N: JournaledNode, L: Links>(
     node: &mut N,
     links: &mut L,
@@ -347,7 +347,7 @@ fn take_turn<N: JournaledNode, L: Links>(
 /// # Errors
 ///
 /// `LinksFault` only if the links' count of faults increased, `DiskFault` only if the disk's did, and `NoMemory`.
-// rule: Loopback: A node goes on from the events of its journal, and ends after its turns
+// A node goes on from the events of its journal, and ends after its turns
 pub fn run_node_loop<N: JournaledNode, L: Links>(
     node: &mut N,
     links: &mut L,
