@@ -1,0 +1,10 @@
+//! Running nodes over links: a whole cluster in one process, whose trace can be replayed, and one node with its journal.
+#![tactic(auto)]
+
+pub mod clusters;
+pub mod errors;
+pub mod nodes;
+
+pub use clusters::{Traced, cluster};
+pub use errors::NodeFailure;
+pub use nodes::node;
