@@ -8,9 +8,13 @@ use std::alloc::Global;
 use std::io;
 use std::io::ErrorKind;
 use std::net::{Ipv4Addr, Net, UdpSocket};
+use std::time::Duration;
 
 // One byte more than the longest frame has. A longer datagram is cut to this length, and so is no frame.
 const BUFFER: usize = 1042;
+
+// How many milliseconds an end alone waits for a frame. So 64 turns without a frame take at least as many.
+const WAIT_MILLIS: u64 = 1;
 
 // An end: its number, its socket, and its partial packets.
 #[derive(Drop)]
@@ -21,7 +25,8 @@ struct UdpEnd {
 }
 
 /// Links over UDP sockets of 127.0.0.1. A call that the system refuses is a fault, and so is a call at an end that was
-/// not made. A frame for which the system has no room is lost.
+/// not made. A frame for which the system has no room is lost. A take at the only end waits about a millisecond for a
+/// frame; at one of several it does not wait.
 #[derive(Drop)]
 pub struct UdpLinks<R: Net> {
     net: R,
@@ -61,14 +66,19 @@ fn count_fault<T: Drop>(answer: io::Result<T>, faults: &mut u64) -> Result<T, Fa
     }
 }
 
-// A socket at this port whose calls never block.
-fn open<R: Net>(net: &R, port: u16) -> io::Result<UdpSocket> {
+// A socket at this port. Of several ends in one process each only looks whether a frame is there: what the others send
+// is there at once. An end alone waits a little for a frame of another process.
+fn open<R: Net>(net: &R, port: u16, is_alone: bool) -> io::Result<UdpSocket> {
     let socket = UdpSocket::bind(net, (Ipv4Addr::LOCALHOST, port))?;
-    socket.set_nonblocking(true)?;
+    if is_alone {
+        socket.set_read_timeout(Some(Duration::from_millis(WAIT_MILLIS)))?;
+    } else {
+        socket.set_nonblocking(true)?;
+    }
     Ok(socket)
 }
 
-// `None` if the call would block.
+// `None` if the call would block, or waited in vain.
 fn none_if_blocked<T: Drop>(answer: io::Result<T>) -> io::Result<Option<T>>
     ensures { IfOk result (λ r. IfSome r (λ value. answer ≡ Ok value)) }
 {
@@ -120,7 +130,7 @@ impl<R: Net> Links for UdpLinks<R> {
         self.ends = Vec::new(self.alloc);
         let mut ends = Vec::new(self.alloc);
         for number in first..first + count {
-            let opened = open(&self.net, port + number as u16);
+            let opened = open(&self.net, port + number as u16, count == 1);
             let socket = count_fault(opened, &mut self.faults)?;
             ends.push(UdpEnd {
                 number,
