@@ -33,11 +33,11 @@ first_above = refl
 
 -- ---- the same as moments, each number inside its window
 
-moments : List Moment
+abbrev moments : List Moment
 moments = Notes (id_of 0 0) ∷ Notes (id_of 0 1) ∷ Notes (id_of 0 3) ∷ Ends ∷ Notes (id_of 0 9) ∷ []
 
 all_inside : AreInside 8 none_noted moments
-all_inside = (refl, refl, refl, refl, tt)
+all_inside = (refl, (refl, (refl, (refl, tt))))
 
 noted_last : has_id (id_of 0 9) (noted_after none_noted moments).all ≡ true
 noted_last = refl

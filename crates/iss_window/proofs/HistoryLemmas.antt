@@ -5,11 +5,10 @@ use Rattle.std.proofs.lemmas.Bool.Decides.{nat_tests}
 use Rattle.iss_request.specs.Log.{has_id, same_id}
 use Rattle.iss_request.specs.declared.ids.ReqId.{ReqId}
 use Rattle.iss_request.proofs.Identities.{same_id-self, same_id-tells}
-use Rattle.iss_window.specs.declared.windows.Place.{Place}
 use Rattle.iss_window.specs.declared.windows.Place.TheVariants.{Below, Inside, Above}
 use Rattle.iss_window.specs.History.{AreInside, Moment, noted_after}
 use Rattle.iss_window.specs.History.Moment.{Notes, Ends}
-use Rattle.iss_window.specs.Window.{Noted, and_closed, and_noted, id_of, low, none_noted, place_in, place_of}
+use Rattle.iss_window.specs.Window.{Noted, and_closed, and_noted, id_of, low, none_noted, place_in}
 use Rattle.iss_window.specs.Kept.{IsTable, Kept, RefinesNoted}
 use Rattle.iss_window.proofs.LowLemmas.{low-is, low-least}
 use Rattle.iss_window.proofs.SpanLemmas.{held-stray}

@@ -1,17 +1,15 @@
 -- A client's span: its numbers, a number noted by its bit, and a span that moves past its first number.
-use Rattle.std.proofs.Common.{◌≡◌, ◌≢◌, ◌⊎◌, inl, inr, ⊎_elim, ℕ, zero, suc, ◌+◌, ◌-◌, ◌*◌, ◌/◌, ◌%◌, ◌^◌, ◌<◌, ◌≤◌, Bool, true, false, cond, ◌&&◌, ◌||◌, eqb, nat_lt, List, refl, sym, ap, ◌∙◌, arith, w64}
+use Rattle.std.proofs.Common.{◌≡◌, ◌≢◌, ⊎_elim, ℕ, suc, ◌+◌, ◌-◌, ◌*◌, ◌/◌, ◌%◌, ◌^◌, ◌<◌, ◌≤◌, Bool, true, false, cond, ◌&&◌, ◌||◌, eqb, nat_lt, List, refl, sym, ap, ◌∙◌, arith, w64}
 use Rattle.std.proofs.lemmas.Bool.{cases_lt}
 use Rattle.std.proofs.lemmas.Bool.Decides.{nat_tests}
 use Rattle.std.proofs.lemmas.Nat.Bits.{bit_at-suc, bit_at_above, bit_at_set_other, bit_at_set_same, shr_and_one}
 use Rattle.std.specs.Prelude.{bit_and, bit_or}
-use Rattle.std.specs.Int.{bit_at}
-use Rattle.iss_base.proofs.Lists.{and-true, eqb-same, eqb-other, is-eq, same_or_not}
+use Rattle.iss_base.proofs.Lists.{eqb-same, eqb-other, same_or_not}
 use Rattle.iss_request.specs.Log.{has_id, same_id}
 use Rattle.iss_request.specs.declared.ids.ReqId.{ReqId}
-use Rattle.iss_request.proofs.Identities.{same_id-tells}
 use Rattle.iss_window.specs.declared.spans.Span.{Span}
 use Rattle.iss_window.specs.Window.{id_of}
-use Rattle.iss_window.specs.Kept.{AreNumbers, IsMoved, IsSpan, is_held, is_set}
+use Rattle.iss_window.specs.Kept.{IsMoved, IsSpan, is_held, is_set}
 
 -- ---- bits
 

@@ -1,17 +1,16 @@
 -- The spans of all clients: a number more, and a client's span that moved.
 use Rattle.std.proofs.Common.{◌≡◌, ◌≢◌, ⊎_elim, ℕ, ◌+◌, ◌-◌, ◌^◌, ◌<◌, ◌≤◌, Bool, true, false, cond, ◌&&◌, ◌||◌, eqb, List, [], ◌∷◌, length, slice_index, slice_set, refl, sym, ap, ◌∙◌, subst, arith}
-use Rattle.std.proofs.lemmas.Bool.{cases_lt}
 use Rattle.std.proofs.lemmas.List.{get_or-set_same, get_or-set_other, length-set}
 use Rattle.std.specs.List.{list_any}
 use Rattle.std.specs.BTreeMap.{is_at}
 use Rattle.std.specs.Ordering.{is_eq, nat_cmp, ordering_then}
 use Rattle.std.specs.declared.cmp.Ordering.{Ordering}
 use Rattle.std.specs.declared.cmp.Ordering.TheVariants.{Less, Equal, Greater}
-use Rattle.iss_base.proofs.Lists.{and-true, eqb-same, eqb-other, is-eq, same_number, same_or_not}
+use Rattle.iss_base.proofs.Lists.{eqb-same, eqb-other, is-eq, same_number, same_or_not}
 use Rattle.iss_request.specs.Log.{has_id, same_id}
 use Rattle.iss_request.specs.declared.ids.ReqId.{ReqId}
 use Rattle.iss_request.specs.contracts.ids.ReqIdOrd.TheImpl as id_ord
-use Rattle.iss_request.proofs.Identities.{any-has_id, same_id-flip, same_id-tells}
+use Rattle.iss_request.proofs.Identities.{same_id-flip, same_id-tells}
 use Rattle.iss_window.specs.declared.spans.Span.{Span}
 use Rattle.iss_window.specs.Kept.{IsMoved, IsSpan, IsTable, is_held, is_noted, is_set}
 use Rattle.iss_window.proofs.SpanLemmas.{held-more-bits, held-more-strays}
@@ -149,7 +148,7 @@ module _ (lows bits : List ℕ) (c low old : ℕ) (t : Span) (before after : Lis
       here e =
           let in_bits : c < length bits = omega (arith, within, size) in
           ap (λ l. is_held l (slice_index (slice_set bits c t.bits) id.client) id.number (has_id id after))
-              (ap (λ k. slice_index (slice_set lows c t.low) k) e ∙ get_or-set_same lows c t.low 0 within)
+          (ap (λ k. slice_index (slice_set lows c t.low) k) e ∙ get_or-set_same lows c t.low 0 within)
           ∙ ap (λ b. is_held t.low b id.number (has_id id after)) (ap (λ k. slice_index (slice_set bits c t.bits) k) e ∙ get_or-set_same bits c t.bits 0 in_bits)
           ∙ moved.same id e
           ∙ ap (λ l. is_held l old id.number (has_id id before)) (low_is ∙ sym (ap (λ k. slice_index lows k) e))

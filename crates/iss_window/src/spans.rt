@@ -60,7 +60,11 @@ fn step(strays: &mut BTreeSet<ReqId>, client: u8, span: Span) -> Span
     let bits = span.bits >> 1;
     Span {
         low: span.low + 1,
-        bits: if stray { with_bit(bits, BITS - 1) } else { bits },
+        bits: if stray {
+            with_bit(bits, BITS - 1)
+        } else {
+            bits
+        },
     }
 }
 

@@ -1,7 +1,5 @@
-use Rattle.std.proofs.Common.{◌≡◌, List, [], subst}
-use Rattle.iss_window.specs.History.{AreInside, noted_after}
-use Rattle.iss_window.specs.Kept.{Kept, RefinesNoted}
-use Rattle.iss_window.specs.Window.{none_noted}
+use Rattle.std.proofs.Common.{subst}
+use Rattle.iss_window.specs.Kept.{Kept}
 use Rattle.iss_window.proofs.HistoryLemmas.{NoStrays, no-strays}
 use Rattle.iss_window.proofs.laws.windows_used_in_order_have_no_strays.Goals as goal
 

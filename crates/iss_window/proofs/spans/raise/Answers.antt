@@ -1,4 +1,3 @@
-use Rattle.std.proofs.Common.{◌<◌, ◌+◌, ◌^◌, ◌∙◌, arith, sym}
 use Rattle.iss_window.proofs.SpanLemmas.{moved-more, moved-none}
 use Rattle.iss_window.proofs.spans.raise.Goals as goal
 

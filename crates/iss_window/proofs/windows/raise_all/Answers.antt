@@ -1,4 +1,4 @@
-use Rattle.std.proofs.Common.{◌≡◌, ◌<◌, ◌∙◌, ⊎_elim, arith, length, slice_index, sym}
+use Rattle.std.proofs.Common.{◌≡◌, ◌<◌, ◌∙◌, ⊎_elim, arith, length, slice_index}
 use Rattle.std.proofs.lemmas.Grind.{common_steps}
 use Rattle.iss_base.proofs.Lists.{same_or_not}
 use Rattle.iss_window.proofs.TableLemmas.{first-here, first-same, spans-same, spans-table}

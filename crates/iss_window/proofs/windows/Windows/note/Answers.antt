@@ -1,6 +1,5 @@
-use Rattle.std.proofs.Common.{◌≡◌, ◌∙◌, ◌+◌, ◌-◌, ◌<◌, ◌≤◌, ◌^◌, ◌||◌, ℕ, arith, ap, eqb, length, refl, rules, slice_index, slice_set, subst, sym, true}
+use Rattle.std.proofs.Common.{◌≡◌, ◌∙◌, ◌+◌, ◌-◌, ◌<◌, ◌≤◌, ◌^◌, ◌||◌, arith, ap, eqb, length, refl, rules, slice_index, slice_set, subst, sym, true}
 use Rattle.std.proofs.lemmas.Grind.{common_steps}
-use Rattle.iss_request.specs.declared.ids.ReqId.{ReqId}
 use Rattle.iss_window.specs.Kept.{Kept, RefinesNoted, is_set}
 use Rattle.iss_window.proofs.KeptLemmas.{noted-more}
 use Rattle.iss_window.proofs.TableLemmas.{bits-more, bits-table, has-changed, has-more, strays-more, strays-table}
@@ -19,8 +18,8 @@ invariant_of-self c =
     let old : c.index-bits.result.now ≡ slice_index bits id.client = grind (arith, common_steps, in_bits) in
     let le : slice_index lows id.client ≤ id.number = omega (arith, low, c.if-number-low.false) in
     bits-table lows bits c.self.inside.strays.keys id c.with_bit.result in_bits c.self.invariant small le
-        (λ i. c.with_bit.ensures i ∙ ap (λ l. eqb i (id.number - l) || is_set c.index-bits.result.now i) low
-        ∙ ap (λ b. eqb i (id.number - slice_index lows id.client) || is_set b i) old)
+    (λ i. c.with_bit.ensures i ∙ ap (λ l. eqb i (id.number - l) || is_set c.index-bits.result.now i) low
+    ∙ ap (λ b. eqb i (id.number - slice_index lows id.client) || is_set b i) old)
 
 pub returns-then-number-low-2-clause-ok : goal.returns-then-number-low-2-clause-ok
 returns-then-number-low-2-clause-ok c = λ n st.
@@ -38,9 +37,9 @@ returns-then-number-low-2-clause-ok c = λ n st.
     let kept : Kept = record { width = c.self.inside.width; lows = lows; bits = bits; strays = strays } in
     let new : Kept = record { width = c.self.inside.width; lows = lows; bits = slice_set bits id.client c.with_bit.result; strays = strays } in
     noted-more kept new n id (subst (λ (k : Kept). RefinesNoted k n) (sym c.self.view_is) st) refl
-        (bits-more lows bits strays id c.with_bit.result in_bits le lt
-        (λ i. c.with_bit.ensures i ∙ ap (λ l. eqb i (id.number - l) || is_set c.index-bits.result.now i) low
-        ∙ ap (λ b. eqb i (id.number - slice_index lows id.client) || is_set b i) old))
+    (bits-more lows bits strays id c.with_bit.result in_bits le lt
+    (λ i. c.with_bit.ensures i ∙ ap (λ l. eqb i (id.number - l) || is_set c.index-bits.result.now i) low
+    ∙ ap (λ b. eqb i (id.number - slice_index lows id.client) || is_set b i) old))
 
 pub invariant_of-self-2 : goal.invariant_of-self-2
 invariant_of-self-2 c =
@@ -52,8 +51,8 @@ invariant_of-self-2 c =
     let low : c.index-low.result.now ≡ slice_index lows id.client = grind (arith, common_steps, in_lows) in
     let far : slice_index lows id.client + 64 ≤ id.number = omega (arith, low, c.if-number-low-2.false) in
     strays-table lows c.self.inside.bits.items c.self.inside.strays.keys c.insert.new.self.keys id
-        (λ x. has-more c.self.inside.strays.keys c.insert.new.self.keys id x (has-changed c.self.inside.strays.keys c.insert.new.self.keys id x true (c.in_ok-insert.ensures.updates.0 x)))
-        c.self.invariant client small far
+    (λ x. has-more c.self.inside.strays.keys c.insert.new.self.keys id x (has-changed c.self.inside.strays.keys c.insert.new.self.keys id x true (c.in_ok-insert.ensures.updates.0 x)))
+    c.self.invariant client small far
 
 pub returns-clause-ok : goal.returns-clause-ok
 returns-clause-ok c = λ n st.
@@ -68,5 +67,5 @@ returns-clause-ok c = λ n st.
     let kept : Kept = record { width = c.self.inside.width; lows = lows; bits = bits; strays = strays } in
     let new : Kept = record { width = c.self.inside.width; lows = lows; bits = bits; strays = c.insert.new.self.keys } in
     noted-more kept new n id (subst (λ (k : Kept). RefinesNoted k n) (sym c.self.view_is) st) refl
-        (strays-more lows bits strays c.insert.new.self.keys id
-        (λ x. has-more strays c.insert.new.self.keys id x (has-changed strays c.insert.new.self.keys id x true (c.in_ok-insert.ensures.updates.0 x))) far)
+    (strays-more lows bits strays c.insert.new.self.keys id
+    (λ x. has-more strays c.insert.new.self.keys id x (has-changed strays c.insert.new.self.keys id x true (c.in_ok-insert.ensures.updates.0 x))) far)
