@@ -1,5 +1,5 @@
--- What the code keeps for the windows: each client's least number that is missing, a bit for each of the 64 numbers from
--- there on, and the noted identities behind these.
+-- What the code keeps for the windows: each client's least number that is missing, a bit for each of the 64 numbers
+-- from there on, and the noted identities behind these.
 use Rattle.std.specs.Prelude.{◌≡◌, ◌≢◌, ℕ, ◌+◌, ◌-◌, ◌<◌, ◌≤◌, ◌^◌, nat_lt, ◌==◌, Bool, true, if◌then◌else◌, List, length, slice_index}
 use Rattle.std.specs.Int.{bit_at}
 use Rattle.iss_request.specs.Log.{has_id}
@@ -56,6 +56,7 @@ pub record IsTable (lows bits : List ℕ) (strays : List ReqId) : Type 0 where
   pub clients : (id : ReqId) → has_id id strays ≡ true → id.client < 256
 
 -- A client's span moved, and strays became bits of it. It holds the same numbers. The strays of other clients stay.
+-- rule: Windows: A stray that comes into its client's 64 numbers becomes a bit
 pub record IsMoved (client : ℕ) (old new : Span) (before after : List ReqId) : Type 0 where
   pub same : (id : ReqId) → id.client ≡ client →
       is_held new.low new.bits id.number (has_id id after) ≡ is_held old.low old.bits id.number (has_id id before)

@@ -14,7 +14,6 @@ pub fn windows_begin_at_the_least()
 
 /// Windows at most 64 wide have no strays, where each number was inside its window when it was noted. So they take the
 /// same memory, however many numbers were noted.
-// rule: Windows: There is no stray where each number was inside its window when it was noted
 pub fn windows_used_in_order_have_no_strays(windows: &Windows)
     ensures { (ms : List Moment) → windows.now.width ≤ 64 → RefinesNoted windows.now (noted_after none_noted ms)
         → AreInside windows.now.width none_noted ms → windows.now.strays ≡ [] }
