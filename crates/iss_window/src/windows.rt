@@ -27,8 +27,8 @@ pub enum Place {
 ///
 /// A client takes 16 bytes: its low watermark, and one bit for each of the 64 numbers from there on. All 256 clients
 /// take 4 KiB. A noted number behind these 64 is a stray: 8 bytes in an ordered set, until its client's low watermark
-/// comes within 64 of it. The windows of a set-up are at most 64 wide. So there is no stray where each number was inside
-/// its window when it was noted (`windows_used_in_order_have_no_strays`), and then the memory for identities is
+/// comes within 64 of it. The windows of a set-up are at most 64 wide. So there is no stray where each number was
+/// inside its window when it was noted (`windows_used_in_order_have_no_strays`), and then the memory for identities is
 /// constant, however long the log is.
 #[derive(Drop)]
 pub struct Windows {
