@@ -1,4 +1,7 @@
 mod Examples
+pub mod HistoryLemmas
 pub mod KeptLemmas
 pub mod LowLemmas
 pub mod Members
+pub mod SpanLemmas
+pub mod TableLemmas

@@ -1,13 +1,14 @@
 //! The client windows.
-ghost use Rattle.std.specs.Prelude.{◌≡◌, ◌<◌, ◌≤◌, ◌^◌, ℕ, false, length, slice_index, IfOk, OnOk, OnErr, IsTrue, if◌then◌else◌};
-ghost use Rattle.iss_request.specs.Log.{has_id, same_id};
+ghost use Rattle.std.specs.Prelude.{◌≡◌, ◌<◌, ℕ, false, length, slice_index, IfOk, OnOk, OnErr};
+ghost use Rattle.iss_request.specs.Log.{has_id};
 ghost use Rattle.iss_request.specs.declared.ids.ReqId.{ReqId};
-ghost use Rattle.iss_window.specs.Kept.{AreNumbers, AreTaken, IsTable, RefinesNoted, is_noted};
-ghost use Rattle.iss_window.specs.Window.{Noted, and_closed, and_noted, id_of, none_noted, place_of};
+ghost use Rattle.iss_window.specs.Kept.{IsTable, RefinesNoted, is_noted, is_set};
+ghost use Rattle.iss_window.specs.Window.{Noted, and_closed, and_noted, none_noted, place_of};
 
+use crate::spans::{BITS, Span, has_bit, raise, with_bit};
 use iss_request::{NoMemory, ReqId, Setup};
 use std::alloc::Global;
-use std::collections::HashSet;
+use std::collections::BTreeSet;
 use std::marker::Model;
 
 /// The most clients: identities have one byte.
@@ -23,23 +24,31 @@ pub enum Place {
 
 /// The window of each client, and the noted identities. A window begins at the client's low watermark: its least number
 /// that was not noted before the last epoch's end.
+///
+/// A client takes 16 bytes: its low watermark, and one bit for each of the 64 numbers from there on. All 256 clients
+/// take 4 KiB. A noted number behind these 64 is a stray: 8 bytes in an ordered set, until its client's low watermark
+/// comes within 64 of it. The windows of a set-up are at most 64 wide. So there is no stray where each number was
+/// inside its window when it was noted (`windows_used_in_order_have_no_strays`), and then the memory for identities is
+/// constant, however long the log is.
 #[derive(Drop)]
 pub struct Windows {
     width: u32,
     // the low watermark of each client
     lows: Vec<u64>,
-    // the noted identities from the low watermarks on
-    above: HashSet<ReqId>,
+    // bit k of a client: whether the number k above its low watermark was noted
+    bits: Vec<u64>,
+    // the noted identities behind the bits
+    pub(crate) strays: BTreeSet<ReqId>,
 }
 
 impl Model for Windows {
-    ghost use Rattle.iss_window.specs.Kept.{AreNumbers, IsTable, Kept};
+    ghost use Rattle.iss_window.specs.Kept.{IsTable, Kept};
 
     ghost Value = { Kept };
 
-    ghost view = { λ w. record { width = w.width; lows = w.lows.items; above = w.above.keys } };
+    ghost view = { λ w. record { width = w.width; lows = w.lows.items; bits = w.bits.items; strays = w.strays.keys } };
 
-    ghost invariant = { λ w. IsTable w.lows.items × AreNumbers w.above.keys };
+    ghost invariant = { λ w. IsTable w.lows.items w.bits.items w.strays.keys };
 }
 
 impl Windows {
@@ -51,7 +60,8 @@ impl Windows {
         Ok(Windows {
             width: setup.window,
             lows: zeros(alloc, CLIENTS)?,
-            above: HashSet::new(alloc),
+            bits: zeros(alloc, CLIENTS)?,
+            strays: BTreeSet::new(alloc),
         })
     }
 
@@ -76,7 +86,16 @@ impl Windows {
     pub fn ordered(&self, id: ReqId) -> bool
         ensures { (n : Noted) → RefinesNoted self.now n → result ≡ has_id id n.all }
     {
-        (id.number as u64) < self.lows[id.client as usize] || self.above.contains(&id)
+        let client = id.client as usize;
+        let number = id.number as u64;
+        let low = self.lows[client];
+        if number < low {
+            return true;
+        }
+        if number < low + BITS {
+            return has_bit(self.bits[client], number - low);
+        }
+        self.strays.contains(&id)
     }
 
     /// Notes an ordered identity. Windows do not move before the epoch ends. The only error is out of memory.
@@ -85,9 +104,18 @@ impl Windows {
         ensures width { self.new.width ≡ self.old.width }
         ensures err { OnErr result (self.new ≡ self.old) }
     {
-        if !self.ordered(id) {
-            self.above.insert(id)?;
+        let client = id.client as usize;
+        let number = id.number as u64;
+        let low = self.lows[client];
+        if number < low {
+            return Ok(());
         }
+        if number < low + BITS {
+            let bits = self.bits[client];
+            self.bits[client] = with_bit(bits, number - low);
+            return Ok(());
+        }
+        self.strays.insert(id)?;
         Ok(())
     }
 
@@ -96,7 +124,7 @@ impl Windows {
         ensures closed { (n : Noted) → RefinesNoted self.old n → RefinesNoted self.new (and_closed n) }
         ensures width { self.new.width ≡ self.old.width }
     {
-        raise_all(&mut self.lows, &mut self.above);
+        raise_all(&mut self.lows, &mut self.bits, &mut self.strays);
     }
 }
 
@@ -113,55 +141,19 @@ fn zeros(alloc: Global, count: usize) -> Result<Vec<u64>, NoMemory>
 }
 
 // Raises each client's low watermark past the noted numbers that follow it.
-fn raise_all(lows: &mut Vec<u64>, above: &mut HashSet<ReqId>)
-    requires table { IsTable lows.old.items }
-    requires numbers { AreNumbers above.old.keys }
-    ensures table { IsTable lows.new.items }
-    ensures numbers { AreNumbers above.new.keys }
-    ensures same { (id : ReqId) → is_noted lows.new.items above.new.keys id
-        ≡ is_noted lows.old.items above.old.keys id }
-    ensures raised { (client : ℕ) → client < 256 →
-        has_id (id_of client (slice_index lows.new.items client)) above.new.keys ≡ false }
+fn raise_all(lows: &mut Vec<u64>, bits: &mut Vec<u64>, strays: &mut BTreeSet<ReqId>)
+    requires table { IsTable lows.old.items bits.old.items strays.old.keys }
+    ensures table { IsTable lows.new.items bits.new.items strays.new.keys }
+    ensures same { (id : ReqId) → is_noted lows.new.items bits.new.items strays.new.keys id
+        ≡ is_noted lows.old.items bits.old.items strays.old.keys id }
+    ensures raised { (client : ℕ) → client < 256 → is_set (slice_index bits.new.items client) 0 ≡ false }
 {
     for client in 0..CLIENTS {
         let low = lows[client];
-        lows[client] = raise(above, client as u8, low);
+        let marks = bits[client];
+        let span = Span { low, bits: marks };
+        let raised = raise(strays, client as u8, span);
+        lows[client] = raised.low;
+        bits[client] = raised.bits;
     }
-}
-
-// Removes the client's consecutive numbers from `from` on, and gives the first one that is missing.
-// rule: Windows: A client's window begins at its least number that was not ordered before the epoch
-fn raise(above: &mut HashSet<ReqId>, client: u8, low: u64) -> u64
-    requires low { low ≤ 2 ^ 32 }
-    requires numbers { AreNumbers above.old.keys }
-    ensures up { low ≤ result }
-    ensures most { result ≤ 2 ^ 32 }
-    ensures numbers { AreNumbers above.new.keys }
-    ensures absent { has_id (id_of client result) above.new.keys ≡ false }
-    ensures taken { AreTaken client low result above.old.keys above.new.keys }
-{
-    let mut next = low;
-    'run: while take(above, client, next) {
-        next += 1;
-    }
-    next
-}
-
-// Removes one number of a client, if it is there.
-fn take(above: &mut HashSet<ReqId>, client: u8, number: u64) -> bool
-    requires number { number ≤ 2 ^ 32 }
-    requires numbers { AreNumbers above.old.keys }
-    ensures there { result ≡ has_id (id_of client number) above.old.keys }
-    ensures number { IsTrue result → number < 2 ^ 32 }
-    ensures numbers { AreNumbers above.new.keys }
-    ensures left { (id : ReqId) → has_id id above.new.keys
-        ≡ (if same_id (id_of client number) id then false else has_id id above.old.keys) }
-{
-    if number > u32::MAX as u64 {
-        return false;
-    }
-    above.remove(&ReqId {
-        client,
-        number: number as u32,
-    })
 }

@@ -1,27 +1,28 @@
-use Rattle.std.proofs.Common.{◌≡◌, ◌<◌, ◌≤◌, ◌∙◌, ⊎_elim, ℕ, arith, length, false, slice_index, slice_set, subst, sym}
+use Rattle.std.proofs.Common.{◌≡◌, ◌<◌, ◌∙◌, ⊎_elim, arith, length, slice_index}
 use Rattle.std.proofs.lemmas.Grind.{common_steps}
 use Rattle.iss_base.proofs.Lists.{same_or_not}
-use Rattle.iss_request.specs.Log.{has_id}
-use Rattle.iss_window.specs.Window.{id_of}
-use Rattle.iss_window.specs.Kept.{AreTaken}
-use Rattle.iss_window.proofs.KeptLemmas.{noted-same, raised-here, raised-other, table-set}
+use Rattle.iss_window.proofs.TableLemmas.{first-here, first-same, spans-same, spans-table}
 use Rattle.iss_window.proofs.windows.raise_all.Goals as goal
 
 pub loop-client-preserved : goal.loop-client-preserved
 loop-client-preserved c =
     let i = c.loop-client.client in
     let lows = c.loop-client.lows.items in
-    let above = c.loop-client.above.keys in
-    let within : i < length lows = omega (arith, c.loop-client.invariant.table.size, c.loop-client-test.true) in
-    let at : c.index-low.result.now ≡ slice_index lows i = grind (arith, common_steps, within) in
-    let up : slice_index lows i ≤ c.raise.result = subst (λ (k : ℕ). k ≤ c.raise.result) at c.raise.ensures.up in
-    let taken : AreTaken i (slice_index lows i) c.raise.result above c.raise.new.above.keys = subst (λ (k : ℕ). AreTaken i k c.raise.result above c.raise.new.above.keys) at c.raise.ensures.taken in
+    let bits = c.loop-client.bits.items in
+    let before = c.loop-client.strays.keys in
+    let after = c.raise-raised.new.strays.keys in
+    let t = c.raise-raised.result in
+    let small : i < 256 = omega (arith, c.loop-client-test.true) in
+    let within : i < length lows = omega (arith, c.loop-client.invariant.table.size, small) in
+    let in_bits : i < length bits = omega (arith, c.loop-client.invariant.table.bits_size, small) in
+    let size : length bits ≡ length lows = omega (arith, c.loop-client.invariant.table.size, c.loop-client.invariant.table.bits_size) in
+    let low : c.index-low.result.now ≡ slice_index lows i = grind (arith, common_steps, within) in
+    let old : c.index-marks.result.now ≡ slice_index bits i = grind (arith, common_steps, in_bits) in
     record {
-      table = table-set lows i c.raise.result within c.raise.ensures.most c.loop-client.invariant.table;
-      numbers = c.raise.ensures.numbers;
-      same = λ id. noted-same lows i c.raise.result above c.raise.new.above.keys id within up taken ∙ c.loop-client.invariant.same id;
+      table = spans-table lows bits i c.index-low.result.now c.index-marks.result.now t before after within size low old c.raise-raised.ensures.moved c.loop-client.invariant.table small;
+      same = λ id. spans-same lows bits i c.index-low.result.now c.index-marks.result.now t before after within size low old c.raise-raised.ensures.moved id ∙ c.loop-client.invariant.same id;
       raised = λ k lt. ⊎_elim
-          (λ (e : k ≡ i). subst (λ (j : ℕ). has_id (id_of j (slice_index (slice_set lows i c.raise.result) j)) c.raise.new.above.keys ≡ false) (sym e) (raised-here lows i c.raise.result c.raise.new.above.keys within c.raise.ensures.absent))
-          (λ ne. raised-other lows i (slice_index lows i) c.raise.result k above c.raise.new.above.keys ne taken (c.loop-client.invariant.raised k (omega (arith, lt, ne))))
+          (λ (e : k ≡ i). first-here lows bits i c.index-low.result.now c.index-marks.result.now t before after within size low old c.raise-raised.ensures.moved k e c.raise-raised.ensures.first)
+          (λ ne. first-same lows bits i c.index-low.result.now c.index-marks.result.now t before after within size low old c.raise-raised.ensures.moved k ne (c.loop-client.invariant.raised k (omega (arith, lt, ne))))
           (same_or_not k i);
     }

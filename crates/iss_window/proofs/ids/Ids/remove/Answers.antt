@@ -1,4 +1,3 @@
-use Rattle.std.proofs.Common.{subst}
 use Rattle.iss_window.proofs.Members.{has_id-removed}
 use Rattle.iss_window.proofs.ids.Ids.remove.Goals as goal
 
