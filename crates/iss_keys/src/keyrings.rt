@@ -31,7 +31,7 @@ fn lone_key(alloc: Global, kind: u8, number: u8, height: u8, next: u32) -> Keys
     requires next { next ≤ 2 ^ height }
     ensures { result ≡ record { secret = sha256 (kind ∷ number ∷ []); height = height; used = next } }
 {
-    let trees = KeyTrees::new(alloc, secret_of(kind, number), height);
+    let trees = KeyTrees::new(alloc, secret_of(kind, number), height, 0);
     Keys::of(HeldTrees::own(trees), next)
 }
 
@@ -87,7 +87,7 @@ impl OwnKeys {
         let mut trees = Vec::with_capacity(alloc, count as usize)?;
         'numbers: for number in 0..count {
             let secret = secret_of(kind, number as u8);
-            let key = Rc::new(alloc, KeyTrees::with_memory(alloc, secret, height, most))?;
+            let key = Rc::new(alloc, KeyTrees::new(alloc, secret, height, most))?;
             trees.push(key)?;
         }
         Ok(OwnKeys {
@@ -151,7 +151,7 @@ impl OwnKeys {
             }
         }
         let secret = secret_of(self.kind, number);
-        HeldTrees::own(KeyTrees::new(alloc, secret, self.height))
+        HeldTrees::own(KeyTrees::new(alloc, secret, self.height, 0))
     }
 
     // A number's trees of any kind. They are shared if the kind is that of these keys.
@@ -161,7 +161,7 @@ impl OwnKeys {
         if kind == self.kind {
             return self.trees(alloc, number);
         }
-        HeldTrees::own(KeyTrees::new(alloc, secret_of(kind, number), self.height))
+        HeldTrees::own(KeyTrees::new(alloc, secret_of(kind, number), self.height, 0))
     }
 }
 

@@ -153,16 +153,8 @@ impl Model for KeyTrees {
 }
 
 impl KeyTrees {
-    /// The trees of a key, of which nothing is computed yet. No signatures are remembered.
-    pub fn new(alloc: Global, secret: [u8; 32], height: u8) -> KeyTrees
-        requires { IsHeight height }
-        ensures { result ≡ record { secret = secret; height = height } }
-    {
-        KeyTrees::with_memory(alloc, secret, height, 0)
-    }
-
-    /// The same. At most `most` signatures are remembered.
-    pub fn with_memory(alloc: Global, secret: [u8; 32], height: u8, most: usize) -> KeyTrees
+    /// The trees of a key, of which nothing is computed yet. At most `most` signatures are remembered.
+    pub fn new(alloc: Global, secret: [u8; 32], height: u8, most: usize) -> KeyTrees
         requires { IsHeight height }
         ensures { result ≡ record { secret = secret; height = height } }
     {

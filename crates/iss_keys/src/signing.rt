@@ -93,7 +93,7 @@ impl Keys {
         ensures { IfOk result (λ keys. keys ≡ record { secret = secret; height = height; used = next }) }
     {
         Ok(Keys {
-            trees: HeldTrees::own(KeyTrees::new(alloc, secret, height)),
+            trees: HeldTrees::own(KeyTrees::new(alloc, secret, height, 0)),
             used: next,
         })
     }

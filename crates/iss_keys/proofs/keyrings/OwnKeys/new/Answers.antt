@@ -13,7 +13,7 @@ numbers-init c = rw c.in_ok-trees.ensures.items (
 pub numbers-preserved : goal.numbers-preserved
 numbers-preserved c =
     let own : c.in_ok-key.key.value ≡ ring_seed c.args.kind c.args.height c.numbers.number =
-    c.in_ok-key.ensures.ok ∙ c.with_memory.ensures
+    c.in_ok-key.ensures.ok ∙ c.new.ensures
     ∙ ap (λ s. record { secret = s; height = c.args.height }) c.secret_of-secret.ensures in
     let before = c.numbers.invariant in
     rw (c.in_ok-push.ensures.items, length-append, map-append) (
