@@ -9,7 +9,7 @@ use Rattle.iss_keys.proofs.keyrings.OwnKeys.has_made.Goals as goal
 pub returns-in-Some : goal.returns-in-Some
 returns-in-Some c = λ made.
     let keys = c.self.inside in
-    let own = c.deref.ensures.value ∙ c.in-Some.ensures
+    let own = c.deref.ensures ∙ c.in-Some.ensures
     ∙ ap (λ r. ring_seed r.kind r.height c.args.number) (sym c.self.view_is) in
     rw (← c.self.view_is) (listed_verifies (λ i. sha256 (keys.kind ∷ i ∷ [])) keys.height keys.count c.args.number
     c.args.statement.now c.args.signature.now (search rules)
