@@ -132,7 +132,7 @@ impl OwnKeys {
     fn has_made(&self, number: u8, statement: &[u8], signature: &[u8]) -> bool
         ensures { IsTrue result → VerifiesBy (keys_of_ring self.now) number statement.now signature.now }
     {
-        if u32::from(number) >= self.count {
+        if self.count <= u32::from(number) {
             return false;
         }
         match self.place(number) {
