@@ -174,8 +174,12 @@ impl Signatures {
         signature: &[u8],
     ) -> Result<Remembered, AllocError>
         requires { IsMade self.now.secret self.now.height leaf statement.now signature.now }
-        ensures { IfOk result (λ r. r ≡ record { secret = self.now.secret; height = self.now.height; leaf = leaf;
-            statement = statement.now }) }
+        ensures { IfOk result (λ r. r ≡ record {
+          secret = self.now.secret;
+          height = self.now.height;
+          leaf = leaf;
+          statement = statement.now;
+        }) }
     {
         let statement = statement.to_vec(alloc)?;
         let signature = signature.to_vec(alloc)?;

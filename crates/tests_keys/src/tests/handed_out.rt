@@ -67,13 +67,7 @@ fn signs_as_known(alloc: Global, all: &Directory, next: u32) -> Result<bool, Fai
 }
 
 // The same with a directory of its own.
-fn is_as_known(
-    alloc: Global,
-    nodes: u32,
-    clients: u32,
-    height: u8,
-    next: u32,
-) -> Result<bool, Fail>
+fn is_as_known(alloc: Global, nodes: u32, clients: u32, height: u8, next: u32) -> Result<bool, Fail>
     requires some { 0 < nodes }
     requires nodes { nodes ≤ 256 }
     requires clients { clients ≤ 256 }
