@@ -1,6 +1,6 @@
 -- Facts about signatures by the keys of a directory, for higher crates.
 use Rattle.std.proofs.Common.{◌≡◌, ◌↔◌, ℕ, ◌+◌, ◌*◌, ◌^◌, ◌<◌, ◌≤◌, true, true≢false, List, length, refl, sym, subst, arith, inl, inr}
-use Rattle.std.specs.Prelude.{Option, Some, None, IsSomeAnd, slice_get, slice_index}
+use Rattle.std.specs.Prelude.{Option, Some, None, IfSome, IsSomeAnd, slice_get, slice_index}
 use Rattle.std.specs.Bool.{Decides}
 use Rattle.std.proofs.lemmas.Bool.{cases_lt}
 use Rattle.std.proofs.lemmas.Bool.Decides.{Decides-and, Decides-eqb, Decides-ltb}
@@ -105,3 +105,10 @@ length-nodes n c h = length-listed (λ i. public_key (node_secret i) h) n
 
 pub length-clients : (n c h : ℕ) → length (directory_of n c h).clients ≡ c
 length-clients n c h = length-listed (λ i. public_key (client_secret i) h) c
+
+-- the leaves that a key of a node may have used
+pub node-leaves : (n c h i next : ℕ) → i < n → next ≤ 2 ^ h
+    → IfSome (slice_get (directory_of n c h).nodes i) (λ key. next ≤ 2 ^ key.height)
+node-leaves n c h i next lt le =
+    subst (λ (k : Option PublicKeyView). IfSome k (λ key. next ≤ 2 ^ key.height))
+    (sym (slice_get-listed (λ j. public_key (node_secret j) h) n i lt)) le

@@ -1,12 +1,13 @@
 -- Facts about the trees of numbers.
 use Rattle.std.proofs.Common.{◌≡◌, ℕ, ◌+◌, ◌<◌, ◌≤◌, List, [], ◌∷◌, ◌++◌, length, sym, ap, subst, ◌∙◌, length-append, map, get_or}
 use Rattle.std.proofs.lemmas.List.{length-map, get_or-map}
-use Rattle.std.specs.Prelude.{Option, IfSome, slice_get}
+use Rattle.std.specs.Prelude.{Option, IfSome, IsSomeAnd, ◌^◌, slice_get}
 use Rattle.iss_keys.specs.Pieces.{listed}
 use Rattle.iss_base.specs.Heights.{IsHeight}
-use Rattle.iss_keys.specs.Levels.{KeySeed}
+use Rattle.iss_keys.specs.Levels.{KeySeed, root_of}
+use Rattle.iss_keys.specs.Signatures.{Verifies}
 use Rattle.iss_keys.specs.KeyStates.{KeyState, PublicKeyView, public_key}
-use Rattle.iss_keys.specs.Directories.{public_keys_of}
+use Rattle.iss_keys.specs.Directories.{VerifiesBy, public_keys_of}
 use Rattle.iss_keys.specs.Internal.Rings.{IsRing, ring_seed}
 use Rattle.iss_keys.proofs.ListedLemmas.{listed_none, listed_more, length-listed, get_or-listed, slice_get-listed}
 
@@ -37,27 +38,44 @@ ring_at f kind h i xs x ring lt at =
     ∙ get_or-listed (ring_seed kind h) (length (map f xs)) i (f x) within
 
 -- if each key has its number's secret and all have one height, these are the public keys of the numbers
-pub keys_listed : (secret_of : ℕ → List ℕ) (h n i : ℕ) (secret : List ℕ) (k : KeyState) →
+pub keys_listed : (secret_of : ℕ → List ℕ) (h n i next : ℕ) (secret : List ℕ) (k : KeyState) →
     i < length (public_keys_of secret_of h n)
-    → k ≡ record { secret = secret; height = h; used = 0 }
+    → k ≡ record { secret = secret; height = h; used = next }
     → IfSome (slice_get (public_keys_of secret_of h n) i)
-    (λ key. k ≡ record { secret = secret; height = key.height; used = 0 })
-keys_listed secret_of h n i secret k lt e =
+    (λ key. k ≡ record { secret = secret; height = key.height; used = next })
+keys_listed secret_of h n i next secret k lt e =
     let f = λ (j : ℕ). public_key (secret_of j) h in
     let within : i < n = rw (← length-listed f n) lt in
     subst (λ (o : Option PublicKeyView). IfSome o
-    (λ key. k ≡ record { secret = secret; height = key.height; used = 0 }))
+    (λ key. k ≡ record { secret = secret; height = key.height; used = next }))
     (sym (slice_get-listed f n i within)) e
 
 -- the converse, if the public keys are known
-pub keys_made : (secret_of : ℕ → List ℕ) (h n i : ℕ) (secret : List ℕ) (k : KeyState) (keys : List PublicKeyView) →
+pub keys_made : (secret_of : ℕ → List ℕ) (h n i next : ℕ) (secret : List ℕ) (k : KeyState) (keys : List PublicKeyView) →
     i < length keys
     → keys ≡ public_keys_of secret_of h n
-    → IfSome (slice_get keys i) (λ key. k ≡ record { secret = secret; height = key.height; used = 0 })
-    → k ≡ record { secret = secret; height = h; used = 0 }
-keys_made secret_of h n i secret k keys lt e found =
+    → IfSome (slice_get keys i) (λ key. k ≡ record { secret = secret; height = key.height; used = next })
+    → k ≡ record { secret = secret; height = h; used = next }
+keys_made secret_of h n i next secret k keys lt e found =
     let f = λ (j : ℕ). public_key (secret_of j) h in
     let within : i < n = rw (← length-listed f n, ← e) lt in
     subst (λ (o : Option PublicKeyView). IfSome o
-    (λ key. k ≡ record { secret = secret; height = key.height; used = 0 }))
+    (λ key. k ≡ record { secret = secret; height = key.height; used = next }))
     (ap (λ (ks : List PublicKeyView). slice_get ks i) e ∙ slice_get-listed f n i within) found
+
+-- the height of the key of a number is that of all
+pub listed_below : (secret_of : ℕ → List ℕ) (h n i next : ℕ) → i < length (public_keys_of secret_of h n)
+    → IfSome (slice_get (public_keys_of secret_of h n) i) (λ key. next ≤ 2 ^ key.height)
+    → next ≤ 2 ^ h
+listed_below secret_of h n i next lt le =
+    let f = λ (j : ℕ). public_key (secret_of j) h in
+    let within : i < n = rw (← length-listed f n) lt in
+    subst (λ (o : Option PublicKeyView). IfSome o (λ key. next ≤ 2 ^ key.height)) (slice_get-listed f n i within) le
+
+-- a signature under the root of a number's secret is one by the key of this number
+pub listed_verifies : (secret_of : ℕ → List ℕ) (h n i : ℕ) (s sig : List ℕ) → i < n
+    → Verifies (root_of (secret_of i) h) h s sig
+    → VerifiesBy (public_keys_of secret_of h n) i s sig
+listed_verifies secret_of h n i s sig lt v =
+    subst (λ (o : Option PublicKeyView). IsSomeAnd o (λ key. Verifies key.root key.height s sig))
+    (sym (slice_get-listed (λ j. public_key (secret_of j) h) n i lt)) v

@@ -3,5 +3,6 @@ pub mod Bottoms
 pub mod Held
 pub mod Homes
 pub mod Questions
+pub mod Remembered
 pub mod Rings
 pub mod Sources

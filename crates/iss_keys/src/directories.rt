@@ -1,6 +1,6 @@
 //! The public keys of all nodes and clients.
 
-ghost use Rattle.std.specs.Prelude.{◌≡◌, ◌↔◌, ℕ, List, ◌<◌, ◌≤◌, length, map, slice_get, IfOk, IfSome, IsTrue};
+ghost use Rattle.std.specs.Prelude.{◌≡◌, ◌↔◌, ℕ, List, ◌^◌, ◌<◌, ◌≤◌, length, map, slice_get, IfOk, IfSome, IsTrue};
 ghost use Rattle.sha2.specs.Sha256.{sha256};
 ghost use Rattle.iss_base.specs.Heights.{IsHeight};
 ghost use Rattle.iss_keys.specs.KeyStates.{public_of};
@@ -10,6 +10,7 @@ use crate::answers::Answers;
 use crate::digests::Digests;
 use crate::keyrings::Keyring;
 use crate::marks::{CLIENT_SECRET, NODE_SECRET};
+use crate::remembered::signatures_each;
 use crate::signing::{Keys, NoMemory};
 use crate::verification::PublicKey;
 use std::alloc::Global;
@@ -41,6 +42,9 @@ fn verify_by(
 ) -> bool
     ensures { IsTrue result ↔ VerifiesBy keys.now number statement.now signature.now }
 {
+    if keys.has_made(number, statement, signature) {
+        return true;
+    }
     match keys.key(number) {
         Some(key) => answers.verify(&key, statement, signature),
         None => false,
@@ -57,8 +61,8 @@ impl Directory {
         requires height { IsHeight height }
         ensures { IfOk result (λ d. d ≡ directory_of n clients height) }
     {
-        let nodes = Keyring::own(alloc, NODE_SECRET, n, height)?;
-        let clients = Keyring::own(alloc, CLIENT_SECRET, clients, height)?;
+        let nodes = Keyring::own(alloc, NODE_SECRET, n, height, signatures_each(n, height))?;
+        let clients = Keyring::own(alloc, CLIENT_SECRET, clients, height, 0)?;
         Ok(Directory {
             nodes,
             clients,
@@ -122,7 +126,19 @@ impl Directory {
         ensures made { (n clients height : ℕ) → self.now ≡ directory_of n clients height
             → result ≡ record { secret = node_secret node; height = height; used = 0 } }
     {
-        self.nodes.keys(alloc, NODE_SECRET, node)
+        self.keys_of_node_at(alloc, node, 0)
+    }
+
+    /// The keys of a node. The leaves below `next` are used.
+    pub fn keys_of_node_at(&self, alloc: Global, node: u8, next: u32) -> Keys
+        requires node { node < length self.now.nodes }
+        requires next { IfSome (slice_get self.now.nodes node) (λ key. next ≤ 2 ^ key.height) }
+        ensures own { IfSome (slice_get self.now.nodes node)
+            (λ key. result ≡ record { secret = node_secret node; height = key.height; used = next }) }
+        ensures made { (n clients height : ℕ) → self.now ≡ directory_of n clients height
+            → result ≡ record { secret = node_secret node; height = height; used = next } }
+    {
+        self.nodes.keys(alloc, NODE_SECRET, node, next)
     }
 
     /// The keys of a client, with no leaf used. They share their trees with this directory too.
@@ -133,7 +149,7 @@ impl Directory {
         ensures made { (n clients height : ℕ) → self.now ≡ directory_of n clients height
             → result ≡ record { secret = client_secret client; height = height; used = 0 } }
     {
-        self.clients.keys(alloc, CLIENT_SECRET, client)
+        self.clients.keys(alloc, CLIENT_SECRET, client, 0)
     }
 
     /// Whether `signature` is a signature of `statement` by a node. False if no node has this number.

@@ -1,12 +1,12 @@
 //! The public keys of all nodes, or of all clients: given ones, or those whose secrets are functions of numbers. A key
 //! of the second kind is computed when it is first needed.
 
-ghost use Rattle.std.specs.Prelude.{◌≡◌, ℕ, List, [], ◌∷◌, ◌<◌, ◌≤◌, length, map, slice_get, IfOk, IfSome};
+ghost use Rattle.std.specs.Prelude.{◌≡◌, ℕ, List, [], ◌∷◌, ◌^◌, ◌<◌, ◌≤◌, length, map, slice_get, IfOk, IfSome, IsTrue};
 ghost use Rattle.sha2.specs.Sha256.{sha256};
 ghost use Rattle.iss_base.specs.Heights.{IsHeight};
 ghost use Rattle.iss_keys.specs.Levels.{root_of};
 ghost use Rattle.iss_keys.specs.KeyStates.{PublicKeyView, public_of};
-ghost use Rattle.iss_keys.specs.Directories.{public_keys_of};
+ghost use Rattle.iss_keys.specs.Directories.{VerifiesBy, public_keys_of};
 ghost use Rattle.iss_keys.specs.Internal.Rings.{keys_of_ring, ring_seed};
 
 use crate::held::HeldTrees;
@@ -23,6 +23,16 @@ fn secret_of(kind: u8, number: u8) -> [u8; 32]
     ensures { result ≡ sha256 (kind ∷ number ∷ []) }
 {
     Sha256::digest([kind, number])
+}
+
+// The key with the secret of a number, which shares no tree. The leaves below `next` are used.
+fn lone_key(alloc: Global, kind: u8, number: u8, height: u8, next: u32) -> Keys
+    requires height { IsHeight height }
+    requires next { next ≤ 2 ^ height }
+    ensures { result ≡ record { secret = sha256 (kind ∷ number ∷ []); height = height; used = next } }
+{
+    let trees = KeyTrees::new(alloc, secret_of(kind, number), height, 0);
+    Keys::of(HeldTrees::own(trees), next)
 }
 
 // The keys with the secrets of the numbers below `count`, all of one height. There may be fewer places for trees than
@@ -62,7 +72,14 @@ impl OwnKeys {
         }
     }
 
-    fn new(alloc: Global, kind: u8, count: u32, height: u8) -> Result<OwnKeys, NoMemory>
+    // Each key remembers at most `most` of its signatures.
+    fn new(
+        alloc: Global,
+        kind: u8,
+        count: u32,
+        height: u8,
+        most: usize,
+    ) -> Result<OwnKeys, NoMemory>
         requires count { count ≤ 256 }
         requires height { IsHeight height }
         ensures { IfOk result (λ keys. keys ≡ record { kind = kind; count = count; height = height }) }
@@ -70,7 +87,7 @@ impl OwnKeys {
         let mut trees = Vec::with_capacity(alloc, count as usize)?;
         'numbers: for number in 0..count {
             let secret = secret_of(kind, number as u8);
-            let key = Rc::new(alloc, KeyTrees::new(alloc, secret, height))?;
+            let key = Rc::new(alloc, KeyTrees::new(alloc, secret, height, most))?;
             trees.push(key)?;
         }
         Ok(OwnKeys {
@@ -111,6 +128,19 @@ impl OwnKeys {
         Some(PublicKey::from_parts(self.root(number), self.height))
     }
 
+    // Whether this is a remembered signature of a statement by the key of a number.
+    fn has_made(&self, number: u8, statement: &[u8], signature: &[u8]) -> bool
+        ensures { IsTrue result → VerifiesBy (keys_of_ring self.now) number statement.now signature.now }
+    {
+        if self.count <= u32::from(number) {
+            return false;
+        }
+        match self.place(number) {
+            Some(trees) => trees.has_made(statement, signature),
+            None => false,
+        }
+    }
+
     // A number's trees: the shared ones if they have a place.
     fn trees(&self, alloc: Global, number: u8) -> HeldTrees
         ensures { result ≡ ring_seed self.now.kind self.now.height number }
@@ -121,7 +151,7 @@ impl OwnKeys {
             }
         }
         let secret = secret_of(self.kind, number);
-        HeldTrees::own(KeyTrees::new(alloc, secret, self.height))
+        HeldTrees::own(KeyTrees::new(alloc, secret, self.height, 0))
     }
 
     // A number's trees of any kind. They are shared if the kind is that of these keys.
@@ -131,7 +161,7 @@ impl OwnKeys {
         if kind == self.kind {
             return self.trees(alloc, number);
         }
-        HeldTrees::own(KeyTrees::new(alloc, secret_of(kind, number), self.height))
+        HeldTrees::own(KeyTrees::new(alloc, secret_of(kind, number), self.height, 0))
     }
 }
 
@@ -159,13 +189,20 @@ impl Model for Keyring {
 }
 
 impl Keyring {
-    /// The public keys for the secrets of the numbers below `count`, all of one height.
-    pub fn own(alloc: Global, kind: u8, count: u32, height: u8) -> Result<Keyring, NoMemory>
+    /// The public keys for the secrets of the numbers below `count`, all of one height. Each key remembers at most
+    /// `most` of its signatures.
+    pub fn own(
+        alloc: Global,
+        kind: u8,
+        count: u32,
+        height: u8,
+        most: usize,
+    ) -> Result<Keyring, NoMemory>
         requires count { count ≤ 256 }
         requires height { IsHeight height }
         ensures { IfOk result (λ ring. ring ≡ public_keys_of (λ i. sha256 (kind ∷ i ∷ [])) height count) }
     {
-        let keys = OwnKeys::new(alloc, kind, count, height)?;
+        let keys = OwnKeys::new(alloc, kind, count, height, most)?;
         Ok(Keyring {
             source: Source::Own(keys),
         })
@@ -203,20 +240,31 @@ impl Keyring {
             Source::Own(keys) => keys.key(number),
         }
     }
-    /// The key with the secret of a number of this kind, and the height of the public key of this number. No leaf is
-    /// used. If this public key is its own, its trees are shared.
-    pub fn keys(&self, alloc: Global, kind: u8, number: u8) -> Keys
-        requires { number < length self.now }
+
+    /// Whether this is a remembered signature of a statement by the key of a number.
+    pub fn has_made(&self, number: u8, statement: &[u8], signature: &[u8]) -> bool
+        ensures { IsTrue result → VerifiesBy self.now number statement.now signature.now }
+    {
+        match &self.source {
+            Source::Given(_) => false,
+            Source::Own(keys) => keys.has_made(number, statement, signature),
+        }
+    }
+
+    /// The key with the secret of a number of this kind, and the height of the public key of this number. The leaves
+    /// below `next` are used. If this public key is its own, its trees are shared.
+    pub fn keys(&self, alloc: Global, kind: u8, number: u8, next: u32) -> Keys
+        requires number { number < length self.now }
+        requires next { IfSome (slice_get self.now number) (λ key. next ≤ 2 ^ key.height) }
         ensures { IfSome (slice_get self.now number)
-            (λ key. result ≡ record { secret = sha256 (kind ∷ number ∷ []); height = key.height; used = 0 }) }
+            (λ key. result ≡ record { secret = sha256 (kind ∷ number ∷ []); height = key.height; used = next }) }
     {
         match &self.source {
             Source::Given(keys) => {
                 let height = keys[number as usize].levels();
-                let trees = KeyTrees::new(alloc, secret_of(kind, number), height);
-                Keys::of(HeldTrees::own(trees))
+                lone_key(alloc, kind, number, height, next)
             }
-            Source::Own(keys) => Keys::of(keys.trees_of_kind(alloc, kind, number)),
+            Source::Own(keys) => Keys::of(keys.trees_of_kind(alloc, kind, number), next),
         }
     }
 }

@@ -6,12 +6,13 @@ ghost use Rattle.std.specs.Prelude.{◌≡◌, ◌+◌, ◌*◌, ◌^◌, ◌/�
 ghost use Rattle.iss_base.specs.Heights.{IsHeight};
 ghost use Rattle.iss_keys.specs.Trees.{tree_root};
 ghost use Rattle.iss_keys.specs.Levels.{top_secret, bottom_secret, bottom_tree, top_tree, by_top, root_in, root_of};
-ghost use Rattle.iss_keys.specs.Signatures.{part_by, part_of, parts_of, signature_of};
+ghost use Rattle.iss_keys.specs.Signatures.{part_by, part_of, parts_of, signature_of, Verifies};
 
 use crate::digits::{digest_of_root, digest_of_statement};
 use crate::late::LateTree;
 use crate::made::MadeTree;
 use crate::marks::{BOTTOM_SECRET, TOP_SECRET};
+use crate::remembered::Signatures;
 use crate::signing::NoMemory;
 use crate::tree::root_of_secret;
 use iss_base::heights::{digests_of_height, has_two_levels};
@@ -135,23 +136,25 @@ pub struct KeyTrees {
     height: u8,
     top: LateTree,
     bottom: RefCell<Option<Bottom>>,
+    made: Signatures,
 }
 
 impl Model for KeyTrees {
     ghost use Rattle.std.specs.Prelude.{◌≡◌};
     ghost use Rattle.iss_base.specs.Heights.{IsHeight};
     ghost use Rattle.iss_keys.specs.Levels.{KeySeed, top_tree};
+    ghost use Rattle.iss_keys.specs.Internal.Remembered.{AreTrees};
 
     ghost Value = { KeySeed };
 
     ghost view = { λ t. record { secret = t.secret; height = t.height } };
 
-    ghost invariant = { λ t. IsHeight t.height × (t.top ≡ top_tree t.secret t.height) };
+    ghost invariant = { λ t. AreTrees t.secret t.height t.top t.made };
 }
 
 impl KeyTrees {
-    /// The trees of a key, of which nothing is computed yet.
-    pub fn new(alloc: Global, secret: [u8; 32], height: u8) -> KeyTrees
+    /// The trees of a key, of which nothing is computed yet. At most `most` signatures are remembered.
+    pub fn new(alloc: Global, secret: [u8; 32], height: u8, most: usize) -> KeyTrees
         requires { IsHeight height }
         ensures { result ≡ record { secret = secret; height = height } }
     {
@@ -161,6 +164,7 @@ impl KeyTrees {
             height,
             top,
             bottom: RefCell::new(None),
+            made: Signatures::new(alloc, secret, height, most),
         }
     }
 
@@ -266,8 +270,8 @@ impl KeyTrees {
         self.write_with(&mut place, leaf, statement, out)
     }
 
-    /// The signature of a statement with a leaf.
-    pub fn sign(&self, leaf: u32, statement: &[u8]) -> Result<Vec<u8>, NoMemory>
+    // The signature of a statement with a leaf, computed.
+    fn make(&self, leaf: u32, statement: &[u8]) -> Result<Vec<u8>, NoMemory>
         requires { leaf < 2 ^ self.now.height }
         ensures { IfOk result
             (λ sig. sig.items ≡ signature_of self.now.secret self.now.height leaf statement.now) }
@@ -282,5 +286,27 @@ impl KeyTrees {
             self.write_one(leaf, statement, &mut out)?;
         }
         Ok(out)
+    }
+
+    /// The signature of a statement with a leaf: a remembered one, or computed and then remembered.
+    pub fn sign(&self, leaf: u32, statement: &[u8]) -> Result<Vec<u8>, NoMemory>
+        requires { leaf < 2 ^ self.now.height }
+        ensures { IfOk result
+            (λ sig. sig.items ≡ signature_of self.now.secret self.now.height leaf statement.now) }
+    {
+        if let Some(signature) = self.made.recall(leaf, statement) {
+            return Ok(signature);
+        }
+        let signature = self.make(leaf, statement)?;
+        self.made.remember(leaf, statement, &signature);
+        Ok(signature)
+    }
+
+    /// Whether this is a remembered signature of a statement.
+    pub fn has_made(&self, statement: &[u8], signature: &[u8]) -> bool
+        ensures { IsTrue result →
+            Verifies (root_of self.now.secret self.now.height) self.now.height statement.now signature.now }
+    {
+        self.made.has(statement, signature)
     }
 }

@@ -29,6 +29,7 @@ mod levels;
 mod made;
 mod marks;
 mod places;
+mod remembered;
 mod shared;
 mod signing;
 mod tree;

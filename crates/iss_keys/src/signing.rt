@@ -93,17 +93,18 @@ impl Keys {
         ensures { IfOk result (λ keys. keys ≡ record { secret = secret; height = height; used = next }) }
     {
         Ok(Keys {
-            trees: HeldTrees::own(KeyTrees::new(alloc, secret, height)),
+            trees: HeldTrees::own(KeyTrees::new(alloc, secret, height, 0)),
             used: next,
         })
     }
 
-    /// The key with these trees and no leaf used.
-    pub(crate) fn of(trees: HeldTrees) -> Keys
-        ensures { result ≡ record { secret = trees.secret; height = trees.height; used = 0 } }
+    /// The key with these trees. The leaves below `next` are used.
+    pub(crate) fn of(trees: HeldTrees, next: u32) -> Keys
+        requires { next ≤ 2 ^ trees.height }
+        ensures { result ≡ record { secret = trees.secret; height = trees.height; used = next } }
     {
         let _height = trees.trees().height();
-        Keys { trees, used: 0 }
+        Keys { trees, used: next }
     }
 
     /// How many leaves are left, which is how many times `sign` can succeed.

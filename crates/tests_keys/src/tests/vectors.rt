@@ -49,6 +49,22 @@ pub(crate) fn root_node_0() -> [u8; 32] {
     ]
 }
 
+/// The digest of the signature of one zero byte with leaf 1 of node 0, at height 2.
+pub(crate) fn signature_node_0_of_zero() -> [u8; 32] {
+    [
+        251, 49, 137, 20, 35, 177, 187, 128, 136, 224, 58, 0, 11, 138, 146, 149, 152, 59, 217, 82,
+        164, 47, 23, 146, 228, 87, 49, 37, 224, 140, 167, 97,
+    ]
+}
+
+/// The digest of that of the byte 1 with the same leaf.
+pub(crate) fn signature_node_0_of_one() -> [u8; 32] {
+    [
+        56, 225, 206, 19, 121, 191, 62, 230, 223, 134, 46, 148, 91, 85, 210, 244, 194, 79, 188, 9,
+        90, 137, 217, 182, 5, 148, 126, 216, 176, 128, 99, 199,
+    ]
+}
+
 /// The root of client 2, at height 2.
 pub(crate) fn root_client_2() -> [u8; 32] {
     [

@@ -6,11 +6,11 @@ pub write_part-requires : goal.write_part-requires
 write_part-requires c =
     one_leaf c.self.inside.secret c.self.inside.height c.args.leaf c.in_ok-tree.tree.now
     (rw (← c.self.view_is) at c.requires.one) (rw (← c.self.view_is) at c.requires.leaf)
-    (c.in_ok-tree.ensures ∙ c.self.invariant.1)
+    (c.in_ok-tree.ensures ∙ c.self.invariant.top_is)
 
 pub returns : goal.returns
 returns c =
     rw (← c.self.view_is) (one_written c.self.inside.secret c.args.statement.now c.digest_of_statement.result
     c.args.out.now.items c.write_part.new.out.items c.self.inside.height c.args.leaf c.in_ok-tree.tree.now
-    (rw (← c.self.view_is) at c.requires.one) (c.in_ok-tree.ensures ∙ c.self.invariant.1) c.digest_of_statement.ensures
+    (rw (← c.self.view_is) at c.requires.one) (c.in_ok-tree.ensures ∙ c.self.invariant.top_is) c.digest_of_statement.ensures
     c.in_ok-write_part.ensures)
