@@ -4,6 +4,7 @@
 pub mod clusters;
 pub mod errors;
 pub mod nodes;
+mod running;
 
 pub use clusters::{Traced, cluster};
 pub use errors::NodeFailure;
