@@ -7,4 +7,4 @@ pub mod nodes;
 
 pub use clusters::{Traced, cluster};
 pub use errors::NodeFailure;
-pub use nodes::node;
+pub use nodes::{RunningNode, node};
