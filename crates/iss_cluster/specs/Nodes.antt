@@ -1,6 +1,6 @@
 -- What one node does, as functions of the events that it has accepted, by the model of a node. And what its journal and
 -- its links hold behind its loop, and what it prints.
-use Rattle.std.specs.Prelude.{◌≡◌, ℕ, ◌<◌, Bool, true, false, List, [], ◌∷◌, map, reverse, Option, Some, None, ◌++◌}
+use Rattle.std.specs.Prelude.{◌≡◌, ℕ, ◌<◌, Bool, true, false, List, [], ◌∷◌, filter_map, map, reverse, Option, Some, None, ◌++◌}
 use Rattle.iss_config.specs.Configs.{setup_of}
 use Rattle.iss_config.specs.declared.configs.Config.{Config}
 use Rattle.iss_disk.specs.Calls.{IfTold}
@@ -65,14 +65,9 @@ block_of s M me c = node_block me c.past.epoch (log_of (rules_of s) M me c.past)
 abbrev pub entries_of : List NodeEvent → List (List ℕ)
 entries_of events = map spell_event events
 
--- the events of a journal, in a cluster of n nodes: an entry that is no event counts for nothing
-abbrev pub event_and : Option NodeEvent → List NodeEvent → List NodeEvent
-event_and None events = events
-event_and (Some event) events = event ∷ events
-
+-- the events of a journal, in a cluster of n nodes: entries that are no event are left out
 abbrev pub events_in : ℕ → List (List ℕ) → List NodeEvent
-events_in n [] = []
-events_in n (entry ∷ entries) = event_and (event_in n entry) (events_in n entries)
+events_in n entries = filter_map (event_in n) entries
 
 -- ---- a run
 

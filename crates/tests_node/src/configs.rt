@@ -13,7 +13,7 @@ pub fn one_node(turns: u32) -> Config {
         batch: 4,
         window: 8,
         clients: 8,
-        keys: 6,
+        keys: 4,
         requests: 0,
         turns,
     }

@@ -31,16 +31,19 @@ fn run(
     run_over(alloc, turns, &mut links, disk)
 }
 
-// Checks that a run prints this text.
-fn check_prints(
+// Checks that a run prints this text, and that its journal has grown.
+fn check_run(
     rt: &impl Abort,
     alloc: Global,
     turns: u32,
     disk: &mut MemoryDisk,
     text: &[u8],
 ) -> Result<(), Fail> {
+    let before = disk.length()?;
     let printed = run(alloc, turns, disk)??;
     assert_eq!(rt; printed.as_slice(), text);
+    let now = disk.length()?;
+    assert!(rt; before < now);
     Ok(())
 }
 
@@ -63,39 +66,37 @@ fn new_disk(alloc: Global) -> Result<MemoryDisk, Fail> {
     Ok(disk)
 }
 
-// How long the disk's current file is.
-fn length_of(disk: &mut MemoryDisk) -> Result<u64, Fail> {
-    Ok(disk.length()?)
-}
-
+// The texts are those of an independent program.
 #[test]
 fn one_turn_delivers_nothing(rt: HostRuntime) -> Result<(), Fail> {
     let mut disk = new_disk(rt.alloc())?;
-    check_prints(&rt, rt.alloc(), 1, &mut disk, b"node 0 epoch 0 slots 0 requests 0\n")
+    check_run(
+        &rt,
+        rt.alloc(),
+        1,
+        &mut disk,
+        b"node 0 epoch 0 slots 0 requests 0\n",
+    )
 }
 
-#[test]
-fn two_turns_deliver_a_slot(rt: HostRuntime) -> Result<(), Fail> {
-    let mut disk = new_disk(rt.alloc())?;
-    check_prints(&rt, rt.alloc(), 2, &mut disk, b"node 0 epoch 1 slots 1 requests 0\n0 0 0\n")
-}
-
-// The second run has links of its own, where nothing waits.
+// The second run goes on from the journal of the first, over links where nothing waits.
 #[test]
 fn a_node_goes_on_from_its_journal(rt: HostRuntime) -> Result<(), Fail> {
     let mut disk = new_disk(rt.alloc())?;
-    check_prints(&rt, rt.alloc(), 2, &mut disk, b"node 0 epoch 1 slots 1 requests 0\n0 0 0\n")?;
-    let first = length_of(&mut disk)?;
-    check_prints(
+    check_run(
+        &rt,
+        rt.alloc(),
+        2,
+        &mut disk,
+        b"node 0 epoch 1 slots 1 requests 0\n0 0 0\n",
+    )?;
+    check_run(
         &rt,
         rt.alloc(),
         2,
         &mut disk,
         b"node 0 epoch 2 slots 2 requests 0\n0 0 0\n1 0 0\n",
-    )?;
-    let second = length_of(&mut disk)?;
-    assert!(&rt; first < second);
-    Ok(())
+    )
 }
 
 // An open gate, and no whole entry behind it.
@@ -107,7 +108,7 @@ fn a_damaged_journal_is_refused(rt: HostRuntime) -> Result<(), Fail> {
     disk.sync()?;
     let answer = run(rt.alloc(), 2, &mut disk)?;
     check_fails(&rt, answer, NodeFailure::Damaged { at: 0 })?;
-    let length = length_of(&mut disk)?;
+    let length = disk.length()?;
     assert_eq!(&rt; length, 3);
     Ok(())
 }
