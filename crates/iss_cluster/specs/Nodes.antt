@@ -47,7 +47,7 @@ sends_of (Taken turn) = turn.sends
 -- what node `me` does, by the steps of its core
 abbrev pub node_behavior_of : {Msg : Type 0} → Setup → Module Msg → ℕ → NodeBehavior
 node_behavior_of s M me = record {
-  nodes = s.n;
+  setup = s;
   me = me;
   accepts = λ events event. is_taken (step_of s M me (core_after s M me events) event);
   sends = λ events event. sends_of (step_of s M me (core_after s M me events) event);
@@ -88,13 +88,18 @@ pub record IsNodeRun {Msg : Type 0} (M : Module Msg) (c : Config) (me : ℕ) (en
 
 -- The journal is damaged at this offset: the file itself, or an entry that is no event or that the node would drop. What
 -- it held stays.
-pub record IsRefused {Msg : Type 0} (M : Module Msg) (c : Config) (me : ℕ) (before now : List File) (at : ℕ)
+pub record IsRefused {Msg : Type 0} (M : Module Msg) (s : Setup) (me : ℕ) (before now : List File) (at : ℕ)
     : Type 0 where
   pub entries : List (List ℕ)
-  pub damaged : IsDamaged (setup_of c) M me entries before at
+  pub damaged : IsDamaged s M me entries before at
   pub left : IsLeft entries before now at
 
 -- ---- the code
+
+-- The file held these entries, and the node that has read them need not be reopened.
+pub record HasRead (before : List File) (stale : Bool) (entries : List (List ℕ)) : Type 0 where
+  pub fresh : stale ≡ false
+  pub read : IfTold before (λ file. Reads file.content (holds entries))
 
 -- The node is at the core of its journal's entries, and every crash image of its file holds them.
 pub record IsOpen {M Msg D : Type 0} (m : Module Msg) (refines : Relation M Msg) (history : D → List File)

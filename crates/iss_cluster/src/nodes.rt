@@ -1,20 +1,17 @@
 //! One node of a cluster, which runs over links and keeps its events in a journal.
 ghost use Rattle.std.specs.Prelude.{◌≡◌, ◌<◌, ℕ, false, IfOk, IsErrOf, OnOk};
-ghost use Rattle.iss_cluster.specs.Nodes.{IsNodeRun, IsRefused, block_of, events_in};
+ghost use Rattle.iss_cluster.specs.Nodes.{HasRead, IsNodeRun, IsRefused, block_of, core_after, events_in};
 ghost use Rattle.iss_config.specs.Configs.{IsInRange, setup_of};
-ghost use Rattle.iss_disk.specs.Calls.{HasCause as HasDiskCause, IfTold};
-ghost use Rattle.iss_journal.specs.Frames.{Reads, holds};
-ghost use Rattle.iss_keep.specs.State.{RefinesEntries};
+ghost use Rattle.iss_disk.specs.Calls.{HasCause as HasDiskCause};
 ghost use Rattle.iss_keep.specs.Steps.{IsSame};
 ghost use Rattle.iss_links.specs.Calls.{HasCause};
-ghost use Rattle.iss_model.specs.Node.{Core};
 ghost use Rattle.iss_rules.specs.Setups.{IsSetupOf};
 
 use crate::errors::NodeFailure;
 use iss_config::Config;
 use iss_disk::Disk;
+use iss_journal::AttachError;
 use iss_keep::{Answer, Kept};
-use iss_keys::SharedDirectory;
 use iss_links::Links;
 use iss_loops::{JournaledNode, NodeStep, StepError, run_node_loop};
 use iss_replay::lines::put_node;
@@ -77,13 +74,23 @@ impl<M: Sequenced, D: Disk + Drop> RunningNode<M, D> {
 
 impl<M: Sequenced, D: Disk> RunningNode<M, D> {
     // Reads the journal, and recovers the node from the events in it.
-    fn reopen(&mut self) -> Result<(), NodeFailure> {
-        self.kept.reopen()?;
-        Ok(())
+    fn reopen(&mut self) -> Result<(), AttachError>
+        ensures read { OnOk result (HasRead (D.history self.old.disk) self.new.stale self.new.entries) }
+        ensures refused { (at : ℕ) → IsErrOf result (AttachError.Damaged at) → IsRefused M.spec self.old.setup
+            self.old.me.0 (D.history self.old.disk) (D.history self.new.disk) at }
+        ensures cause { HasDiskCause (D.faults self.old.disk) (D.faults self.new.disk)
+            (IsErrOf result AttachError.Failed) }
+        ensures same { IsSame self.old self.new }
+    {
+        self.kept.reopen()
     }
 
     // The node's block of a report.
-    fn block(&self, alloc: Global) -> Result<Bytes, NoMemory> {
+    fn block(&self, alloc: Global) -> Result<Bytes, NoMemory>
+        requires { self.now.stale ≡ false }
+        ensures { IfOk result (λ block. block ≡ block_of self.now.setup M.spec self.now.me.0
+            (core_after self.now.setup M.spec self.now.me.0 (events_in self.now.setup.n self.now.entries))) }
+    {
         let mut block = Vec::new(alloc);
         put_node(&mut block, self.me, self.kept.epoch(), self.kept.log())?;
         Ok(Bytes::of(block))
@@ -130,6 +137,13 @@ impl<M: Sequenced, D: Disk> JournaledNode for RunningNode<M, D> {
 
 /// Runs a node over links, as the configuration says (`node_loop_of`), from the events that its journal holds. The
 /// links have the node's end. The answer is the node's block of a report.
+///
+/// # Errors
+///
+/// `Damaged` if the journal is damaged; what it held stays. `LinksFault` only if the links failed, `DiskFault` only if
+/// the disk did, and `NoMemory`.
+// rule: Loopback: A node's journal grows by the events that it takes, in their order
+// rule: Loopback: A node prints its block of a report, which its journal's events give
 pub fn node<M: Sequenced, L: Links, D: Disk>(
     alloc: Global,
     config: &Config,
@@ -139,11 +153,12 @@ pub fn node<M: Sequenced, L: Links, D: Disk>(
     requires { running.old.setup ≡ setup_of config.now }
     ensures run { IfOk result (IsNodeRun M.spec config.now running.old.me.0 (L.ends links.old) (L.ends links.new)
         (D.history running.old.disk) (D.history running.new.disk)) }
-    ensures damaged { (at : ℕ) → IsErrOf result (NodeFailure.Damaged at) →
-        IsRefused M.spec config.now running.old.me.0 (D.history running.old.disk) (D.history running.new.disk) at }
+    ensures damaged { (at : ℕ) → IsErrOf result (NodeFailure.Damaged at) → IsRefused M.spec (setup_of config.now)
+        running.old.me.0 (D.history running.old.disk) (D.history running.new.disk) at }
     ensures links { HasCause (L.faults links.old) (L.faults links.new) (IsErrOf result NodeFailure.LinksFault) }
     ensures disk { HasDiskCause (D.faults running.old.disk) (D.faults running.new.disk)
         (IsErrOf result NodeFailure.DiskFault) }
+    ensures same { OnOk result ((running.new.setup ≡ running.old.setup) × (running.new.me ≡ running.old.me)) }
 {
     running.reopen()?;
     run_node_loop(running, links, FRAMES, PATIENCE, config.turns)?;
