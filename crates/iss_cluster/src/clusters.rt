@@ -10,7 +10,8 @@ ghost use Rattle.iss_rules.specs.Setups.{IsSetupOf};
 
 use iss_config::Config;
 use iss_links::Links;
-use iss_loops::LoopError;
+use crate::running::Running;
+use iss_loops::{LoopError, Plan, run_loop};
 use iss_replay::Report;
 use iss_sb::Sequenced;
 use iss_schedule::Schedule;
@@ -39,5 +40,21 @@ pub fn cluster<M: Sequenced, L: Links>(
         t.trace.events (L.ends links.new))) }
     ensures cause { HasCause (L.faults links.old) (L.faults links.new) (IsErrOf result LoopError.LinksFault) }
 {
-    Err(LoopError::NoMemory)
+    let setup = config.setup(alloc)?;
+    let mut running = Running::<M>::start(alloc, setup)?;
+    run_loop(alloc, &mut running, links, &plan_of(config))?;
+    Ok(running.into_parts())
+}
+
+// The plan of the cluster's loop.
+// rule: Loopback: A core takes at most 200,000 frames in a turn, and cores wake up after 64 idle turns
+fn plan_of(config: &Config) -> Plan
+    ensures { plan_of result ≡ loop_plan_of config.now }
+{
+    Plan {
+        requests: config.requests,
+        turns: config.turns,
+        frames: 200_000,
+        patience: 64,
+    }
 }

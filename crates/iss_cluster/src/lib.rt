@@ -4,7 +4,8 @@
 pub mod clusters;
 pub mod errors;
 pub mod nodes;
+mod running;
 
 pub use clusters::{Traced, cluster};
 pub use errors::NodeFailure;
-pub use nodes::node;
+pub use nodes::{RunningNode, node};

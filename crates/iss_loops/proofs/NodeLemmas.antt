@@ -22,13 +22,13 @@ pub record Comes (events : List NodeEvent) (ends : Option (List End)) (progress 
   pub at : IsAt events ends progress now
   pub same : rest now ≡ whole
 
-pub sends-more : (B : NodeBehavior) (nodes me : ℕ) (sends : List (To × List ℕ)) (i : ℕ) (s : To × List ℕ) (events : List NodeEvent) (ends ends2 : Option (List End)) (progress progress2 : NodeProgress) (whole : NodeState) → B.nodes ≡ nodes → B.me ≡ me → i < length sends → s ≡ get_or sends i s
+pub sends-more : (B : NodeBehavior) (nodes me : ℕ) (sends : List (To × List ℕ)) (i : ℕ) (s : To × List ℕ) (events : List NodeEvent) (ends ends2 : Option (List End)) (progress progress2 : NodeProgress) (whole : NodeState) → B.setup.n ≡ nodes → B.me ≡ me → i < length sends → s ≡ get_or sends i s
     → Comes events ends progress (send_each B (drop i sends)) whole
     → ((es : List End) → ends ≡ Some es → ends2 ≡ Some (send_to nodes me progress.count s.0 s.1 es)) → progress2 ≡ record progress { count = progress.count + copies nodes s.0 }
     → Comes events ends2 progress2 (send_each B (drop (i + 1) sends)) whole
 sends-more B nodes me sends i s events ends ends2 progress progress2 whole is is2 within e c h t =
     record {
-      now = record c.now { count = c.now.count + copies B.nodes s.0; ends = send_to B.nodes B.me c.now.count s.0 s.1 c.now.ends };
+      now = record c.now { count = c.now.count + copies B.setup.n s.0; ends = send_to B.setup.n B.me c.now.count s.0 s.1 c.now.ends };
       at = record {
         events_are = c.at.events_are;
         ends_are = rw (is, is2, ← c.at.count) (h c.now.ends c.at.ends_are);

@@ -4,14 +4,15 @@ use Rattle.iss_base.specs.Lists.{nth}
 use Rattle.iss_loops.specs.declared.node.NodeStep.{NodeStep}
 use Rattle.iss_loops.specs.declared.node.NodeStep.TheVariants.{Taken, Dropped}
 use Rattle.iss_request.specs.declared.ids.NodeId.{NodeId}
+use Rattle.iss_request.specs.declared.setups.Setup.{Setup}
 use Rattle.iss_rules.specs.declared.events.NodeEvent.{NodeEvent}
 use Rattle.iss_rules.specs.declared.events.NodeEvent.TheVariants.{Packet, Propose, Timeout, AskFrom}
 use Rattle.iss_sb.specs.Calls.{AreToNodes}
 use Rattle.iss_sb.specs.declared.effects.To.{To}
 
 pub record NodeBehavior : Type 0 where
-  -- how many nodes there are, and which of them it is
-  pub nodes : ℕ
+  -- the set-up of its cluster, and which node it is
+  pub setup : Setup
   pub me : ℕ
   -- whether it accepts one more event; otherwise it drops it
   pub accepts : List NodeEvent → NodeEvent → Bool

@@ -44,8 +44,8 @@ abbrev pub send_each : NodeBehavior → List (To × List ℕ) → NodeState → 
 send_each B [] w = w
 send_each B (s ∷ sends) w =
     send_each B sends (record w {
-      count = w.count + copies B.nodes s.0;
-      ends = send_to B.nodes B.me w.count s.0 s.1 w.ends;
+      count = w.count + copies B.setup.n s.0;
+      ends = send_to B.setup.n B.me w.count s.0 s.1 w.ends;
     })
 
 -- the node takes an event: if it accepts the event, what it sends goes to the links
@@ -71,7 +71,7 @@ times_out B [] w = w
 times_out B (leader ∷ leaders) w = times_out B leaders (takes B (Timeout leader) w)
 
 abbrev pub asks : NodeBehavior → NodeState → NodeState
-asks B w = if nat_lt 1 B.nodes then takes B (AskFrom (peer_of B.nodes B.me)) w else w
+asks B w = if nat_lt 1 B.setup.n then takes B (AskFrom (peer_of B.setup.n B.me)) w else w
 
 -- the node wakes up: it times out for each leader whose segment it had not filled before, and asks the next node
 abbrev pub wakes : NodeBehavior → NodeState → NodeState

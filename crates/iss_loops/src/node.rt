@@ -44,9 +44,9 @@ pub trait JournaledNode {
     /// Takes an event. One that it accepts is in the journal before its sends are released.
     fn take(&mut self, event: NodeEvent) -> Result<NodeStep, StepError>
         requires fresh { stale self.old ≡ false }
-        requires nodes { NamesNodes (behavior self.old).nodes event }
+        requires nodes { NamesNodes (behavior self.old).setup.n event }
         ensures step { IfOk result (IsStep (behavior self.old) (events self.old) event (events self.new)) }
-        ensures addressed { IfOk result (GoTo (behavior self.old).nodes) }
+        ensures addressed { IfOk result (GoTo (behavior self.old).setup.n) }
         ensures kept { OnOk result (StaysOpen (behavior self.old) (behavior self.new) (events self.old)
             (events self.new) (stale self.new)) }
         ensures cause { HasDiskCause (faults self.old) (faults self.new) (IsErrOf result StepError.DiskFault) };
@@ -60,15 +60,15 @@ pub trait JournaledNode {
     fn unfilled(&self) -> Result<Seq<NodeId>, NoMemory>
         requires { stale self.now ≡ false }
         ensures leaders { IfOk result (λ leaders. leaders ≡ (behavior self.now).unfilled (events self.now)) }
-        ensures nodes { IfOk result (λ leaders. AreNodes (behavior self.now).nodes leaders) };
+        ensures nodes { IfOk result (λ leaders. AreNodes (behavior self.now).setup.n leaders) };
 
     /// How many nodes there are.
     fn nodes(&self) -> u32
-        ensures nodes { result ≡ (behavior self.now).nodes }
+        ensures nodes { result ≡ (behavior self.now).setup.n }
         ensures few { result ≤ 64 };
 
     /// Which of them it is.
     fn me(&self) -> u32
         ensures me { result ≡ (behavior self.now).me }
-        ensures node { result < (behavior self.now).nodes };
+        ensures node { result < (behavior self.now).setup.n };
 }

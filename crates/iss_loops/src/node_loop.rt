@@ -113,7 +113,7 @@ fn send_each<L: Links>(
     requires me { me < 256 }
     requires nodes { nodes ≤ 64 }
     requires to { AreToNodes nodes sends.now }
-    ensures goes { OnOk result ((B : NodeBehavior) → B.nodes ≡ nodes → B.me ≡ me →
+    ensures goes { OnOk result ((B : NodeBehavior) → B.setup.n ≡ nodes → B.me ≡ me →
         (events : List ModelEvent) (w : NodeState) → IsAt events (L.ends links.old) progress.old w →
         IsAt events (L.ends links.new) progress.new (send_each B sends.now w)) }
     ensures idle_turns { progress.new.idle_turns ≡ progress.old.idle_turns }
@@ -134,7 +134,7 @@ fn release<N: JournaledNode, L: Links>(
     sends: &[(To, Bytes)],
 ) -> Result<(), NodeError>
     requires kept { AreOfNewest (N.behavior node.now) (N.events node.now) sends.now }
-    requires to { AreToNodes (N.behavior node.now).nodes sends.now }
+    requires to { AreToNodes (N.behavior node.now).setup.n sends.now }
     ensures goes { OnOk result ((events : List ModelEvent) (w : NodeState) →
         IsAt events (L.ends links.old) progress.old w →
         IsAt events (L.ends links.new) progress.new (send_each (N.behavior node.now) sends.now w)) }
@@ -153,7 +153,7 @@ fn take<N: JournaledNode, L: Links>(
     event: NodeEvent,
 ) -> Result<(), NodeError>
     requires fresh { N.stale node.old ≡ false }
-    requires names { NamesNodes (N.behavior node.old).nodes event }
+    requires names { NamesNodes (N.behavior node.old).setup.n event }
     ensures goes { OnOk result ((w : NodeState) → IsAt (N.events node.old) (L.ends links.old) progress.old w →
         IsAt (N.events node.new) (L.ends links.new) progress.new (takes (N.behavior node.old) event w)) }
     ensures kept { OnOk result (StaysOpen (N.behavior node.old) (N.behavior node.new) (N.events node.old)
@@ -227,7 +227,7 @@ fn time_out<N: JournaledNode, L: Links>(
     leaders: &[NodeId],
 ) -> Result<(), NodeError>
     requires fresh { N.stale node.old ≡ false }
-    requires leaders { AreNodes (N.behavior node.old).nodes leaders.now }
+    requires leaders { AreNodes (N.behavior node.old).setup.n leaders.now }
     ensures goes { OnOk result ((w : NodeState) → IsAt (N.events node.old) (L.ends links.old) progress.old w →
         IsAt (N.events node.new) (L.ends links.new) progress.new
         (times_out (N.behavior node.old) leaders.now w)) }

@@ -7,6 +7,6 @@ pub mod summaries;
 pub mod texts;
 pub mod words;
 
-pub use replays::{Report, replay};
+pub use replays::{Report, replay, run_event};
 pub use summaries::summary;
 pub use texts::text;

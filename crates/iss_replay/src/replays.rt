@@ -56,7 +56,7 @@ fn play<M: Sequenced>(alloc: Global, schedule: &Schedule) -> Result<Report<M>, N
     let mut world = World::start(alloc, &schedule.setup)?;
     let mut drops = Seq::new(alloc);
     for place in 0..events.len() {
-        if let Some(end) = go_on(alloc, &mut world, &mut drops, place as u64, &events[place])? {
+        if let Some(end) = run_event(alloc, &mut world, &mut drops, place as u64, &events[place])? {
             let ended = Some((place as u64, end));
             return Ok(Report {
                 world,
@@ -72,10 +72,11 @@ fn play<M: Sequenced>(alloc: Global, schedule: &Schedule) -> Result<Report<M>, N
     })
 }
 
-// Applies the next event. If it is lost, notes its number and reason. Returns the evidence if the event reveals some.
+/// Applies the next event of a run. If it is lost, notes its number and reason. Returns the evidence if the event
+/// reveals some. The only error is out of memory.
 // rule: Reports: A replay runs all events and reports all of them
 // rule: Program: A run that ends with evidence exits with 6 or 7, and reports the logs before it
-fn go_on<M: Sequenced>(
+pub fn run_event<M: Sequenced>(
     alloc: Global,
     world: &mut World<M>,
     drops: &mut Seq<(u64, Why)>,

@@ -10,6 +10,6 @@ abbrev pub invariant-loop-send : goal.invariant-loop-send
 invariant-loop-send g l = record {
   still : g.L.Links.faults l.links ≡ g.L.Links.faults l.fn.links;
   idle_turns : l.progress.idle_turns ≡ l.fn.progress.idle_turns;
-  goes : (B : NodeBehavior) → B.nodes ≡ l.nodes → B.me ≡ l.me → (events : List NodeEvent) (w : NodeState) → IsAt events (g.L.Links.ends l.fn.links) l.fn.progress w
+  goes : (B : NodeBehavior) → B.setup.n ≡ l.nodes → B.me ≡ l.me → (events : List NodeEvent) (w : NodeState) → IsAt events (g.L.Links.ends l.fn.links) l.fn.progress w
       → Comes events (g.L.Links.ends l.links) l.progress (send_each B (drop l.send-index l.sends)) (send_each B l.sends w);
 }

@@ -17,11 +17,11 @@ release-requires-clause-kept g c =
 
 pub release-requires-clause-to : goal.release-requires-clause-to
 release-requires-clause-to g c =
-    let goes : GoTo (g.N.JournaledNode.behavior c.args.node.now).nodes (Taken c.in-Taken.sends) =
-    (let Q : NodeStep → Type 0 = λ x. GoTo (g.N.JournaledNode.behavior c.args.node.now).nodes x in subst Q c.in-Taken.is c.in_ok-sends.ensures.addressed) in
-    let here : AreToNodes (g.N.JournaledNode.behavior c.take.new.self).nodes c.in-Taken.sends =
-    subst (λ (x : NodeBehavior). AreToNodes x.nodes c.in-Taken.sends) (sym c.in_ok-sends.ensures.kept.same) goes in
-    subst (λ (xs : List (To × List ℕ)). AreToNodes (g.N.JournaledNode.behavior c.take.new.self).nodes xs) (sym c.as_slice.ensures) here
+    let goes : GoTo (g.N.JournaledNode.behavior c.args.node.now).setup.n (Taken c.in-Taken.sends) =
+    (let Q : NodeStep → Type 0 = λ x. GoTo (g.N.JournaledNode.behavior c.args.node.now).setup.n x in subst Q c.in-Taken.is c.in_ok-sends.ensures.addressed) in
+    let here : AreToNodes (g.N.JournaledNode.behavior c.take.new.self).setup.n c.in-Taken.sends =
+    subst (λ (x : NodeBehavior). AreToNodes x.setup.n c.in-Taken.sends) (sym c.in_ok-sends.ensures.kept.same) goes in
+    subst (λ (xs : List (To × List ℕ)). AreToNodes (g.N.JournaledNode.behavior c.take.new.self).setup.n xs) (sym c.as_slice.ensures) here
 
 pub returns-in-Taken-clause-goes : goal.returns-in-Taken-clause-goes
 returns-in-Taken-clause-goes g c =

@@ -10,7 +10,7 @@ use Rattle.iss_loops.proofs.node_loop.time_out.Goals as goal
 
 pub take-requires-clause-names : goal.take-requires-clause-names
 take-requires-clause-names g c =
-    leader-at (g.N.JournaledNode.behavior c.loop-leader.node).nodes c.args.leaders.now c.loop-leader.leader-index _
+    leader-at (g.N.JournaledNode.behavior c.loop-leader.node).setup.n c.args.leaders.now c.loop-leader.leader-index _
     (rw c.loop-leader.invariant.kept.same c.requires.leaders) c.loop-leader-test.true
 
 pub loop-leader-preserved : goal.loop-leader-preserved

@@ -5,4 +5,4 @@ use Rattle.iss_loops.proofs.node_loop.wake.Goals as goal
 
 pub time_out-requires-clause-leaders : goal.time_out-requires-clause-leaders
 time_out-requires-clause-leaders g c =
-    subst (λ (nodes : List NodeId). AreNodes (g.N.JournaledNode.behavior c.args.node.now).nodes nodes) (sym c.as_slice.ensures) c.in_ok-leaders.ensures.nodes
+    subst (λ (nodes : List NodeId). AreNodes (g.N.JournaledNode.behavior c.args.node.now).setup.n nodes) (sym c.as_slice.ensures) c.in_ok-leaders.ensures.nodes

@@ -9,8 +9,8 @@ use Rattle.iss_replay.proofs.RunLemmas.{in-range-at, number-next, run-next, run-
 use Rattle.iss_world.specs.declared.ends.Evidence.{Evidence}
 use Rattle.iss_replay.proofs.replays.play.Goals as goal
 
-pub go_on-requires : goal.go_on-requires
-go_on-requires g c =
+pub run_event-requires : goal.run_event-requires
+run_event-requires g c =
     let lt : c.loop-place.place < length c.args.schedule.now.events = omega (arith, c.loop-place-test.true, ap length c.as_slice-events.ensures) in
     in-range-at c.args.schedule.now.setup c.loop-place.world.simulation.setup c.args.schedule.now.events c.loop-place.place c.index-events-place.result c.loop-place.invariant.same c.requires.range lt
     (subst (λ (es : List Event). c.index-events-place.result ≡ get_or es c.loop-place.place c.index-events-place.result) c.as_slice-events.ensures c.index-events-place.is)
@@ -27,11 +27,11 @@ returns-in-Some-clause-run g c =
     let lt : i < length es = omega (arith, c.loop-place-test.true, ap length c.as_slice-events.ensures) in
     let is : e ≡ get_or es i e = subst (λ (fs : List Event). e ≡ get_or fs i e) c.as_slice-events.ensures c.index-events-place.is in
     let before = c.loop-place.invariant in
-    let after = subst (λ (o : Option Evidence). ReportRefinesRun m refines c.go_on.new.world c.go_on.new.drops (numbered i o)
+    let after = subst (λ (o : Option Evidence). ReportRefinesRun m refines c.run_event.new.world c.run_event.new.drops (numbered i o)
     (run_event c.loop-place.world.simulation.setup (formats_of c.loop-place.world.simulation.setup m) (rules_of c.loop-place.world.simulation.setup) m (course_after s m (take i es)) e))
     c.in-Some.is (c.in_ok-end.ensures.went (course_after s m (take i es)) before.number before.run) in
-    run-over m refines s c.go_on.new.world c.go_on.new.drops (i, c.in-Some.end) es (i + 1)
-    (run-next m refines s c.loop-place.world.simulation.setup c.go_on.new.world c.go_on.new.drops (Some (i, c.in-Some.end)) es i e before.same lt is before.run.end_is after)
+    run-over m refines s c.run_event.new.world c.run_event.new.drops (i, c.in-Some.end) es (i + 1)
+    (run-next m refines s c.loop-place.world.simulation.setup c.run_event.new.world c.run_event.new.drops (Some (i, c.in-Some.end)) es i e before.same lt is before.run.end_is after)
 
 pub loop-place-preserved : goal.loop-place-preserved
 loop-place-preserved g c =
@@ -44,11 +44,11 @@ loop-place-preserved g c =
     let lt : i < length es = omega (arith, c.loop-place-test.true, ap length c.as_slice-events.ensures) in
     let is : e ≡ get_or es i e = subst (λ (fs : List Event). e ≡ get_or fs i e) c.as_slice-events.ensures c.index-events-place.is in
     let before = c.loop-place.invariant in
-    let after = subst (λ (o : Option Evidence). ReportRefinesRun m refines c.go_on.new.world c.go_on.new.drops (numbered i o)
+    let after = subst (λ (o : Option Evidence). ReportRefinesRun m refines c.run_event.new.world c.run_event.new.drops (numbered i o)
     (run_event c.loop-place.world.simulation.setup (formats_of c.loop-place.world.simulation.setup m) (rules_of c.loop-place.world.simulation.setup) m (course_after s m (take i es)) e))
     c.in_default.is (c.in_ok-end.ensures.went (course_after s m (take i es)) before.number before.run) in
     record {
-      run = run-next m refines s c.loop-place.world.simulation.setup c.go_on.new.world c.go_on.new.drops None es i e before.same lt is before.run.end_is after;
+      run = run-next m refines s c.loop-place.world.simulation.setup c.run_event.new.world c.run_event.new.drops None es i e before.same lt is before.run.end_is after;
       number = number-next m refines s es i e lt is before.run.end_is before.number;
       same = c.in_ok-end.ensures.same ∙ before.same;
     }

@@ -1,7 +1,7 @@
 use Rattle.iss_rules.specs.Concrete.{rules_of}
 use Rattle.iss_rules.specs.Formats.{formats_of}
 use Rattle.iss_replay.proofs.RunLemmas.{has-collided, was-forged, was-lost, went-on}
-use Rattle.iss_replay.proofs.replays.go_on.Goals as goal
+use Rattle.iss_replay.proofs.replays.run_event.Goals as goal
 
 pub returns-in-Done-clause-went : goal.returns-in-Done-clause-went
 returns-in-Done-clause-went g c = λ p n st.

@@ -1,0 +1,2 @@
+-- Relations that only private contracts of this crate use: nobody above it reads them.
+pub mod Running
