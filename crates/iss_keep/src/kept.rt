@@ -145,6 +145,13 @@ impl<M: Sequenced, D: Disk> Kept<M, D> {
         }
     }
 
+    /// The disk.
+    pub fn into_disk(self) -> D
+        ensures { result ≡ self.disk }
+    {
+        self.journal.into_disk()
+    }
+
     /// Whether the node has to be reopened. So it is at first, and after `Failed`, `NoMemory`, a restart, a retreat or
     /// a failed `reopen`.
     pub fn stale(&self) -> bool

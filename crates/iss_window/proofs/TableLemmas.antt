@@ -20,16 +20,13 @@ use Rattle.iss_window.proofs.SpanLemmas.{held-more-bits, held-more-strays}
 abbrev pub id_order : ReqId → ReqId → Ordering
 id_order = (id_ord.ghosts).cmp
 
-both_equal : (a b : Ordering) → is_eq (ordering_then a b) ≡ (is_eq a && is_eq b)
-both_equal Less b = refl
-both_equal Equal b = refl
-both_equal Greater b = refl
-
 order-tells : (a b : ReqId) → is_eq (id_order a b) ≡ same_id a b
-order-tells a b =
-    let clients = same_number a.client b.client in
-    let numbers = same_number a.number b.number in
-    both_equal (nat_cmp a.client b.client) (nat_cmp a.number b.number) ∙ rw (clients, numbers) refl
+order-tells a b = by-number (nat_cmp a.client b.client) ∙ ap (λ t. t && eqb a.number b.number) (same_number a.client b.client)
+  where
+    by-number : (o : Ordering) → is_eq (ordering_then o (nat_cmp a.number b.number)) ≡ (is_eq o && eqb a.number b.number)
+    by-number Less = refl
+    by-number Equal = same_number a.number b.number
+    by-number Greater = refl
 
 pub found-has_id : (x : ReqId) (xs : List ReqId) → list_any (is_at (id_order x)) xs ≡ has_id x xs
 found-has_id x [] = refl
