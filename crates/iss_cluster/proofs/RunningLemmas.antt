@@ -99,22 +99,22 @@ module _ {M Msg D : Type 0} (m : Module Msg) (refines : Relation M Msg) (history
 
   -- ---- an open node
 
-  module _ (v : KeptState M Msg D) (open : IsOpen m refines history v) where
-    at-core : KeptRefinesCore m refines v open.core.0
-    at-core = let h = open.core.1 in record { fresh = h.fresh; node = h.node; cluster = h.cluster; number = h.number }
+  module _ (v : KeptState M Msg D) (opened : IsOpen m refines history v) where
+    at-core : KeptRefinesCore m refines v opened.core.0
+    at-core = let h = opened.core.1 in record { fresh = h.fresh; node = h.node; cluster = h.cluster; number = h.number }
 
-    core-is : core_now v ≡ open.core.0
-    core-is = (are-events v.setup m v.me.0 v.entries open.core.0 open.core.1.core).1
+    core-is : core_now v ≡ opened.core.0
+    core-is = (are-events v.setup m v.me.0 v.entries opened.core.0 opened.core.1.core).1
 
     pub entries-are : v.entries ≡ entries_of (did v)
-    entries-are = (are-events v.setup m v.me.0 v.entries open.core.0 open.core.1.core).0
+    entries-are = (are-events v.setup m v.me.0 v.entries opened.core.0 opened.core.1.core).0
 
     -- the node is at the core of its events
     pub is-there : KeptRefinesCore m refines v (core_now v)
     is-there = subst (λ (c : Core Msg). KeptRefinesCore m refines v c) (sym core-is) at-core
 
     pub leads-there : core_of v.setup m v.me.0 v.entries ≡ Some (core_now v)
-    leads-there = open.core.1.core ∙ ap (λ (c : Core Msg). let o : Option (Core Msg) = Some c in o) (sym core-is)
+    leads-there = opened.core.1.core ∙ ap (λ (c : Core Msg). let o : Option (Core Msg) = Some c in o) (sym core-is)
 
     module _ (leaders : List NodeId) (are : (c : Core Msg) → KeptRefinesCore m refines v c → map (λ (l : NodeId). l.0) leaders ≡ unfilled (rules_of v.setup) m v.setup.n v.me.0 c.past) where
       pub leaders-are : leaders ≡ (does v).unfilled (did v)
@@ -126,9 +126,9 @@ module _ {M Msg D : Type 0} (m : Module Msg) (refines : Relation M Msg) (history
 
   -- ---- one event
 
-  module _ (event : NodeEvent) (old new : KeptState M Msg D) (open : IsOpen m refines history old) (same : IsSame old new) where
+  module _ (event : NodeEvent) (old new : KeptState M Msg D) (opened : IsOpen m refines history old) (same : IsSame old new) where
     abbrev answered : Stepped Msg
-    answered = step_of old.setup m old.me.0 open.core.0 event
+    answered = step_of old.setup m old.me.0 opened.core.0 event
 
     pub does-same : does new ≡ does old
     does-same = ap (λ (s : Setup). node_behavior_of s m new.me.0) same.setup ∙ ap (λ (i : NodeId). node_behavior_of old.setup m i.0) same.me
@@ -137,9 +137,9 @@ module _ {M Msg D : Type 0} (m : Module Msg) (refines : Relation M Msg) (history
     did-are entries are = ap (λ (s : Setup). events_in s.n new.entries) same.setup ∙ ap (λ (es : List (List ℕ)). events_in old.setup.n es) are
 
     step-is : (stepped : Stepped Msg) → answered ≡ stepped → step_of old.setup m old.me.0 (core_now old) event ≡ stepped
-    step-is stepped is = ap (λ (c : Core Msg). step_of old.setup m old.me.0 c event) (core-is old open) ∙ is
+    step-is stepped is = ap (λ (c : Core Msg). step_of old.setup m old.me.0 c event) (core-is old opened) ∙ is
 
-    module _ (names : NamesNodes old.setup.n event) (outcome : Outcome) (turn : IsTurn m refines (IsOfNodes old.setup.n event) old open.core.0 answered new outcome)
+    module _ (names : NamesNodes old.setup.n event) (outcome : Outcome) (turn : IsTurn m refines (IsOfNodes old.setup.n event) old opened.core.0 answered new outcome)
         (added : new.entries ≡ old.entries ++ spell_event event ∷ []) where
       taken-did : did new ≡ did old ++ event ∷ []
       taken-did = did-are (old.entries ++ spell_event event ∷ []) added
@@ -148,9 +148,9 @@ module _ {M Msg D : Type 0} (m : Module Msg) (refines : Relation M Msg) (history
       pub taken-step : IsStep (does old) (did old) event (did new) (Step_taken outcome.sends)
       taken-step = (ap is_taken (step-is _ turn.step_is), taken-did, turn.made.sends ∙ sym (ap sends_of (step-is _ turn.step_is)))
 
-      pub taken-open : IfTold (history new.disk) (OnlyLeaves (λ bytes. Reads bytes (holds (old.entries ++ spell_event event ∷ [])))) → IsOpen m refines history new
-      taken-open durable = record {
-        core = (turn.turn.core, turn.refined (of-nodes old.setup.n event names) open.core.1);
+      pub taken-opened : IfTold (history new.disk) (OnlyLeaves (λ bytes. Reads bytes (holds (old.entries ++ spell_event event ∷ [])))) → IsOpen m refines history new
+      taken-opened durable = record {
+        core = (turn.turn.core, turn.refined (of-nodes old.setup.n event names) opened.core.1);
         durable = subst (λ (es : List (List ℕ)). IfTold (history new.disk) (OnlyLeaves (λ bytes. Reads bytes (holds es)))) (sym added) durable;
       }
 
@@ -161,15 +161,15 @@ module _ {M Msg D : Type 0} (m : Module Msg) (refines : Relation M Msg) (history
         grown = λ k e at. subst (λ (es : List NodeEvent). nth es k ≡ Some e) (sym taken-did) (nth-front (did old) (event ∷ []) k e at);
       }
 
-    module _ (why : Why) (drop : IsDrop m refines old open.core.0 answered new why) (kept : new.entries ≡ old.entries) where
+    module _ (why : Why) (drop : IsDrop m refines old opened.core.0 answered new why) (kept : new.entries ≡ old.entries) where
       pub dropped-step : IsStep (does old) (did old) event (did new) Step_dropped
       dropped-step = (ap is_taken (step-is _ drop.step_is), did-are old.entries kept)
 
-      pub dropped-open : history new.disk ≡ history old.disk → IsOpen m refines history new
-      dropped-open file = record {
-        core = (open.core.0, drop.refined open.core.1);
+      pub dropped-opened : history new.disk ≡ history old.disk → IsOpen m refines history new
+      dropped-opened file = record {
+        core = (opened.core.0, drop.refined opened.core.1);
         durable = subst (λ (h : List File). IfTold h (OnlyLeaves (λ bytes. Reads bytes (holds new.entries)))) (sym file)
-            (subst (λ (es : List (List ℕ)). IfTold (history old.disk) (OnlyLeaves (λ bytes. Reads bytes (holds es)))) (sym kept) open.durable);
+            (subst (λ (es : List (List ℕ)). IfTold (history old.disk) (OnlyLeaves (λ bytes. Reads bytes (holds es)))) (sym kept) opened.durable);
       }
 
       pub dropped-stays : new.stale ≡ false → StaysOpen (does old) (does new) (did old) (did new) new.stale
@@ -183,28 +183,28 @@ module _ {M Msg D : Type 0} (m : Module Msg) (refines : Relation M Msg) (history
 
   pub running-on : (nodes : ℕ) (me : NodeId) (old new : KeptState M Msg D) → IsRunning m refines history nodes me old → IsSame old new → (new.stale ≡ false → IsOpen m refines history new)
       → IsRunning m refines history nodes me new
-  running-on nodes me old new runs same open = record {
+  running-on nodes me old new runs same opened = record {
     good = subst (λ (s : Setup). IsSetupOf m s) (sym same.setup) runs.good;
     member = subst (λ (s : Setup). new.me.0 < s.n) (sym same.setup) (subst (λ (i : NodeId). i.0 < old.setup.n) (sym same.me) runs.member);
     count = runs.count ∙ ap (λ (s : Setup). s.n) (sym same.setup);
     number = runs.number ∙ sym same.me;
-    fresh = open;
+    fresh = opened;
   }
 
   -- ---- reopening
 
   module _ (before now : Sight) (old new : KeptState M Msg D) (same : IsSame old new) (seen : now.history ≡ history new.disk) where
-    reopened-open : (r : Result (Unit {0}) AttachError) → new.stale ≡ not (is_ok r) → OnOk r ((c : Core Msg) × RefinesEntries m refines new c) → OnOk r (IsAttached before now new.entries)
+    reopened-opened : (r : Result (Unit {0}) AttachError) → new.stale ≡ not (is_ok r) → OnOk r ((c : Core Msg) × RefinesEntries m refines new c) → OnOk r (IsAttached before now new.entries)
         → new.stale ≡ false → IsOpen m refines history new
-    reopened-open (Ok x) is core attached fresh = record {
+    reopened-opened (Ok x) is core attached fresh = record {
       core = core;
       durable = subst (λ (h : List File). IfTold h (OnlyLeaves (λ bytes. Reads bytes (holds new.entries)))) seen attached.durable;
     }
-    reopened-open (Err e) is core attached fresh = absurd (true≢false (sym is ∙ fresh))
+    reopened-opened (Err e) is core attached fresh = absurd (true≢false (sym is ∙ fresh))
 
     pub reopened-running : (nodes : ℕ) (me : NodeId) (r : Result (Unit {0}) AttachError) → IsRunning m refines history nodes me old → new.stale ≡ not (is_ok r)
         → OnOk r ((c : Core Msg) × RefinesEntries m refines new c) → OnOk r (IsAttached before now new.entries) → IsRunning m refines history nodes me new
-    reopened-running nodes me r runs is core attached = running-on nodes me old new runs same (reopened-open r is core attached)
+    reopened-running nodes me r runs is core attached = running-on nodes me old new runs same (reopened-opened r is core attached)
 
     pub has-read : (r : Result (Unit {0}) AttachError) → new.stale ≡ not (is_ok r) → OnOk r (IsAttached before now new.entries) → OnOk r (HasRead before.history new.stale new.entries)
     has-read (Ok x) is attached = record { fresh = is; read = attached.read }
@@ -216,14 +216,14 @@ module _ {M Msg D : Type 0} (m : Module Msg) (refines : Relation M Msg) (history
       → ((c : Core Msg) → KeptRefinesCore m refines v c → epoch ≡ c.past.epoch)
       → ((c : Core Msg) → KeptRefinesCore m refines v c → log_of (rules_of v.setup) m v.me.0 c.past ≡ values)
       → node_block me epoch values ≡ block_of v.setup m v.me.0 (core_now v)
-  block-is v open me epoch values number epochs logs =
+  block-is v opened me epoch values number epochs logs =
       ap (λ (i : ℕ). node_block i epoch values) number
-      ∙ ap (λ (e : ℕ). node_block v.me.0 e values) (epochs (core_now v) (is-there v open))
-      ∙ ap (λ (vs : List Value). node_block v.me.0 (core_now v).past.epoch vs) (sym (logs (core_now v) (is-there v open)))
+      ∙ ap (λ (e : ℕ). node_block v.me.0 e values) (epochs (core_now v) (is-there v opened))
+      ∙ ap (λ (vs : List Value). node_block v.me.0 (core_now v).past.epoch vs) (sym (logs (core_now v) (is-there v opened)))
 
   -- ---- a whole run
 
-  module _ (c : Config) (me : ℕ) (mid end : KeptState M Msg D) (open : IsOpen m refines history mid) (later : IsOpen m refines history end) (setup : mid.setup ≡ setup_of c) (number : mid.me.0 ≡ me)
+  module _ (c : Config) (me : ℕ) (mid end : KeptState M Msg D) (opened : IsOpen m refines history mid) (later : IsOpen m refines history end) (setup : mid.setup ≡ setup_of c) (number : mid.me.0 ≡ me)
       (stays : StaysOpen (does mid) (does end) (did mid) (did end) end.stale) where
     more : (taken : List NodeEvent) × (did end ≡ did mid ++ taken)
     more = goes-on (did mid) (did end) stays.grown
@@ -258,7 +258,7 @@ module _ {M Msg D : Type 0} (m : Module Msg) (refines : Relation M Msg) (history
       node-ran before printed read loops is = record {
         held = did mid;
         taken = more.0;
-        read = subst (λ (entries : List (List ℕ)). IfTold before (λ file. Reads file.content (holds entries))) (entries-are mid open) read.read;
+        read = subst (λ (entries : List (List ℕ)). IfTold before (λ file. Reads file.content (holds entries))) (entries-are mid opened) read.read;
         kept = subst (λ (entries : List (List ℕ)). IfTold (history end.disk) (OnlyLeaves (λ bytes. Reads bytes (holds entries)))) end-entries later.durable;
         accepted = end-leads;
         loops = λ there told.

@@ -1,20 +1,22 @@
--- A known set-up of PBFT is one that the module has.
+-- A configuration of PBFT gives a set-up of that module.
 use Rattle.std.proofs.Common.{◌≡◌, ◌∙◌, ℕ, ◌<◌, ◌+◌, ◌*◌, ap, arith, refl}
+use Rattle.iss_config.specs.Configs.{IsInRange, setup_of}
+use Rattle.iss_config.specs.declared.configs.Config.{Config}
 use Rattle.iss_request.specs.declared.setups.Kind.TheVariants.{Byzantine}
 use Rattle.iss_request.specs.declared.setups.Setup.{Setup}
 use Rattle.iss_rules.specs.Setups.{IsSetupOf}
 use Rattle.iss_schedule.specs.Headers.{row_of}
-use Rattle.iss_schedule.specs.Schedules.{IsKnown}
 use Rattle.sb_pbft.specs.Pbft.{pbft}
 
-pub is-pbft : (s : Setup) → IsKnown s → s.module ≡ 3 → IsSetupOf pbft s
-is-pbft s h is =
-    let lies : s.kind ≡ Byzantine = h.kind ∙ ap (λ (k : ℕ). (row_of k).kind) is in
+pub is-pbft : (c : Config) → IsInRange c → c.module ≡ 3 → IsSetupOf pbft (setup_of c)
+is-pbft c range is =
+    let known = range.setup in
+    let lies : (setup_of c).kind ≡ Byzantine = known.kind ∙ ap (λ (k : ℕ). (row_of k).kind) is in
     record {
-      good = h.good;
+      good = known.good;
       kind = lies;
-      nodes = h.good.nodes ∙ rw (is, lies) refl;
-      majority = h.good.majority ∙ rw (is, lies) refl;
+      nodes = known.good.nodes ∙ rw (is, lies) refl;
+      majority = known.good.majority ∙ rw (is, lies) refl;
     }
 
 pub has-nodes : (s : Setup) → IsSetupOf pbft s → 0 < s.n
