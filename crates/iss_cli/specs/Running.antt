@@ -111,7 +111,7 @@ abbrev pub IsOfNode : Config → ℕ → Option (List End) → Option (List End)
     (Msg : Type 0) → Module Msg → Type 0
 IsOfNode c me ends ends_now before now a Msg M =
     ((block : List ℕ) × (IsNodeRun M c me ends ends_now before now block × (a ≡ log_answer block)))
-    ⊎ ((at : ℕ) × (IsRefused M c me before now at × (a ≡ damaged_answer at)))
+    ⊎ ((at : ℕ) × (IsRefused M (setup_of c) me before now at × (a ≡ damaged_answer at)))
 
 -- The same for the node that an order names, whose journal is the file that it names, or the cluster has no such node.
 abbrev pub IsOfNodeOrder : NodeOrder → Devices → Devices → Config → Answer → Type 0

@@ -9,7 +9,7 @@ ghost use Rattle.iss_disk.specs.Calls.{HasCause as HasDiskCause};
 
 use crate::answers::{Answer, reads, refuse_words, respond};
 use crate::ends::{Sink, Source};
-use crate::errors::{AnswerError, EndError};
+use crate::errors::{AnswerError, EndError, status_without};
 use crate::input::read_up_to;
 use crate::output::write_all;
 use crate::status::{Outcome, Status};
@@ -57,7 +57,7 @@ pub fn run<I: Source, O: Sink, L: Links, D: Disk>(
 {
     match answer(alloc, words, input, links, disk) {
         Ok(answer) => print(out, &answer),
-        Err(error) => error.status(),
+        Err(error) => status_without(error),
     }
 }
 

@@ -35,14 +35,28 @@ abbrev pub Restarts : List File → List File → Type 0
 Restarts [] new = new ≡ []
 Restarts (file ∷ past) new = (new ≡ restarted file ∷ file ∷ past) ⊎ ((new ≡ file ∷ past) × (file ≡ restarted file))
 
--- the current file keeps its name, and all other files are unchanged
-pub record StaysHere (name_before name_now : List ℕ) (before now : List ℕ → List File) : Type 0 where
-  pub name : name_now ≡ name_before
-  pub others : (name : List ℕ) → name ≢ name_before → now name ≡ before name
+-- Where a disk works: on the file of this name. A disk that is borrowed is known by the number of its borrow, and behind
+-- that by those of the disk that it borrows, so that whoever lent a disk knows it again.
+pub record Place : Type 0 where
+  pub name : List ℕ
+  pub borrows : List ℕ
 
--- the current file keeps its name, and all files are unchanged
-pub record Stays (name_before name_now : List ℕ) (before now : List ℕ → List File) : Type 0 where
-  pub name : name_now ≡ name_before
+-- the file of this name, on the same disk
+abbrev pub named : List ℕ → Place → Place
+named name place = record place { name = name }
+
+-- the same file, of a disk that is borrowed once more
+abbrev pub lent : ℕ → Place → Place
+lent borrow place = record place { borrows = borrow ∷ place.borrows }
+
+-- it is the same disk with the same current file, and all other files are unchanged
+pub record StaysHere (place_before place_now : Place) (before now : List ℕ → List File) : Type 0 where
+  pub place : place_now ≡ place_before
+  pub others : (name : List ℕ) → name ≢ place_before.name → now name ≡ before name
+
+-- it is the same disk with the same current file, and all files are unchanged
+pub record Stays (place_before place_now : Place) (before now : List ℕ → List File) : Type 0 where
+  pub place : place_now ≡ place_before
   pub all : (name : List ℕ) → now name ≡ before name
 
 -- a failure is counted as a fault of the disk; the count never decreases

@@ -1,7 +1,7 @@
 -- What a disk in memory shows: its files with their states, and which calls will pass.
 use Rattle.std.specs.Prelude.{ℕ, List, [], ◌∷◌, bytes_eq, if◌then◌else◌}
 use Rattle.iss_disk.specs.File.{File, settled}
-use Rattle.iss_disk.specs.Calls.{Passes}
+use Rattle.iss_disk.specs.Calls.{Passes, Place}
 use Rattle.iss_disk.specs.Fates.{passes_of}
 use Rattle.iss_disk.specs.StoredViews.{history_of}
 use Rattle.iss_disk.specs.declared.stored.StoredFile.{StoredFile}
@@ -16,9 +16,9 @@ history_among (file ∷ files) name = if bytes_eq file.name.items name then hist
 abbrev pub files_of : MemoryDisk → List ℕ → List File
 files_of disk name = history_among (disk.file ∷ disk.others.items) name
 
--- the name of the current file
-abbrev pub current_of : MemoryDisk → List ℕ
-current_of disk = disk.file.name.items
+-- the current file
+abbrev pub current_of : MemoryDisk → Place
+current_of disk = record { name = disk.file.name.items; borrows = [] }
 
 -- how many calls have failed
 abbrev pub faults_of : MemoryDisk → ℕ

@@ -1,7 +1,7 @@
 // The trait of disks.
 ghost use Rattle.std.specs.Prelude.{◌≡◌, ℕ, ◌+◌, ◌-◌, ◌≤◌, ◌<◌, min, List, [], ◌∷◌, ◌++◌, length, take, drop, is_ok, OnOk, OnErr, IfOk, IsErr, IsErrOf};
 ghost use Rattle.iss_disk.specs.File.{File, Image, wrote, shortened, synced};
-ghost use Rattle.iss_disk.specs.Calls.{IfTold, Moves, Restarts, StaysHere, Stays, HasCause, Passes, up_to, script, Runs, Room, Takes};
+ghost use Rattle.iss_disk.specs.Calls.{IfTold, Moves, Restarts, Place, named, StaysHere, Stays, HasCause, Passes, up_to, script, Runs, Room, Takes};
 
 use crate::{EndError, Failed, NoMemory};
 
@@ -16,8 +16,8 @@ pub trait Disk {
     /// The states of each file so far, by its name.
     ghost files: { Self → List ℕ → List File };
 
-    /// The name of the current file.
-    ghost current: { Self → List ℕ };
+    /// The name of the current file, and which disk it is.
+    ghost current: { Self → Place };
 
     /// How many calls have failed.
     ghost faults: { Self → ℕ };
@@ -31,7 +31,7 @@ pub trait Disk {
     /// Makes the file of this name the current one; a new file is empty. `NoMemory` is returned before the device is
     /// called; `Failed` says that the device failed. After an error the current file is the same.
     fn attach(&mut self, name: &str) -> Result<(), EndError>
-        ensures current { OnOk result (current self.new ≡ name.now) }
+        ensures current { OnOk result (current self.new ≡ named name.now (current self.old)) }
         ensures err { OnErr result (current self.new ≡ current self.old) }
         ensures files { (n : List ℕ) → files self.new n ≡ files self.old n }
         ensures cause { HasCause (faults self.old) (faults self.new) (IsErrOf result EndError.Failed) }
@@ -100,7 +100,7 @@ pub trait Disk {
         ensures device { Runs 1 (passes self.old) (passes self.new) (is_ok result) };
 
     /// The states of the current file are those of the file with its name.
-    ghost here: { (disk : Self) → history disk ≡ files disk (current disk) };
+    ghost here: { (disk : Self) → history disk ≡ files disk (current disk).name };
 
     /// What a read returns is one of the crash images.
     ghost read_is_image: { (disk : Self) (name : List ℕ) (file : File) (past : List File) →

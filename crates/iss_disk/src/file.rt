@@ -96,7 +96,7 @@ impl<R: Files<File = File>> Disk for FileDisk<R> {
 
     ghost files = { λ disk name. [] };
 
-    ghost current = { λ disk. disk.name.items };
+    ghost current = { λ disk. record { name = disk.name.items; borrows = [] } };
 
     ghost faults = { λ disk. disk.faults };
 

@@ -2,11 +2,13 @@
 use crate::{Disk, EndError, Failed, NoMemory};
 
 impl<D: Disk> Disk for &mut D {
+    ghost use Rattle.iss_disk.specs.Calls.{lent};
+
     ghost history = { λ disk. D.history disk.now };
 
     ghost files = { λ disk. D.files disk.now };
 
-    ghost current = { λ disk. D.current disk.now };
+    ghost current = { λ disk. lent disk.ghost_name (D.current disk.now) };
 
     ghost faults = { λ disk. D.faults disk.now };
 

@@ -31,7 +31,7 @@ impl MemoryDisk {
     pub fn new(alloc: Global) -> Result<MemoryDisk, AllocError>
         ensures files { IfOk result (λ disk. (name : List ℕ) → files_of disk name ≡ settled [] ∷ []) }
         ensures history { IfOk result (λ disk. history_of disk.file ≡ settled [] ∷ []) }
-        ensures current { IfOk result (λ disk. current_of disk ≡ []) }
+        ensures current { IfOk result (λ disk. (current_of disk).name ≡ []) }
         ensures passes { IfOk result (λ disk. calls_of disk ≡ script []) }
         ensures faults { IfOk result (λ disk. faults_of disk ≡ 0) }
     {

@@ -1,7 +1,7 @@
 -- Attaching keeps a file's reading at each moment.
 use Rattle.std.proofs.Common.{◌≡◌, inl, inr, ℕ, zero, suc, Some, Result, Ok, Err, OnOk, ◌+◌, ◌<◌, ◌≤◌, true, false, List, [], ◌∷◌, ◌++◌, length, take, refl, sym, ◌∙◌, ap, subst, arith, append_assoc, vec_len, vec_capacity}
 use Rattle.iss_disk.specs.File.{File, Image, settled, synced}
-use Rattle.iss_disk.specs.Calls.{IfTold, EachState, Moves, Stays, Room, Takes}
+use Rattle.iss_disk.specs.Calls.{IfTold, EachState, Moves, Place, Stays, Room, Takes}
 use Rattle.iss_journal.specs.Frames.{frames, ClosesAfter, Reading, Reads, holds}
 use Rattle.iss_journal.specs.Promises.{OnlyLeaves, LeavesOnly, LeavesReading, LosesNothing, HoldsFirst, HoldsWithOrWithout, RestsOn, ComesToRest}
 use Rattle.iss_journal.proofs.Crash.{only_settled, reads_closed}
@@ -136,9 +136,9 @@ rests_durable h entries told = told_so _ _ h told (λ file rests c image.
     reads_closed entries rests.gate [] c rests.short rests.closed
     (only_settled (frames entries ++ rests.gate ∷ []) c (subst (λ (f : File). Image f c) rests.is image)))
 
-pub history_same : (h0 h1 : List File) (f0 f1 : List ℕ → List File) (n0 n1 : List ℕ) → h0 ≡ f0 n0 → h1 ≡ f1 n1 →
+pub history_same : (h0 h1 : List File) (f0 f1 : List ℕ → List File) (n0 n1 : Place) → h0 ≡ f0 n0.name → h1 ≡ f1 n1.name →
     Stays n0 n1 f0 f1 → h1 ≡ h0
-history_same h0 h1 f0 f1 n0 n1 is0 is1 stays = is1 ∙ ap f1 stays.name ∙ stays.all n0 ∙ sym is0
+history_same h0 h1 f0 f1 n0 n1 is0 is1 stays = is1 ∙ ap (λ (n : Place). f1 n.name) stays.place ∙ stays.all n0.name ∙ sym is0
 
 -- room that was added does not matter for whether there is room
 pub room_more : (spare : Reserved) (old new : Entries) (room now : Room) → HasRoom spare old room →

@@ -3,7 +3,7 @@ use Rattle.std.proofs.Common.{◌≡◌, inl, inr, ⊎_elim, ℕ, zero, suc, ◌
 use Rattle.std.proofs.lemmas.List.{drop_at, drop-drop}
 use Rattle.std.proofs.lemmas.Bool.{true≢false, false≢true}
 use Rattle.iss_disk.specs.File.{File, Image, settled, wrote, synced}
-use Rattle.iss_disk.specs.Calls.{EachState, IfTold, IsBetween, Moves, StaysHere, Stays, HasCause, Passes, outcome, next, AtOutcome, Runs}
+use Rattle.iss_disk.specs.Calls.{EachState, IfTold, IsBetween, Moves, Place, StaysHere, Stays, HasCause, Passes, outcome, next, AtOutcome, Runs}
 use Rattle.iss_journal.specs.Frames.{frame, frames, max_entry, Reads, holds}
 use Rattle.iss_journal.specs.Promises.{OnlyLeaves, LeavesOnly, HoldsWithOrWithout, RestsOn, EndsClosed}
 use Rattle.iss_journal.proofs.Crash as crash
@@ -45,15 +45,15 @@ cause_more a b d failed le cause = record {
   rose = λ f. ⊎_elim (λ lt. let up : a < d = omega (arith, le, lt) in inl up) (λ top. inr top) (cause.rose f);
 }
 
-pub stays_more : (n0 n1 n2 : List ℕ) (f0 f1 f2 : List ℕ → List File) → StaysHere n0 n1 f0 f1 → StaysHere n1 n2 f1 f2 →
+pub stays_more : (n0 n1 n2 : Place) (f0 f1 f2 : List ℕ → List File) → StaysHere n0 n1 f0 f1 → StaysHere n1 n2 f1 f2 →
     StaysHere n0 n2 f0 f2
 stays_more n0 n1 n2 f0 f1 f2 first second = record {
-  name = second.name ∙ first.name;
-  others = λ name other. second.others name (λ e. other (e ∙ first.name)) ∙ first.others name other;
+  place = second.place ∙ first.place;
+  others = λ name other. second.others name (λ e. other (e ∙ ap (λ (p : Place). p.name) first.place)) ∙ first.others name other;
 }
 
-pub stays_here : (n0 n1 : List ℕ) (f0 f1 : List ℕ → List File) → Stays n0 n1 f0 f1 → StaysHere n0 n1 f0 f1
-stays_here n0 n1 f0 f1 stays = record { name = stays.name; others = λ name other. stays.all name }
+pub stays_here : (n0 n1 : Place) (f0 f1 : List ℕ → List File) → Stays n0 n1 f0 f1 → StaysHere n0 n1 f0 f1
+stays_here n0 n1 f0 f1 stays = record { place = stays.place; others = λ name other. stays.all name }
 
 -- States
 

@@ -95,6 +95,13 @@ impl<D: Disk> Journal<D> {
         Ok(())
     }
 
+    /// The disk.
+    pub fn into_disk(self) -> D
+        ensures { result ≡ disk_of self }
+    {
+        self.disk
+    }
+
     /// Whether entries may be appended: from an `attach` that is Ok until a call of the device fails.
     pub fn attached(&self) -> bool
         ensures { result ≡ is_attached self.now }

@@ -1,7 +1,7 @@
 -- What the disk of a kept node holds from call to call. The synced part of its file is exactly the journal's entries,
 -- so a restart reopens the node in the same state.
 use Rattle.std.proofs.Common.{arith, ◌≡◌, ◌≢◌, inl, inr, ℕ, zero, suc, ◌+◌, ◌-◌, ◌<◌, ◌≤◌, Bool, true, false, List, [], ◌∷◌, ◌++◌, Some, refl, sym, ap, ◌∙◌, subst, length-append}
-use Rattle.iss_disk.specs.Calls.{IfTold, Passes, Restarts, Room, Runs, Stays, script, up_to}
+use Rattle.iss_disk.specs.Calls.{IfTold, Passes, Place, Restarts, Room, Runs, Stays, script, up_to}
 use Rattle.iss_disk.specs.EachState.{newest_state, states_some}
 use Rattle.iss_disk.specs.File.{File, Image, restarted, settled, shortened, wrote}
 use Rattle.iss_disk.specs.NoteViews.{calls_in}
@@ -135,12 +135,12 @@ module _ (entries : List (List ℕ)) where
       rw h.0 (subst (λ (bytes : List ℕ). Reads bytes (holds entries)) (sym (restarts-kept file h.1)) synced, synced)
 
   -- The current file of a disk after a restart. `here` is the law of `Disk` with that name.
-  module _ {D : Type 0} (history : D → List File) (files : D → List ℕ → List File) (current : D → List ℕ)
-      (here : (disk : D) → history disk ≡ files disk (current disk)) (old new : D) where
+  module _ {D : Type 0} (history : D → List File) (files : D → List ℕ → List File) (current : D → Place)
+      (here : (disk : D) → history disk ≡ files disk (current disk).name) (old new : D) where
     restarted-here : ((name : List ℕ) → Restarts (files old name) (files new name)) → current new ≡ current old → Restarts (history old) (history new)
     restarted-here restarts same =
         subst (λ (h : List File). Restarts h (history new)) (sym (here old))
-        (subst (λ (h : List File). Restarts (files old (current old)) h) (sym (here new ∙ ap (λ (name : List ℕ). files new name) same)) (restarts (current old)))
+        (subst (λ (h : List File). Restarts (files old (current old).name) h) (sym (here new ∙ ap (λ (place : Place). files new place.name) same)) (restarts (current old).name))
 
     pub restarted-read : ((name : List ℕ) → Restarts (files old name) (files new name)) → current new ≡ current old →
         IfTold (history old) (λ file. Reads file.kept (holds entries)) →
@@ -148,11 +148,11 @@ module _ (entries : List (List ℕ)) where
     restarted-read restarts same synced = restarts-read (history old) (history new) (restarted-here restarts same) synced
 
 -- A disk whose files do not change keeps its history.
-pub stays-here : {D : Type 0} (history : D → List File) (files : D → List ℕ → List File) (current : D → List ℕ)
-    (here : (disk : D) → history disk ≡ files disk (current disk)) (old new : D) → Stays (current old) (current new) (files old) (files new) →
+pub stays-here : {D : Type 0} (history : D → List File) (files : D → List ℕ → List File) (current : D → Place)
+    (here : (disk : D) → history disk ≡ files disk (current disk).name) (old new : D) → Stays (current old) (current new) (files old) (files new) →
     history new ≡ history old
 stays-here history files current here old new h =
-    here new ∙ ap (λ (name : List ℕ). files new name) h.name ∙ h.all (current old) ∙ sym (here old)
+    here new ∙ ap (λ (place : Place). files new place.name) h.place ∙ h.all (current old).name ∙ sym (here old)
 
 -- ---- a new file
 

@@ -3,7 +3,7 @@
 -- a refusal names the damaged place. A crash in between leaves the node as before the event or as after it. Meanwhile
 -- a stale node shows the log and epoch from before.
 use Rattle.std.specs.Prelude.{◌≡◌, ◌⊎◌, ℕ, Bool, true, false, List, [], ◌∷◌, ◌++◌}
-use Rattle.iss_disk.specs.Calls.{HasCause, IfTold, Passes, Runs, StaysHere}
+use Rattle.iss_disk.specs.Calls.{HasCause, IfTold, Passes, Place, Runs, StaysHere}
 use Rattle.iss_disk.specs.File.{File, settled}
 use Rattle.iss_journal.specs.Frames.{Reads, damaged, holds}
 use Rattle.iss_journal.specs.Promises.{ComesToRest, HoldsWithOrWithout, LeavesOnly, LosesNothing, OnlyLeaves, Works}
@@ -63,16 +63,16 @@ makes_stale NoMemory = true
 
 -- ---- the disk after an answer
 
--- What contracts see of a disk: the history of its current file, the results of coming calls, the number of faults, the
--- current file's name, and the history of each file.
+-- What contracts see of a disk: the history of its current file, the results of coming calls, the number of faults, its
+-- current file, and the history of each file.
 pub record Sight : Type 0 where
   pub history : List File
   pub passes : Passes
   pub faults : ℕ
-  pub current : List ℕ
+  pub current : Place
   pub files : List ℕ → List File
 
-abbrev pub sight : {D : Type 0} → (D → List File) → (D → Passes) → (D → ℕ) → (D → List ℕ) →
+abbrev pub sight : {D : Type 0} → (D → List File) → (D → Passes) → (D → ℕ) → (D → Place) →
     (D → List ℕ → List File) → D → Sight
 sight history passes faults current files disk =
     record {

@@ -1,6 +1,6 @@
 // What a loop sees of one node with its journal.
 ghost use Rattle.std.specs.Prelude.{◌≡◌, ◌<◌, ◌≤◌, false, ℕ, Bool, List, IfOk, OnOk, IsErrOf};
-ghost use Rattle.iss_disk.specs.Calls.{HasCause as HasDiskCause};
+ghost use Rattle.iss_disk.specs.Calls.{HasCause as HasDiskCause, Place};
 ghost use Rattle.iss_loops.specs.Behavior.{AreNodes};
 ghost use Rattle.iss_loops.specs.NodeBehavior.{GoTo, IsStep, NamesNodes, NodeBehavior, StaysOpen};
 ghost use Rattle.iss_rules.specs.declared.events.NodeEvent.{NodeEvent as ModelEvent};
@@ -41,6 +41,9 @@ pub trait JournaledNode {
     /// How many calls of its disk have failed.
     ghost faults: { Self → ℕ };
 
+    /// The file of its journal, and which disk it is on.
+    ghost place: { Self → Place };
+
     /// Takes an event. One that it accepts is in the journal before its sends are released.
     fn take(&mut self, event: NodeEvent) -> Result<NodeStep, StepError>
         requires fresh { stale self.old ≡ false }
@@ -49,7 +52,8 @@ pub trait JournaledNode {
         ensures addressed { IfOk result (GoTo (behavior self.old).setup.n) }
         ensures kept { OnOk result (StaysOpen (behavior self.old) (behavior self.new) (events self.old)
             (events self.new) (stale self.new)) }
-        ensures cause { HasDiskCause (faults self.old) (faults self.new) (IsErrOf result StepError.DiskFault) };
+        ensures cause { HasDiskCause (faults self.old) (faults self.new) (IsErrOf result StepError.DiskFault) }
+        ensures place { place self.new ≡ place self.old };
 
     /// Whether it leads its epoch and has a free slot to propose at.
     fn castable(&self) -> bool

@@ -161,6 +161,7 @@ fn take<N: JournaledNode, L: Links>(
     ensures idle_turns { progress.new.idle_turns ≡ progress.old.idle_turns }
     ensures links { HasCause (L.faults links.old) (L.faults links.new) (IsErrOf result NodeError.LinksFault) }
     ensures disk { HasDiskCause (N.faults node.old) (N.faults node.new) (IsErrOf result NodeError.DiskFault) }
+    ensures place { N.place node.new ≡ N.place node.old }
 {
     match node.take(event)? {
         NodeStep::Taken(sends) => release(node, links, progress, sends.as_slice()),
@@ -182,6 +183,7 @@ fn propose<N: JournaledNode, L: Links>(
     ensures idle_turns { progress.new.idle_turns ≡ progress.old.idle_turns }
     ensures links { HasCause (L.faults links.old) (L.faults links.new) (IsErrOf result NodeError.LinksFault) }
     ensures disk { HasDiskCause (N.faults node.old) (N.faults node.new) (IsErrOf result NodeError.DiskFault) }
+    ensures place { N.place node.new ≡ N.place node.old }
 {
     if !node.castable() {
         return Ok(());
@@ -206,6 +208,7 @@ fn receive<N: JournaledNode, L: Links>(
     ensures idle_turns { progress.new.idle_turns ≡ progress.old.idle_turns }
     ensures links { HasCause (L.faults links.old) (L.faults links.new) (IsErrOf result NodeError.LinksFault) }
     ensures disk { HasDiskCause (N.faults node.old) (N.faults node.new) (IsErrOf result NodeError.DiskFault) }
+    ensures place { N.place node.new ≡ N.place node.old }
 {
     let nodes = node.nodes();
     let me = node.me();
@@ -236,6 +239,7 @@ fn time_out<N: JournaledNode, L: Links>(
     ensures idle_turns { progress.new.idle_turns ≡ progress.old.idle_turns }
     ensures links { HasCause (L.faults links.old) (L.faults links.new) (IsErrOf result NodeError.LinksFault) }
     ensures disk { HasDiskCause (N.faults node.old) (N.faults node.new) (IsErrOf result NodeError.DiskFault) }
+    ensures place { N.place node.new ≡ N.place node.old }
 {
     for leader in leaders {
         take(node, links, progress, NodeEvent::Timeout(*leader))?;
@@ -257,6 +261,7 @@ fn ask<N: JournaledNode, L: Links>(
     ensures idle_turns { progress.new.idle_turns ≡ progress.old.idle_turns }
     ensures links { HasCause (L.faults links.old) (L.faults links.new) (IsErrOf result NodeError.LinksFault) }
     ensures disk { HasDiskCause (N.faults node.old) (N.faults node.new) (IsErrOf result NodeError.DiskFault) }
+    ensures place { N.place node.new ≡ N.place node.old }
 {
     let nodes = node.nodes();
     let me = node.me();
@@ -281,6 +286,7 @@ fn wake<N: JournaledNode, L: Links>(
     ensures idle_turns { progress.new.idle_turns ≡ progress.old.idle_turns }
     ensures links { HasCause (L.faults links.old) (L.faults links.new) (IsErrOf result NodeError.LinksFault) }
     ensures disk { HasDiskCause (N.faults node.old) (N.faults node.new) (IsErrOf result NodeError.DiskFault) }
+    ensures place { N.place node.new ≡ N.place node.old }
 {
     let leaders = node.unfilled()?;
     time_out(node, links, progress, leaders.as_slice())?;
@@ -303,6 +309,7 @@ fn rest<N: JournaledNode, L: Links>(
     ensures idle_turns { OnOk result (progress.new.idle_turns ≤ progress.old.idle_turns + 1) }
     ensures links { HasCause (L.faults links.old) (L.faults links.new) (IsErrOf result NodeError.LinksFault) }
     ensures disk { HasDiskCause (N.faults node.old) (N.faults node.new) (IsErrOf result NodeError.DiskFault) }
+    ensures place { N.place node.new ≡ N.place node.old }
 {
     if !progress.idle {
         progress.idle_turns = 0;
@@ -333,6 +340,7 @@ fn take_turn<N: JournaledNode, L: Links>(
     ensures idle_turns { OnOk result (progress.new.idle_turns ≤ progress.old.idle_turns + 1) }
     ensures links { HasCause (L.faults links.old) (L.faults links.new) (IsErrOf result NodeError.LinksFault) }
     ensures disk { HasDiskCause (N.faults node.old) (N.faults node.new) (IsErrOf result NodeError.DiskFault) }
+    ensures place { N.place node.new ≡ N.place node.old }
 {
     progress.idle = true;
     propose(node, links, progress)?;
@@ -363,6 +371,7 @@ pub fn run_node_loop<N: JournaledNode, L: Links>(
         (N.events node.new) (N.stale node.new)) }
     ensures links { HasCause (L.faults links.old) (L.faults links.new) (IsErrOf result NodeError.LinksFault) }
     ensures disk { HasDiskCause (N.faults node.old) (N.faults node.new) (IsErrOf result NodeError.DiskFault) }
+    ensures place { N.place node.new ≡ N.place node.old }
 {
     let mut progress = NodeProgress::new();
     for _ in 0..turns {

@@ -9,6 +9,7 @@ abbrev pub invariant-loop : goal.invariant-loop
 invariant-loop g l = record {
   links : g.L.Links.faults l.links ≡ g.L.Links.faults l.fn.links;
   disk : g.N.JournaledNode.faults l.fn.node ≤ g.N.JournaledNode.faults l.node;
+  place : g.N.JournaledNode.place l.node ≡ g.N.JournaledNode.place l.fn.node;
   kept : StaysOpen (g.N.JournaledNode.behavior l.fn.node) (g.N.JournaledNode.behavior l.node) (g.N.JournaledNode.events l.fn.node) (g.N.JournaledNode.events l.node) (g.N.JournaledNode.stale l.node);
   idle_turns : l.progress.idle_turns ≤ l.counter;
   goes : (ends : List End) → g.L.Links.ends l.fn.links ≡ Some ends

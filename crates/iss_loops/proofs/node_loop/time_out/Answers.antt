@@ -21,6 +21,7 @@ loop-leader-preserved g c =
     record {
       links = search rules;
       disk = search rules;
+      place = search rules;
       kept = search rules;
       idle_turns = search rules;
       goes = λ w at. times-out-more (g.N.JournaledNode.behavior c.args.node.now) c.args.leaders.now c.loop-leader.leader-index (record { 0 = 0 }) (g.N.JournaledNode.events c.loop-leader.node) (g.N.JournaledNode.events c.take.new.node) (g.L.Links.ends c.loop-leader.links) (g.L.Links.ends c.take.new.links) c.loop-leader.progress c.take.new.progress _

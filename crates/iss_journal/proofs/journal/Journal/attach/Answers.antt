@@ -27,7 +27,7 @@ returns-in_err-sync-clause-any_moment g c =
     (g.D.Disk.current d0) (g.D.Disk.current d1) (g.met.D.Disk.here d0)
     (g.met.D.Disk.here d1) c.reserve.ensures.same in
     let read : (file : File) (past : List File) → g.D.Disk.history d1 ≡ file ∷ past → Image file file.content =
-    λ file past is. g.met.D.Disk.read_is_image d1 (g.D.Disk.current d1) file past (sym (g.met.D.Disk.here d1) ∙ is) in
+    λ file past is. g.met.D.Disk.read_is_image d1 (g.D.Disk.current d1).name file past (sym (g.met.D.Disk.here d1) ∙ is) in
     subst (λ (h : List File). LosesNothing h (g.D.Disk.history c.sync.new.self)) same
     (sync_fails (g.D.Disk.history d1) (g.D.Disk.history c.sync.new.self) read c.in_err-sync.ensures.file)
 
@@ -53,7 +53,7 @@ returns-in_err-self-clause-any_moment g c =
     (g.D.Disk.current d0) (g.D.Disk.current d1) (g.met.D.Disk.here d0)
     (g.met.D.Disk.here d1) c.reserve.ensures.same in
     let read : (file : File) (past : List File) → g.D.Disk.history d1 ≡ file ∷ past → Image file file.content =
-    λ file past is. g.met.D.Disk.read_is_image d1 (g.D.Disk.current d1) file past (sym (g.met.D.Disk.here d1) ∙ is) in
+    λ file past is. g.met.D.Disk.read_is_image d1 (g.D.Disk.current d1).name file past (sym (g.met.D.Disk.here d1) ∙ is) in
     subst (λ (h : List File). LosesNothing h (g.D.Disk.history c.load.new.disk)) same
     (sync_then (g.D.Disk.history d1) (g.D.Disk.history c.sync.new.self)
     (g.D.Disk.history c.load.new.disk) read c.in_ok-sync.ensures.file c.load.ensures.any_moment)
@@ -67,7 +67,7 @@ returns-clause-any_moment g c =
     (g.D.Disk.current d0) (g.D.Disk.current d1) (g.met.D.Disk.here d0)
     (g.met.D.Disk.here d1) c.reserve.ensures.same in
     let read : (file : File) (past : List File) → g.D.Disk.history d1 ≡ file ∷ past → Image file file.content =
-    λ file past is. g.met.D.Disk.read_is_image d1 (g.D.Disk.current d1) file past (sym (g.met.D.Disk.here d1) ∙ is) in
+    λ file past is. g.met.D.Disk.read_is_image d1 (g.D.Disk.current d1).name file past (sym (g.met.D.Disk.here d1) ∙ is) in
     subst (λ (h : List File). LosesNothing h (g.D.Disk.history c.load.new.disk)) same
     (sync_then (g.D.Disk.history d1) (g.D.Disk.history c.sync.new.self)
     (g.D.Disk.history c.load.new.disk) read c.in_ok-sync.ensures.file c.load.ensures.any_moment)
