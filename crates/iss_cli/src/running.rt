@@ -1,6 +1,6 @@
 //! The orders that run nodes over links: all nodes of a cluster, or one node with its journal.
 ghost use Rattle.std.specs.Prelude.{◌≡◌, ◌<◌, ◌≤◌, ◌++◌, ◌∷◌, codes, IfOk, IfSome, IsErrOf, None, Ok, OnOk};
-ghost use Rattle.iss_cli.specs.Running.{IsConfigOf, IsOfCluster, IsOfConfig, IsOfNode, IsOfNodeOrder, IsStarted, damaged_answer, devices, log_answer, refused_configuration};
+ghost use Rattle.iss_cli.specs.Running.{IsConfigOf, IsOfCluster, IsOfConfig, IsOfNode, IsOfNodeOrder, IsPrintedRun, IsStarted, damaged_answer, devices, log_answer, refused_configuration};
 ghost use Rattle.iss_cli.specs.Views.{Under, outcome_of};
 ghost use Rattle.iss_config.specs.Configs.{IsInRange, setup_of};
 ghost use Rattle.iss_config.specs.declared.configs.Config.{Config as ModelConfig};
