@@ -1,4 +1,5 @@
 //! Tests of public calls only.
+mod clusters;
 mod damaged;
 mod four;
 mod liars;

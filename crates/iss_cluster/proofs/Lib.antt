@@ -1,0 +1,3 @@
+mod CourseLemmas
+mod RunningLemmas
+mod TraceLemmas
