@@ -1,5 +1,5 @@
 -- A cluster in its loop: what it shows by its trace, and one more event.
-use Rattle.std.proofs.Common.{inl, inr, ◌≡◌, ◌⊎◌, ◌∙◌, ℕ, zero, suc, ◌+◌, ◌-◌, ◌/◌, ◌^◌, ◌<◌, ◌≤◌, ◌≢◌, Bool, true, false, cond, List, [], ◌∷◌, ◌++◌, length, take, map, Option, Some, None, Vec, Global, refl, sym, ap, subst, arith, reverse}
+use Rattle.std.proofs.Common.{inl, inr, ◌≡◌, ◌⊎◌, ◌∙◌, ℕ, zero, suc, ◌+◌, ◌-◌, ◌/◌, ◌^◌, ◌<◌, ◌≤◌, ◌≢◌, Bool, true, false, cond, List, [], ◌∷◌, ◌++◌, length, take, map, Option, Some, None, Vec, Global, Result, Ok, Err, OnOk, OnErr, refl, sym, ap, subst, arith, reverse}
 use Rattle.std.proofs.Math.Nat.{div-mul-le_self}
 use Rattle.std.proofs.lemmas.Nat.{le-div}
 use Rattle.std.specs.Prelude.{is_some}
@@ -204,12 +204,13 @@ module _ {M Msg : Type 0} (m : Module Msg) (refines : Relation M Msg) where
     disks = λ c. (refl, refl);
   }
 
-  pub starts : (world : WorldState M Msg) (s : Setup) (trace : Schedule) (index : List (ℕ × Vec ℕ Global)) (stale : Bool) → IsSetupOf m s → RefinesRun m refines world (course_after s m [])
-      → world.simulation.setup ≡ s → trace ≡ record { setup = s; events = [] } → IsIndexOf index []
-      → IsRunning m refines (record { world = world; drops = []; ended = None; trace = trace; index = index; stale = stale })
-  starts world s trace index stale good begun same trace_is none =
-      subst (λ (t : Schedule). IsRunning m refines (record { world = world; drops = []; ended = None; trace = t; index = index; stale = stale })) (sym trace_is)
-      (record { good = good; cluster = same; run = λ fresh. run-begins world s index begun none })
+  pub starts : (world : WorldState M Msg) (s : Setup) (trace : Schedule) (drops : List (ℕ × Why)) (index : List (ℕ × Vec ℕ Global)) (stale : Bool) → IsSetupOf m s
+      → RefinesRun m refines world (course_after s m []) → world.simulation.setup ≡ s → trace ≡ record { setup = s; events = [] } → drops ≡ [] → IsIndexOf index []
+      → IsRunning m refines (record { world = world; drops = drops; ended = None; trace = trace; index = index; stale = stale })
+  starts world s trace drops index stale good begun same trace_is no_drops none =
+      subst (λ (t : Schedule). IsRunning m refines (record { world = world; drops = drops; ended = None; trace = t; index = index; stale = stale })) (sym trace_is)
+      (subst (λ (ds : List (ℕ × Why)). IsRunning m refines (record { world = world; drops = ds; ended = None; trace = record { setup = s; events = [] }; index = index; stale = stale })) (sym no_drops)
+      (record { good = good; cluster = same; run = λ fresh. run-begins world s index begun none }))
 
   -- the event is the next one of the trace
   pub next-is : (r : RunningState M Msg) (v : RunningState M Msg) (e : Event) → r ≡ v → IsInRange (behavior_of v.trace.setup m).setup e → IsOfLoop e
@@ -299,6 +300,11 @@ module _ {M Msg : Type 0} (m : Module Msg) (refines : Relation M Msg) where
       shows-unfilled core leaders is =
           let numbers = numbers-are core leaders is in
           (nodes-are leaders _ numbers, are-nodes r.trace.setup.n _ leaders numbers)
+
+-- what a trace keeps, whether or not an event was appended
+pub same-setup : {T E : Type 0} (r : Result T E) (t t2 : Schedule) (events : List Event) → OnOk r (t2 ≡ record t { events = events }) → OnErr r (t2 ≡ t) → t2.setup ≡ t.setup
+same-setup (Ok x) t t2 events ok err = ap (λ (z : Schedule). z.setup) ok
+same-setup (Err e) t t2 events ok err = ap (λ (z : Schedule). z.setup) err
 
 -- ---- a configuration's requests
 

@@ -3,7 +3,6 @@
 //! clusters over links in memory.
 #![tactic(auto)]
 
-pub mod clusters;
 pub mod ends;
 pub mod setups;
 #[cfg(test)]
