@@ -4,6 +4,7 @@ use Rattle.std.specs.Prelude.{filter_map, reverse}
 use Rattle.std.specs.List.{cons_option}
 use Rattle.std.proofs.lemmas.List.{append-nil, reverse-append}
 use Rattle.std.proofs.lemmas.List.Elements.{filter_map-append}
+use Rattle.iss_base.proofs.Lists.{some-injective}
 use Rattle.iss_base.specs.Lists.{nth}
 use Rattle.iss_keep.proofs.EntryLemmas.{read-spelled}
 use Rattle.iss_keep.specs.Cores.{core_after as core_behind, core_from, core_of, core_with, from_core, step_of}
@@ -19,9 +20,6 @@ use Rattle.iss_sb.specs.Evidence.{Module}
 
 -- ---- lists
 
-same-some : {A : Type 0} (x y : A) → Some x ≡ Some y → x ≡ y
-same-some x y h = cc
-
 none-some : {A : Type 0} (x : A) (P : Type 0) → None ≡ Some x → P
 none-some x P h = absurd (cc)
 
@@ -36,7 +34,7 @@ goes-on [] ys h = (ys, refl)
 goes-on (x ∷ xs) [] h = none-some x _ (h 0 x refl)
 goes-on {A} (x ∷ xs) (y ∷ ys) h =
     let rest = goes-on xs ys (λ (k : ℕ) (z : A) at. h (suc k) z at) in
-    let same : y ≡ x = same-some y x (h 0 x refl) in
+    let same : y ≡ x = some-injective y x (h 0 x refl) in
     (rest.0, ap (λ (z : A). z ∷ ys) same ∙ ap (λ (zs : List A). x ∷ zs) rest.1)
 
 -- ---- one entry more
@@ -64,7 +62,7 @@ module _ {Msg : Type 0} (s : Setup) (m : Module Msg) (me : ℕ) where
     by-step event read (Dropped why) is h = none-some d _ h
     by-step event read (Taken turn) is h =
         let after : of_events (event ∷ older) ≡ turn.core =
-            ap (λ (b : Core Msg). after_step b (step_of s m me b event)) before ∙ ap (λ (t : Stepped Msg). after_step c t) is in
+        ap (λ (b : Core Msg). after_step b (step_of s m me b event)) before ∙ ap (λ (t : Stepped Msg). after_step c t) is in
         let r = rest (event ∷ older) turn.core after h in
         let events = events_in s.n entries in
         record {
@@ -79,7 +77,7 @@ module _ {Msg : Type 0} (s : Setup) (m : Module Msg) (me : ℕ) where
 
   events-from : (entries : List (List ℕ)) (d : Core Msg) (older : List NodeEvent) (c : Core Msg) → of_events older ≡ c → core_from s m me entries c ≡ Some d
       → AreOf entries (events_in s.n entries) older d
-  events-from [] d older c before h = record { spelled = refl; leads = before ∙ same-some c d h }
+  events-from [] d older c before h = record { spelled = refl; leads = before ∙ some-injective c d h }
   events-from (entry ∷ entries) d older c before h = by-event entry entries older c d before (events-from entries d) (event_in s.n entry) refl h
 
   -- Entries that lead to a core are those of their events, which lead to the same core.

@@ -74,6 +74,8 @@ events_in n entries = filter_map (event_in n) entries
 -- A node ran. Its journal held some events; it holds these and behind them those that the node took, in order, in every
 -- crash image. Each of them was accepted. Over links that record their frames all this is what the node's loop comes
 -- to. The node prints the log of its journal's events.
+-- rule: Loopback: A node's journal grows by the events that it takes, in their order
+-- rule: Loopback: A node prints its block of a report, which its journal's events give
 pub record IsNodeRun {Msg : Type 0} (M : Module Msg) (c : Config) (me : ℕ) (ends ends_now : Option (List End))
     (before now : List File) (printed : List ℕ) : Type 0 where
   pub held : List NodeEvent

@@ -22,7 +22,7 @@ use iss_world::cores::directory_of;
 use std::alloc::Global;
 use std::marker::Model;
 
-// A node takes at most so many frames in a turn, and wakes up after so many idle turns.
+// The most frames that a node takes in a turn, and the idle turns in a row after which it wakes up.
 const FRAMES: u32 = 200_000;
 
 const PATIENCE: u32 = 64;

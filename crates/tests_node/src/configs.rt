@@ -1,20 +1,22 @@
-//! The configuration of the tests.
-use iss_config::Config;
-use iss_request::Policy;
+//! The configurations of the tests.
+ghost use Rattle.std.specs.Prelude.{◌≡◌, ◌<◌, IfOk};
+ghost use Rattle.iss_config.specs.Configs.{IsInRange, setup_of};
+ghost use Rattle.iss_rules.specs.Setups.{IsSetupOf};
+ghost use Rattle.sb_pbft.specs.Pbft.{pbft};
 
-/// A cluster of one node with PBFT and epochs of one slot, which gets no requests.
-pub fn one_node(turns: u32) -> Config {
-    Config {
-        module: 3,
-        policy: Policy::Simple,
-        f: 0,
-        epoch: 1,
-        buckets: 1,
-        batch: 4,
-        window: 8,
-        clients: 8,
-        keys: 4,
-        requests: 0,
-        turns,
+use iss_config::{Config, ConfigError};
+use std::alloc::Global;
+
+/// A configuration that must be of PBFT.
+pub fn pbft_config(alloc: Global, text: &[u8]) -> Result<Config, ConfigError>
+    ensures range { IfOk result IsInRange }
+    ensures good { IfOk result (λ config. IsSetupOf pbft (setup_of config)) }
+    ensures nodes { IfOk result (λ config. 0 < (setup_of config).n) }
+{
+    let config = Config::read(alloc, text)?;
+    if config.module == 3 {
+        Ok(config)
+    } else {
+        Err(ConfigError::BadConfig)
     }
 }

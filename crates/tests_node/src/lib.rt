@@ -5,4 +5,4 @@ pub mod configs;
 #[cfg(test)]
 mod tests;
 
-pub use configs::one_node;
+pub use configs::pbft_config;
