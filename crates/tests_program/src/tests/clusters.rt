@@ -2,14 +2,14 @@
 ghost use Rattle.iss_config.specs.Configs.{IsInRange, setup_of};
 ghost use Rattle.iss_rules.specs.Setups.{IsSetupOf};
 
-use iss_cli::answers::respond;
+use iss_cli::View;
+use iss_cli::answers::show_input;
 use iss_cluster::cluster;
 use iss_config::Config;
 use iss_links::MemoryLinks;
 use iss_replay::text;
 use iss_sb::Sequenced;
 use iss_schedule::write;
-use iss_words::Order;
 use sb_pbft::Pbft;
 use sb_relay::Relay;
 use std::alloc::Global;
@@ -29,7 +29,7 @@ fn run_over_memory<M: Sequenced>(alloc: Global, config: &Config) -> Result<(usiz
     let traced = cluster::<M, MemoryLinks>(alloc, config, &mut links)?;
     let trace = write(alloc, &traced.trace)?;
     let report = text(alloc, &traced.report)?;
-    let replayed = respond(alloc, Order::Replay, trace.as_slice())?;
+    let replayed = show_input(alloc, View::Full, trace.as_slice())?;
     let same = replayed.printed.as_slice() == report.as_slice();
     Ok((traced.trace.events.len(), same))
 }
