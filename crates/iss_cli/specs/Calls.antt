@@ -71,6 +71,11 @@ HasNone order left left_now Links_failed = UsesLinks order × IsStartedOn order 
 HasNone order left left_now Disk_failed = UsesDisk order × IsStartedOn order left left_now
 HasNone order left left_now No_memory = Unit {0}
 
+-- Why there is no answer to words. Memory may run out before the words are known.
+abbrev pub IsUnanswered : List (List ℕ) → Option (List ℕ) → Option (List ℕ) → AnswerError → Type 0
+IsUnanswered words left left_now No_memory = Unit {0}
+IsUnanswered words left left_now error = AskFor (λ order. HasNone order left left_now error) words
+
 -- The whole effect of a call. If the source, the links or the disk fail, nothing is printed. If memory runs out,
 -- nothing or a prefix of the answer is printed. Otherwise the answer is printed, or a prefix of it if the sink fails.
 abbrev pub Ends : List (List ℕ) → Option (List ℕ) → Option (List ℕ) → Devices → Devices → Option (List ℕ) →
@@ -83,8 +88,8 @@ Ends words left left_now before now held held_now NoMemory = (held_now ≡ held)
     ⊎ ((answer : Answer)
     × (IsAnswered words left left_now before now answer × Prints answer held held_now NoMemory))
 Ends words left left_now before now held held_now SourceFailed =
-    AskFor (λ order. HasNone order left left_now Source_failed) words × (held_now ≡ held)
+    IsUnanswered words left left_now Source_failed × (held_now ≡ held)
 Ends words left left_now before now held held_now LinksFailed =
-    AskFor (λ order. HasNone order left left_now Links_failed) words × (held_now ≡ held)
+    IsUnanswered words left left_now Links_failed × (held_now ≡ held)
 Ends words left left_now before now held held_now DiskFailed =
-    AskFor (λ order. HasNone order left left_now Disk_failed) words × (held_now ≡ held)
+    IsUnanswered words left left_now Disk_failed × (held_now ≡ held)

@@ -1,8 +1,10 @@
 -- What the program answers to the orders that run nodes over links: all nodes of a cluster, or one node with its
 -- journal. The input is the cluster's configuration.
-use Rattle.std.specs.Prelude.{◌≡◌, ◌⊎◌, ℕ, ◌<◌, ◌≤◌, List, [], ◌∷◌, ◌++◌, codes, decimal, length, None, Option, Some}
+use Rattle.std.specs.Prelude.{◌≡◌, ◌⊎◌, ℕ, ◌<◌, ◌≤◌, List, [], ◌∷◌, ◌++◌, codes, decimal, length, None, Option, Some, Result, Ok, Err}
 use Rattle.iss_cluster.specs.Clusters.{behavior_of, loop_plan_of}
 use Rattle.iss_cluster.specs.Nodes.{IsNodeRun, IsRefused}
+use Rattle.iss_cluster.specs.declared.errors.NodeFailure.{NodeFailure}
+use Rattle.iss_cluster.specs.declared.errors.NodeFailure.TheVariants.{Damaged, LinksFault as Node_links_fault, DiskFault as Node_disk_fault}
 use Rattle.iss_config.specs.Configs.{IsConfig, setup_of}
 use Rattle.iss_config.specs.declared.configs.Config.{Config}
 use Rattle.iss_disk.specs.File.{File}
@@ -10,6 +12,8 @@ use Rattle.iss_links.specs.Ends.{End}
 use Rattle.iss_loops.specs.Loop.{loop_of}
 use Rattle.iss_loops.specs.Plans.{HasRun}
 use Rattle.iss_loops.specs.Traces.{IsTrace}
+use Rattle.iss_loops.specs.declared.errors.NodeError.{NodeError}
+use Rattle.iss_loops.specs.declared.errors.NodeError.TheVariants.{LinksFault, DiskFault, NoMemory}
 use Rattle.iss_replay.specs.Text.{end_line}
 use Rattle.iss_sb.specs.Evidence.{Module}
 use Rattle.iss_schedule.specs.Schedules.{IsSchedule, most_bytes, text_of}
@@ -111,7 +115,16 @@ abbrev pub IsOfNode : Config → ℕ → Option (List End) → Option (List End)
     (Msg : Type 0) → Module Msg → Type 0
 IsOfNode c me ends ends_now before now a Msg M =
     ((block : List ℕ) × (IsNodeRun M c me ends ends_now before now block × (a ≡ log_answer block)))
-    ⊎ ((at : ℕ) × (IsRefused M c me before now at × (a ≡ damaged_answer at)))
+    ⊎ ((at : ℕ) × (IsRefused M (setup_of c) me before now at × (a ≡ damaged_answer at)))
+
+-- what is printed of a node's run, or why nothing is
+abbrev pub IsPrintedRun : Result (List ℕ) NodeFailure → Result Answer NodeError → Type 0
+IsPrintedRun ran (Ok a) =
+    ((block : List ℕ) × ((ran ≡ Ok block) × (a ≡ log_answer block)))
+    ⊎ ((at : ℕ) × ((ran ≡ Err (Damaged at)) × (a ≡ damaged_answer at)))
+IsPrintedRun ran (Err LinksFault) = ran ≡ Err Node_links_fault
+IsPrintedRun ran (Err DiskFault) = ran ≡ Err Node_disk_fault
+IsPrintedRun ran (Err NoMemory) = Unit {0}
 
 -- The same for the node that an order names, whose journal is the file that it names, or the cluster has no such node.
 abbrev pub IsOfNodeOrder : NodeOrder → Devices → Devices → Config → Answer → Type 0

@@ -1,4 +1,8 @@
 //! The errors of sources and sinks, and why there is no answer.
+ghost use Rattle.std.specs.Prelude.{◌≡◌};
+ghost use Rattle.iss_cli.specs.Errors.{status_without};
+
+use crate::status::Status;
 use iss_loops::NodeError;
 use iss_request::NoMemory;
 use std::alloc::AllocError;
@@ -100,5 +104,17 @@ impl From<NoMemory> for AnswerError {
 
     fn from(_error: NoMemory) -> AnswerError {
         AnswerError::NoMemory
+    }
+}
+
+/// How a call ends that has no answer.
+pub fn status_without(error: AnswerError) -> Status
+    ensures { result ≡ status_without error }
+{
+    match error {
+        AnswerError::SourceFailed => Status::SourceFailed,
+        AnswerError::LinksFailed => Status::LinksFailed,
+        AnswerError::DiskFailed => Status::DiskFailed,
+        AnswerError::NoMemory => Status::NoMemory,
     }
 }

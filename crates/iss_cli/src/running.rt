@@ -1,6 +1,6 @@
 //! The orders that run nodes over links: all nodes of a cluster, or one node with its journal.
 ghost use Rattle.std.specs.Prelude.{◌≡◌, ◌<◌, ◌≤◌, ◌++◌, ◌∷◌, codes, IfOk, IfSome, IsErrOf, None, Ok, OnOk};
-ghost use Rattle.iss_cli.specs.Running.{IsConfigOf, IsOfCluster, IsOfConfig, IsOfNode, IsOfNodeOrder, IsStarted, damaged_answer, devices, log_answer, refused_configuration};
+ghost use Rattle.iss_cli.specs.Running.{IsConfigOf, IsOfCluster, IsOfConfig, IsOfNode, IsOfNodeOrder, IsPrintedRun, IsStarted, damaged_answer, devices, log_answer, refused_configuration};
 ghost use Rattle.iss_cli.specs.Views.{Under, outcome_of};
 ghost use Rattle.iss_config.specs.Configs.{IsInRange, setup_of};
 ghost use Rattle.iss_config.specs.declared.configs.Config.{Config as ModelConfig};
@@ -16,7 +16,7 @@ ghost use Rattle.iss_words.specs.declared.orders.Order.TheVariants.{Cluster as M
 use crate::answers::Answer;
 use crate::status::Outcome;
 use crate::views::outcome_of;
-use iss_cluster::{NodeFailure, Traced, cluster, node};
+use iss_cluster::{NodeFailure, RunningNode, Traced, cluster, node, start_node};
 use iss_config::{Config, ConfigError};
 use iss_disk::{Disk, EndError};
 use iss_links::Links;
@@ -308,7 +308,19 @@ fn run_node_under<M: Sequenced, L: Links, D: Disk>(
     ensures links { HasCause (L.faults links.old) (L.faults links.new) (IsErrOf result NodeError.LinksFault) }
     ensures disk { HasDiskCause (D.faults disk.old) (D.faults disk.new) (IsErrOf result NodeError.DiskFault) }
 {
-    match node::<M, L, D>(alloc, config, me, links, disk) {
+    let fresh = start_node::<M>(alloc, config, me)?;
+    let mut running = RunningNode::of(fresh, disk);
+    let ran = node(alloc, config, links, &mut running);
+    // The disk is given back.
+    let _disk = running.into_disk();
+    print_ran(alloc, ran)
+}
+
+// What came of a node's loop.
+fn print_ran(alloc: Global, ran: Result<Bytes, NodeFailure>) -> Result<Answer, NodeError>
+    ensures { IsPrintedRun ran result }
+{
+    match ran {
         Ok(block) => Ok(print_log(alloc, block.as_slice())?),
         Err(NodeFailure::Damaged { at }) => Ok(print_damage(alloc, at)?),
         Err(NodeFailure::LinksFault) => Err(NodeError::LinksFault),

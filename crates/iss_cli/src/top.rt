@@ -1,7 +1,7 @@
 //! The top call.
 ghost use Rattle.std.specs.Prelude.{◌≡◌, ◌≤◌, ◌+◌, map, string_bytes, IfErr, IfOk, IsErrOf};
 ghost use Rattle.iss_cli.specs.Answers.{Reads};
-ghost use Rattle.iss_cli.specs.Calls.{AskFor, Ends, HasNone, IsAnswerTo, IsAnswered, KeepsJournal, Prints, ReadsInput, RunsNodes};
+ghost use Rattle.iss_cli.specs.Calls.{Ends, HasNone, IsAnswerTo, IsAnswered, IsUnanswered, KeepsJournal, Prints, ReadsInput, RunsNodes};
 ghost use Rattle.iss_cli.specs.Ends.{HasCause, Drains};
 
 ghost use Rattle.iss_cli.specs.Running.{HasPorts, UsesDisk, UsesLinks, devices};
@@ -9,7 +9,7 @@ ghost use Rattle.iss_disk.specs.Calls.{HasCause as HasDiskCause};
 
 use crate::answers::{Answer, reads, refuse_words, respond};
 use crate::ends::{Sink, Source};
-use crate::errors::{AnswerError, EndError};
+use crate::errors::{AnswerError, EndError, status_without};
 use crate::input::read_up_to;
 use crate::output::write_all;
 use crate::status::{Outcome, Status};
@@ -57,7 +57,7 @@ pub fn run<I: Source, O: Sink, L: Links, D: Disk>(
 {
     match answer(alloc, words, input, links, disk) {
         Ok(answer) => print(out, &answer),
-        Err(error) => error.status(),
+        Err(error) => status_without(error),
     }
 }
 
@@ -72,8 +72,7 @@ fn answer<I: Source, L: Links, D: Disk>(
     ensures ok { IfOk result (IsAnswered (map string_bytes words.now) (I.left input.old) (I.left input.new)
         (devices (L.ends links.old) (D.files disk.old) (D.history disk.old))
         (devices (L.ends links.new) (D.files disk.new) (D.history disk.new))) }
-    ensures err { IfErr result (λ e. AskFor (λ order. HasNone order (I.left input.old) (I.left input.new) e)
-        (map string_bytes words.now)) }
+    ensures err { IfErr result (IsUnanswered (map string_bytes words.now) (I.left input.old) (I.left input.new)) }
     ensures taken { Drains 16777217 (I.left input.old) (I.left input.new) }
     ensures empty { I.empties input.new ≤ I.empties input.old + 1 }
     ensures unread { ¬ ReadsInput (map string_bytes words.now) → input.new ≡ input.old }

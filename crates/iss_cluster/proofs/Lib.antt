@@ -1,2 +1,5 @@
+mod CourseLemmas
 mod EventLemmas
+mod NodeLemmas
 mod RunningLemmas
+mod TraceLemmas

@@ -1,275 +1,320 @@
--- A running node, event by event: what it does is what its core does, and its journal holds the events.
-use Rattle.std.proofs.Common.{◌≡◌, true≢false, Result, Ok, Err, OnOk, is_ok, ◌∙◌, inl, inr, ℕ, zero, suc, ◌<◌, ◌≤◌, Bool, true, false, cond, List, [], ◌∷◌, ◌++◌, Option, Some, None, refl, sym, ap, subst, arith}
-use Rattle.std.specs.Prelude.{filter, map, not}
-use Rattle.iss_base.proofs.Lists.{in_append}
+-- A cluster in its loop: what it shows by its trace, and one more event.
+use Rattle.std.proofs.Common.{inl, inr, ◌≡◌, ◌⊎◌, ◌∙◌, ℕ, zero, suc, ◌+◌, ◌-◌, ◌/◌, ◌^◌, ◌<◌, ◌≤◌, ◌≢◌, Bool, true, false, cond, List, [], ◌∷◌, ◌++◌, length, take, map, Option, Some, None, Vec, Global, Result, Ok, Err, OnOk, OnErr, refl, sym, ap, subst, arith, reverse}
+use Rattle.std.proofs.Math.Nat.{div-mul-le_self}
+use Rattle.std.proofs.lemmas.Nat.{le-div}
+use Rattle.std.specs.Prelude.{is_some}
+use Rattle.std.specs.List.{filter}
+use Rattle.iss_base.proofs.Lists.{in_append, some-injective}
 use Rattle.iss_base.specs.Lists.{In, below, nth}
-use Rattle.iss_cluster.proofs.EventLemmas.{are-events, goes-on, nth-front, one-more}
-use Rattle.iss_cluster.specs.Nodes.{HasRead, IsNodeRun, IsOpen, IsRefused, IsRunning, block_of, core_after, entries_of, events_in, is_taken, node_behavior_of, sends_of}
+use Rattle.iss_cluster.proofs.CourseLemmas.{sent-first, works-on}
+use Rattle.iss_cluster.proofs.TraceLemmas.{trace-begins, trace-in-range, trace-more}
+use Rattle.iss_cluster.specs.Clusters.{IsTracedRun, behavior_of}
+use Rattle.iss_cluster.specs.Internal.Running.{HasRun, IsRunning, RunningState}
 use Rattle.iss_config.specs.Configs.{setup_of}
+use Rattle.iss_config.specs.Configs.{IsInRange as IsInRange_of_config}
 use Rattle.iss_config.specs.declared.configs.Config.{Config}
-use Rattle.iss_disk.specs.Calls.{IfTold}
-use Rattle.iss_disk.specs.File.{File}
-use Rattle.iss_journal.specs.Frames.{Reads, holds}
-use Rattle.iss_journal.specs.Promises.{OnlyLeaves}
-use Rattle.iss_journal.specs.declared.errors.AttachError.{AttachError}
-use Rattle.iss_keep.proofs.EntryLemmas.{spelled-read}
-use Rattle.iss_keep.specs.Cores.{core_of, step_of}
-use Rattle.iss_keep.specs.Entries.{NamesNode, spell_event}
-use Rattle.iss_keep.specs.State.{KeptRefinesCore, KeptState, RefinesEntries}
-use Rattle.iss_keep.specs.Steps.{IsAttached, IsDrop, IsSame, IsTurn, Sight}
-use Rattle.iss_links.specs.Ends.{End}
-use Rattle.iss_loops.specs.Behavior.{AreNodes}
-use Rattle.iss_loops.specs.NodeBehavior.{IsStep, NamesNodes, NodeBehavior, StaysOpen}
-use Rattle.iss_loops.specs.NodeLoop.{HasRun, node_loop_of}
-use Rattle.iss_loops.specs.declared.node.NodeStep.TheVariants.{Taken as Step_taken, Dropped as Step_dropped}
-use Rattle.iss_model.specs.Node.{Core, Stepped}
+use Rattle.iss_loops.specs.Behavior.{AreNodes, HaveEnds}
+use Rattle.iss_loops.specs.Internal.PacketIndex.{IsIndexOf}
+use Rattle.iss_loops.specs.Loop.{number_from}
+use Rattle.iss_loops.specs.Plans.{HasLeaves}
+use Rattle.iss_loops.specs.Traces.{IsNext, IsOfLoop, is_within_limits}
+use Rattle.iss_model.specs.Courses.{Course, Machines, run_event}
+use Rattle.iss_model.specs.CourseFrames.{run_event_in}
+use Rattle.iss_model.specs.Frames.{frame_of}
+use Rattle.iss_model.proofs.Ranges.{at-cores}
+use Rattle.iss_model.specs.Run.{node_of}
+use Rattle.iss_model.specs.Runs.{AreAtCores}
 use Rattle.iss_model.specs.Views.{is_castable_now, unfilled}
-use Rattle.iss_node.specs.Steps.{IsOfNodes}
-use Rattle.iss_node.specs.declared.answers.Outcome.{Outcome}
-use Rattle.iss_replay.specs.Text.{node_block}
+use Rattle.iss_network.specs.declared.packets.Sent.{Sent}
+use Rattle.iss_replay.specs.Refines.{ReportRefinesRun, end_at, end_kept, numbered}
+use Rattle.iss_request.specs.Setup.{IsFewFaulty, IsGoodSetup, nodes_of_kind, node_count}
 use Rattle.iss_request.specs.declared.ids.NodeId.{NodeId}
+use Rattle.iss_request.specs.declared.setups.Kind.{Kind}
+use Rattle.iss_request.specs.declared.setups.Kind.TheVariants.{Byzantine, Stopping}
 use Rattle.iss_request.specs.declared.setups.Setup.{Setup}
-use Rattle.iss_request.specs.declared.requests.Value.{Value}
 use Rattle.iss_rules.specs.Concrete.{rules_of}
-use Rattle.iss_rules.specs.Past.{log_of}
+use Rattle.iss_rules.specs.Ends.{End}
+use Rattle.iss_rules.specs.Formats.{formats_of}
 use Rattle.iss_rules.specs.Setups.{IsSetupOf}
-use Rattle.iss_rules.specs.declared.events.NodeEvent.{NodeEvent}
-use Rattle.iss_rules.specs.declared.events.NodeEvent.TheVariants.{Packet, Propose, Timeout, AskFrom}
 use Rattle.iss_rules.specs.declared.events.Why.{Why}
 use Rattle.iss_sb.specs.Calls.{Relation}
 use Rattle.iss_sb.specs.Evidence.{Module}
+use Rattle.iss_schedule.specs.Cores.{cores_of}
+use Rattle.iss_schedule.specs.Events.{IsInRange}
+use Rattle.iss_schedule.specs.declared.schedules.Event.{Event}
+use Rattle.iss_schedule.specs.declared.schedules.Schedule.{Schedule}
+use Rattle.iss_theorems.proofs.CrashRecovery.LostEventsAreNumbered.{after-one, all-counted}
+use Rattle.iss_theorems.specs.Headline.{IsWhole, course_after, held_after}
+use Rattle.iss_model.specs.Courses.{begin_course}
+use Rattle.iss_world.specs.Refines.{RefinesRun, RefinesRunUntil, WorldRefinesMachines}
+use Rattle.iss_world.specs.State.{AreBetweenCores, WorldState}
+use Rattle.iss_world.specs.declared.ends.Evidence.{Evidence}
 
--- ---- an event that names nodes
+-- ---- nodes and ends
 
-pub named : (n : ℕ) (event : NodeEvent) → NamesNodes n event → NamesNode n event
-named n (Packet bytes) h = tt
-named n Propose h = tt
-named n (Timeout leader) h = h
-named n (AskFrom peer) h = h
+wrapped : (nodes : List NodeId) → nodes ≡ map (λ l. record { 0 = l }) (map (λ (l : NodeId). l.0) nodes)
+wrapped [] = refl
+wrapped (n ∷ nodes) = ap (λ ns. n ∷ ns) (wrapped nodes)
 
-pub of-nodes : (n : ℕ) (event : NodeEvent) → NamesNodes n event → IsOfNodes n event
-of-nodes n (Packet bytes) h = tt
-of-nodes n Propose h = tt
-of-nodes n (Timeout leader) h = tt
-of-nodes n (AskFrom peer) h = h
+pub nodes-are : (nodes : List NodeId) (numbers : List ℕ) → map (λ (l : NodeId). l.0) nodes ≡ numbers → nodes ≡ map (λ l. record { 0 = l }) numbers
+nodes-are nodes numbers q = wrapped nodes ∙ ap (λ ls. map (λ l. record { 0 = l }) ls) q
 
--- ---- leaders
-
-named-back : (leaders : List NodeId) → map (λ (l : ℕ). let i : NodeId = record { 0 = l } in i) (map (λ (l : NodeId). l.0) leaders) ≡ leaders
-named-back [] = refl
-named-back (l ∷ leaders) = ap (λ (ls : List NodeId). l ∷ ls) (named-back leaders)
-
-in-map : (leaders : List NodeId) (node : NodeId) → In node leaders → In node.0 (map (λ (l : NodeId). l.0) leaders)
-in-map [] node h = absurd h
-in-map (l ∷ leaders) node (inl is) = inl (ap (λ (i : NodeId). i.0) is)
-in-map (l ∷ leaders) node (inr behind) = inr (in-map leaders node behind)
+in-numbers : (node : NodeId) (nodes : List NodeId) → In node nodes → In node.0 (map (λ (l : NodeId). l.0) nodes)
+in-numbers node [] i = absurd i
+in-numbers node (n ∷ nodes) (inl q) = inl (ap (λ (l : NodeId). l.0) q)
+in-numbers node (n ∷ nodes) (inr i) = inr (in-numbers node nodes i)
 
 in-filter : (p : ℕ → Bool) (xs : List ℕ) (x : ℕ) → In x (filter p xs) → In x xs
-in-filter p [] x h = h
-in-filter p (y ∷ ys) x h = go (p y) h (in-filter p ys x)
+in-filter p [] x i = absurd i
+in-filter p (y ∷ ys) x i = go (p y) i (in-filter p ys x)
   where
     go : (b : Bool) → In x (cond b (y ∷ filter p ys) (filter p ys)) → (In x (filter p ys) → In x ys) → In x (y ∷ ys)
-    go true (inl is) rest = inl is
-    go true (inr behind) rest = inr (rest behind)
-    go false h rest = inr (rest h)
+    go true (inl e) rest = inl e
+    go true (inr k) rest = inr (rest k)
+    go false k rest = inr (rest k)
 
-in-below : (n x : ℕ) → In x (below n) → x < n
-in-below zero x h = absurd h
-in-below (suc n) x h = elim (in_append x (below n) (n ∷ []) h) [
-  | inl early ↦ omega (arith, in-below n x early)
-  | inr last ↦ go last
-]
+in-below : (n j : ℕ) → In j (below n) → j < n
+in-below zero j i = absurd i
+in-below (suc n) j i = go (in_append j (below n) (n ∷ []) i) (λ a. in-below n j a)
   where
-    go : In x (n ∷ []) → x < suc n
-    go (inl is) = omega (arith, is)
-    go (inr none) = absurd none
+    go : In j (below n) ⊎ In j (n ∷ []) → (In j (below n) → j < n) → j < suc n
+    go (inl a) low = let less = low a in omega (arith, less)
+    go (inr (inl e)) low = omega (arith, e)
+    go (inr (inr k)) low = absurd k
 
-pub few-nodes : {Msg : Type 0} (m : Module Msg) (s : Setup) → IsSetupOf m s → s.n ≤ 64
-few-nodes m s h = let low = h.good.epoch_low in let high = h.good.epoch_high in omega (arith, low, high)
+pub are-nodes : (n : ℕ) (p : ℕ → Bool) (nodes : List NodeId) → map (λ (l : NodeId). l.0) nodes ≡ filter p (below n) → AreNodes n nodes
+are-nodes n p nodes q = λ node i. in-below n node.0 (in-filter p (below n) node.0 (subst (λ (ls : List ℕ). In node.0 ls) q (in-numbers node nodes i)))
 
-module _ {M Msg D : Type 0} (m : Module Msg) (refines : Relation M Msg) (history : D → List File) where
-  abbrev does : KeptState M Msg D → NodeBehavior
-  does v = node_behavior_of v.setup m v.me.0
+have-ends : (cores : ℕ) (packets : List Sent) → cores ≤ 256 → AreBetweenCores cores packets → HaveEnds packets
+have-ends cores [] few b k p q = absurd (cc)
+have-ends cores (x ∷ packets) few b zero p q =
+    let same : x ≡ p = some-injective x p q in
+    let from : x.from < cores = b.0 in
+    let to : x.to < cores = b.1 in
+    subst (λ (y : Sent). (y.from < 256) × (y.to < 256)) same (omega (arith, few, from), omega (arith, few, to))
+have-ends cores (x ∷ packets) few b (suc k) p q = have-ends cores packets few b.2 k p q
 
-  abbrev did : KeptState M Msg D → List NodeEvent
-  did v = events_in v.setup.n v.entries
+few-faulty : (k : Kind) (f : ℕ) (faulty : List NodeId) → f ≤ 3 → IsFewFaulty k f faulty → length faulty ≤ 3
+few-faulty Byzantine f faulty few h = omega (arith, few, h)
+few-faulty Stopping f faulty few h = let none = ap length h in omega (arith, none)
 
-  abbrev core_now : KeptState M Msg D → Core Msg
-  core_now v = core_after v.setup m v.me.0 (did v)
+few-cores : (s : Setup) → IsGoodSetup s → cores_of s ≤ 256
+few-cores s good =
+    let few : length s.faulty ≤ 3 = few-faulty s.kind s.f s.faulty good.faults good.few_faulty in
+    let low : s.n ≤ s.epoch = good.epoch_low in
+    let high : s.epoch ≤ 64 = good.epoch_high in
+    omega (arith, few, low, high)
 
-  -- ---- an open node
+pub packets-have-ends : (s t : Setup) (packets : List Sent) → t ≡ s → IsGoodSetup s → AreBetweenCores (cores_of t) packets → HaveEnds packets
+packets-have-ends s t packets same good b =
+    have-ends (cores_of s) packets (few-cores s good) (subst (λ (u : Setup). AreBetweenCores (cores_of u) packets) same b)
 
-  module _ (v : KeptState M Msg D) (opened : IsOpen m refines history v) where
-    at-core : KeptRefinesCore m refines v opened.core.0
-    at-core = let h = opened.core.1 in record { fresh = h.fresh; node = h.node; cluster = h.cluster; number = h.number }
+-- ---- a run that goes on
 
-    core-is : core_now v ≡ opened.core.0
-    core-is = (are-events v.setup m v.me.0 v.entries opened.core.0 opened.core.1.core).1
+goes-on : (o : Option (ℕ × End)) → is_some o ≡ false → o ≡ None
+goes-on None q = refl
+goes-on (Some x) q = absurd (cc)
 
-    pub entries-are : v.entries ≡ entries_of (did v)
-    entries-are = (are-events v.setup m v.me.0 v.entries opened.core.0 opened.core.1.core).0
+kept-some : (o : Option (ℕ × Evidence)) → is_some o ≡ is_some (end_kept o)
+kept-some None = refl
+kept-some (Some x) = refl
 
-    -- the node is at the core of its events
-    pub is-there : KeptRefinesCore m refines v (core_now v)
-    is-there = subst (λ (c : Core Msg). KeptRefinesCore m refines v c) (sym core-is) at-core
+kept-none : (o : Option (ℕ × Evidence)) → end_kept o ≡ None → o ≡ None
+kept-none None q = refl
+kept-none (Some x) q = absurd (cc)
 
-    pub leads-there : core_of v.setup m v.me.0 v.entries ≡ Some (core_now v)
-    leads-there = opened.core.1.core ∙ ap (λ (c : Core Msg). let o : Option (Core Msg) = Some c in o) (sym core-is)
+module _ {M Msg : Type 0} (m : Module Msg) (refines : Relation M Msg) (world : WorldState M Msg) (drops : List (ℕ × Why)) (ended : Option (ℕ × Evidence)) (t : Schedule)
+    (index : List (ℕ × Vec ℕ Global)) where
+  module _ (h : HasRun m refines world drops ended t index) where
+    pub evidence-is : is_some ended ≡ is_some (course_after t.setup m t.events).ended
+    evidence-is = kept-some ended ∙ ap (λ (o : Option (ℕ × End)). is_some o) h.report.end_is
 
-    module _ (leaders : List NodeId) (are : (c : Core Msg) → KeptRefinesCore m refines v c → map (λ (l : NodeId). l.0) leaders ≡ unfilled (rules_of v.setup) m v.setup.n v.me.0 c.past) where
-      pub leaders-are : leaders ≡ (does v).unfilled (did v)
-      leaders-are = sym (named-back leaders) ∙ ap (map (λ (l : ℕ). let i : NodeId = record { 0 = l } in i)) (are (core_now v) is-there)
+    -- while no event has shown evidence, the world refines these machines
+    pub world-is : is_some (course_after t.setup m t.events).ended ≡ false → WorldRefinesMachines m refines world (course_after t.setup m t.events).machines
+    world-is going =
+        subst (λ (o : Option (ℕ × End)). RefinesRunUntil m refines world (course_after t.setup m t.events).machines o) (goes-on (course_after t.setup m t.events).ended going) h.report.refined
 
-      pub leaders-nodes : AreNodes v.setup.n leaders
-      leaders-nodes node inside = in-below v.setup.n node.0 (in-filter _ (below v.setup.n) node.0
-          (subst (λ (ls : List ℕ). In node.0 ls) (are (core_now v) is-there) (in-map leaders node inside)))
+    pub counted : is_some (course_after t.setup m t.events).ended ≡ false → (course_after t.setup m t.events).event ≡ length t.events
+    counted going =
+        let none : 0 + length t.events ≡ length t.events = omega arith in
+        all-counted t.setup (formats_of t.setup m) (rules_of t.setup) m t.events (begin_course t.setup) (goes-on (course_after t.setup m t.events).ended going) ∙ none
 
-  -- ---- one event
+    pub ended-none : is_some (course_after t.setup m t.events).ended ≡ false → ended ≡ None
+    ended-none going = kept-none ended (h.report.end_is ∙ goes-on (course_after t.setup m t.events).ended going)
 
-  module _ (event : NodeEvent) (old new : KeptState M Msg D) (opened : IsOpen m refines history old) (same : IsSame old new) where
-    abbrev answered : Stepped Msg
-    answered = step_of old.setup m old.me.0 opened.core.0 event
+  -- ---- one more event
 
-    pub does-same : does new ≡ does old
-    does-same = ap (λ (s : Setup). node_behavior_of s m new.me.0) same.setup ∙ ap (λ (i : NodeId). node_behavior_of old.setup m i.0) same.me
+  -- what came of it
+  module _ (e : Event) (world2 : WorldState M Msg) (drops2 : List (ℕ × Why)) (end : Option Evidence) (index2 : List (ℕ × Vec ℕ Global)) (packets packets2 : List Sent) (number sent : ℕ)
+      (same : world.simulation.setup ≡ t.setup)
+      (went : (p : Course Msg) → p.event ≡ number → ReportRefinesRun m refines world drops None p →
+      ReportRefinesRun m refines world2 drops2 (numbered number end) (run_event_in (frame_of world.simulation.setup m) p e))
+      (number_is : number ≡ length t.events)
+      (before : (p : Course Msg) → RefinesRun m refines world p → packets ≡ p.machines.held.net.network.packets)
+      (sent_is : sent ≡ length packets)
+      (behind : (p : Course Msg) → RefinesRun m refines world2 p → packets2 ≡ p.machines.held.net.network.packets)
+      (indexed : IsIndexOf index (take sent packets2) → IsIndexOf index2 packets2)
+      (next : IsNext (behavior_of t.setup m) t.events e)
+      (h : HasRun m refines world drops ended t index) where
+    abbrev later : Course Msg
+    later = course_after t.setup m (t.events ++ e ∷ [])
 
-    did-are : (entries : List (List ℕ)) → new.entries ≡ entries → did new ≡ events_in old.setup.n entries
-    did-are entries are = ap (λ (s : Setup). events_in s.n new.entries) same.setup ∙ ap (λ (es : List (List ℕ)). events_in old.setup.n es) are
+    going : (course_after t.setup m t.events).ended ≡ None
+    going = goes-on (course_after t.setup m t.events).ended next.no_evidence
 
-    step-is : (stepped : Stepped Msg) → answered ≡ stepped → step_of old.setup m old.me.0 (core_now old) event ≡ stepped
-    step-is stepped is = ap (λ (c : Core Msg). step_of old.setup m old.me.0 c event) (core-is old opened) ∙ is
+    report-on : ReportRefinesRun m refines world2 drops2 (numbered number end) later
+    report-on =
+        let now = subst (λ (o : Option (ℕ × Evidence)). ReportRefinesRun m refines world drops o (course_after t.setup m t.events)) (ended-none h next.no_evidence) h.report in
+        let there = went (course_after t.setup m t.events) (counted h next.no_evidence ∙ sym number_is) now in
+        subst (λ (p : Course Msg). ReportRefinesRun m refines world2 drops2 (numbered number end) p) (sym (after-one t.setup m t.events e going))
+        (subst (λ (s : Setup). ReportRefinesRun m refines world2 drops2 (numbered number end) (run_event s (formats_of s m) (rules_of s) m (course_after t.setup m t.events) e)) same there)
 
-    module _ (names : NamesNodes old.setup.n event) (outcome : Outcome) (turn : IsTurn m refines (IsOfNodes old.setup.n event) old opened.core.0 answered new outcome)
-        (added : new.entries ≡ old.entries ++ spell_event event ∷ []) where
-      taken-did : did new ≡ did old ++ event ∷ []
-      taken-did = did-are (old.entries ++ spell_event event ∷ []) added
-          ∙ one-more old.setup.n old.entries (spell_event event) event (spelled-read old.setup.n event (named old.setup.n event names))
+    index-on : IsIndexOf index2 later.machines.held.net.network.packets
+    index-on =
+        let old : packets ≡ (held_after t.setup m t.events).net.network.packets = before (course_after t.setup m t.events) h.report.refined in
+        let new : packets2 ≡ later.machines.held.net.network.packets = behind later report-on.refined in
+        let first : take sent packets2 ≡ (held_after t.setup m t.events).net.network.packets =
+        ap (λ (k : ℕ). take k packets2) (sent_is ∙ ap (λ (ps : List Sent). length ps) old)
+        ∙ ap (λ (ps : List Sent). take (length (held_after t.setup m t.events).net.network.packets) ps) new
+        ∙ sent-first t.setup m t.events e in
+        subst (λ (ps : List Sent). IsIndexOf index2 ps) new (indexed (subst (λ (ps : List Sent). IsIndexOf index ps) (sym first) h.index_is))
 
-      pub taken-step : IsStep (does old) (did old) event (did new) (Step_taken outcome.sends)
-      taken-step = (ap is_taken (step-is _ turn.step_is), taken-did, turn.made.sends ∙ sym (ap sends_of (step-is _ turn.step_is)))
+    has-run-on : HasRun m refines world2 drops2 (numbered number end) (record t { events = t.events ++ e ∷ [] }) index2
+    has-run-on = record {
+      report = report-on;
+      index_is = index-on;
+      trace_is = trace-more (behavior_of t.setup m) t.events e h.trace_is next;
+      disks = works-on t.setup m t.events e next.kind h.disks;
+    }
 
-      pub taken-opened : IfTold (history new.disk) (OnlyLeaves (λ bytes. Reads bytes (holds (old.entries ++ spell_event event ∷ [])))) → IsOpen m refines history new
-      taken-opened durable = record {
-        core = (turn.turn.core, turn.refined (of-nodes old.setup.n event names) opened.core.1);
-        durable = subst (λ (es : List (List ℕ)). IfTold (history new.disk) (OnlyLeaves (λ bytes. Reads bytes (holds es)))) (sym added) durable;
-      }
+    pub runs-on : (ended2 : Option (ℕ × Evidence)) (t2 : Schedule) → ended2 ≡ numbered number end → t2 ≡ record t { events = t.events ++ e ∷ [] } → HasRun m refines world2 drops2 ended2 t2 index2
+    runs-on ended2 t2 ended_is trace_is =
+        subst (λ (o : Option (ℕ × Evidence)). HasRun m refines world2 drops2 o t2 index2) (sym ended_is)
+        (subst (λ (z : Schedule). HasRun m refines world2 drops2 (numbered number end) z index2) (sym trace_is) has-run-on)
 
-      pub taken-stays : new.stale ≡ false → StaysOpen (does old) (does new) (did old) (did new) new.stale
-      taken-stays fresh = record {
-        same = does-same;
-        fresh = fresh;
-        grown = λ k e at. subst (λ (es : List NodeEvent). nth es k ≡ Some e) (sym taken-did) (nth-front (did old) (event ∷ []) k e at);
-      }
+-- ---- the cluster in its loop
 
-    module _ (why : Why) (drop : IsDrop m refines old opened.core.0 answered new why) (kept : new.entries ≡ old.entries) where
-      pub dropped-step : IsStep (does old) (did old) event (did new) Step_dropped
-      dropped-step = (ap is_taken (step-is _ drop.step_is), did-are old.entries kept)
-
-      pub dropped-opened : history new.disk ≡ history old.disk → IsOpen m refines history new
-      dropped-opened file = record {
-        core = (opened.core.0, drop.refined opened.core.1);
-        durable = subst (λ (h : List File). IfTold h (OnlyLeaves (λ bytes. Reads bytes (holds new.entries)))) (sym file)
-            (subst (λ (es : List (List ℕ)). IfTold (history old.disk) (OnlyLeaves (λ bytes. Reads bytes (holds es)))) (sym kept) opened.durable);
-      }
-
-      pub dropped-stays : new.stale ≡ false → StaysOpen (does old) (does new) (did old) (did new) new.stale
-      dropped-stays fresh = record {
-        same = does-same;
-        fresh = fresh;
-        grown = λ k e at. subst (λ (es : List NodeEvent). nth es k ≡ Some e) (sym (did-are old.entries kept)) at;
-      }
-
-  -- ---- from call to call
-
-  pub running-on : (nodes : ℕ) (me : NodeId) (old new : KeptState M Msg D) → IsRunning m refines history nodes me old → IsSame old new → (new.stale ≡ false → IsOpen m refines history new)
-      → IsRunning m refines history nodes me new
-  running-on nodes me old new runs same opened = record {
-    good = subst (λ (s : Setup). IsSetupOf m s) (sym same.setup) runs.good;
-    member = subst (λ (s : Setup). new.me.0 < s.n) (sym same.setup) (subst (λ (i : NodeId). i.0 < old.setup.n) (sym same.me) runs.member);
-    count = runs.count ∙ ap (λ (s : Setup). s.n) (sym same.setup);
-    number = runs.number ∙ sym same.me;
-    fresh = opened;
+module _ {M Msg : Type 0} (m : Module Msg) (refines : Relation M Msg) where
+  run-begins : (world : WorldState M Msg) (s : Setup) (index : List (ℕ × Vec ℕ Global)) → RefinesRun m refines world (course_after s m []) → IsIndexOf index []
+      → HasRun m refines world [] None (record { setup = s; events = [] }) index
+  run-begins world s index begun none = record {
+    report = record { refined = begun; drops_are = refl; end_is = refl };
+    index_is = none;
+    trace_is = trace-begins (behavior_of s m);
+    disks = λ c. (refl, refl);
   }
 
-  -- ---- reopening
+  pub starts : (world : WorldState M Msg) (s : Setup) (trace : Schedule) (drops : List (ℕ × Why)) (index : List (ℕ × Vec ℕ Global)) (stale : Bool) → IsSetupOf m s
+      → RefinesRun m refines world (course_after s m []) → world.simulation.setup ≡ s → trace ≡ record { setup = s; events = [] } → drops ≡ [] → IsIndexOf index []
+      → IsRunning m refines (record { world = world; drops = drops; ended = None; trace = trace; index = index; stale = stale })
+  starts world s trace drops index stale good begun same trace_is no_drops none =
+      subst (λ (t : Schedule). IsRunning m refines (record { world = world; drops = drops; ended = None; trace = t; index = index; stale = stale })) (sym trace_is)
+      (subst (λ (ds : List (ℕ × Why)). IsRunning m refines (record { world = world; drops = ds; ended = None; trace = record { setup = s; events = [] }; index = index; stale = stale })) (sym no_drops)
+      (record { good = good; cluster = same; run = λ fresh. run-begins world s index begun none }))
 
-  module _ (before now : Sight) (old new : KeptState M Msg D) (same : IsSame old new) (seen : now.history ≡ history new.disk) where
-    reopened-opened : (r : Result (Unit {0}) AttachError) → new.stale ≡ not (is_ok r) → OnOk r ((c : Core Msg) × RefinesEntries m refines new c) → OnOk r (IsAttached before now new.entries)
-        → new.stale ≡ false → IsOpen m refines history new
-    reopened-opened (Ok x) is core attached fresh = record {
-      core = core;
-      durable = subst (λ (h : List File). IfTold h (OnlyLeaves (λ bytes. Reads bytes (holds new.entries)))) seen attached.durable;
-    }
-    reopened-opened (Err e) is core attached fresh = absurd (true≢false (sym is ∙ fresh))
+  -- the event is the next one of the trace
+  pub next-is : (r : RunningState M Msg) (v : RunningState M Msg) (e : Event) → r ≡ v → IsInRange (behavior_of v.trace.setup m).setup e → IsOfLoop e
+      → is_within_limits (behavior_of v.trace.setup m).setup (v.trace.events ++ e ∷ []) ≡ true → (behavior_of v.trace.setup m).has_evidence v.trace.events ≡ false
+      → IsNext (behavior_of r.trace.setup m) r.trace.events e
+  next-is r v e same range kind limits none =
+      subst (λ (z : RunningState M Msg). IsNext (behavior_of z.trace.setup m) z.trace.events e) (sym same)
+      (record { range = range; kind = kind; limits = limits; no_evidence = none })
 
-    pub reopened-running : (nodes : ℕ) (me : NodeId) (r : Result (Unit {0}) AttachError) → IsRunning m refines history nodes me old → new.stale ≡ not (is_ok r)
-        → OnOk r ((c : Core Msg) × RefinesEntries m refines new c) → OnOk r (IsAttached before now new.entries) → IsRunning m refines history nodes me new
-    reopened-running nodes me r runs is core attached = running-on nodes me old new runs same (reopened-opened r is core attached)
+  -- memory ran out: the set-up is still the same
+  pub gives-up : (r : RunningState M Msg) (world : WorldState M Msg) (drops : List (ℕ × Why)) (ended : Option (ℕ × Evidence)) (trace : Schedule) (index : List (ℕ × Vec ℕ Global))
+      → IsRunning m refines r → trace.setup ≡ r.trace.setup → world.simulation.setup ≡ r.trace.setup
+      → IsRunning m refines (record { world = world; drops = drops; ended = ended; trace = trace; index = index; stale = true })
+  gives-up r world drops ended trace index h same cluster = record {
+    good = subst (λ (s : Setup). IsSetupOf m s) (sym same) h.good;
+    cluster = cluster ∙ sym same;
+    run = λ fresh. absurd (cc);
+  }
 
-    pub has-read : (r : Result (Unit {0}) AttachError) → new.stale ≡ not (is_ok r) → OnOk r (IsAttached before now new.entries) → OnOk r (HasRead before.history new.stale new.entries)
-    has-read (Ok x) is attached = record { fresh = is; read = attached.read }
-    has-read (Err e) is attached = tt
+  pub goes-further : (r : RunningState M Msg) (world : WorldState M Msg) (drops : List (ℕ × Why)) (ended : Option (ℕ × Evidence)) (trace : Schedule) (index : List (ℕ × Vec ℕ Global))
+      → IsRunning m refines r → r.stale ≡ false → trace.setup ≡ r.trace.setup → world.simulation.setup ≡ r.trace.setup
+      → (HasRun m refines r.world r.drops r.ended r.trace r.index → HasRun m refines world drops ended trace index)
+      → IsRunning m refines (record { world = world; drops = drops; ended = ended; trace = trace; index = index; stale = false })
+  goes-further r world drops ended trace index h fresh same cluster run = record {
+    good = subst (λ (s : Setup). IsSetupOf m s) (sym same) h.good;
+    cluster = cluster ∙ sym same;
+    run = λ still. run (h.run fresh);
+  }
 
-  -- ---- what it prints
-
-  pub block-is : (v : KeptState M Msg D) → IsOpen m refines history v → (me epoch : ℕ) (values : List Value) → me ≡ v.me.0
-      → ((c : Core Msg) → KeptRefinesCore m refines v c → epoch ≡ c.past.epoch)
-      → ((c : Core Msg) → KeptRefinesCore m refines v c → log_of (rules_of v.setup) m v.me.0 c.past ≡ values)
-      → node_block me epoch values ≡ block_of v.setup m v.me.0 (core_now v)
-  block-is v opened me epoch values number epochs logs =
-      ap (λ (i : ℕ). node_block i epoch values) number
-      ∙ ap (λ (e : ℕ). node_block v.me.0 e values) (epochs (core_now v) (is-there v opened))
-      ∙ ap (λ (vs : List Value). node_block v.me.0 (core_now v).past.epoch vs) (sym (logs (core_now v) (is-there v opened)))
-
-  -- ---- a whole run
-
-  module _ (c : Config) (me : ℕ) (mid end : KeptState M Msg D) (opened : IsOpen m refines history mid) (later : IsOpen m refines history end) (setup : mid.setup ≡ setup_of c) (number : mid.me.0 ≡ me)
-      (stays : StaysOpen (does mid) (does end) (did mid) (did end) end.stale) where
-    more : (taken : List NodeEvent) × (did end ≡ did mid ++ taken)
-    more = goes-on (did mid) (did end) stays.grown
-
-    end-setup : end.setup ≡ setup_of c
-    end-setup = ap (λ (b : NodeBehavior). b.setup) stays.same ∙ setup
-
-    end-me : end.me.0 ≡ me
-    end-me = ap (λ (b : NodeBehavior). b.me) stays.same ∙ number
-
-    end-entries : end.entries ≡ entries_of (did mid ++ more.0)
-    end-entries = entries-are end later ∙ ap entries_of more.1
-
-    end-leads : core_of (setup_of c) m me (entries_of (did mid ++ more.0)) ≡ Some (core_after (setup_of c) m me (did mid ++ more.0))
-    end-leads =
-        subst (λ (events : List NodeEvent). core_of (setup_of c) m me (entries_of (did mid ++ more.0)) ≡ Some (core_after (setup_of c) m me events)) more.1
-        (subst (λ (entries : List (List ℕ)). core_of (setup_of c) m me entries ≡ Some (core_after (setup_of c) m me (did end))) end-entries
-        (subst (λ (i : ℕ). core_of (setup_of c) m i end.entries ≡ Some (core_after (setup_of c) m i (did end))) end-me
-        (subst (λ (s : Setup). core_of s m end.me.0 end.entries ≡ Some (core_after s m end.me.0 (did end))) end-setup (leads-there end later))))
-
-    printed-is : (printed : List ℕ) → printed ≡ block_of end.setup m end.me.0 (core_now end)
-        → printed ≡ block_of (setup_of c) m me (core_after (setup_of c) m me (did mid ++ more.0))
-    printed-is printed is =
-        subst (λ (events : List NodeEvent). printed ≡ block_of (setup_of c) m me (core_after (setup_of c) m me events)) more.1
-        (subst (λ (i : ℕ). printed ≡ block_of (setup_of c) m i (core_after (setup_of c) m i (did end))) end-me
-        (subst (λ (s : Setup). printed ≡ block_of s m end.me.0 (core_after s m end.me.0 (did end))) end-setup is))
-
-    module _ (ends ends_now : Option (List End)) where
-      pub node-ran : (before : List File) (printed : List ℕ) → HasRead before mid.stale mid.entries
-          → ((there : List End) → ends ≡ Some there → HasRun (node_loop_of (does mid) 200000 64 c.turns (did mid) there) (did end) ends_now)
-          → printed ≡ block_of end.setup m end.me.0 (core_now end) → IsNodeRun m c me ends ends_now before (history end.disk) printed
-      node-ran before printed read loops is = record {
-        held = did mid;
-        taken = more.0;
-        read = subst (λ (entries : List (List ℕ)). IfTold before (λ file. Reads file.content (holds entries))) (entries-are mid opened) read.read;
-        kept = subst (λ (entries : List (List ℕ)). IfTold (history end.disk) (OnlyLeaves (λ bytes. Reads bytes (holds entries)))) end-entries later.durable;
-        accepted = end-leads;
-        loops = λ there told.
-            subst (λ (events : List NodeEvent). HasRun (node_loop_of (node_behavior_of (setup_of c) m me) 200000 64 c.turns (did mid) there) events ends_now) more.1
-            (subst (λ (i : ℕ). HasRun (node_loop_of (node_behavior_of (setup_of c) m i) 200000 64 c.turns (did mid) there) (did end) ends_now) number
-            (subst (λ (s : Setup). HasRun (node_loop_of (node_behavior_of s m mid.me.0) 200000 64 c.turns (did mid) there) (did end) ends_now) setup (loops there told)));
-        block = printed-is printed is;
+  -- the trace and the report, once the loop is over
+  pub is-traced : (r : RunningState M Msg) → IsRunning m refines r → r.stale ≡ false → ((s : Setup) → IsSetupOf m s → (events : List Event) → AreAtCores s events → IsWhole s m events)
+      → IsTracedRun m refines r.trace.setup r.trace r.world r.drops r.ended
+  is-traced r h fresh whole =
+      let range = trace-in-range (behavior_of r.trace.setup m) r.trace.events (h.run fresh).trace_is in
+      record {
+        setup = refl;
+        range = range;
+        trace_is = (h.run fresh).trace_is;
+        report = (h.run fresh).report;
+        cluster = h.cluster;
+        whole = whole r.trace.setup h.good r.trace.events (at-cores r.trace.setup r.trace.events range);
       }
 
-  -- ---- a refusal
+  -- ---- what it shows
 
-  pub refused : (c : Config) (me at : ℕ) (s : Setup) (i : NodeId) (before now : List File) → s ≡ setup_of c → i.0 ≡ me → IsRefused m s i.0 before now at → IsRefused m (setup_of c) me before now at
-  refused c me at s i before now setup number h =
-      subst (λ (n : ℕ). IsRefused m (setup_of c) n before now at) number (subst (λ (t : Setup). IsRefused m t i.0 before now at) setup h)
+  module _ (r : RunningState M Msg) (h : IsRunning m refines r) (fresh : r.stale ≡ false) where
+    pub core-is : (core : ℕ) → core < r.trace.setup.n → core < cores_of r.world.simulation.setup
+    core-is core low = subst (λ (s : Setup). core < cores_of s) (sym h.cluster) (omega (arith, low))
+
+    pub shows-evidence : is_some r.ended ≡ (behavior_of r.trace.setup m).has_evidence r.trace.events
+    shows-evidence = evidence-is m refines r.world r.drops r.ended r.trace r.index (h.run fresh)
+
+    pub shows-packets : (packets : List Sent) → ((p : Course Msg) → RefinesRun m refines r.world p → packets ≡ p.machines.held.net.network.packets)
+        → packets ≡ (behavior_of r.trace.setup m).packets r.trace.events
+    shows-packets packets are = are (course_after r.trace.setup m r.trace.events) (h.run fresh).report.refined
+
+    pub shows-ends : (packets : List Sent) → AreBetweenCores (cores_of r.world.simulation.setup) packets → HaveEnds packets
+    shows-ends packets between = packets-have-ends r.trace.setup r.world.simulation.setup packets h.cluster h.good.good between
+
+    pub shows-number : (core : ℕ) (bytes : List ℕ) (packets : List Sent) (number : Option ℕ) → ((p : Course Msg) → RefinesRun m refines r.world p → packets ≡ p.machines.held.net.network.packets)
+        → (IsIndexOf r.index packets → number ≡ number_from 0 core bytes packets) → number ≡ number_from 0 core bytes ((behavior_of r.trace.setup m).packets r.trace.events)
+    shows-number core bytes packets number are found =
+        let is = shows-packets packets are in
+        found (subst (λ (ps : List Sent). IsIndexOf r.index ps) (sym is) (h.run fresh).index_is) ∙ ap (λ (ps : List Sent). number_from 0 core bytes ps) is
+
+    module _ (none : (behavior_of r.trace.setup m).has_evidence r.trace.events ≡ false) where
+      stands : WorldRefinesMachines m refines r.world (course_after r.trace.setup m r.trace.events).machines
+      stands = world-is m refines r.world r.drops r.ended r.trace r.index (h.run fresh) none
+
+      pub shows-castable : (core : ℕ) (b : Bool) → ((w : Machines Msg) → WorldRefinesMachines m refines r.world w → (w.disks core).failed ≡ false →
+          b ≡ is_castable_now (rules_of r.world.simulation.setup) m (node_of r.world.simulation.setup core) (w.held.net.cores core))
+          → b ≡ (behavior_of r.trace.setup m).castable r.trace.events core
+      shows-castable core b is =
+          is (course_after r.trace.setup m r.trace.events).machines stands ((h.run fresh).disks core).1
+          ∙ ap (λ (s : Setup). is_castable_now (rules_of s) m (node_of s core) ((course_after r.trace.setup m r.trace.events).machines.held.net.cores core)) h.cluster
+
+      numbers-are : (core : ℕ) (leaders : List NodeId) → ((w : Machines Msg) → WorldRefinesMachines m refines r.world w → (w.disks core).failed ≡ false →
+          map (λ (l : NodeId). l.0) leaders ≡ unfilled (rules_of r.world.simulation.setup) m r.world.simulation.setup.n (node_of r.world.simulation.setup core) (w.held.net.cores core).past)
+          → map (λ (l : NodeId). l.0) leaders ≡ unfilled (rules_of r.trace.setup) m r.trace.setup.n (node_of r.trace.setup core) ((held_after r.trace.setup m r.trace.events).net.cores core).past
+      numbers-are core leaders is =
+          is (course_after r.trace.setup m r.trace.events).machines stands ((h.run fresh).disks core).1
+          ∙ ap (λ (s : Setup). unfilled (rules_of s) m s.n (node_of s core) ((held_after r.trace.setup m r.trace.events).net.cores core).past) h.cluster
+
+      pub shows-unfilled : (core : ℕ) (leaders : List NodeId) → ((w : Machines Msg) → WorldRefinesMachines m refines r.world w → (w.disks core).failed ≡ false →
+          map (λ (l : NodeId). l.0) leaders ≡ unfilled (rules_of r.world.simulation.setup) m r.world.simulation.setup.n (node_of r.world.simulation.setup core) (w.held.net.cores core).past)
+          → (leaders ≡ (behavior_of r.trace.setup m).unfilled r.trace.events core) × AreNodes r.trace.setup.n leaders
+      shows-unfilled core leaders is =
+          let numbers = numbers-are core leaders is in
+          (nodes-are leaders _ numbers, are-nodes r.trace.setup.n _ leaders numbers)
+
+-- what a trace keeps, whether or not an event was appended
+pub same-setup : {T E : Type 0} (r : Result T E) (t t2 : Schedule) (events : List Event) → OnOk r (t2 ≡ record t { events = events }) → OnErr r (t2 ≡ t) → t2.setup ≡ t.setup
+same-setup (Ok x) t t2 events ok err = ap (λ (z : Schedule). z.setup) ok
+same-setup (Err e) t t2 events ok err = ap (λ (z : Schedule). z.setup) err
+
+-- ---- a configuration's requests
+
+below-last : (i requests clients : ℕ) → i < requests → 1 ≤ clients → i / clients ≤ (requests - 1) / clients
+below-last i requests clients low some =
+    let whole = div-mul-le_self i clients in
+    le-div (i / clients) (requests - 1) clients (omega (arith, some)) (omega (arith, whole, low))
+
+pub has-leaves : (c : Config) → IsInRange_of_config c → HasLeaves (setup_of c) c.requests
+has-leaves c h i low =
+    let most : (c.requests - 1) / c.clients < 2 ^ c.keys = h.requests_have_leaves (λ q. absurd (omega (arith, q, low))) in
+    let less = below-last i c.requests c.clients low h.setup.good.clients_low in
+    omega (arith, most, less)

@@ -1,11 +1,11 @@
 //! A cluster whose nodes run over links in one process.
-ghost use Rattle.std.specs.Prelude.{◌≡◌, IfOk, IsErrOf, List, OnOk, Some};
+ghost use Rattle.std.specs.Prelude.{◌≡◌, IfOk, IsErrOf, List, Some};
 ghost use Rattle.iss_cluster.specs.Clusters.{IsTracedRun, behavior_of, loop_plan_of};
 ghost use Rattle.iss_config.specs.Configs.{IsInRange, setup_of};
 ghost use Rattle.iss_links.specs.Calls.{HasCause};
 ghost use Rattle.iss_links.specs.Ends.{End};
 ghost use Rattle.iss_loops.specs.Loop.{loop_of};
-ghost use Rattle.iss_loops.specs.Plans.{HasRun};
+ghost use Rattle.iss_loops.specs.Plans.{HasRun, plan_of};
 ghost use Rattle.iss_rules.specs.Setups.{IsSetupOf};
 
 use iss_config::Config;
@@ -35,20 +35,20 @@ pub fn cluster<M: Sequenced, L: Links>(
     requires good { IsSetupOf M.spec (setup_of config.now) }
     ensures run { IfOk result (λ t. IsTracedRun M.spec M.refines (setup_of config.now) t.trace t.report.world
         t.report.drops t.report.ended) }
-    ensures loops { OnOk result ((ends : List End) → L.ends links.old ≡ Some ends →
-        IfOk result (λ t. HasRun (loop_of (behavior_of (setup_of config.now) M.spec) (loop_plan_of config.now) ends)
-        t.trace.events (L.ends links.new))) }
+    ensures loops { IfOk result (λ t. (ends : List End) → L.ends links.old ≡ Some ends →
+        HasRun (loop_of (behavior_of (setup_of config.now) M.spec) (loop_plan_of config.now) ends)
+        t.trace.events (L.ends links.new)) }
     ensures cause { HasCause (L.faults links.old) (L.faults links.new) (IsErrOf result LoopError.LinksFault) }
 {
     let setup = config.setup(alloc)?;
     let mut running = Running::<M>::start(alloc, setup)?;
-    run_loop(alloc, &mut running, links, &plan_of(config))?;
-    Ok(running.into_parts())
+    let plan = loop_plan(config);
+    run_loop(alloc, &mut running, links, &plan)?;
+    Ok(running.into_traced())
 }
 
-// The plan of the cluster's loop.
-// rule: Loopback: A core takes at most 200,000 frames in a turn, and cores wake up after 64 idle turns
-fn plan_of(config: &Config) -> Plan
+// The plan of a cluster's loop.
+fn loop_plan(config: &Config) -> Plan
     ensures { plan_of result ≡ loop_plan_of config.now }
 {
     Plan {

@@ -8,4 +8,4 @@ mod running;
 
 pub use clusters::{Traced, cluster};
 pub use errors::NodeFailure;
-pub use nodes::{RunningNode, node};
+pub use nodes::{RunningNode, node, start_node};

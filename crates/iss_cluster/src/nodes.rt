@@ -11,7 +11,7 @@ use crate::errors::NodeFailure;
 use iss_config::Config;
 use iss_disk::Disk;
 use iss_journal::AttachError;
-use iss_keep::{Answer, Kept};
+use iss_keep::{Answer, Fresh, Kept};
 use iss_links::Links;
 use iss_loops::{JournaledNode, NodeStep, StepError, run_node_loop};
 use iss_replay::lines::put_node;
@@ -61,18 +61,48 @@ impl<M: Sequenced, D: Disk + Drop> RunningNode<M, D> {
         ensures same { IfOk result (λ v. (v.setup ≡ setup_of config.now) × (v.me ≡ me)) }
         ensures disk { IfOk result (λ v. v.disk ≡ disk) }
     {
-        let setup = config.setup(alloc)?;
-        let directory = directory_of(alloc, &setup)?;
-        let kept = Kept::over(alloc, &setup, &directory, me, disk)?;
-        Ok(RunningNode {
-            kept,
-            nodes: setup.n,
-            me,
-        })
+        Ok(RunningNode::of(start_node(alloc, config, me)?, disk))
     }
 }
 
+/// Node `me` of the cluster with this configuration, without a journal. The only error is out of memory.
+pub fn start_node<M: Sequenced>(
+    alloc: Global,
+    config: &Config,
+    me: NodeId,
+) -> Result<Fresh<M>, NoMemory>
+    requires range { IsInRange config.now }
+    requires good { IsSetupOf M.spec (setup_of config.now) }
+    requires me { me.0 < (setup_of config.now).n }
+    ensures { IfOk result (λ v. (v.setup ≡ setup_of config.now) × (v.me ≡ me)) }
+{
+    let setup = config.setup(alloc)?;
+    let directory = directory_of(alloc, &setup)?;
+    Fresh::start(alloc, &setup, &directory, me)
+}
+
 impl<M: Sequenced, D: Disk> RunningNode<M, D> {
+    /// A node over the current file of `disk`. It has not read its journal.
+    pub fn of(fresh: Fresh<M>, disk: D) -> RunningNode<M, D>
+        ensures same { (result.setup ≡ fresh.setup) × (result.me ≡ fresh.me) }
+        ensures disk { result.disk ≡ disk }
+    {
+        let nodes = fresh.setup().n;
+        let me = fresh.me();
+        RunningNode {
+            kept: Kept::of(fresh, disk),
+            nodes,
+            me,
+        }
+    }
+
+    /// The disk.
+    pub fn into_disk(self) -> D
+        ensures { result ≡ self.disk }
+    {
+        self.kept.into_disk()
+    }
+
     // Reads the journal, and recovers the node from the events in it.
     fn reopen(&mut self) -> Result<(), AttachError>
         ensures read { OnOk result (HasRead (D.history self.old.disk) self.new.stale self.new.entries) }
@@ -80,6 +110,7 @@ impl<M: Sequenced, D: Disk> RunningNode<M, D> {
             self.old.me.0 (D.history self.old.disk) (D.history self.new.disk) at }
         ensures cause { HasDiskCause (D.faults self.old.disk) (D.faults self.new.disk)
             (IsErrOf result AttachError.Failed) }
+        ensures place { D.current self.new.disk ≡ D.current self.old.disk }
         ensures same { IsSame self.old self.new }
     {
         self.kept.reopen()
@@ -107,6 +138,8 @@ impl<M: Sequenced, D: Disk> JournaledNode for RunningNode<M, D> {
     ghost stale = { λ node. node.stale };
 
     ghost faults = { λ node. D.faults node.disk };
+
+    ghost place = { λ node. D.current node.disk };
 
     fn take(&mut self, event: NodeEvent) -> Result<NodeStep, StepError> {
         match self.kept.take(event) {
@@ -158,6 +191,7 @@ pub fn node<M: Sequenced, L: Links, D: Disk>(
     ensures links { HasCause (L.faults links.old) (L.faults links.new) (IsErrOf result NodeFailure.LinksFault) }
     ensures disk { HasDiskCause (D.faults running.old.disk) (D.faults running.new.disk)
         (IsErrOf result NodeFailure.DiskFault) }
+    ensures place { D.current running.new.disk ≡ D.current running.old.disk }
     ensures same { OnOk result ((running.new.setup ≡ running.old.setup) × (running.new.me ≡ running.old.me)) }
 {
     running.reopen()?;

@@ -1,9 +1,10 @@
 // A cluster in its loop.
-ghost use Rattle.std.specs.Prelude.{◌≡◌, ◌++◌, ◌∷◌, [], is_some, IfOk, OnOk, None, map};
-ghost use Rattle.iss_cluster.specs.Clusters.{behavior_of};
-ghost use Rattle.iss_cluster.specs.Internal.Running.{HasRun, IsRunning};
+ghost use Rattle.std.specs.Prelude.{◌≡◌, ◌++◌, ◌∷◌, [], false, IfOk, OnOk};
+ghost use Rattle.iss_cluster.specs.Clusters.{IsTracedRun, behavior_of};
+ghost use Rattle.iss_cluster.specs.Internal.Running.{HasRun};
+ghost use Rattle.iss_loops.specs.Traces.{IsNext};
+ghost use Rattle.iss_replay.specs.Refines.{numbered};
 ghost use Rattle.iss_rules.specs.Setups.{IsSetupOf};
-ghost use Rattle.iss_loops.specs.Behavior.{AreNodes, Behavior, HaveEnds, StaysFresh};
 
 use crate::clusters::Traced;
 use iss_loops::{PacketIndex, Trace, TracedCluster};
@@ -12,7 +13,9 @@ use iss_replay::{Report, run_event};
 use iss_request::{NoMemory, NodeId, Seq, Setup};
 use iss_sb::Sequenced;
 use iss_schedule::Event;
+use iss_theorems::restarts_change_nothing;
 use iss_world::World;
+use iss_world::ends::Evidence;
 use std::alloc::Global;
 use std::marker::Model;
 
@@ -23,7 +26,7 @@ pub(crate) struct Running<M: Sequenced> {
     report: Report<M>,
     trace: Trace,
     index: PacketIndex,
-    // Set when memory ran out: nothing is known about the rest.
+    // Set when memory ran out: nothing is known about the run.
     stale: bool,
 }
 
@@ -58,21 +61,29 @@ impl<M: Sequenced> Running<M> {
         ensures begun { IfOk result (λ r. r.trace ≡ record { setup = setup; events = [] }) }
         ensures fresh { IfOk result (λ r. r.stale ≡ false) }
     {
+        let world = World::start(alloc, &setup)?;
+        let trace = Trace::new(alloc, setup)?;
         Ok(Running {
             alloc,
             report: Report {
-                world: World::start(alloc, &setup)?,
+                world,
                 drops: Seq::new(alloc),
                 ended: None,
             },
-            trace: Trace::new(alloc, setup)?,
+            trace,
             index: PacketIndex::new(alloc),
             stale: false,
         })
     }
 
-    // The trace and the report.
-    pub(crate) fn into_parts(self) -> Traced<M> {
+    // The trace, and the report of its run.
+    pub(crate) fn into_traced(self) -> Traced<M>
+        requires { self.stale ≡ false }
+        ensures trace { result.trace ≡ self.trace }
+        ensures run { IsTracedRun M.spec M.refines self.trace.setup result.trace result.report.world
+            result.report.drops result.report.ended }
+    {
+        restarts_change_nothing::<M>();
         Traced {
             trace: self.trace.into_schedule(),
             report: self.report,
@@ -81,14 +92,14 @@ impl<M: Sequenced> Running<M> {
 }
 
 impl<M: Sequenced> TracedCluster for Running<M> {
-    ghost behavior = { λ r. behavior_of r.world.simulation.setup M.spec };
+    ghost behavior = { λ r. behavior_of r.trace.setup M.spec };
 
     ghost events = { λ r. r.trace.events };
 
     ghost stale = { λ r. r.stale };
 
     fn setup(&self) -> &Setup {
-        self.report.world.setup()
+        &self.trace.schedule().setup
     }
 
     fn fits(&self, event: &Event) -> bool {
@@ -129,7 +140,8 @@ impl<M: Sequenced> TracedCluster for Running<M> {
     }
 }
 
-// The event happens: the report follows, the trace has it, and the index has the packets that it sends.
+// The event happens: the report is that of the run with this event, the trace has it, and the index has the packets
+// that it sends.
 fn follow<M: Sequenced>(
     alloc: Global,
     report: &mut Report<M>,
@@ -137,6 +149,13 @@ fn follow<M: Sequenced>(
     index: &mut PacketIndex,
     event: Event,
 ) -> Result<(), NoMemory>
+    requires cluster { report.old.world.simulation.setup ≡ trace.old.setup }
+    requires next { IsNext (behavior_of trace.old.setup M.spec) trace.old.events event }
+    ensures run { OnOk result (
+        HasRun M.spec M.refines report.old.world report.old.drops report.old.ended trace.old index.old →
+        HasRun M.spec M.refines report.new.world report.new.drops report.new.ended trace.new index.new) }
+    ensures happened { OnOk result (trace.new.events ≡ trace.old.events ++ event ∷ []) }
+    ensures same { (trace.new.setup ≡ trace.old.setup) × (report.new.world.simulation.setup ≡ trace.old.setup) }
 {
     let number = trace.schedule().events.len() as u64;
     let sent = report.world.packets().len();
@@ -147,7 +166,17 @@ fn follow<M: Sequenced>(
         number,
         &event,
     )?;
-    report.ended = end.map(|evidence| (number, evidence));
+    report.ended = numbered(number, end);
     index.add_from(report.world.packets(), sent)?;
     trace.push(event)
+}
+
+// Evidence with the number of its event.
+fn numbered(number: u64, end: Option<Evidence>) -> Option<(u64, Evidence)>
+    ensures { result ≡ numbered number end }
+{
+    match end {
+        Some(evidence) => Some((number, evidence)),
+        None => None,
+    }
 }

@@ -11,7 +11,7 @@ use Rattle.iss_journal.specs.Sound.{IsSound, disk_of, entries_of, is_attached}
 use Rattle.iss_journal.specs.declared.journal.Journal.{Journal}
 use Rattle.iss_keys.specs.Directories.{DirectoryView}
 use Rattle.iss_rules.specs.Concrete.{keys_of}
-use Rattle.iss_model.specs.Node.{Core}
+use Rattle.iss_model.specs.Node.{Core, initial_core}
 use Rattle.iss_rules.specs.Setups.{IsSetupOf}
 use Rattle.iss_rules.specs.declared.events.NodeEvent.TheVariants.{AskFrom as On_ask}
 use Rattle.iss_node.specs.State.{NodeView, RefinesCore}
@@ -35,6 +35,22 @@ pub record KeptState (M Msg D : Type 0) : Type 0 where
 abbrev pub state_over : {M Msg D : Type 0} → Setup → NodeId → NodeView M Msg → Journal D → Bool → KeptState M Msg D
 state_over s me node journal stale =
     record { setup = s; me = me; node = node; disk = disk_of journal; entries = entries_of journal; stale = stale }
+
+-- A node that has taken no event and has no journal yet.
+pub record FreshState (M Msg : Type 0) : Type 0 where
+  pub setup : Setup
+  pub me : NodeId
+  pub node : NodeView M Msg
+
+-- Its set-up is good, it is a member, and it refines the first core.
+pub record IsFresh {M Msg : Type 0} (m : Module Msg) (refines : Relation M Msg) (directory : DirectoryView)
+    (v : FreshState M Msg) : Type 0 where
+  pub good : IsSetupOf m v.setup
+  pub member : v.me.0 < v.setup.n
+  pub keys : directory ≡ keys_of v.setup
+  pub cluster : v.node.state.setup ≡ v.setup
+  pub number : v.node.state.me ≡ v.me
+  pub core : RefinesCore m refines v.node initial_core
 
 -- The node is not stale and refines this core, including the next leaf, with the right set-up and identity.
 pub record KeptRefinesCore {M Msg D : Type 0} (m : Module Msg) (refines : Relation M Msg)

@@ -11,8 +11,9 @@ ghost use Rattle.iss_rules.specs.Setups.{IsSetupOf};
 ghost use Rattle.iss_node.specs.Steps.{IsOfNodes};
 
 use crate::answers::{Answer, makes_stale, release};
+use crate::fresh::Fresh;
 use crate::keeping::journal_and_apply;
-use crate::reopening::{open, start_fresh};
+use crate::reopening::open;
 use iss_disk::{Disk, Fused};
 use iss_journal::{AttachError, Journal};
 use iss_keys::SharedDirectory;
@@ -65,21 +66,37 @@ impl<M: Sequenced, D: Disk + Drop> Kept<M, D> {
         ensures journal { IfOk result (λ v. (v.disk ≡ disk) × (v.entries ≡ [])) }
         ensures shown { IfOk result (λ v. (v.node.state.log.entries ≡ []) × (v.node.state.epoch ≡ 0)) }
     {
-        let node = start_fresh(alloc, setup, directory, me)?;
-        let setup = setup.copy()?;
-        Ok(Kept {
-            alloc,
-            setup,
-            directory: directory.share(),
-            me,
-            node,
-            journal: Journal::over(alloc, disk),
-            stale: true,
-        })
+        let fresh = Fresh::start(alloc, setup, directory, me)?;
+        Ok(Kept::of(fresh, disk))
     }
 }
 
 impl<M: Sequenced, D: Disk> Kept<M, D> {
+    /// A fresh node as a kept one, as `over` makes it.
+    pub fn of(fresh: Fresh<M>, disk: D) -> Kept<M, D>
+        ensures same { (result.setup ≡ fresh.setup) × (result.me ≡ fresh.me) }
+        ensures stale { result.stale ≡ true }
+        ensures journal { (result.disk ≡ disk) × (result.entries ≡ []) }
+        ensures shown { (result.node.state.log.entries ≡ []) × (result.node.state.epoch ≡ 0) }
+    {
+        let Fresh {
+            alloc,
+            setup,
+            directory,
+            me,
+            node,
+        } = fresh;
+        Kept {
+            alloc,
+            setup,
+            directory,
+            me,
+            node,
+            journal: Journal::over(alloc, disk),
+            stale: true,
+        }
+    }
+
     /// Takes an event: reserves room for its entry, steps the node, appends the entry if the event was accepted, and
     /// only then releases the outcome. Answers `Stale` if and only if the node has to be reopened. An ask is never
     /// dropped; if its peer does not exist, `reopen` will report its entry as damage.

@@ -3,6 +3,7 @@
 
 mod answers;
 mod entries;
+mod fresh;
 mod keeping;
 mod kept;
 mod laws;
@@ -11,5 +12,6 @@ mod shown;
 
 pub use answers::Answer;
 pub use entries::{decode_entry, encode_entry, entries_are_exact};
+pub use fresh::Fresh;
 pub use kept::Kept;
 pub use laws::{a_crash_leaves_one_of_two, leaves_are_of_one_entry, leaves_are_of_one_statement};

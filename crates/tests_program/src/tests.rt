@@ -1,5 +1,6 @@
 //! Tests of public calls only.
 mod calls;
+mod clusters;
 mod damaged;
 mod four;
 mod liars;

@@ -16,7 +16,7 @@ pub fn words(alloc: Global, line: &str) -> Result<Vec<String>, AllocError> {
 }
 
 /// A call over a source and a sink.
-pub fn call<I: Source, O: Sink>(
+pub fn run_call<I: Source, O: Sink>(
     alloc: Global,
     line: &str,
     input: &mut I,

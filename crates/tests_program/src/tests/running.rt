@@ -1,9 +1,8 @@
 //! The orders that run nodes, over links and disks in memory, some of which fail. The expected logs follow from the
-//! rules: node 0 alone casts slot 0 in its first turn, and its own Commit fills the slot in the second.
+//! rules: node 0 alone casts a slot in its first turn, and its own Commit fills the slot in the second.
 use crate::tests::calls::{answer, call_over};
 use iss_disk::{Disk, MemoryDisk};
-use iss_links::{FailingLinks, Links, MemoryLinks};
-use std::alloc::Global;
+use iss_links::{FailingLinks, MemoryLinks};
 use std::test::Fail;
 
 const FOUR_NODES: &str =
@@ -13,7 +12,7 @@ const FOUR_NODES: &str =
 // One node, without its last line.
 const ONE_NODE: &str =
     "module = \"pbft\"\nf = 0\nepoch = 1\nbuckets = 1\nbatch = 4\nwindow = 8\npolicy = \"simple\"\n\
-     clients = 8\nkeys = 6\nrequests = 0\n";
+     clients = 1\nkeys = 4\nrequests = 0\n";
 
 // What may not stand in place of its last line, `turns = 1`.
 const BAD_ENDS: [&str; 5] = [
@@ -66,10 +65,10 @@ fn a_node_runs_for_its_turns(rt: HostRuntime) -> Result<(), Fail> {
 
 #[test]
 fn a_node_goes_on_from_its_journal(rt: HostRuntime) -> Result<(), Fail> {
-    let mut links = MemoryLinks::new(rt.alloc())?;
     let mut disk = MemoryDisk::new(rt.alloc())?;
     let two = format!(in rt.alloc(); "{ONE_NODE}turns = 2\n")?;
     for slots in 1..4u32 {
+        let mut links = MemoryLinks::new(rt.alloc())?;
         let line = "node 0 20000 journal";
         let (status, text) = call_over(rt.alloc(), line, two.as_bytes(), &mut links, &mut disk)?;
         assert_eq!(rt; status, 0);
@@ -105,38 +104,30 @@ fn other_texts_are_refused(rt: HostRuntime) -> Result<(), Fail> {
     Ok(())
 }
 
-// A configuration that a comment makes this long.
-fn long_text(alloc: Global, len: usize) -> Result<Vec<u8>, Fail> {
-    let mut text = Vec::new(alloc);
-    text.extend_from_slice(ONE_NODE.as_bytes())?;
-    text.extend_from_slice(b"turns = 1\n#")?;
-    while text.len() < len {
-        text.push(b'x')?;
-    }
-    Ok(text)
-}
-
 #[test]
-fn a_text_has_at_most_16_mib(rt: HostRuntime) -> Result<(), Fail> {
-    let whole = long_text(rt.alloc(), MOST_BYTES)?;
-    let (status, _) = answer(rt.alloc(), "node 0 20000 journal", &whole)?;
-    assert_eq!(rt; status, 0);
-    let longer = long_text(rt.alloc(), MOST_BYTES + 1)?;
-    let (status, text) = answer(rt.alloc(), "node 0 20000 journal", &longer)?;
-    assert_eq!(rt; status, 11);
-    assert_eq!(rt; text.as_slice(), REFUSED);
+fn a_longer_text_is_refused(rt: HostRuntime) -> Result<(), Fail> {
+    let mut long = Vec::new(rt.alloc());
+    long.extend_from_slice(ONE_NODE.as_bytes())?;
+    long.extend_from_slice(b"turns = 1\n#")?;
+    long.resize(MOST_BYTES + 1, b'x')?;
+    for line in ["cluster 20000", "node 0 20000 journal"] {
+        let (status, text) = answer(rt.alloc(), line, &long)?;
+        assert_eq!(rt; status, 11, "{line}");
+        assert_eq!(rt; text.as_slice(), REFUSED, "{line}");
+    }
     Ok(())
 }
 
 #[test]
 fn failing_links_are_told(rt: HostRuntime) -> Result<(), Fail> {
+    let config = format!(in rt.alloc(); "{ONE_NODE}turns = 2\n")?;
     for line in ["cluster 20000", "node 0 20000 journal"] {
         for call in 0..3u64 {
             let failing = vec![in rt.alloc(); call; 1]?;
             let mut links = FailingLinks::new(MemoryLinks::new(rt.alloc())?, failing);
             let mut disk = MemoryDisk::new(rt.alloc())?;
             let (status, text) =
-                call_over(rt.alloc(), line, FOUR_NODES.as_bytes(), &mut links, &mut disk)?;
+                call_over(rt.alloc(), line, config.as_bytes(), &mut links, &mut disk)?;
             assert_eq!(rt; status, 8, "{line}, call {call}");
             assert!(rt; text.is_empty(), "{line}, call {call}");
         }
@@ -146,6 +137,7 @@ fn failing_links_are_told(rt: HostRuntime) -> Result<(), Fail> {
 
 #[test]
 fn failing_disks_are_told(rt: HostRuntime) -> Result<(), Fail> {
+    let config = format!(in rt.alloc(); "{ONE_NODE}turns = 2\n")?;
     for call in 0..4usize {
         let mut outcomes = vec![in rt.alloc(); true; call]?;
         outcomes.push(false)?;
@@ -153,7 +145,7 @@ fn failing_disks_are_told(rt: HostRuntime) -> Result<(), Fail> {
         let mut disk = MemoryDisk::new(rt.alloc())?.with_outcomes(outcomes);
         let line = "node 0 20000 journal";
         let (status, text) =
-            call_over(rt.alloc(), line, FOUR_NODES.as_bytes(), &mut links, &mut disk)?;
+            call_over(rt.alloc(), line, config.as_bytes(), &mut links, &mut disk)?;
         assert_eq!(rt; status, 9, "call {call}");
         assert!(rt; text.is_empty(), "call {call}");
     }
@@ -162,6 +154,7 @@ fn failing_disks_are_told(rt: HostRuntime) -> Result<(), Fail> {
 
 #[test]
 fn a_damaged_journal_is_told(rt: HostRuntime) -> Result<(), Fail> {
+    let config = format!(in rt.alloc(); "{ONE_NODE}turns = 2\n")?;
     let mut links = MemoryLinks::new(rt.alloc())?;
     let mut disk = MemoryDisk::new(rt.alloc())?;
     disk.attach("journal")?;
@@ -169,10 +162,10 @@ fn a_damaged_journal_is_told(rt: HostRuntime) -> Result<(), Fail> {
     disk.write_at(0, &[1, 0, 0, 0, 5, 0xaa])?;
     disk.sync()?;
     let line = "node 0 20000 journal";
-    let (status, text) = call_over(rt.alloc(), line, FOUR_NODES.as_bytes(), &mut links, &mut disk)?;
+    let (status, text) = call_over(rt.alloc(), line, config.as_bytes(), &mut links, &mut disk)?;
     assert_eq!(rt; status, 10);
     assert_eq!(rt; text.as_slice(), b"damaged 0\n".as_slice());
-    let (status, _) = call_over(rt.alloc(), "node 0 20000 other", FOUR_NODES.as_bytes(), &mut links, &mut disk)?;
+    let (status, _) = call_over(rt.alloc(), "node 0 20000 other", config.as_bytes(), &mut links, &mut disk)?;
     assert_eq!(rt; status, 0);
     Ok(())
 }

@@ -1,0 +1,21 @@
+use Rattle.std.proofs.Common.{sym, subst, ◌≡◌, ◌∙◌, ap, false}
+use Rattle.iss_cluster.specs.Internal.Running.{RunningState}
+use Rattle.iss_cluster.proofs.RunningLemmas.{gives-up, goes-further, next-is}
+use Rattle.iss_cluster.proofs.running.RunningTracedCluster.event.Goals as goal
+
+pub follow-requires-clause-cluster : goal.follow-requires-clause-cluster
+follow-requires-clause-cluster g c = c.self.invariant.cluster
+
+pub follow-requires-clause-next : goal.follow-requires-clause-next
+follow-requires-clause-next g c =
+    next-is g.M.Sequenced.spec g.M.Sequenced.refines _ _ c.args.event c.self.view_is c.requires.range c.requires.kind c.requires.limits c.requires.no_evidence
+
+pub invariant_of-self : goal.invariant_of-self
+invariant_of-self g c =
+    gives-up g.M.Sequenced.spec g.M.Sequenced.refines _ c.follow.new.report.world c.follow.new.report.drops c.follow.new.report.ended c.follow.new.trace c.follow.new.index
+    c.self.invariant c.follow.ensures.same.0 c.follow.ensures.same.1
+
+pub invariant_of-self-2 : goal.invariant_of-self-2
+invariant_of-self-2 g c =
+    goes-further g.M.Sequenced.spec g.M.Sequenced.refines _ c.follow.new.report.world c.follow.new.report.drops c.follow.new.report.ended c.follow.new.trace c.follow.new.index
+    c.self.invariant (subst (λ (r : RunningState _ _). r.stale ≡ false) (sym c.self.view_is) c.requires.fresh) c.follow.ensures.same.0 c.follow.ensures.same.1 c.in_ok-follow.ensures.run

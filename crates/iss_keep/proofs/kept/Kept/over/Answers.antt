@@ -1,5 +1,0 @@
-use Rattle.iss_keep.proofs.ReplayLemmas.{fresh-shown}
-use Rattle.iss_keep.proofs.kept.Kept.over.Goals as goal
-
-pub returns-clause-shown : goal.returns-clause-shown
-returns-clause-shown g c = fresh-shown g.M.Sequenced.spec g.M.Sequenced.refines _ c.in_ok-node.ensures.refines
