@@ -1,3 +1,4 @@
+mod CauseLemmas
 mod CourseLemmas
 mod EventLemmas
 mod NodeLemmas
