@@ -56,6 +56,7 @@ IsOfConfig P input a =
 -- ---- orders
 
 -- the order runs nodes over links
+-- rule: Program: Links and disk stay as they are unless nodes run
 abbrev pub UsesLinks : Order → Type 0
 UsesLinks (Cluster port) = Unit {0}
 UsesLinks (Node order) = Unit {0}

@@ -59,6 +59,7 @@ abbrev pub IsPort : List Row → ℕ → Type 0
 IsPort rows port = IsNumberAt rows (codes "port") 1024 65000 port
 
 -- what is asked for by the name of a command and its positionals
+-- rule: Program: A file's name may be any word, the empty one too
 abbrev pub IsOrder : Text → List Row → Order → Type 0
 IsOrder name rows Replay = name ≡ codes "replay"
 IsOrder name rows (Lab number events) = (name ≡ codes "lab")
