@@ -1,8 +1,8 @@
 -- The cause of an error that is passed on.
-use Rattle.std.proofs.Common.{◌≡◌, ◌∙◌, ℕ, Result, Ok, Err, IsErrOf, refl, sym, ap}
+use Rattle.std.proofs.Common.{◌≡◌, ◌∙◌, ℕ, Result, Ok, Err, IsErrOf, sym, ap}
 use Rattle.iss_links.specs.Calls.{HasCause}
 
-err-or : {T E : Type 0} → Result T E → E → E
+abbrev err-or : {T E : Type 0} → Result T E → E → E
 err-or (Ok x) e = e
 err-or (Err x) e = x
 

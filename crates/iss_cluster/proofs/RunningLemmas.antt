@@ -1,7 +1,5 @@
 -- A cluster in its loop: what it shows by its trace, and one more event.
 use Rattle.std.proofs.Common.{inl, inr, ◌≡◌, ◌⊎◌, ◌∙◌, ℕ, zero, suc, ◌+◌, ◌-◌, ◌/◌, ◌^◌, ◌<◌, ◌≤◌, ◌≢◌, Bool, true, false, cond, List, [], ◌∷◌, ◌++◌, length, take, map, Option, Some, None, Vec, Global, Result, Ok, Err, OnOk, OnErr, refl, sym, ap, subst, arith, reverse}
-use Rattle.std.proofs.Math.Nat.{div-mul-le_self}
-use Rattle.std.proofs.lemmas.Nat.{le-div}
 use Rattle.std.specs.Prelude.{is_some}
 use Rattle.std.specs.List.{filter}
 use Rattle.iss_base.proofs.Lists.{in_append, some-injective}
@@ -10,13 +8,9 @@ use Rattle.iss_cluster.proofs.CourseLemmas.{sent-first, works-on}
 use Rattle.iss_cluster.proofs.TraceLemmas.{trace-begins, trace-in-range, trace-more}
 use Rattle.iss_cluster.specs.Clusters.{IsTracedRun, behavior_of}
 use Rattle.iss_cluster.specs.Internal.Running.{HasRun, IsRunning, RunningState}
-use Rattle.iss_config.specs.Configs.{setup_of}
-use Rattle.iss_config.specs.Configs.{IsInRange as IsInRange_of_config}
-use Rattle.iss_config.specs.declared.configs.Config.{Config}
 use Rattle.iss_loops.specs.Behavior.{AreNodes, HaveEnds}
 use Rattle.iss_loops.specs.Internal.PacketIndex.{IsIndexOf}
 use Rattle.iss_loops.specs.Loop.{number_from}
-use Rattle.iss_loops.specs.Plans.{HasLeaves}
 use Rattle.iss_loops.specs.Traces.{IsNext, IsOfLoop, is_within_limits}
 use Rattle.iss_model.specs.Courses.{Course, Machines, run_event}
 use Rattle.iss_model.specs.CourseFrames.{run_event_in}
@@ -305,16 +299,3 @@ module _ {M Msg : Type 0} (m : Module Msg) (refines : Relation M Msg) where
 pub same-setup : {T E : Type 0} (r : Result T E) (t t2 : Schedule) (events : List Event) → OnOk r (t2 ≡ record t { events = events }) → OnErr r (t2 ≡ t) → t2.setup ≡ t.setup
 same-setup (Ok x) t t2 events ok err = ap (λ (z : Schedule). z.setup) ok
 same-setup (Err e) t t2 events ok err = ap (λ (z : Schedule). z.setup) err
-
--- ---- a configuration's requests
-
-below-last : (i requests clients : ℕ) → i < requests → 1 ≤ clients → i / clients ≤ (requests - 1) / clients
-below-last i requests clients low some =
-    let whole = div-mul-le_self i clients in
-    le-div (i / clients) (requests - 1) clients (omega (arith, some)) (omega (arith, whole, low))
-
-pub has-leaves : (c : Config) → IsInRange_of_config c → HasLeaves (setup_of c) c.requests
-has-leaves c h i low =
-    let most : (c.requests - 1) / c.clients < 2 ^ c.keys = h.requests_have_leaves (λ q. absurd (omega (arith, q, low))) in
-    let less = below-last i c.requests c.clients low h.setup.good.clients_low in
-    omega (arith, most, less)
