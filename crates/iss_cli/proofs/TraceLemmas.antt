@@ -47,9 +47,16 @@ literal : (line : List ℕ) → nat_le (length line) 999 ≡ true → length lin
 literal line h = leb-true (length line) 999 h
 
 short-modules : AreShort (lines_of_rows module_rows)
-short-modules =
-    (literal (codes "module relay") refl, (literal (codes "module raft") refl, (literal (codes "module pbft") refl,
-    (literal (codes "module hotstuff") refl, (literal (codes "module chained") refl, tt)))))
+short-modules = (
+  literal (codes "module relay") refl,
+  (
+    literal (codes "module raft") refl,
+    (
+      literal (codes "module pbft") refl,
+      (literal (codes "module hotstuff") refl, (literal (codes "module chained") refl, tt)),
+    ),
+  ),
+)
 
 short-policies : AreShort policy_lines
 short-policies =
@@ -61,18 +68,37 @@ short-height h is = let most = is.1 in omega (arith, most)
 short-lines : (s : Setup) → IsGoodSetup s → s.faulty ≡ [] → AreShort (header_lines s)
 short-lines s good none =
     let f = good.faults in let epoch = good.epoch_high in let buckets = good.buckets_high in
-    let batch = good.batch_high in let window = good.window_high in let clients = good.clients_high in
-    (literal (codes "iss 1") refl,
-    (one-of (lines_of_rows module_rows) (place_among s.module module_rows) short-modules,
-    (numbered (codes "f") s.f (omega arith) (omega (arith, f)),
-    (numbered (codes "epoch") s.epoch (omega arith) (omega (arith, epoch)),
-    (numbered (codes "buckets") s.buckets (omega arith) buckets,
-    (numbered (codes "batch") s.batch (omega arith) (omega (arith, batch)),
-    (numbered (codes "window") s.window (omega arith) (omega (arith, window)),
-    (one-of policy_lines (place_of_policy s.policy) short-policies,
-    (numbered (codes "clients") s.clients (omega arith) clients,
-    (numbered (codes "keys") s.keys (omega arith) (short-height s.keys good.keys_height),
-    (subst (λ (faulty : List NodeId). length (faulty_line faulty) ≤ 999) (sym none) (literal (codes "faulty none") refl), tt)))))))))))
+    let batch = good.batch_high in let window = good.window_high in let clients = good.clients_high in (
+      literal (codes "iss 1") refl,
+      (
+        one-of (lines_of_rows module_rows) (place_among s.module module_rows) short-modules,
+        (
+          numbered (codes "f") s.f (omega arith) (omega (arith, f)),
+          (
+            numbered (codes "epoch") s.epoch (omega arith) (omega (arith, epoch)),
+            (
+              numbered (codes "buckets") s.buckets (omega arith) buckets,
+              (
+                numbered (codes "batch") s.batch (omega arith) (omega (arith, batch)),
+                (
+                  numbered (codes "window") s.window (omega arith) (omega (arith, window)),
+                  (
+                    one-of policy_lines (place_of_policy s.policy) short-policies,
+                    (
+                      numbered (codes "clients") s.clients (omega arith) clients,
+                      (
+                        numbered (codes "keys") s.keys (omega arith) (short-height s.keys good.keys_height),
+                        (subst (λ (faulty : List NodeId). length (faulty_line faulty) ≤ 999) (sym none) (literal (codes "faulty none") refl), tt),
+                      ),
+                    ),
+                  ),
+                ),
+              ),
+            ),
+          ),
+        ),
+      ),
+    )
 
 short-header : (s : Setup) → IsGoodSetup s → s.faulty ≡ [] → length (ended (header_lines s)) ≤ 11000
 short-header s good none = short-text (header_lines s) (short-lines s good none)

@@ -3,7 +3,6 @@ ghost use Rattle.std.specs.Prelude.{◌≡◌, ◌≤◌, ◌+◌, map, string_b
 ghost use Rattle.iss_cli.specs.Answers.{Reads};
 ghost use Rattle.iss_cli.specs.Calls.{Ends, HasNone, IsAnswerTo, IsAnswered, IsUnanswered, KeepsJournal, Prints, ReadsInput, RunsNodes};
 ghost use Rattle.iss_cli.specs.Ends.{HasCause, Drains};
-
 ghost use Rattle.iss_cli.specs.Running.{HasPorts, UsesDisk, UsesLinks, devices};
 ghost use Rattle.iss_disk.specs.Calls.{HasCause as HasDiskCause};
 

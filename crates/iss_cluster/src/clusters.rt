@@ -8,9 +8,9 @@ ghost use Rattle.iss_loops.specs.Loop.{loop_of};
 ghost use Rattle.iss_loops.specs.Plans.{HasRun, plan_of};
 ghost use Rattle.iss_rules.specs.Setups.{IsSetupOf};
 
+use crate::running::Running;
 use iss_config::Config;
 use iss_links::Links;
-use crate::running::Running;
 use iss_loops::{LoopError, Plan, run_loop};
 use iss_replay::Report;
 use iss_sb::Sequenced;

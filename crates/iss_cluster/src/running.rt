@@ -159,13 +159,7 @@ fn follow<M: Sequenced>(
 {
     let number = trace.schedule().events.len() as u64;
     let sent = report.world.packets().len();
-    let end = run_event(
-        alloc,
-        &mut report.world,
-        &mut report.drops,
-        number,
-        &event,
-    )?;
+    let end = run_event(alloc, &mut report.world, &mut report.drops, number, &event)?;
     report.ended = numbered(number, end);
     index.add_from(report.world.packets(), sent)?;
     trace.push(event)

@@ -43,7 +43,10 @@ fn a_replay_of_a_clusters_trace_prints_its_report(rt: HostRuntime) -> Result<(),
     assert_eq!(rt; status, 0);
     assert_eq!(rt; report.as_slice(), &text[end + 8..]);
     let full = b" requests 8\n".as_slice();
-    assert!(rt; place_of(&report, full).is_some(), "the nodes order all requests");
+    assert!(rt;
+        place_of(&report, full).is_some(),
+        "the nodes order all requests"
+    );
     Ok(())
 }
 
@@ -52,7 +55,10 @@ fn a_node_runs_for_its_turns(rt: HostRuntime) -> Result<(), Fail> {
     let one = format!(in rt.alloc(); "{ONE_NODE}turns = 1\n")?;
     let (status, text) = answer(rt.alloc(), "node 0 20000 journal", one.as_bytes())?;
     assert_eq!(rt; status, 0);
-    assert_eq!(rt; text.as_slice(), b"node 0 epoch 0 slots 0 requests 0\nend ok\n".as_slice());
+    assert_eq!(rt;
+        text.as_slice(),
+        b"node 0 epoch 0 slots 0 requests 0\nend ok\n".as_slice()
+    );
     let two = format!(in rt.alloc(); "{ONE_NODE}turns = 2\n")?;
     let (status, text) = answer(rt.alloc(), "node 0 20000 journal", two.as_bytes())?;
     assert_eq!(rt; status, 0);
@@ -81,10 +87,18 @@ fn a_node_goes_on_from_its_journal(rt: HostRuntime) -> Result<(), Fail> {
 #[test]
 fn a_node_is_one_of_the_cluster(rt: HostRuntime) -> Result<(), Fail> {
     for line in ["node 4 20000 journal", "node 9 20000 journal"] {
-        let mut links = FailingLinks::new(MemoryLinks::new(rt.alloc())?, vec![in rt.alloc(); 0u64; 1]?);
+        let mut links = FailingLinks::new(
+            MemoryLinks::new(rt.alloc())?,
+            vec![in rt.alloc(); 0u64; 1]?,
+        );
         let mut disk = MemoryDisk::new(rt.alloc())?;
-        let (status, text) =
-            call_over(rt.alloc(), line, FOUR_NODES.as_bytes(), &mut links, &mut disk)?;
+        let (status, text) = call_over(
+            rt.alloc(),
+            line,
+            FOUR_NODES.as_bytes(),
+            &mut links,
+            &mut disk,
+        )?;
         assert_eq!(rt; status, 11, "{line}");
         assert_eq!(rt; text.as_slice(), REFUSED, "{line}");
     }
@@ -126,8 +140,13 @@ fn failing_links_are_told(rt: HostRuntime) -> Result<(), Fail> {
             let failing = vec![in rt.alloc(); call; 1]?;
             let mut links = FailingLinks::new(MemoryLinks::new(rt.alloc())?, failing);
             let mut disk = MemoryDisk::new(rt.alloc())?;
-            let (status, text) =
-                call_over(rt.alloc(), line, config.as_bytes(), &mut links, &mut disk)?;
+            let (status, text) = call_over(
+                rt.alloc(),
+                line,
+                config.as_bytes(),
+                &mut links,
+                &mut disk,
+            )?;
             assert_eq!(rt; status, 8, "{line}, call {call}");
             assert!(rt; text.is_empty(), "{line}, call {call}");
         }
@@ -144,8 +163,7 @@ fn failing_disks_are_told(rt: HostRuntime) -> Result<(), Fail> {
         let mut links = MemoryLinks::new(rt.alloc())?;
         let mut disk = MemoryDisk::new(rt.alloc())?.with_outcomes(outcomes);
         let line = "node 0 20000 journal";
-        let (status, text) =
-            call_over(rt.alloc(), line, config.as_bytes(), &mut links, &mut disk)?;
+        let (status, text) = call_over(rt.alloc(), line, config.as_bytes(), &mut links, &mut disk)?;
         assert_eq!(rt; status, 9, "call {call}");
         assert!(rt; text.is_empty(), "call {call}");
     }
@@ -165,7 +183,13 @@ fn a_damaged_journal_is_told(rt: HostRuntime) -> Result<(), Fail> {
     let (status, text) = call_over(rt.alloc(), line, config.as_bytes(), &mut links, &mut disk)?;
     assert_eq!(rt; status, 10);
     assert_eq!(rt; text.as_slice(), b"damaged 0\n".as_slice());
-    let (status, _) = call_over(rt.alloc(), "node 0 20000 other", config.as_bytes(), &mut links, &mut disk)?;
+    let (status, _) = call_over(
+        rt.alloc(),
+        "node 0 20000 other",
+        config.as_bytes(),
+        &mut links,
+        &mut disk,
+    )?;
     assert_eq!(rt; status, 0);
     Ok(())
 }

@@ -44,7 +44,11 @@ fn words_of_running_nodes_are_taken(rt: HostRuntime) -> Result<(), Fail> {
     for line in TAKEN {
         let (status, text) = answer(rt.alloc(), line, b"")?;
         assert_eq!(rt; status, 11, "{line}");
-        assert_eq!(rt; text.as_slice(), b"refused configuration\n".as_slice(), "{line}");
+        assert_eq!(rt;
+            text.as_slice(),
+            b"refused configuration\n".as_slice(),
+            "{line}"
+        );
     }
     Ok(())
 }
