@@ -1,6 +1,4 @@
 mod CauseLemmas
 mod CourseLemmas
-mod EventLemmas
-mod NodeLemmas
 mod RunningLemmas
 mod TraceLemmas

@@ -1,4 +1,2 @@
 pub mod Clusters
 pub mod Internal
-pub mod Failures
-pub mod Nodes
