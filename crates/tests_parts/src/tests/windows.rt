@@ -96,7 +96,9 @@ fn place_from(low: u32, number: u32) -> Place {
 fn are_as_noted(windows: &Windows, noted: &HashSet<ReqId>, client: u8, low: u32) -> bool {
     for number in 0..400 {
         let it = id(client, number);
-        if windows.ordered(it) != noted.contains(&it) || windows.test(it) != place_from(low, number) {
+        if windows.ordered(it) != noted.contains(&it)
+            || windows.test(it) != place_from(low, number)
+        {
             return false;
         }
     }
@@ -116,7 +118,11 @@ fn windows_are_those_of_a_plain_set(rt: HostRuntime) -> Result<(), Fail> {
             random = random.wrapping_mul(1664525).wrapping_add(1013904223);
             // Numbers close to the low watermark fill it up, and others are up to 150 ahead.
             let ahead = (random / 65536) % (if k % 5 == 0 { 150 } else { 16 });
-            let it = if k % 2 == 0 { id(0, first % 1000 + ahead) } else { id(255, second % 1000 + ahead) };
+            let it = if k % 2 == 0 {
+                id(0, first % 1000 + ahead)
+            } else {
+                id(255, second % 1000 + ahead)
+            };
             windows.note(it)?;
             noted.insert(it)?;
             assert!(rt; windows.ordered(it));
