@@ -58,11 +58,16 @@ fn what_is_no_packet_is_refused(rt: HostRuntime) -> Result<(), Fail> {
     let alloc = rt.alloc();
     let request = [1, 5, 255, 0, 0, 0, 0, 0, 0, 0, 0, 0, 0, 0, 0, 1, 9];
     assert_eq!(rt;
-        Packet::decode(alloc, 1, 3, &bytes_of(alloc, &request)?)?.body.as_slice(),
+        Packet::decode(alloc, 1, 3, &bytes_of(alloc, &request)?)?
+            .body
+            .as_slice(),
         [9].as_slice()
     );
     let ask = [1, 3, 1, 0, 0, 0, 0, 0, 0, 0, 7, 0, 0, 0, 0, 0];
-    assert_eq!(rt; Packet::decode(alloc, 1, 3, &bytes_of(alloc, &ask)?)?.epoch, Epoch(7));
+    assert_eq!(rt;
+        Packet::decode(alloc, 1, 3, &bytes_of(alloc, &ask)?)?.epoch,
+        Epoch(7)
+    );
     // Another version, an unknown kind, a sender that does not exist, a vote with a leader, a length that is too large.
     assert!(rt; is_refused(alloc, 1, &[2, 3, 1, 0, 0, 0, 0, 0, 0, 0, 7, 0, 0, 0, 0, 0])?);
     assert!(rt; is_refused(alloc, 1, &[1, 6, 1, 0, 0, 0, 0, 0, 0, 0, 7, 0, 0, 0, 0, 0])?);
@@ -104,9 +109,6 @@ fn the_other_version_is_refused(rt: HostRuntime) -> Result<(), Fail> {
     );
     assert!(rt; is_refused(alloc, 2, first.as_slice())?);
     assert!(rt; is_refused(alloc, 1, second.as_slice())?);
-    assert_eq!(rt;
-        Packet::decode(alloc, 2, 3, &second)?.body.len(),
-        2
-    );
+    assert_eq!(rt; Packet::decode(alloc, 2, 3, &second)?.body.len(), 2);
     Ok(())
 }
