@@ -85,7 +85,7 @@ fn read_ask(n: u32, rest: &[u8]) -> Option<NodeEvent>
 fn read_packet(alloc: Global, rest: &[u8]) -> Result<NodeEvent, NoMemory>
     ensures { IfOk result (λ event. event ≡ NodeEvent.Packet rest.now) }
 {
-    Ok(NodeEvent::Packet(Bytes::of(rest.to_vec(alloc)?)))
+    Ok(NodeEvent::Packet(Bytes::shared(rest.to_vec(alloc)?)?))
 }
 
 /// Decodes a journal entry in a cluster of `n` nodes. `None` if it is no event. The only error is out of memory.

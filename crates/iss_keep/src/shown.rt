@@ -15,7 +15,7 @@ use iss_checkpoint::Cert;
 use iss_disk::Disk;
 use iss_log::Log;
 use iss_node::Accepted;
-use iss_request::{Batch, Epoch, NoMemory, NodeId, ReqId, Seq, Slot};
+use iss_request::{Batch, Bytes, Epoch, NoMemory, NodeId, ReqId, Seq, Slot};
 use iss_sb::{Claim, Sequenced};
 
 impl<M: Sequenced, D: Disk> Kept<M, D> {
@@ -51,7 +51,7 @@ impl<M: Sequenced, D: Disk> Kept<M, D> {
 
     /// The signatures that a packet claims, if it is a message of the node's current epoch for a leader of that epoch.
     /// None while the node is stale.
-    pub fn claims_of(&self, bytes: &[u8]) -> Result<Seq<Claim>, NoMemory>
+    pub fn claims_of(&self, bytes: &Bytes) -> Result<Seq<Claim>, NoMemory>
         ensures is { IfOk result (λ claims. (c : Core M.Msg) → KeptRefinesCore M.spec M.refines self.now c →
             claims ≡ claims_of_bytes (formats_of self.now.setup M.spec)
             (rules_of self.now.setup) M.spec self.now.me.0 c bytes.now) }

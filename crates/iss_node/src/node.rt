@@ -27,7 +27,7 @@ use iss_keys::{Keys, SharedDirectory};
 use iss_layout::laws::epochs_are_fair;
 use iss_layout::{Layout, Standing};
 use iss_log::{Chains, Log};
-use iss_request::{Batch, Epoch, NoMemory, NodeId, ReqId, Seq, Setup, Slot};
+use iss_request::{Batch, Bytes, Epoch, NoMemory, NodeId, ReqId, Seq, Setup, Slot};
 use iss_rules::NodeEvent;
 use iss_sb::{Claim, Input, Sequenced};
 use iss_segment::Segment;
@@ -140,7 +140,7 @@ impl<M: Sequenced> Node<M> {
 
     /// The signatures claimed by a packet: a vote, a piece with its certificate, or a message of the current epoch for
     /// a leader of that epoch.
-    pub fn claims_of(&self, alloc: Global, bytes: &[u8]) -> Result<Seq<Claim>, NoMemory>
+    pub fn claims_of(&self, alloc: Global, bytes: &Bytes) -> Result<Seq<Claim>, NoMemory>
         ensures { IfOk result (λ claims. (c : Core M.Msg) → RefinesCore M.spec M.refines self.now c →
             claims ≡ claims_of_bytes_in (frame_of self.now.state.setup M.spec) self.now.state.me.0 c bytes.now) }
     {

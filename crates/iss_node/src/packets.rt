@@ -38,7 +38,7 @@ impl<M: Sequenced> NodeState<M> {
             (λ F R me c. takes_bytes F R M.spec me c (F.unwrap bytes.now)) self.new a) }
         ensures same { IsSameNode self.old self.new }
     {
-        match unwrap::<M>(alloc, &self.setup, bytes.as_slice())? {
+        match unwrap::<M>(alloc, &self.setup, bytes)? {
             Some(parcel) => self.take_parcel(alloc, parcel),
             None => Ok(StepResult::Dropped(Why::NotPacket)),
         }
@@ -49,7 +49,7 @@ impl<M: Sequenced> NodeState<M> {
     pub(crate) fn claims_of_bytes(
         &self,
         alloc: Global,
-        bytes: &[u8],
+        bytes: &Bytes,
     ) -> Result<Seq<Claim>, NoMemory>
         ensures { IfOk result (λ claims. (c : Core M.Msg) → RefinesPast M.spec M.refines self.now c.past →
             claims ≡ claims_of_bytes_in (frame_of self.now.setup M.spec) self.now.me.0 c bytes.now) }

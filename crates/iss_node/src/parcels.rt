@@ -40,7 +40,7 @@ pub struct Parcel<T> {
 pub fn unwrap<M: Sequenced>(
     alloc: Global,
     setup: &Setup,
-    bytes: &[u8],
+    bytes: &Bytes,
 ) -> Result<Option<Parcel<M::Msg>>, NoMemory>
     ensures seen { IfOk result (λ parcel. seen parcel ≡ (formats_of setup.now M.spec).unwrap bytes.now) }
     ensures from { IfOk result (λ parcel. IfSome parcel (IsFromNode setup.now.n)) }

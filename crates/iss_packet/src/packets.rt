@@ -162,13 +162,13 @@ impl Packet {
     }
 
     /// The packet with exactly these bytes, in a version and a cluster of `n` nodes. `NotPacket` means that there is
-    /// none.
-    pub fn decode(alloc: Global, version: u8, n: u32, bytes: &[u8]) -> Result<Packet, PacketError>
+    /// none. The body shares the memory of the bytes if their copies do.
+    pub fn decode(alloc: Global, version: u8, n: u32, bytes: &Bytes) -> Result<Packet, PacketError>
         ensures ok { IfOk result (λ p. parse_packet version n bytes.now ≡ Good p []) }
         ensures bad { result ≡ Err PacketError.NotPacket → IsBad (all_of (parse_packet version n) bytes.now) }
         ensures routed { IfOk result (λ p. is_routed n p ≡ true) }
     {
-        let mut f = Fields::over(version, bytes);
+        let mut f = Fields::over_bytes(version, bytes);
         let packet = read_parts(alloc, &mut f)?;
         if !packet.has_route(n) {
             return Err(PacketError::NotPacket);

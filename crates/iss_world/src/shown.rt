@@ -11,12 +11,12 @@ ghost use Rattle.iss_world.specs.Refines.{WorldRefinesMachines};
 
 use crate::world::World;
 use iss_node::Accepted;
-use iss_request::{Batch, NoMemory, NodeId, ReqId, Seq, Slot};
+use iss_request::{Batch, Bytes, NoMemory, NodeId, ReqId, Seq, Slot};
 use iss_sb::{Claim, Sequenced};
 
 impl<M: Sequenced> World<M> {
     /// The signatures that a packet claims, if it is a message of the core's epoch for a leader of that epoch.
-    pub fn claims_of(&self, core: u32, bytes: &[u8]) -> Result<Seq<Claim>, NoMemory>
+    pub fn claims_of(&self, core: u32, bytes: &Bytes) -> Result<Seq<Claim>, NoMemory>
         requires { core < cores_of self.now.simulation.setup }
         ensures { IfOk result (λ claims. (w : Machines M.Msg) → WorldRefinesMachines M.spec M.refines self.now w →
             (w.disks core).failed ≡ false → claims ≡ claims_of_bytes (formats_of self.now.simulation.setup M.spec)

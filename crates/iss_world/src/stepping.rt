@@ -44,7 +44,7 @@ fn claims_at<M: Sequenced>(
         claims ≡ claims_at_in (frame_of node.now.setup M.spec) node.now.me.0 c event.now) }
 {
     match event {
-        NodeEvent::Packet(bytes) => node.claims_of(bytes.as_slice()),
+        NodeEvent::Packet(bytes) => node.claims_of(bytes),
         NodeEvent::Propose => Ok(Seq::new(alloc)),
         NodeEvent::Timeout(_) => Ok(Seq::new(alloc)),
         NodeEvent::AskFrom(_) => Ok(Seq::new(alloc)),

@@ -19,11 +19,16 @@ fn message(alloc: Global, leader: u8, size: usize) -> Result<Packet, Fail> {
     })
 }
 
-fn is_refused(alloc: Global, version: u8, bytes: &[u8]) -> bool {
-    matches!(
-        Packet::decode(alloc, version, 3, bytes),
+fn bytes_of(alloc: Global, bytes: &[u8]) -> Result<Bytes, Fail> {
+    Ok(Bytes::of(Vec::from_slice(alloc, bytes)?))
+}
+
+fn is_refused(alloc: Global, version: u8, bytes: &[u8]) -> Result<bool, Fail> {
+    let bytes = bytes_of(alloc, bytes)?;
+    Ok(matches!(
+        Packet::decode(alloc, version, 3, &bytes),
         Err(PacketError::NotPacket)
-    )
+    ))
 }
 
 #[test]
@@ -37,9 +42,9 @@ fn each_cut_of_a_packet_is_refused(rt: HostRuntime) -> Result<(), Fail> {
         [1, 1, 2, 0, 0, 0, 0, 0, 0, 1, 2, 1, 0, 0, 11, 184, 0, 1].as_slice()
     );
     for cut in 0..all.len() {
-        assert!(rt; is_refused(alloc, 1, &all[..cut]));
+        assert!(rt; is_refused(alloc, 1, &all[..cut])?);
     }
-    let packet = Packet::decode(alloc, 1, 3, all)?;
+    let packet = Packet::decode(alloc, 1, 3, &bytes)?;
     assert_eq!(rt; packet.kind, PacketKind::Message);
     assert_eq!(rt; packet.from, 2);
     assert_eq!(rt; packet.epoch, Epoch(258));
@@ -53,33 +58,38 @@ fn what_is_no_packet_is_refused(rt: HostRuntime) -> Result<(), Fail> {
     let alloc = rt.alloc();
     let request = [1, 5, 255, 0, 0, 0, 0, 0, 0, 0, 0, 0, 0, 0, 0, 1, 9];
     assert_eq!(rt;
-        Packet::decode(alloc, 1, 3, &request)?.body.as_slice(),
+        Packet::decode(alloc, 1, 3, &bytes_of(alloc, &request)?)?
+            .body
+            .as_slice(),
         [9].as_slice()
     );
     let ask = [1, 3, 1, 0, 0, 0, 0, 0, 0, 0, 7, 0, 0, 0, 0, 0];
-    assert_eq!(rt; Packet::decode(alloc, 1, 3, &ask)?.epoch, Epoch(7));
+    assert_eq!(rt;
+        Packet::decode(alloc, 1, 3, &bytes_of(alloc, &ask)?)?.epoch,
+        Epoch(7)
+    );
     // Another version, an unknown kind, a sender that does not exist, a vote with a leader, a length that is too large.
-    assert!(rt; is_refused(alloc, 1, &[2, 3, 1, 0, 0, 0, 0, 0, 0, 0, 7, 0, 0, 0, 0, 0]));
-    assert!(rt; is_refused(alloc, 1, &[1, 6, 1, 0, 0, 0, 0, 0, 0, 0, 7, 0, 0, 0, 0, 0]));
-    assert!(rt; is_refused(alloc, 1, &[1, 3, 3, 0, 0, 0, 0, 0, 0, 0, 7, 0, 0, 0, 0, 0]));
-    assert!(rt; is_refused(alloc, 1, &[1, 2, 1, 0, 0, 0, 0, 0, 0, 0, 7, 1, 0, 0, 0, 0]));
-    assert!(rt; is_refused(alloc, 1, &[1, 3, 1, 0, 0, 0, 0, 0, 0, 0, 7, 0, 0, 0, 0, 1]));
+    assert!(rt; is_refused(alloc, 1, &[2, 3, 1, 0, 0, 0, 0, 0, 0, 0, 7, 0, 0, 0, 0, 0])?);
+    assert!(rt; is_refused(alloc, 1, &[1, 6, 1, 0, 0, 0, 0, 0, 0, 0, 7, 0, 0, 0, 0, 0])?);
+    assert!(rt; is_refused(alloc, 1, &[1, 3, 3, 0, 0, 0, 0, 0, 0, 0, 7, 0, 0, 0, 0, 0])?);
+    assert!(rt; is_refused(alloc, 1, &[1, 2, 1, 0, 0, 0, 0, 0, 0, 0, 7, 1, 0, 0, 0, 0])?);
+    assert!(rt; is_refused(alloc, 1, &[1, 3, 1, 0, 0, 0, 0, 0, 0, 0, 7, 0, 0, 0, 0, 1])?);
     // A byte after the body, and a request from a node.
     assert!(rt;
         is_refused(
             alloc,
             1,
             &[1, 3, 1, 0, 0, 0, 0, 0, 0, 0, 7, 0, 0, 0, 0, 0, 0]
-        )
+        )?
     );
     assert!(rt;
         is_refused(
             alloc,
             1,
             &[1, 5, 1, 0, 0, 0, 0, 0, 0, 0, 0, 0, 0, 0, 0, 1, 9]
-        )
+        )?
     );
-    assert!(rt; is_refused(alloc, 1, message(alloc, 3, 1)?.encode(alloc, 1)?.as_slice()));
+    assert!(rt; is_refused(alloc, 1, message(alloc, 3, 1)?.encode(alloc, 1)?.as_slice())?);
     Ok(())
 }
 
@@ -97,11 +107,8 @@ fn the_other_version_is_refused(rt: HostRuntime) -> Result<(), Fail> {
         second.as_slice(),
         [2, 1, 2, 0, 0, 0, 0, 0, 0, 1, 2, 1, 0, 0, 0, 2, 0, 1].as_slice()
     );
-    assert!(rt; is_refused(alloc, 2, first.as_slice()));
-    assert!(rt; is_refused(alloc, 1, second.as_slice()));
-    assert_eq!(rt;
-        Packet::decode(alloc, 2, 3, second.as_slice())?.body.len(),
-        2
-    );
+    assert!(rt; is_refused(alloc, 2, first.as_slice())?);
+    assert!(rt; is_refused(alloc, 1, second.as_slice())?);
+    assert_eq!(rt; Packet::decode(alloc, 2, 3, &second)?.body.len(), 2);
     Ok(())
 }
