@@ -9,6 +9,7 @@ use crate::names::is_same;
 use hex::FromHexError;
 use iss_request::errors::NoMemory;
 use itoa::Buffer;
+use memchr::memchr;
 use std::alloc::Global;
 use std::marker::Model;
 
@@ -18,12 +19,10 @@ pub fn cut_at(text: &[u8], byte: u8) -> Option<(&[u8], &[u8])>
     ensures first { IfSome result (λ parts. Lacks byte parts.0.now) }
     ensures none { IfNone result (Lacks byte text.now) }
 {
-    for (at, b) in text.iter().enumerate() {
-        if *b == byte {
-            return Some((&text[..at], &text[at + 1..]));
-        }
-    }
-    None
+    let Some(at) = memchr(byte, text) else {
+        return None;
+    };
+    Some((&text[..at], &text[at + 1..]))
 }
 
 /// What follows the name and a space in the line.

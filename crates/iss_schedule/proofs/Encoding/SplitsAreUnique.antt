@@ -1,5 +1,6 @@
 -- Splitting a list at the first occurrence of a byte.
-use Rattle.std.proofs.Common.{◌≡◌, ◌≢◌, ℕ, zero, suc, ◌<◌, ◌≤◌, List, [], ◌∷◌, ◌++◌, length, get_or, take, eqb, Bool, true, false, cond, not, refl, sym, ap, subst, ◌∙◌, arith}
+use Rattle.std.proofs.Common.{◌≡◌, ◌≢◌, ℕ, zero, suc, ◌<◌, ◌≤◌, List, [], ◌∷◌, ◌++◌, length, get_or, take, eqb, Bool, true, false, cond, not, Option, Some, None, refl, sym, ap, subst, ◌∙◌, arith}
+use Rattle.memchr.specs.Find.{IsFirstByte, is_byte}
 use Rattle.std.specs.List.{onto_first}
 use Rattle.std.proofs.lemmas.Bool.{false≢true}
 use Rattle.iss_schedule.specs.Words.{Lacks, words_of}
@@ -18,6 +19,23 @@ lacks_all c [] n le none = tt
 lacks_all c (x ∷ xs) zero le none = absurd (omega arith)
 lacks_all c (x ∷ xs) (suc n) le none =
     (none 0 (omega arith), lacks_all c xs n (omega arith) (λ k lt e. none (suc k) (omega arith) e))
+
+-- the same where a search gives the first byte, or none
+equal : (a b : ℕ) → a ≡ b → eqb a b ≡ true
+equal a b e = grind (arith, e)
+
+pub lacks_before : (c : ℕ) (xs : List ℕ) (r : Option ℕ) (k : ℕ) → IsFirstByte (is_byte c) xs r → r ≡ Some k → Lacks c (take k xs)
+lacks_before c xs None k h e = absurd (cc)
+lacks_before c xs (Some j) k h e =
+    let same : j ≡ k = cc in
+    let lt : j < length xs = h.0.high in
+    subst (λ (n : ℕ). Lacks c (take n xs)) same
+    (lacks_take c xs j (omega (arith, lt)) (λ i below q. h.0.before i (omega arith) below (equal (get_or xs i 0) c q)))
+
+pub lacks_where : (c : ℕ) (xs : List ℕ) (r : Option ℕ) → IsFirstByte (is_byte c) xs r → r ≡ None → Lacks c xs
+lacks_where c xs None h e =
+    lacks_all c xs (length xs) (omega arith) (λ i below q. h i (omega arith) below (equal (get_or xs i 0) c q))
+lacks_where c xs (Some j) h e = absurd (cc)
 
 not_equal : (a b : ℕ) → a ≢ b → eqb a b ≡ false
 not_equal a b ne = grind (arith)

@@ -1,10 +1,8 @@
-use Rattle.std.proofs.Common.{arith}
-use Rattle.iss_schedule.proofs.Encoding.SplitsAreUnique.{lacks_take, lacks_all}
+use Rattle.iss_schedule.proofs.Encoding.SplitsAreUnique.{lacks_before, lacks_where}
 use Rattle.iss_schedule.proofs.words.cut_at.Goals as goal
 
-pub returns-then-b-byte-clause-first : goal.returns-then-b-byte-clause-first
-returns-then-b-byte-clause-first c =
-    lacks_take c.args.byte c.args.text.now c.loop-at.at (omega arith) c.loop-at.invariant
+pub returns-in_default-clause-none : goal.returns-in_default-clause-none
+returns-in_default-clause-none c = lacks_where c.args.byte c.args.text.now c.memchr.result c.memchr.ensures c.in_default.is
 
-pub returns-clause-none : goal.returns-clause-none
-returns-clause-none c = lacks_all c.args.byte c.args.text.now c.loop-at.at (omega arith) c.loop-at.invariant
+pub returns-clause-first : goal.returns-clause-first
+returns-clause-first c = lacks_before c.args.byte c.args.text.now c.memchr.result c.in-Some.at c.memchr.ensures c.in-Some.is
