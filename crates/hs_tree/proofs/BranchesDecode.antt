@@ -1,5 +1,5 @@
 -- If the content of each known node has an encoding, each value of a branch decodes.
-use Rattle.std.proofs.Common.{◌≡◌, ℕ, suc, ◌&&◌, ◌==◌, Bool, true, false, if◌then◌else◌, List, [], ◌∷◌, Option, Some, None, refl, subst}
+use Rattle.std.proofs.Common.{◌≡◌, ℕ, suc, ◌&&◌, ◌==◌, Bool, true, false, if◌then◌else◌, List, [], ◌∷◌, Some, subst}
 use Rattle.iss_base.specs.Lists.{same_bytes}
 use Rattle.iss_base.proofs.Lists.{some-injective}
 use Rattle.iss_request.specs.Fields.{IsReadAgain}

@@ -1,5 +1,5 @@
 -- Placed cores with equal slims are alike, and the other way round.
-use Rattle.std.proofs.Common.{◌≡◌, ℕ, ◌+◌, ◌-◌, List, Option, None, Some, length, refl, sym, ap, ◌∙◌, subst, arith}
+use Rattle.std.proofs.Common.{◌≡◌, ℕ, ◌+◌, ◌-◌, List, Option, length, refl, sym, ap, ◌∙◌, subst, arith}
 use Rattle.std.specs.List.{filter}
 use mathlib.Core.Path.{fun_ext}
 use Rattle.iss_checkpoint.specs.declared.votes.Cert.{Cert}

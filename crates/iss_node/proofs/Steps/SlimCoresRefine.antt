@@ -1,10 +1,8 @@
 -- A node that refines a core refines each placed core with the same slim part.
-use Rattle.std.proofs.Common.{◌≡◌, ℕ, ◌+◌, ◌*◌, ◌<◌, ◌≤◌, true, List, [], Option, Some, None, length, reverse, refl, sym, ap, ap₂, ◌∙◌, subst, arith}
+use Rattle.std.proofs.Common.{◌≡◌, ℕ, ◌+◌, ◌*◌, ◌<◌, ◌≤◌, List, [], Some, None, length, sym, ap, ap₂, ◌∙◌, subst, arith}
 use Rattle.iss_base.specs.Lists.{In}
-use Rattle.iss_checkpoint.specs.declared.votes.Cert.{Cert}
 use Rattle.iss_layout.specs.Layout.{IsStanding, epochs}
 use Rattle.iss_request.specs.Log.{log_ids}
-use Rattle.iss_request.specs.declared.ids.ReqId.{ReqId}
 use Rattle.iss_request.specs.declared.ids.Slot.{Slot}
 use Rattle.iss_request.specs.declared.requests.Batch.{Batch}
 use Rattle.iss_request.specs.declared.requests.Request.{Request}
@@ -16,12 +14,12 @@ use Rattle.iss_model.specs.Node.{Core, Early as Early_message, joined}
 use Rattle.iss_model.specs.Slims.{IsPlaced, SlimCore, slim}
 use Rattle.iss_model.specs.Sound.{IsSoundCore}
 use Rattle.iss_model.proofs.AlikeVotes.{vote-same}
-use Rattle.iss_node.specs.State.{StateRefinesCore, RefinesBareCore, RefinesTaken, RefinesPastOver, NodeView, StateView, RefinesCore, bare, core_of, led, slot_value}
+use Rattle.iss_node.specs.State.{StateRefinesCore, RefinesBareCore, RefinesTaken, RefinesPastOver, NodeView, StateView, RefinesCore, bare, core_of, slot_value}
 use Rattle.iss_sb.specs.Calls.{Relation}
 use Rattle.iss_sb.specs.Evidence.{Item, Module, accepts, delivered}
 use Rattle.iss_sb.specs.declared.effects.Params.{Params}
 use Rattle.iss_segment.specs.Ground.{RestsOn}
-use Rattle.iss_segment.specs.Instance.{SameIds, SegmentState}
+use Rattle.iss_segment.specs.Instance.{SameIds}
 
 -- a core of these parts
 abbrev core_with : {Msg : Type 0} → Past Msg → List Request → List (Slot × Batch) → List (Early_message Msg) → ℕ → Core Msg

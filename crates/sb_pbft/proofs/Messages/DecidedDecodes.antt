@@ -1,6 +1,4 @@
 -- What PBFT decides decodes, if all that it took does: a decided value was proposed.
-use Rattle.std.proofs.Common.{◌≡◌, ℕ, List, Some}
-use Rattle.iss_request.specs.declared.requests.Value.{Value}
 use Rattle.iss_sb.specs.Laws.{DecidesReadable}
 use Rattle.pbft_wire.proofs.Fields.{value-again}
 use Rattle.sb_pbft.specs.Makes.{inputs}
