@@ -1,11 +1,15 @@
 -- The laws of single steps hold of echo.
-use Rattle.std.proofs.Common.{◌≡◌, ◌≤◌, ◌<◌, ◌+◌, ◌^◌, ℕ, Bool, true, false, List, ◌∷◌, ◌++◌, length, Option, Some, None, refl, sym, ap, subst, inl, inr, arith}
+use Rattle.std.proofs.Common.{◌≡◌, ◌≤◌, ◌<◌, ◌+◌, ◌^◌, ℕ, Bool, true, false, List, [], ◌∷◌, ◌++◌, length, Option, Some, None, refl, sym, ap, ◌∙◌, subst, inl, inr, arith}
 use Rattle.sha2.proofs.Facts256.{length-sha256}
 use Rattle.iss_base.specs.Lists.{In}
+use Rattle.iss_base.proofs.Lists.{first-cases}
 use Rattle.iss_sb.proofs.Inputs.{cast-is}
 use Rattle.iss_request.specs.declared.ids.NodeId.{NodeId}
 use Rattle.iss_request.specs.declared.ids.Slot.{Slot}
 use Rattle.iss_request.specs.declared.requests.Batch.{Batch}
+use Rattle.iss_request.specs.declared.requests.Value.{Value}
+use Rattle.iss_request.specs.Fields.{IsReadAgain}
+use Rattle.iss_request.specs.Formats.{parse_value, spell_value}
 use Rattle.iss_sb.specs.declared.effects.Claim.{Claim}
 use Rattle.iss_sb.specs.declared.effects.Input.{Input}
 use Rattle.iss_sb.specs.declared.effects.Input.TheVariants.{Cast, Receive}
@@ -13,16 +17,16 @@ use Rattle.iss_sb.specs.declared.effects.Params.{Params}
 use Rattle.iss_sb.specs.declared.effects.To.{To}
 use Rattle.iss_sb.specs.declared.effects.To.TheVariants.{All as To_all, One as To_one}
 use Rattle.iss_sb.specs.Calls.{IsGoodParams}
-use Rattle.iss_sb.specs.Evidence.{Item, IsReadBatch, IsReadMessage}
-use Rattle.iss_sb.specs.Laws.{IsHeard, IsLawful}
+use Rattle.iss_sb.specs.Evidence.{Item, Made, IsReadBatch, IsReadMessage}
+use Rattle.iss_sb.specs.Laws.{AreHeard, DecidesReadable, IsHeard, IsLawful}
 use Rattle.iss_sb.specs.Statements.{eight_bytes, signature, statement_head}
 use Rattle.iss_sb.proofs.Signatures.{signature-shape}
 use Rattle.iss_sb.proofs.Slots.{below-In, has_slot-In}
 use Rattle.sb_echo.specs.declared.word.Word.{Word}
 use Rattle.sb_echo.specs.declared.word.Word.TheVariants.{Say, Echo as Echo_word}
-use Rattle.sb_echo.specs.Echo.{asks, claims, digest_of, echo, echo_of, is_cast, made_of, makes, say, statement, string_of, tag, taken, words}
+use Rattle.sb_echo.specs.Echo.{asks, batch_for, claims, digest_of, echo, echo_of, is_cast, made_of, makes, say, statement, string_of, tag, taken, words}
 use Rattle.sb_echo.proofs.Bytes.{same-is}
-use Rattle.sb_echo.proofs.Facts.{IsOwn, Same, accepted-is, asked, decided-is}
+use Rattle.sb_echo.proofs.Facts.{IsOwn, Same, accepted-is, asked, batch_for-is, decided-is}
 use Rattle.sb_echo.proofs.Spelling.{echo-again, say-again, say-read}
 
 named : (p : Params) (from : ℕ) (msg : Word) (c : Claim) → In c (claims p from msg) →
@@ -122,3 +126,21 @@ echo-lawful = record {
   few = λ p good. omega arith;
   uses = λ p me xs i leaf good input. used-is p me leaf (is_cast i) (asks p me xs i);
 }
+
+-- ---- what is decided decodes
+
+-- the batch of a slot came with an input
+taken-read : (p : Params) (me : ℕ) (xs : List (Item Word)) (s : ℕ) (b : Batch) → AreHeard echo p me xs →
+    taken s xs ≡ Some b → IsReadBatch p b
+taken-read p me [] s b heard h = absurd (cc)
+taken-read p me (x ∷ xs) s b heard h = elim (first-cases (taken s xs) (batch_for s x.made.accepted) b h) [
+  | inl old ↦ taken-read p me xs s b heard.2 old
+  | inr new ↦
+      let asked_for : asks p me xs x.input ≡ Some (record { 0 = s }, b) = sym (accepted-is p me x.leaf (is_cast x.input) (asks p me xs x.input)) ∙ sym (ap (λ (z : Made Word). z.accepted) heard.1) ∙ batch_for-is s x.made.accepted b new.1 in
+      asked-read p me xs x.input (record { 0 = s }, b) heard.0 asked_for
+]
+
+pub echo-decides-readable : DecidesReadable echo
+echo-decides-readable p me xs s x good below heard h =
+    let d = decided-is p me xs s x h in
+    subst (λ (z : Value). IsReadAgain (spell_value p.setup.version) (parse_value p.setup.version) z) (sym d.value) (taken-read p me xs s d.batch heard d.taken)
