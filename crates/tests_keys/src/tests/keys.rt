@@ -6,7 +6,6 @@ ghost use Rattle.iss_base.specs.Heights.{IsHeight};
 use super::vectors::{known, root_2, root_client_2, root_node_0};
 use crate::damage::cut;
 use iss_keys::{Directory, Keys, PublicKey, SignError, verify};
-use sha2::{Digest, Sha256};
 use std::alloc::Global;
 use std::test::Fail;
 
