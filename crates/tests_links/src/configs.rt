@@ -1,5 +1,5 @@
 //! Texts of configurations. The expected tag was computed by an independent program.
-use iss_config::{Config, ConfigError};
+use iss_config::Config;
 use iss_request::{Kind, Policy};
 use std::test::Fail;
 
@@ -10,22 +10,6 @@ const TEXT: &[u8] =
 const TAG: [u8; 32] = [
     0xed, 0x64, 0x27, 0xc3, 0x48, 0x45, 0x51, 0xd1, 0xbd, 0x39, 0xc1, 0x43, 0xac, 0x0c, 0x1a, 0x25,
     0x75, 0x04, 0x48, 0x52, 0x81, 0x0f, 0xf0, 0xc8, 0xd7, 0xc7, 0xbc, 0xee, 0x1f, 0x2d, 0x1a, 0x58,
-];
-
-// The text without its last line, and what must not stand in place of that.
-const FRONT: &str =
-    "module = \"pbft\"\nf = 1\nepoch = 4\nbuckets = 4\nbatch = 4\nwindow = 8\npolicy = \"simple\"\n\
-      clients = 8\nkeys = 6\nrequests = 8\n";
-
-const BAD_ENDS: [&str; 8] = [
-    "",
-    "turns = 0\n",
-    "turns = 1_000_001\n",
-    "turns = 1.0\n",
-    "turns = \"1\"\n",
-    "turns = 1\nf = 1\n",
-    "turns = 1\nnodes = 4\n",
-    "rounds = 1\n",
 ];
 
 #[test]
@@ -52,24 +36,5 @@ fn a_text_is_read(rt: HostRuntime) -> Result<(), Fail> {
     );
     assert!(rt; setup.faulty.as_slice().is_empty());
     assert_eq!(rt; setup.tag, TAG);
-    Ok(())
-}
-
-#[test]
-fn bad_ends_are_refused(rt: HostRuntime) -> Result<(), Fail> {
-    for end in BAD_ENDS {
-        let text = format!(in rt.alloc(); "{FRONT}{end}")?;
-        let read = Config::read(rt.alloc(), text.as_bytes());
-        assert_eq!(rt; read, Err(ConfigError::BadConfig), "{end}");
-    }
-    Ok(())
-}
-
-#[test]
-fn text_that_is_no_utf8_is_refused(rt: HostRuntime) -> Result<(), Fail> {
-    let mut text = Vec::from_slice(rt.alloc(), TEXT)?;
-    text.extend_from_slice(b"# \xff\n")?;
-    let read = Config::read(rt.alloc(), &text);
-    assert_eq!(rt; read, Err(ConfigError::BadConfig));
     Ok(())
 }

@@ -3,8 +3,7 @@ ghost use Rattle.std.specs.Prelude.{◌<◌};
 
 use crate::packets::packet;
 use iss_links::{
-    Arrival, EndError, FailingLinks, Frame, Links, MemoryLinks, Reassembly, UdpLinks, read_frame,
-    write_frame,
+    Arrival, EndError, FailingLinks, Frame, Links, MemoryLinks, UdpLinks, read_frame, write_frame,
 };
 use std::alloc::Global;
 use std::net::{Ipv4Addr, Net, UdpSocket};
@@ -65,22 +64,6 @@ fn a_frame_has_these_bytes(rt: HostRuntime) -> Result<(), Fail> {
 }
 
 #[test]
-fn other_datagrams_are_no_frames(rt: HostRuntime) -> Result<(), Fail> {
-    let alloc = rt.alloc();
-    assert!(rt; read_frame(alloc, &[])?.is_none());
-    assert!(rt; read_frame(alloc, &[0; 17])?.is_none());
-    let behind = frame(alloc, 0, 1, 2, 2, &[5])?;
-    let too_short = frame(alloc, 0, 1, 0, 2, &[5; 1023])?;
-    let too_long = frame(alloc, 0, 1, 1, 2, &[5; 1025])?;
-    let empty = frame(alloc, 0, 1, 1, 2, &[])?;
-    for bad in [behind, too_short, too_long, empty] {
-        let bytes = write_frame(alloc, &bad)?;
-        assert!(rt; read_frame(alloc, &bytes)?.is_none());
-    }
-    Ok(())
-}
-
-#[test]
 fn packets_of_each_length_arrive_in_order(rt: HostRuntime) -> Result<(), Fail> {
     let alloc = rt.alloc();
     let mut links = MemoryLinks::new(alloc)?;
@@ -100,42 +83,6 @@ fn packets_of_each_length_arrive_in_order(rt: HostRuntime) -> Result<(), Fail> {
     links.send(0, 0, 1, &[])?;
     assert!(rt; matches!(links.take(1)?, Arrival::Nothing));
     assert!(rt; matches!(links.take(0)?, Arrival::Nothing));
-    Ok(())
-}
-
-#[test]
-fn parts_arrive_repeated_and_out_of_order(rt: HostRuntime) -> Result<(), Fail> {
-    let alloc = rt.alloc();
-    let mut end = Reassembly::new(alloc);
-    let third = frame(alloc, 1, 9, 2, 3, &[3])?;
-    let first = frame(alloc, 1, 9, 0, 3, &[1; 1024])?;
-    let again = frame(alloc, 1, 9, 0, 3, &[4; 1024])?;
-    let foreign = frame(alloc, 2, 9, 1, 3, &[5; 1024])?;
-    let second = frame(alloc, 1, 9, 1, 3, &[2; 1024])?;
-    for early in [third, first, again, foreign] {
-        assert!(rt; end.take(alloc, early)?.is_none());
-    }
-    let mut expected = vec![in alloc; 1u8; 1024]?;
-    expected.extend_from_slice(&[2; 1024])?;
-    expected.push(3)?;
-    assert_eq!(rt; end.take(alloc, second)?, Some(expected));
-    Ok(())
-}
-
-#[test]
-fn the_oldest_of_65_partial_packets_is_dropped(rt: HostRuntime) -> Result<(), Fail> {
-    let alloc = rt.alloc();
-    let mut end = Reassembly::new(alloc);
-    for number in 0..65 {
-        let first = frame(alloc, 1, number, 0, 2, &[1; 1024])?;
-        assert!(rt; end.take(alloc, first)?.is_none());
-    }
-    for number in 1..65 {
-        let last = frame(alloc, 1, number, 1, 2, &[2])?;
-        assert!(rt; end.take(alloc, last)?.is_some());
-    }
-    let last = frame(alloc, 1, 0, 1, 2, &[2])?;
-    assert!(rt; end.take(alloc, last)?.is_none());
     Ok(())
 }
 

@@ -2,8 +2,6 @@
 //! the network and modules. The expected results are from other programs, or computed by hand.
 #![tactic(auto)]
 
-#[cfg(test)]
-mod instances;
 pub mod setups;
 #[cfg(test)]
 mod tests;

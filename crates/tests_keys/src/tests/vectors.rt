@@ -9,14 +9,6 @@ pub(crate) fn root_2() -> [u8; 32] {
     ]
 }
 
-/// The root over 32 zero bytes, at height 4.
-pub(crate) fn root_4() -> [u8; 32] {
-    [
-        228, 151, 7, 3, 17, 77, 210, 185, 182, 151, 183, 133, 79, 237, 28, 110, 153, 151, 85, 101,
-        34, 92, 23, 16, 189, 236, 89, 53, 50, 161, 36, 127,
-    ]
-}
-
 /// The root over 32 zero bytes, at height 13.
 pub(crate) fn root_13() -> [u8; 32] {
     [

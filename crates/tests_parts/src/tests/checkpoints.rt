@@ -2,7 +2,7 @@
 //! another program's.
 ghost use Rattle.std.specs.Prelude.{◌≡◌, ◌<◌, ◌≤◌, IfOk, length};
 
-use iss_checkpoint::{Added, Cert, Refusal, Tally, Vote, check, vote_statement};
+use iss_checkpoint::{Added, Cert, Refusal, Tally, Vote, vote_statement};
 use iss_keys::{Keys, SharedDirectory};
 use iss_log::{Chains, End};
 use iss_request::{Batch, Bytes, Epoch, Kind, NoMemory, NodeId, Nodes, Policy, Seq, Setup, Value};
@@ -101,31 +101,6 @@ fn a_vote_counts_once(rt: HostRuntime) -> Result<(), Fail> {
     Ok(())
 }
 
-#[test]
-fn a_second_vote_completes_the_quorum(rt: HostRuntime) -> Result<(), Fail> {
-    let alloc = rt.alloc();
-    let setup = three(alloc);
-    let keys = directory(alloc, setup.n)?;
-    let mut tally = Tally::new(alloc, &setup, keys, Epoch(0));
-    assert_eq!(rt; add(&mut tally, vote_of(alloc, &setup, 2, 2)?)?, "counted");
-    assert_eq!(rt; add(&mut tally, vote_of(alloc, &setup, 0, 0)?)?, "stable");
-    assert_eq!(rt; add(&mut tally, vote_of(alloc, &setup, 1, 1)?)?, "counted");
-    Ok(())
-}
-
-#[test]
-fn a_vote_on_another_epoch_is_refused(rt: HostRuntime) -> Result<(), Fail> {
-    let alloc = rt.alloc();
-    let setup = three(alloc);
-    let keys = directory(alloc, setup.n)?;
-    let mut tally = Tally::new(alloc, &setup, keys, Epoch(1));
-    assert_eq!(rt;
-        add(&mut tally, vote_of(alloc, &setup, 0, 0)?)?,
-        "other epoch"
-    );
-    Ok(())
-}
-
 // The certificate of nodes 0 and 2.
 fn certificate(alloc: Global, setup: &Setup, keys: &SharedDirectory) -> Result<Option<Cert>, Fail>
     requires { setup.now.n ≡ 3 }
@@ -179,27 +154,6 @@ fn adopted(
     Ok(Some(adopt(alloc, setup, keys.directory(), &chains, Epoch(0), &piece)?))
 }
 
-#[test]
-fn a_certificate_is_checked(rt: HostRuntime) -> Result<(), Fail> {
-    let alloc = rt.alloc();
-    let setup = three(alloc);
-    let keys = directory(alloc, setup.n)?;
-    let Some(cert) = certificate(alloc, &setup, &keys)? else {
-        return Err(Fail::from(NoMemory));
-    };
-    assert_eq!(rt; cert.signers.len(), 2);
-    assert!(rt; check(&setup, keys.directory(), &cert));
-    Ok(())
-}
-
-// How many strings were hashed for what was adopted, or the ends that differ.
-fn strings(adoption: &Option<Adoption>) -> Option<usize> {
-    match adoption {
-        Some(Adoption::Adopt { hashed }) => Some(hashed.len()),
-        _ => None,
-    }
-}
-
 fn apart(adoption: &Option<Adoption>, ours: End, theirs: End) -> bool {
     match adoption {
         Some(
@@ -210,16 +164,6 @@ fn apart(adoption: &Option<Adoption>, ours: End, theirs: End) -> bool {
         ) => *one == ours && *other == theirs,
         _ => false,
     }
-}
-
-#[test]
-fn three_batches_are_adopted(rt: HostRuntime) -> Result<(), Fail> {
-    let alloc = rt.alloc();
-    let setup = three(alloc);
-    let keys = directory(alloc, setup.n)?;
-    let adoption = adopted(alloc, &setup, &keys, empty(alloc))?;
-    assert_eq!(rt; strings(&adoption), Some(6));
-    Ok(())
 }
 
 #[test]

@@ -1,8 +1,5 @@
-//! Disks and journals, in memory and over a file of the operating system.
-ghost use Rattle.std.specs.Prelude.{◌≡◌, [], ◌∷◌};
-ghost use Rattle.iss_disk.specs.File.{settled};
-
-use iss_disk::{Disk, FileDisk, Fused, MemoryDisk};
+//! Journals, on a disk in memory and over a file of the operating system.
+use iss_disk::{Disk, FileDisk, MemoryDisk};
 use iss_journal::{AttachError, Journal};
 use std::alloc::Global;
 use std::fs;
@@ -80,58 +77,6 @@ fn a_length_past_the_end_is_damage(rt: HostRuntime) -> Result<(), Fail> {
     Ok(())
 }
 
-// Checks that a journal over these bytes is damaged at this offset, twice, and that the file stays what it was.
-fn assert_damage_stays(rt: &impl Abort, alloc: Global, bytes: &[u8], at: u64) -> Result<(), Fail> {
-    let mut disk = disk_with(alloc, bytes)?;
-    for _ in 0..2 {
-        let mut journal = Journal::over(alloc, &mut disk);
-        assert_eq!(rt; journal.attach(), Err(AttachError::Damaged { at }));
-    }
-    assert_file(rt, &mut disk, bytes)
-}
-
-// Two entries and a closed gate. A byte of either length is changed, each in turn.
-#[test]
-fn a_damaged_file_stays_as_it_is(rt: HostRuntime) -> Result<(), Fail> {
-    for k in 1..5usize {
-        let mut first = [1, 0, 0, 0, 1, 5, 1, 0, 0, 0, 1, 6, 0];
-        first[k] = 9;
-        assert_damage_stays(&rt, rt.alloc(), &first, 0)?;
-        let mut second = [1, 0, 0, 0, 1, 5, 1, 0, 0, 0, 1, 6, 0];
-        second[6 + k] = 9;
-        assert_damage_stays(&rt, rt.alloc(), &second, 6)?;
-    }
-    Ok(())
-}
-
-// The disk fails after n calls of an append. The entry is there exactly if all four succeeded.
-#[test]
-fn a_stop_at_each_call(rt: HostRuntime) -> Result<(), Fail> {
-    for calls in 0..6u64 {
-        let mut journal = Journal::over(rt.alloc(), MemoryDisk::new(rt.alloc())?);
-        journal.attach()?;
-        journal.append(b"first")?;
-        journal.fuse(calls);
-        let kept = journal.append(b"second").is_ok();
-        assert_eq!(rt; kept, calls >= 4);
-        journal.restart();
-        journal.attach()?;
-        let count = if kept { 2 } else { 1 };
-        assert_eq!(rt; journal.entries().len(), count);
-    }
-    Ok(())
-}
-
-// Whatever part of an append follows the closed gate, the entries before it are found.
-#[test]
-fn a_torn_append_is_cut_off(rt: HostRuntime) -> Result<(), Fail> {
-    let whole = [1, 0, 0, 0, 1, 5, 0, 0, 0, 0, 1, 6, 0];
-    for end in 7..14usize {
-        assert_attached(&rt, rt.alloc(), &whole[..end], 1, &whole[..7])?;
-    }
-    Ok(())
-}
-
 // An attached journal over a file of the operating system.
 fn file_journal(rt: &HostRuntime, name: &str) -> Result<Journal<FileDisk<HostRuntime>>, Fail> {
     let mut disk = FileDisk::new(rt.clone()?, rt.alloc());
@@ -155,38 +100,5 @@ fn a_file_is_attached_anew(rt: HostRuntime) -> Result<(), Fail> {
     fs::remove_file(&rt, name)?;
     assert_eq!(rt; journal.entries().len(), 1);
     assert_eq!(rt; journal.entries().get(0), b"kept".as_slice());
-    Ok(())
-}
-
-// Writes, syncs, and writes over what was synced.
-fn write_over<D: Disk>(disk: &mut D) -> Result<(), Fail>
-    requires { D.history disk.old ≡ settled [] ∷ [] }
-{
-    disk.reserve(8, 64)?;
-    disk.write_at(0, b"abc")?;
-    disk.sync()?;
-    disk.write_at(2, b"xyz")?;
-    Ok(())
-}
-
-// At most eight bytes of the file, from an offset on.
-fn read_some<D: Disk>(alloc: Global, disk: &mut D, at: u64) -> Result<Vec<u8>, Fail> {
-    let mut bytes = vec![in alloc; 0u8; 8]?;
-    let count = disk.read_at(at, &mut bytes)?;
-    bytes.truncate(count);
-    Ok(bytes)
-}
-
-// A crash leaves what was synced.
-#[test]
-fn a_crash_leaves_what_was_synced(rt: HostRuntime) -> Result<(), Fail> {
-    let mut disk = MemoryDisk::new(rt.alloc())?;
-    write_over(&mut disk)?;
-    let written = read_some(rt.alloc(), &mut disk, 0)?;
-    assert_eq!(rt; written.as_slice(), b"abxyz".as_slice());
-    disk.restart();
-    assert_eq!(rt; disk.length()?, 3);
-    let left = read_some(rt.alloc(), &mut disk, 1)?;
-    assert_eq!(rt; left.as_slice(), b"bc".as_slice());
     Ok(())
 }

@@ -1,8 +1,6 @@
-//! Values in bytes of each version, compared with digests of another program; byte strings that are no value, every cut
-//! of a value, and the other version's bytes.
+//! Values in bytes of each version, compared with digests of another program, and the other version's bytes.
 use iss_request::{
-    Batch, Bytes, DecodeError, Fields, ReqId, Request, Value, Writer, decode_value, digest_of,
-    encode_value, read_request, write_request,
+    Batch, Bytes, DecodeError, ReqId, Request, Value, decode_value, digest_of, encode_value,
 };
 use std::alloc::Global;
 use std::test::Fail;
@@ -102,48 +100,6 @@ fn digests_are_of_the_spelling(rt: HostRuntime) -> Result<(), Fail> {
 }
 
 #[test]
-fn each_cut_of_a_value_is_refused(rt: HostRuntime) -> Result<(), Fail> {
-    let alloc = rt.alloc();
-    let bytes = encode_value(alloc, 1, &one(alloc, 1)?)?;
-    let all = bytes.as_slice();
-    assert_eq!(rt; all.len(), 2223);
-    for cut in 0..all.len() {
-        let at = fault(alloc, 1, &all[..cut]);
-        assert!(rt; at.is_some());
-        // The signature begins at 10 and its digests at 15. The cut is in the second digest.
-        if cut == 78 {
-            assert_eq!(rt; at, Some(47));
-        }
-    }
-    assert!(rt; is_read_again(alloc, 1, all)?);
-    Ok(())
-}
-
-#[test]
-fn faults_are_named(rt: HostRuntime) -> Result<(), Fail> {
-    let alloc = rt.alloc();
-    assert_eq!(rt; fault(alloc, 1, &[]), Some(0));
-    assert_eq!(rt; fault(alloc, 1, &[2]), Some(0));
-    assert_eq!(rt; fault(alloc, 1, &[0, 0]), Some(1));
-    assert_eq!(rt; fault(alloc, 1, &[1, 33]), Some(1));
-    assert_eq!(rt; fault(alloc, 1, &[1, 0, 9]), Some(2));
-    assert_eq!(rt; fault(alloc, 1, &[1, 1, 7, 0, 0]), Some(3));
-    assert_eq!(rt; fault(alloc, 1, &[1, 1, 7, 0, 0, 0, 1, 1, 1]), Some(7));
-    assert_eq!(rt; fault(alloc, 1, &[1, 1, 7, 0, 0, 0, 1, 0, 2, 170]), Some(9));
-    assert_eq!(rt; fault(alloc, 1, &[1, 1, 7, 0, 0, 0, 1, 0, 0, 21]), Some(9));
-    for height in [2, 12, 13, 20] {
-        let cut = [1, 1, 7, 0, 0, 0, 1, 0, 0, height, 5];
-        assert_eq!(rt; fault(alloc, 1, &cut), Some(10));
-    }
-    assert_eq!(rt; fault(alloc, 2, &[2]), Some(1));
-    assert_eq!(rt; fault(alloc, 2, &[2, 0]), Some(1));
-    assert_eq!(rt; fault(alloc, 2, &[2, 1, 1]), Some(1));
-    assert_eq!(rt; fault(alloc, 2, &[2, 0, 0, 9]), Some(3));
-    assert_eq!(rt; fault(alloc, 2, &[2, 0, 1, 7, 0, 0]), Some(4));
-    Ok(())
-}
-
-#[test]
 fn the_other_version_is_refused_at_its_byte(rt: HostRuntime) -> Result<(), Fail> {
     let alloc = rt.alloc();
     let first = many(alloc, 1, 1)?;
@@ -174,18 +130,5 @@ fn each_version_has_its_largest_batch(rt: HostRuntime) -> Result<(), Fail> {
     assert!(rt; begins(most.as_slice(), &[2, 1, 0, 7]));
     assert!(rt; is_read_again(alloc, 2, most.as_slice())?);
     assert_eq!(rt; fault(alloc, 2, many(alloc, 2, 257)?.as_slice()), Some(1));
-    Ok(())
-}
-
-#[test]
-fn what_has_no_spelling_is_not_read(rt: HostRuntime) -> Result<(), Fail> {
-    let alloc = rt.alloc();
-    let long = encode_value(alloc, 1, &one(alloc, 257)?)?;
-    assert_eq!(rt; fault(alloc, 1, long.as_slice()), Some(7));
-    let mut out = Writer::new(alloc, 1);
-    write_request(&signed(alloc, 256)?, &mut out)?;
-    let mut f = Fields::over(1, out.as_slice());
-    assert_eq!(rt; read_request(alloc, &mut f)?.payload.len(), 256);
-    assert!(rt; f.is_done());
     Ok(())
 }

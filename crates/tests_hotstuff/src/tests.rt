@@ -1,4 +1,0 @@
-mod bad;
-mod damaged;
-mod messages;
-mod runs;
