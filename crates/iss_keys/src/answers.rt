@@ -77,13 +77,14 @@ impl Answer {
 }
 
 // The number of sets of the cache for `nodes` nodes. One message can carry, for each node of a quorum, a quorum's
-// signatures for each of 64 slots. There is room for twice as many, up to 16,384.
+// signatures for each of 64 slots. There is room for twice as many, up to 16,384; and for 8,192 at least, since a node
+// that recovers checks each request of its journal again.
 fn sets_for(n: usize) -> usize
     ensures low { 1 ≤ result }
     ensures high { result ≤ 8192 }
 {
     let quorum = 2 * (n.min(40) / 3) + 1;
-    let places = (128 * quorum * quorum).clamp(1024, 16_384);
+    let places = (128 * quorum * quorum).clamp(8192, 16_384);
     places.next_power_of_two() / SET
 }
 
