@@ -34,7 +34,8 @@ fn time_read(rt: &HostRuntime, text: &[u8]) -> Result<Schedule, Fail> {
 fn time_write(rt: &HostRuntime, schedule: &Schedule) -> Result<(), Fail> {
     let start = Instant::now(rt)?;
     let written = write(rt.alloc(), schedule)?;
-    print_since(rt, "write", start, written.len() as u32)
+    let length = u32::try_from(written.len()).unwrap_or(u32::MAX);
+    print_since(rt, "write", start, length)
 }
 
 /// Prints the times of hashing, reading and writing a text with this many pairs of events.
