@@ -1,17 +1,15 @@
-//! Printing the times of a workload and its digests.
-use bench_digests::digests::Best;
+//! Times, in nanoseconds.
 use std::test::Fail;
+use std::time::Instant;
 
-/// Prints a line of times: of one workload, compared with its digests.
-pub(crate) fn print_times(
+/// Prints how long it took since this time. `last` is what was computed, so that the compiler does not remove it.
+pub(crate) fn print_since(
     rt: &HostRuntime,
     what: &str,
-    best: Best,
-    count: u64,
+    start: Instant,
+    last: u32,
 ) -> Result<(), Fail> {
-    let each = best.work / count.max(1);
-    let a_second = 1_000_000_000u64.saturating_mul(count) / best.work.max(1);
-    let percent = best.work.saturating_mul(100) / best.digests.max(1);
-    println!(rt; "{what}: {each} ns each, {a_second} a second, {percent} percent of its digests")?;
+    let nanos = start.elapsed(rt)?.as_nanos();
+    println!(rt; "{what} {nanos} {last}")?;
     Ok(())
 }

@@ -1,9 +1,9 @@
 // Links over UDP sockets of 127.0.0.1: the trusted edge. Nothing is proved about which frames arrive.
-ghost use Rattle.std.specs.Prelude.{◌≡◌, ◌≤◌, ◌<◌, ◌+◌, Ok, IfOk, IsErr, IfSome, length};
+ghost use Rattle.std.specs.Prelude.{◌≡◌, ◌≤◌, ◌<◌, ◌+◌, ◌*◌, Ok, IfOk, IsErr, IfSome, length};
 ghost use Rattle.iss_links.specs.Calls.{HasCause};
 
 use crate::frames::{PACKET_MAX, frame_of, parts_of, write_frame};
-use crate::{Arrival, EndError, Failed, Links, Reassembly};
+use crate::{Arrival, EndError, Failed, Links, NoMemory, Reassembly};
 use std::alloc::Global;
 use std::io;
 use std::io::ErrorKind;
@@ -78,6 +78,43 @@ fn open<R: Net>(net: &R, port: u16, is_alone: bool) -> io::Result<UdpSocket> {
     Ok(socket)
 }
 
+// An end at this port.
+fn open_end<R: Net>(
+    net: &R,
+    alloc: Global,
+    port: u16,
+    number: u32,
+    is_alone: bool,
+) -> io::Result<UdpEnd> {
+    let socket = open(net, port, is_alone)?;
+    Ok(UdpEnd {
+        number,
+        socket,
+        partials: Reassembly::new(alloc),
+    })
+}
+
+// The ends `first` to `first + count - 1`, or the first refusal of the system.
+fn open_all<R: Net>(
+    net: &R,
+    alloc: Global,
+    port: u16,
+    first: u32,
+    count: u32,
+) -> Result<io::Result<Vec<UdpEnd>>, NoMemory>
+    requires port { port ≤ 65000 }
+    requires ends { first + count ≤ 256 }
+{
+    let mut ends = Vec::new(alloc);
+    for number in first..first + count {
+        match open_end(net, alloc, port + number as u16, number, count == 1) {
+            Ok(end) => ends.push(end)?,
+            Err(error) => return Ok(Err(error)),
+        }
+    }
+    Ok(Ok(ends))
+}
+
 // `None` if the call would block, or waited in vain.
 fn none_if_blocked<T: Drop>(answer: io::Result<T>) -> io::Result<Option<T>>
     ensures { IfOk result (λ r. IfSome r (λ value. answer ≡ Ok value)) }
@@ -119,6 +156,54 @@ fn receive(socket: &UdpSocket, into: &mut [u8]) -> io::Result<Option<usize>>
     }
 }
 
+// The datagram of a part of a packet.
+fn datagram_of(
+    alloc: Global,
+    from: u8,
+    number: u64,
+    packet: &[u8],
+    part: u32,
+) -> Result<Vec<u8>, NoMemory>
+    requires part { 1024 * part < length packet.now }
+    requires packet { length packet.now ≤ 200000016 }
+{
+    let frame = frame_of(alloc, from, number, packet, part)?;
+    write_frame(alloc, &frame)
+}
+
+impl UdpEnd {
+    // Sends a packet to a port, or its parts before the first that the system refuses.
+    fn send_parts(
+        &self,
+        alloc: Global,
+        port: u16,
+        from: u8,
+        number: u64,
+        packet: &[u8],
+    ) -> Result<io::Result<()>, NoMemory>
+        requires { length packet.now ≤ 200000016 }
+    {
+        for part in 0..parts_of(packet.len()) {
+            let datagram = datagram_of(alloc, from, number, packet, part)?;
+            let sent = send_datagram(&self.socket, port, &datagram);
+            if sent.is_err() {
+                return Ok(sent);
+            }
+        }
+        Ok(Ok(()))
+    }
+
+    // Takes a frame, if one waits.
+    fn take_one(&mut self, alloc: Global) -> Result<io::Result<Arrival>, NoMemory> {
+        let mut buffer = [0u8; BUFFER];
+        match receive(&self.socket, &mut buffer) {
+            Ok(Some(len)) => Ok(Ok(self.partials.take_datagram(alloc, &buffer[..len])?)),
+            Ok(None) => Ok(Ok(Arrival::Nothing)),
+            Err(error) => Ok(Err(error)),
+        }
+    }
+}
+
 impl<R: Net> Links for UdpLinks<R> {
     ghost use Rattle.std.specs.Prelude.{None};
 
@@ -128,18 +213,9 @@ impl<R: Net> Links for UdpLinks<R> {
 
     fn attach(&mut self, port: u16, first: u32, count: u32) -> Result<(), EndError> {
         self.ends = Vec::new(self.alloc);
-        let mut ends = Vec::new(self.alloc);
-        for number in first..first + count {
-            let opened = open(&self.net, port + number as u16, count == 1);
-            let socket = count_fault(opened, &mut self.faults)?;
-            ends.push(UdpEnd {
-                number,
-                socket,
-                partials: Reassembly::new(self.alloc),
-            })?;
-        }
+        let opened = open_all(&self.net, self.alloc, port, first, count)?;
+        self.ends = count_fault(opened, &mut self.faults)?;
         self.port = port;
-        self.ends = ends;
         Ok(())
     }
 
@@ -148,26 +224,14 @@ impl<R: Net> Links for UdpLinks<R> {
         if packet.len() > PACKET_MAX {
             return Ok(());
         }
-        for part in 0..parts_of(packet.len()) {
-            let frame = frame_of(self.alloc, from as u8, number, packet, part)?;
-            let datagram = write_frame(self.alloc, &frame)?;
-            let sent = send_datagram(&self.ends[i].socket, self.port + to as u16, &datagram);
-            count_fault(sent, &mut self.faults)?;
-        }
-        Ok(())
+        let port = self.port + to as u16;
+        let sent = self.ends[i].send_parts(self.alloc, port, from as u8, number, packet)?;
+        Ok(count_fault(sent, &mut self.faults)?)
     }
 
     fn take(&mut self, at: u32) -> Result<Arrival, EndError> {
         let i = count_fault(index_of(&self.ends, at), &mut self.faults)?;
-        let mut buffer = [0u8; BUFFER];
-        let received = receive(&self.ends[i].socket, &mut buffer);
-        match count_fault(received, &mut self.faults)? {
-            Some(len) => Ok(
-                self.ends[i]
-                    .partials
-                    .take_datagram(self.alloc, &buffer[..len])?,
-            ),
-            None => Ok(Arrival::Nothing),
-        }
+        let taken = self.ends[i].take_one(self.alloc)?;
+        Ok(count_fault(taken, &mut self.faults)?)
     }
 }

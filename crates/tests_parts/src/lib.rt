@@ -1,7 +1,8 @@
-//! Tests of public calls of the crates below the model: formats, schedules, disks, journals, the parts of a node,
-//! the network and modules. The expected results are from other programs, or computed by hand.
+//! Tests of public calls, where neither a clause nor a worked schedule shows what they answer: keys, signatures and
+//! digests beside another program's, the second version of the formats, links, files. They are a crate of their own,
+//! since a crate that has tests is proved twice.
 #![tactic(auto)]
 
-pub mod setups;
+pub mod packets;
 #[cfg(test)]
 mod tests;

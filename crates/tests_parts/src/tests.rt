@@ -1,7 +1,11 @@
 //! Tests of each crate's calls, each in a module of its own.
 mod checkpoints;
+mod configs;
+mod handed_out;
 mod journals;
-mod layouts;
-mod packets;
-mod requests;
+mod keys;
+mod links;
 mod schedules;
+mod tall_keys;
+mod vectors;
+mod versions;
