@@ -150,7 +150,12 @@ fn message(alloc: Global) -> Result<Packet, Fail> {
 fn is_packet(alloc: Global, version: u8, bytes: &[u8]) -> Result<bool, Fail> {
     let sent = message(alloc)?;
     let written = sent.encode(alloc, version)?;
-    let read = Packet::decode(alloc, version, 3, &Bytes::of(Vec::from_slice(alloc, bytes)?))?;
+    let read = Packet::decode(
+        alloc,
+        version,
+        3,
+        &Bytes::of(Vec::from_slice(alloc, bytes)?),
+    )?;
     Ok(
         written.as_slice() == bytes
             && read.epoch == sent.epoch
