@@ -489,19 +489,22 @@ module _ {M Msg : Type 0} (m : Module Msg) (refines : Relation M Msg) where
         entries = inr (event, kept ∙ (b.cores i g at).entries ∙ ap (λ (d : Disk). spelled d.kept) (set_at-same w.disks i (keeps (w.disks i) event)));
       }
 
-      left-so : IsLeft m refines (record { setup = v.setup; nodes = set v.nodes i later; network = net; signed = signed; hashed = hashed }) w
-      left-so = record {
-        core = i;
-        others = λ j k e ne. elim (written v.nodes i j later k lt e) [
-          | inl z ↦ absurd (ne z.1)
-          | inr z ↦ other-there j k z.0 z.1
-        ];
-        there = λ k e.
-            let is : k ≡ later = some-injective k later (sym e ∙ get-set_same v.nodes i later lt) in
-            subst (λ (x : KeptState M Msg MemoryDisk). HasRetreated m v.setup (node_of v.setup i) x (w.held.net.cores i) (w.disks i)) (sym is) retreated;
-        network = same_net ∙ b.network;
-        signed = subst (λ (xs : List (List ℕ)). AreSigned xs w.held.signed) (sym same_signed) b.signed;
-      }
+      left-so : IsLeftBy m refines (Some i) (record { setup = v.setup; nodes = set v.nodes i later; network = net; signed = signed; hashed = hashed }) w
+      left-so =
+          let left : IsLeft m refines (record { setup = v.setup; nodes = set v.nodes i later; network = net; signed = signed; hashed = hashed }) w =
+          record {
+            core = i;
+            others = λ j k e ne. elim (written v.nodes i j later k lt e) [
+              | inl z ↦ absurd (ne z.1)
+              | inr z ↦ other-there j k z.0 z.1
+            ];
+            there = λ k e.
+                let is : k ≡ later = some-injective k later (sym e ∙ get-set_same v.nodes i later lt) in
+                subst (λ (x : KeptState M Msg MemoryDisk). HasRetreated m v.setup (node_of v.setup i) x (w.held.net.cores i) (w.disks i)) (sym is) retreated;
+            network = same_net ∙ b.network;
+            signed = subst (λ (xs : List (List ℕ)). AreSigned xs w.held.signed) (sym same_signed) b.signed;
+          } in
+          (left, refl)
 
       pub turn-ended : (outcome : Outcome) (end : Evidence) → IsMade t outcome → Some (end_of end) ≡ ends_by v.setup w.held.signed w.held.hashed outcome.early outcome.hashed →
           HasChanged m refines (Some i) (record { setup = v.setup; nodes = set v.nodes i later; network = net; signed = signed; hashed = hashed })
@@ -510,7 +513,7 @@ module _ {M Msg : Type 0} (m : Module Msg) (refines : Relation M Msg) where
           subst (λ (d : Happening Msg). HasChanged m refines (Some i) (record { setup = v.setup; nodes = set v.nodes i later; network = net; signed = signed; hashed = hashed })
           (with_disks w behind-it d) (Ended end))
           (sym (turn-ends v.setup w.held i t (end_of end) (sym (is ∙ made-ends v.setup w.held t outcome made))))
-          ((left-so, refl), refl, refl)
+          (left-so, refl, refl)
 
     pub turn-refines : (outcome : Outcome) (net : Network) (signed : List (List ℕ)) (hashed : List (List ℕ × List ℕ)) → IsMade t outcome →
         ends_by v.setup w.held.signed w.held.hashed outcome.early outcome.hashed ≡ None →

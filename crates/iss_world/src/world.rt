@@ -104,8 +104,8 @@ impl<M: Sequenced> World<M> {
         ensures happened { (p : Course M.Msg) → RefinesRun M.spec M.refines self.old p →
             HasHappened M.spec M.refines self.new p
             (run_event_if_open_in (frame_of self.old.simulation.setup M.spec) p event.now) result }
-        ensures silent { (p : Course M.Msg) → RefinesRun M.spec M.refines self.old p → p.ended ≡ None → IsAnswered result →
-            AreStaleBehind (frame_of self.old.simulation.setup M.spec) p event.now self.new }
+        ensures silent { (p : Course M.Msg) → RefinesRun M.spec M.refines self.old p → p.ended ≡ None →
+            IsAnswered result → AreStaleBehind (frame_of self.old.simulation.setup M.spec) p event.now self.new }
         ensures headline { (events : List ScheduleEvent) → AreInRange self.old.simulation.setup events →
             RefinesEvents self.old.simulation.setup M.spec M.refines self.old events → IsAnswered result →
             IsHeadline self.old.simulation.setup M.spec M.refines self.new (events ++ event.now ∷ []) }
