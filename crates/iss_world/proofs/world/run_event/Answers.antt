@@ -1,4 +1,5 @@
 use Rattle.std.proofs.Common.{None}
+use Rattle.std.proofs.lemmas.Result.{IfOk-weaker}
 use Rattle.iss_rules.specs.Concrete.{rules_of}
 use Rattle.iss_rules.specs.Formats.{formats_of}
 use Rattle.iss_model.specs.Frames.{frame_of}
@@ -13,8 +14,10 @@ returns-in_ok-happened-in-Ended-clause-happened g c = λ p st.
     c.in_default.is c.in-Ended.is c.in_ok-event.ensures.happened c.in_ok-happened-in-Ended.happened c.in_ok-happened-in-Ended.ensures st
 
 pub returns-in-Some-clause-silent : goal.returns-in-Some-clause-silent
-returns-in-Some-clause-silent g c = λ p st going.
-    absurd (not-ended g.M.Sequenced.spec g.M.Sequenced.refines c.args.simulation.now c.args.ended.now c.in-Some.end p c.in-Some.is st going)
+returns-in-Some-clause-silent g c =
+    IfOk-weaker c.repeat_evidence.result _ _
+    (λ r told p st going. absurd (not-ended g.M.Sequenced.spec g.M.Sequenced.refines c.args.simulation.now c.args.ended.now c.in-Some.end p c.in-Some.is st going))
+    c.repeat_evidence.ensures
 
 pub returns-in-Done-clause-silent : goal.returns-in-Done-clause-silent
 returns-in-Done-clause-silent g c = λ p st going.
