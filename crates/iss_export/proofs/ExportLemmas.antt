@@ -1,27 +1,23 @@
 -- The epochs that a core exports are written one after another, and the text is whole.
 use Rattle.std.proofs.Common.{◌≡◌, ◌∙◌, inl, inr, ℕ, ◌+◌, ◌<◌, ◌≤◌, Bool, true, false, List, [], ◌∷◌, ◌++◌, length, map, take, drop, reverse, Option, Some, None, append_assoc, append-nil, length-append, refl, sym, ap, subst}
-use Rattle.std.specs.Prelude.{◌||◌}
-use Rattle.std.proofs.lemmas.Bool.{or_left}
 use Rattle.std.proofs.lemmas.List.{length-take-le, reverse-reverse, take-append-drop}
 use Rattle.iss_audit.specs.Exports.{AreBytes, IsCertifiedText, IsRangedCert, EachEpoch, cert_line, epoch_lines, lines_of, log_of, text_of, value_line}
 use Rattle.iss_audit.specs.declared.exports.CertifiedEpoch.{CertifiedEpoch}
 use Rattle.iss_audit.specs.declared.exports.Export.{Export}
 use Rattle.iss_audit.proofs.EpochLemmas.{each-push, log-push}
 use Rattle.iss_audit.proofs.ReadLemmas.{epochs-push}
-use Rattle.iss_base.proofs.Quorum.{or_right_true}
 use Rattle.iss_certified.specs.Exported.{AreCertifiedIfShort, AreExported, IsKept, IsRanged, certs_shown}
 use Rattle.iss_checkpoint.specs.declared.votes.Cert.{Cert}
 use Rattle.iss_disk.specs.declared.memory.MemoryDisk.{MemoryDisk}
-use Rattle.iss_export.specs.Exporting.{HasExported, HasPut, IsExported, IsSilent, IsWritten, was_given}
+use Rattle.iss_export.specs.Exporting.{HasExported, HasPut, IsExported, IsWritten, is_silent}
 use Rattle.iss_keep.specs.State.{KeptRefinesCore, KeptState}
-use Rattle.iss_model.specs.Courses.{Course, Machines}
+use Rattle.iss_model.specs.Courses.{Machines}
 use Rattle.iss_model.specs.Node.{Core}
 use Rattle.iss_model.specs.Run.{Held, node_of}
 use Rattle.iss_model.proofs.Twins.{node-is}
 use Rattle.iss_request.specs.declared.requests.Value.{Value}
 use Rattle.iss_request.specs.declared.setups.Setup.{Setup}
 use Rattle.iss_rules.specs.Concrete.{rules_of}
-use Rattle.iss_rules.specs.Ends.{End}
 use Rattle.iss_rules.specs.Past.{log_of as past_log}
 use Rattle.iss_schedule.specs.Schedules.{header_lines, most_bytes}
 use Rattle.iss_schedule.specs.Words.{ended}
@@ -31,8 +27,8 @@ use Rattle.iss_sb.specs.Calls.{Relation}
 use Rattle.iss_sb.specs.Evidence.{Module, is_correct}
 use Rattle.iss_texts.specs.Bodies.{last_line}
 use Rattle.iss_theorems.specs.Headline.{course_after, held_after, shown}
-use Rattle.iss_world.specs.Refines.{RefinesMachine, RefinesOrRetreated, RefinesOrShowsCore, RefinesRun, RefinesRunUntil, WorldRefinesMachines}
-use Rattle.iss_world.specs.State.{WorldState}
+use Rattle.iss_theorems.specs.Readers.{reader_after}
+use Rattle.iss_world.specs.Refines.{RefinesOrRetreated, RefinesOrShowsCore}
 
 -- ---- one epoch after another
 
@@ -92,18 +88,7 @@ put-none s c log old =
 
 -- ---- silent cores
 
-pub told-silent : (silent stale : Bool) (events : List Event) (a b : Option (ℕ × End)) (i : ℕ) → silent ≡ (stale || was_given events a i) → a ≡ b → silent ≡ (stale || was_given events b i)
-told-silent silent stale events a b i is same = subst (λ (o : Option (ℕ × End)). silent ≡ (stale || was_given events o i)) same is
-
-or-none : (a b : Bool) → b ≡ false → (a || b) ≡ a
-or-none true b is = refl
-or-none false b is = is
-
 module _ {M Msg : Type 0} (m : Module Msg) (refines : Relation M Msg) (g : KeptState M Msg MemoryDisk) (c : Core Msg) where
-  stale-is : (b : Bool) → RefinesOrShowsCore m refines g c b → g.stale ≡ b
-  stale-is true k = k.0
-  stale-is false k = k.fresh
-
   refines-then : (b : Bool) → RefinesOrShowsCore m refines g c b → g.stale ≡ false → KeptRefinesCore m refines g c
   refines-then false k fresh = k
   refines-then true k fresh = let no : true ≡ false = sym k.0 ∙ fresh in absurd (cc)
@@ -112,22 +97,6 @@ module _ {M Msg : Type 0} (m : Module Msg) (refines : Relation M Msg) (g : KeptS
   pub refines-core : (s : Setup) (me : ℕ) (d : _) → RefinesOrRetreated m refines s me g c d → g.stale ≡ false → KeptRefinesCore m refines g c
   refines-core s me d (inl k) fresh = refines-then d.failed k.there fresh
   refines-core s me d (inr k) fresh = let no : true ≡ false = sym k.stale ∙ fresh in absurd (cc)
-
-  -- a node whose disk has failed is stale
-  failed-stale : (s : Setup) (me : ℕ) (d : _) → RefinesOrRetreated m refines s me g c d → d.failed ≡ true → g.stale ≡ true
-  failed-stale s me d (inl k) failed = stale-is d.failed k.there ∙ failed
-  failed-stale s me d (inr k) failed = k.stale
-
-module _ {M Msg : Type 0} (m : Module Msg) (refines : Relation M Msg) (v : WorldState M Msg) (events : List Event) (p : Course Msg) (i : ℕ) (g : KeptState M Msg MemoryDisk) where
-  pub silent-is : (s : Setup) (me : ℕ) (silent : Bool) → RefinesRun m refines v p → RefinesOrRetreated m refines s me g (p.machines.held.net.cores i) (p.machines.disks i) →
-      ((w : Machines Msg) → WorldRefinesMachines m refines v w → RefinesMachine m refines g (w.held.net.cores i) (w.disks i)) → silent ≡ (g.stale || was_given events p.ended i) → IsSilent events p i silent
-  silent-is s me silent st left goes is = record {
-    failed = λ failed. is ∙ or_left g.stale (was_given events p.ended i) (failed-stale m refines g (p.machines.held.net.cores i) s me (p.machines.disks i) left failed);
-    given = λ given. is ∙ or_right_true g.stale (was_given events p.ended i) given;
-    goes_on = λ none.
-        let here = goes p.machines (subst (λ (o : Option (ℕ × End)). RefinesRunUntil m refines v p.machines o) none st) in
-        is ∙ or-none g.stale (was_given events p.ended i) (ap (λ (o : Option (ℕ × End)). was_given events o i) none) ∙ stale-is m refines g (p.machines.held.net.cores i) (p.machines.disks i).failed here.there;
-  }
 
 -- ---- the text
 
@@ -144,14 +113,9 @@ text-whole s epochs head body all h b a =
     a ∙ append_assoc body last_line (10 ∷ []) ∙ ap (λ (t : List ℕ). t ++ ended (last_line ∷ [])) (b ∙ ap (λ (t : List ℕ). t ++ ended lines) h)
     ∙ append_assoc (ended (header_lines s)) (ended lines) (ended (last_line ∷ [])) ∙ ap (λ (t : List ℕ). ended (header_lines s) ++ t) (sym (ended-append lines (last_line ∷ [])))
 
-pub written : {Msg : Type 0} (s : Setup) (M : Module Msg) (events : List Event) (p : Course Msg) (i : ℕ) (head body all : List ℕ) → head ≡ ended (header_lines s) → HasExported s M events p i head body → all ≡ body ++ last_line ++ 10 ∷ [] → IsWritten s M events p i all
-written s M events p i head body all h put a =
-    record {
-      silent = put.silent;
-      is_silent = put.is_silent;
-      text = record { epochs = put.put.epochs; exported = put.put.exported; text = text-whole s put.put.epochs head body all h put.put.text a };
-      ranged = put.put.ranged;
-    }
+pub written : {Msg : Type 0} (s : Setup) (M : Module Msg) (w : Machines Msg) (reader : Option ℕ) (i : ℕ) (head body all : List ℕ) → head ≡ ended (header_lines s) → HasExported s M w reader i head body → all ≡ body ++ last_line ++ 10 ∷ [] → IsWritten s M w reader i all
+written s M w reader i head body all h put a =
+    record { text = record { epochs = put.epochs; exported = put.exported; text = text-whole s put.epochs head body all h put.text a }; ranged = put.ranged }
 
 -- ---- what is exported is certified
 
@@ -159,17 +123,15 @@ abbrev pub AreAllCertified : {Msg : Type 0} → Setup → Module Msg → List Ev
 AreAllCertified s M events i = (silent : Bool) → is_correct s i ≡ true → (epochs : List CertifiedEpoch) → AreExported s (shown s M (held_after s M events) i) (certs_shown ((held_after s M events).net.cores i) silent) epochs →
     EachEpoch (IsRanged s) [] epochs → AreCertifiedIfShort s epochs
 
-pub exported : {Msg : Type 0} (s : Setup) (M : Module Msg) (events : List Event) (i : ℕ) (bytes : List ℕ) → AreAllCertified s M events i → IsWritten s M events (course_after s M events) i bytes → IsExported s M events i bytes
+pub exported : {Msg : Type 0} (s : Setup) (M : Module Msg) (events : List Event) (i : ℕ) (bytes : List ℕ) → AreAllCertified s M events i → IsWritten s M (course_after s M events).machines (reader_after s M events) i bytes → IsExported s M events i bytes
 exported s M events i bytes law w =
     let x : Export = record { setup = s; epochs = w.text.epochs } in
     record {
-      silent = w.silent;
-      is_silent = w.is_silent;
       text = w.text;
       certified = λ right. record {
         export = x;
         text = w.text.text;
         certified = λ short.
-            subst (λ (b : List ℕ). IsCertifiedText b x) (sym w.text.text) (law w.silent right w.text.epochs w.text.exported w.ranged (subst (λ (b : List ℕ). length b ≤ most_bytes) w.text.text short));
+            subst (λ (b : List ℕ). IsCertifiedText b x) (sym w.text.text) (law (is_silent s M events i) right w.text.epochs w.text.exported w.ranged (subst (λ (b : List ℕ). length b ≤ most_bytes) w.text.text short));
       };
     }

@@ -1,15 +1,17 @@
 //! The text that a core exports after a run.
-ghost use Rattle.std.specs.Prelude.{◌≡◌, ◌<◌, ◌≤◌, ◌||◌, IfOk, OnOk, false, length, take, drop};
-ghost use Rattle.iss_export.specs.Exporting.{HasExported, HasPut, IsExported, IsWritten, is_given, was_given};
+ghost use Rattle.std.specs.Prelude.{◌≡◌, ◌<◌, ◌≤◌, ℕ, IfOk, OnOk, Option, false, length, take, drop};
+ghost use Rattle.iss_export.specs.Exporting.{HasExported, HasPut, IsExported, IsWritten};
 ghost use Rattle.iss_keep.specs.State.{KeptRefinesCore};
 ghost use Rattle.iss_model.specs.Courses.{Course};
 ghost use Rattle.iss_model.specs.Node.{Core};
-ghost use Rattle.iss_replay.specs.Refines.{ReportRefinesRun, end_kept};
+ghost use Rattle.iss_replay.specs.Refines.{ReportRefinesRun};
 ghost use Rattle.iss_rules.specs.Setups.{IsSetupOf};
 ghost use Rattle.iss_certified.specs.Exported.{certs_shown};
 ghost use Rattle.iss_schedule.specs.Events.{AreInRange};
 ghost use Rattle.iss_schedule.specs.Schedules.{IsKnown};
 ghost use Rattle.iss_theorems.specs.Headline.{course_after};
+ghost use Rattle.iss_theorems.specs.Readers.{reader_after};
+ghost use Rattle.iss_world.specs.Refines.{AreStale};
 
 use iss_audit::{put_epoch, put_last};
 use iss_certified::exports_are_certified;
@@ -18,8 +20,7 @@ use iss_keep::Kept;
 use iss_replay::Report;
 use iss_request::{Bytes, Epoch, NoMemory, Setup, Value};
 use iss_sb::Sequenced;
-use iss_schedule::{Event, Schedule, put_header};
-use iss_world::ends::Evidence;
+use iss_schedule::{Schedule, put_header};
 use std::alloc::Global;
 
 /// The text that a core exports after the run of a schedule: the epochs of its log with the certificates that it keeps,
@@ -39,27 +40,30 @@ pub fn export<M: Sequenced>(
     requires core { core < schedule.now.setup.n }
     ensures { IfOk result (λ bytes. ReportRefinesRun M.spec M.refines report.now.world report.now.drops report.now.ended
         (course_after schedule.now.setup M.spec schedule.now.events) →
+        AreStale report.now.world (course_after schedule.now.setup M.spec schedule.now.events).machines
+        (reader_after schedule.now.setup M.spec schedule.now.events) →
         IsExported schedule.now.setup M.spec schedule.now.events core bytes) }
 {
     exports_are_certified::<M>();
-    write(alloc, schedule.events.as_slice(), report, core)
+    write(alloc, &schedule.setup, report, core)
 }
 
 // Writes the text that a core exports.
 fn write<M: Sequenced>(
     alloc: Global,
-    events: &[Event],
+    setup: &Setup,
     report: &Report<M>,
     core: u32,
 ) -> Result<Bytes, NoMemory>
-    requires { core < report.now.world.simulation.setup.n }
-    ensures { IfOk result (λ bytes. (p : Course M.Msg) →
+    requires same { report.now.world.simulation.setup ≡ setup.now }
+    requires core { core < setup.now.n }
+    ensures { IfOk result (λ bytes. (p : Course M.Msg) (reader : Option ℕ) →
         ReportRefinesRun M.spec M.refines report.now.world report.now.drops report.now.ended p →
-        IsWritten report.now.world.simulation.setup M.spec events.now p core bytes) }
+        AreStale report.now.world p.machines reader → IsWritten setup.now M.spec p.machines reader core bytes) }
 {
     let mut out = Vec::new(alloc);
-    put_header(&mut out, report.world.setup())?;
-    put_epochs(alloc, &mut out, events, report, core)?;
+    put_header(&mut out, setup)?;
+    put_epochs(alloc, &mut out, report, core)?;
     put_last(&mut out)?;
     Ok(Bytes::of(out))
 }
@@ -68,62 +72,29 @@ fn write<M: Sequenced>(
 fn put_epochs<M: Sequenced>(
     alloc: Global,
     out: &mut Vec<u8>,
-    events: &[Event],
     report: &Report<M>,
     core: u32,
 ) -> Result<(), NoMemory>
     requires { core < report.now.world.simulation.setup.n }
-    ensures { OnOk result ((p : Course M.Msg) →
+    ensures { OnOk result ((p : Course M.Msg) (reader : Option ℕ) →
         ReportRefinesRun M.spec M.refines report.now.world report.now.drops report.now.ended p →
-        HasExported report.now.world.simulation.setup M.spec events.now p core out.old.items out.new.items) }
+        AreStale report.now.world p.machines reader → HasExported report.now.world.simulation.setup M.spec p.machines
+        reader core out.old.items out.new.items) }
 {
     let world = &report.world;
     let node = world.node(core);
-    if is_silent(events, &report.ended, node, core) {
+    if is_silent(node) {
         return Ok(());
     }
     put_kept(alloc, out, world.setup(), node, world.entries(core))
 }
 
-// Whether a core exports no epoch: its disk has failed, or the evidence that ended the run was found in what it took.
+// Whether a core exports no epoch: its disk has failed, or it read the evidence that ended the run.
 // rule: Audit: A core exports nothing after its disk failed, or if evidence was found in what it took
-fn is_silent<M: Sequenced>(
-    events: &[Event],
-    ended: &Option<(u64, Evidence)>,
-    node: &Kept<M, MemoryDisk>,
-    core: u32,
-) -> bool
-    ensures { result ≡ (node.now.stale || was_given events.now (end_kept ended.now) core) }
+fn is_silent<M: Sequenced>(node: &Kept<M, MemoryDisk>) -> bool
+    ensures { result ≡ node.now.stale }
 {
-    node.stale() || was_given(events, ended, core)
-}
-
-// Whether the run ended at an event that gave the core something itself. Such a core is silent by the event alone; one
-// that a packet was delivered to is stale.
-fn was_given(events: &[Event], ended: &Option<(u64, Evidence)>, core: u32) -> bool
-    ensures { result ≡ was_given events.now (end_kept ended.now) core }
-{
-    match ended {
-        None => false,
-        Some((number, _)) => match events.get(*number as usize) {
-            None => false,
-            Some(event) => is_given(event, core),
-        },
-    }
-}
-
-// Whether the event itself gives the core something; packets that it delivers do not count.
-fn is_given(event: &Event, core: u32) -> bool
-    ensures { result ≡ is_given event.now core }
-{
-    match event {
-        Event::Request { core: at, .. } => *at == core,
-        Event::Propose { core: at } => *at == core,
-        Event::Timeout { core: at, .. } => *at == core,
-        Event::Ask { core: at, .. } => *at == core,
-        Event::Bytes { core: at, .. } => *at == core,
-        _ => false,
-    }
+    node.stale()
 }
 
 // Writes the epochs of this log for which the node keeps a certificate, up to the first for which it keeps none.

@@ -8,7 +8,11 @@ use Rattle.iss_rules.specs.Past.{log_of}
 use Rattle.iss_rules.specs.Rules.{Rules}
 use Rattle.iss_rules.specs.Ends.{End}
 use Rattle.iss_model.specs.Run.{Net, ended_at, node_of}
-use Rattle.iss_model.specs.Courses.{Course, apply_event, run_event, run_event_if_open}
+use Rattle.iss_model.specs.Courses.{Course, Upshot, apply_event, run_event, run_event_if_open}
+use Rattle.iss_model.specs.CourseFrames.{apply_event_in}
+use Rattle.iss_model.specs.Frames.{frame_of}
+use Rattle.iss_base.specs.Lists.{nth}
+use Rattle.iss_theorems.specs.Readers.{reader_after, reader_at, reader_of, reader_of_some, reader_until}
 use Rattle.iss_theorems.specs.Headline.{course_after}
 use Rattle.iss_theorems.proofs.CrashRecovery.LostEventsAreNumbered.{after-one, after-stays, end-notes-nothing, further-on}
 use Rattle.iss_model.proofs.Twins.{node-is}
@@ -29,7 +33,9 @@ use Rattle.iss_request.specs.declared.ids.NodeId.{NodeId}
 use Rattle.iss_request.specs.declared.requests.Value.{Value}
 use Rattle.iss_network.proofs.Keeping.{any_default}
 use Rattle.iss_world.proofs.PostLemmas.{take-next}
-use Rattle.iss_world.specs.Refines.{HasHappened, RefinesRun, end_of, why_ended}
+use Rattle.iss_world.proofs.CourseLemmas.{take-past}
+use Rattle.iss_world.proofs.WorldLemmas.{stale-goes}
+use Rattle.iss_world.specs.Refines.{AreStale, AreStaleBehind, HasHappened, RefinesRun, RefinesRunUntil, end_of, why_ended}
 use Rattle.iss_world.specs.State.{WorldState}
 use Rattle.iss_world.specs.declared.ends.Evidence.{Evidence}
 use Rattle.iss_world.specs.declared.ends.Evidence.TheVariants.{Forged as Evidence_forged, Collision as Evidence_collision}
@@ -67,6 +73,11 @@ pub one-line-more : (out now later : List ℕ) (ds : List (ℕ × Why)) (i : ℕ
 one-line-more out now later ds i d lt a b =
     b ∙ ap (λ (t : List ℕ). t ++ drop_line (get_or ds i d).0 (get_or ds i d).1) a
     ∙ lines-next out ds i (get_or ds i d) lt (any_default ds i d (get_or ds i d) lt)
+
+nth-get : (es : List Event) (i : ℕ) (d : Event) → i < length es → nth es i ≡ Some (get_or es i d)
+nth-get [] i d lt = absurd (omega arith)
+nth-get (e ∷ es) zero d lt = refl
+nth-get (e ∷ es) (suc i) d lt = nth-get es i d (omega arith)
 
 -- ---- runs, event by event
 
@@ -157,6 +168,43 @@ module _ {M Msg : Type 0} (m : Module Msg) (refines : Relation M Msg) where
       ap (λ (fs : List Event). course_after s m fs) (sym (take-append-drop i es))
       ∙ after-stays s m (take i es) (drop i es) (end_at end) (sym h.end_is) in
       subst (λ (q : Course Msg). ReportRefinesRun m refines later drops (Some end) q) (sym whole) h
+
+  -- ---- which cores are stale
+
+  -- The run has ended with evidence.
+  pub stale-over : (s t : Setup) (later : WorldState M Msg) (end : Evidence) (es : List Event) (i : ℕ) (e : Event) → t ≡ s → i < length es → e ≡ get_or es i e → end_kept None ≡ (course_after s m (take i es)).ended →
+      end_kept (Some (i, end)) ≡ (course_after s m (take (i + 1) es)).ended → AreStaleBehind (frame_of t m) (course_after s m (take i es)) e later → AreStale later (course_after s m es).machines (reader_after s m es)
+  stale-over s t later end es i e same lt is going over behind =
+      let W = frame_of s m in
+      let p = course_after s m (take i es) in
+      let d : Upshot Msg = apply_event_in W p.machines e in
+      let there : AreStaleBehind W p e later = subst (λ (u : Setup). AreStaleBehind (frame_of u m) p e later) same behind in
+      let next = next-run s es i e lt is going in
+      let whole : course_after s m es ≡ course_after s m (take (i + 1) es) =
+      ap (λ (fs : List Event). course_after s m fs) (sym (take-append-drop (i + 1) es))
+      ∙ after-stays s m (take (i + 1) es) (drop (i + 1) es) (end_at (i, end)) (sym over) in
+      let all = whole ∙ next in
+      let last : (course_after s m es).ended ≡ Some (i, end_of end) = ap (λ (q : Course Msg). q.ended) whole ∙ sym over in
+      let at : ended_at p.event d.ended ≡ Some (i, end_of end) = sym (ap (λ (q : Course Msg). q.ended) next) ∙ sym over in
+      let shown : d.ended ≡ Some (end_of end) = why-is p.event d.ended (end_of end) (ap why_ended at) in
+      let here : AreStale later d.machines (reader_of W p.machines e) =
+      subst (λ (o : Option End). AreStale later d.machines (reader_at o (reader_of W p.machines e) None)) shown there in
+      let found : nth es i ≡ Some e = nth-get es i e lt ∙ ap (λ (x : Event). Some x) (sym is) in
+      let reader : reader_after s m es ≡ reader_of W p.machines e =
+      ap (λ (o : Option (ℕ × End)). reader_until s m es o) last ∙ ap (λ (o : Option Event). reader_of_some W p.machines o) found in
+      subst (λ (o : Option ℕ). AreStale later (course_after s m es).machines o) (sym reader)
+      (subst (λ (q : Course Msg). AreStale later q.machines (reader_of W p.machines e)) (sym all) here)
+
+  -- The run has not ended.
+  pub stale-on : (s : Setup) (later : WorldState M Msg) (es : List Event) (i : ℕ) → length es ≤ i → RefinesRun m refines later (course_after s m (take i es)) → end_kept None ≡ (course_after s m (take i es)).ended →
+      AreStale later (course_after s m es).machines (reader_after s m es)
+  stale-on s later es i le st going =
+      let all : take i es ≡ es = take-past es i le in
+      let open' : (course_after s m es).ended ≡ None = ap (λ (fs : List Event). (course_after s m fs).ended) (sym all) ∙ sym going in
+      let there : RefinesRun m refines later (course_after s m es) = subst (λ (fs : List Event). RefinesRun m refines later (course_after s m fs)) all st in
+      let k = subst (λ (o : Option (ℕ × End)). RefinesRunUntil m refines later (course_after s m es).machines o) open' there in
+      subst (λ (o : Option ℕ). AreStale later (course_after s m es).machines o) (sym (ap (λ (o : Option (ℕ × End)). reader_until s m es o) open'))
+      (stale-goes m refines later.simulation None (course_after s m es).machines k.simulation)
 
   -- ---- blocks
 

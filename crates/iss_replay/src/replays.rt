@@ -1,5 +1,5 @@
 //! The run of a schedule, event by event.
-ghost use Rattle.std.specs.Prelude.{◌≡◌, IfOk, None};
+ghost use Rattle.std.specs.Prelude.{◌≡◌, IfOk, None, OnOk};
 ghost use Rattle.iss_model.specs.Frames.{frame_of};
 ghost use Rattle.iss_model.specs.Courses.{Course};
 ghost use Rattle.iss_model.specs.CourseFrames.{run_event_in};
@@ -7,6 +7,8 @@ ghost use Rattle.iss_theorems.specs.Headline.{IsWhole, course_after};
 ghost use Rattle.iss_rules.specs.Setups.{IsSetupOf};
 ghost use Rattle.iss_replay.specs.Refines.{ReportRefinesRun, numbered};
 ghost use Rattle.iss_schedule.specs.Events.{AreInRange, IsInRange};
+ghost use Rattle.iss_theorems.specs.Readers.{reader_after};
+ghost use Rattle.iss_world.specs.Refines.{AreStale, AreStaleBehind, RefinesRun};
 
 use iss_request::{NoMemory, Seq};
 use iss_rules::Why;
@@ -27,7 +29,8 @@ pub struct Report<M: Sequenced> {
 }
 
 /// Applies the events of a schedule to a new cluster, in order, up to an event that reveals evidence. The headline
-/// holds for the run (`whole`, see `IsWhole` in `iss_theorems`). The only error is out of memory.
+/// holds for the run (`whole`, see `IsWhole` in `iss_theorems`). Stale are the cores whose disk has failed and the one
+/// that read the evidence (`silent`). The only error is out of memory.
 // rule: Log: Of two correct nodes' logs one is a prefix of the other, and no request is in one twice
 // rule: Recovery: A run with crashes refines the run of its kept events without crashes
 pub fn replay<M: Sequenced>(alloc: Global, schedule: &Schedule) -> Result<Report<M>, NoMemory>
@@ -36,6 +39,9 @@ pub fn replay<M: Sequenced>(alloc: Global, schedule: &Schedule) -> Result<Report
     ensures run { IfOk result
         (λ r. ReportRefinesRun M.spec M.refines r.world r.drops r.ended
         (course_after schedule.now.setup M.spec schedule.now.events)) }
+    ensures silent { IfOk result (λ r. AreStale r.world
+        (course_after schedule.now.setup M.spec schedule.now.events).machines
+        (reader_after schedule.now.setup M.spec schedule.now.events)) }
     ensures same { IfOk result (λ r. r.world.simulation.setup ≡ schedule.now.setup) }
     ensures whole { IsWhole schedule.now.setup M.spec schedule.now.events }
 {
@@ -50,6 +56,9 @@ fn play<M: Sequenced>(alloc: Global, schedule: &Schedule) -> Result<Report<M>, N
     ensures run { IfOk result
         (λ r. ReportRefinesRun M.spec M.refines r.world r.drops r.ended
         (course_after schedule.now.setup M.spec schedule.now.events)) }
+    ensures silent { IfOk result (λ r. AreStale r.world
+        (course_after schedule.now.setup M.spec schedule.now.events).machines
+        (reader_after schedule.now.setup M.spec schedule.now.events)) }
     ensures same { IfOk result (λ r. r.world.simulation.setup ≡ schedule.now.setup) }
 {
     let events = schedule.events.as_slice();
@@ -88,6 +97,8 @@ pub fn run_event<M: Sequenced>(
         (λ end. (p : Course M.Msg) → p.event ≡ number → ReportRefinesRun M.spec M.refines world.old drops.old None p →
         ReportRefinesRun M.spec M.refines world.new drops.new (numbered number end)
         (run_event_in (frame_of world.old.simulation.setup M.spec) p event.now)) }
+    ensures silent { OnOk result ((p : Course M.Msg) → p.ended ≡ None → RefinesRun M.spec M.refines world.old p →
+        AreStaleBehind (frame_of world.old.simulation.setup M.spec) p event.now world.new) }
     ensures same { world.new.simulation.setup ≡ world.old.simulation.setup }
 {
     match world.event(alloc, event) {

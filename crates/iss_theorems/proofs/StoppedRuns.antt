@@ -2,3 +2,4 @@ pub mod BookIsComplete
 pub mod BooksAreWritten
 pub mod EvidenceIsValid
 pub mod RunShowsEvidence
+pub mod ReadersOfDeliveries

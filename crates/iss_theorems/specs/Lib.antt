@@ -6,3 +6,4 @@ pub mod Recovery
 pub mod Ends
 pub mod Leaves
 pub mod Headline
+pub mod Readers

@@ -42,7 +42,7 @@ use Rattle.iss_world.proofs.BookLemmas.{forged-append}
 use Rattle.iss_world.proofs.OverLemmas.{at-working, epoch-grown, log-grown, over-shows, over-stale}
 use Rattle.iss_world.specs.Books.{AreHashed, AreSigned}
 use Rattle.iss_world.specs.Internal.Shape.{IsNetworkOf, IsSimulation}
-use Rattle.iss_world.specs.Refines.{HasChanged, HasRetreated, IsLeft, RefinesMachine, RefinesMachines, RefinesOrShows, ShowsCore, end_of, spelled}
+use Rattle.iss_world.specs.Refines.{HasChanged, HasRetreated, IsLeft, IsLeftBy, RefinesMachine, RefinesMachines, RefinesOrShows, ShowsCore, end_of, spelled}
 use Rattle.iss_world.specs.State.{SimulationState}
 use Rattle.iss_world.specs.Internal.Steps.{HasAnswered, IsBehind, IsKeptTurn, ends_by, forged_in, kept_at, kept_to, stepped_to}
 use Rattle.iss_world.specs.declared.ends.EventOutcome.{EventOutcome}
@@ -233,7 +233,7 @@ module _ {M Msg : Type 0} (m : Module Msg) (refines : Relation M Msg) where
       RefinesMachines m refines v w → slice_get v.nodes i ≡ Some g →
       later.node.state.log.entries ≡ take (length g.node.state.log.entries) g.node.state.log.entries → later.node.state.epoch ≡ g.node.state.epoch →
       later.stale ≡ true → later.entries ≡ g.entries →
-      IsLeft m refines (record { setup = v.setup; nodes = set v.nodes i later; network = v.network; signed = v.signed; hashed = v.hashed }) w
+      IsLeftBy m refines (Some i) (record { setup = v.setup; nodes = set v.nodes i later; network = v.network; signed = v.signed; hashed = v.hashed }) w
   forged-left v w i g later r lt st at cut back gone kept =
       let shown = runs-show v w r st i g at in
       let whole = take_all (length g.node.state.log.entries) g.node.state.log.entries (omega arith) in
@@ -246,6 +246,7 @@ module _ {M Msg : Type 0} (m : Module Msg) (refines : Relation M Msg) where
         };
         entries = inl (kept ∙ (st.cores i g at).entries);
       } in
+      let left : IsLeft m refines (record { setup = v.setup; nodes = set v.nodes i later; network = v.network; signed = v.signed; hashed = v.hashed }) w =
       record {
         core = i;
         others = λ j k e ne. elim (written v.nodes i j later k lt e) [ inl z ↦ absurd (ne z.1) | inr z ↦ st.cores j k z.1 ];
@@ -254,7 +255,8 @@ module _ {M Msg : Type 0} (m : Module Msg) (refines : Relation M Msg) where
             subst (λ (x : KeptState M Msg MemoryDisk). HasRetreated m v.setup (node_of v.setup i) x (w.held.net.cores i) (w.disks i)) (sym is) retreated;
         network = st.network;
         signed = st.signed;
-      }
+      } in
+      (left, refl)
 
   -- ---- a node is replaced by a later state of it
 
@@ -319,12 +321,12 @@ module _ {M Msg : Type 0} (m : Module Msg) (refines : Relation M Msg) where
 
     -- A disk that is going to fail.
     pub crashed : (w : Machines Msg) (calls : ℕ) → RefinesMachines m refines v w → RefinesMachine m refines later (w.held.net.cores i) (fused (w.disks i) calls) →
-        HasChanged m refines v_later (machines_done (with_disk w i (fused (w.disks i) calls))) Done
+        HasChanged m refines None v_later (machines_done (with_disk w i (fused (w.disks i) calls))) Done
     crashed w calls st here = (runs-disk w (fused (w.disks i) calls) st here, refl, refl)
 
     -- A core that is recovered.
     pub remade-runs : (w : Machines Msg) → RefinesMachines m refines v w → RefinesMachine m refines later (w.held.net.cores i) (works_again (w.disks i)) →
-        HasChanged m refines v_later (machines_done (recover v.setup (formats_of v.setup m) (rules_of v.setup) m w i)) Done
+        HasChanged m refines None v_later (machines_done (recover v.setup (formats_of v.setup m) (rules_of v.setup) m w i)) Done
     remade-runs w st here =
         let kept : List NodeEvent = (w.disks i).kept in
         let c : Core Msg = core_of_kept (formats_of v.setup m) (rules_of v.setup) m (node_of v.setup i) kept in
@@ -379,22 +381,22 @@ module _ {M Msg : Type 0} (m : Module Msg) (refines : Relation M Msg) where
 
       -- The event was dropped, and nothing has changed.
       pub step-dropped : (why : Why) → answer ≡ Kept_dropped why → (w : Machines Msg) → RefinesMachines m refines v w → (w.disks i).failed ≡ false →
-          HasChanged m refines (v_later v i g later r lt at) (kept_to v.setup w i event (step_here w)) (Lost why)
+          HasChanged m refines (Some i) (v_later v i g later r lt at) (kept_to v.setup w i event (step_here w)) (Lost why)
       step-dropped why is w st working =
           let t = answer-is w st working (Kept_dropped why) is in
           let dropped : step_here w ≡ Dropped why = same-step w ∙ t.0 in
-          subst (λ (s : Stepped Msg). HasChanged m refines (v_later v i g later r lt at) (kept_to v.setup w i event s) (Lost why)) (sym dropped)
+          subst (λ (s : Stepped Msg). HasChanged m refines (Some i) (v_later v i g later r lt at) (kept_to v.setup w i event s) (Lost why)) (sym dropped)
           (runs-later v i g later r lt at w w st t.1 (λ j e. (refl, refl)) st.network st.signed st.hashed, refl, refl)
 
       -- The disk failed before the event was journaled.
       pub step-stopped : answer ≡ Failed → (w : Machines Msg) → RefinesMachines m refines v w → (w.disks i).failed ≡ false →
-          HasChanged m refines (v_later v i g later r lt at) (kept_to v.setup w i event (step_here w)) (Lost Stopped)
+          HasChanged m refines (Some i) (v_later v i g later r lt at) (kept_to v.setup w i event (step_here w)) (Lost Stopped)
       step-stopped is w st working =
           let t = answer-is w st working Failed is in
           let taken : step_here w ≡ Taken t.turn = same-step w ∙ t.step_is in
           let stopped : kept_to v.setup w i event (Taken t.turn) ≡ machines_lost (with_disk w i (fails (w.disks i))) Stopped =
           ap (λ (b : Bool). cond b (with_disks w (kept_at w i event) (stepped_to v.setup w.held i (Taken t.turn))) (machines_lost (with_disk w i (fails (w.disks i))) Stopped)) t.no_room in
-          subst (λ (u : Upshot Msg). HasChanged m refines (v_later v i g later r lt at) u (Lost Stopped)) (sym (ap (λ (s : Stepped Msg). kept_to v.setup w i event s) taken ∙ stopped))
+          subst (λ (u : Upshot Msg). HasChanged m refines (Some i) (v_later v i g later r lt at) u (Lost Stopped)) (sym (ap (λ (s : Stepped Msg). kept_to v.setup w i event s) taken ∙ stopped))
           (runs-disk v i g later r lt at w (fails (w.disks i)) st t.over, refl, refl)
 
       -- The event was accepted and journaled.
@@ -451,13 +453,13 @@ module _ {M Msg : Type 0} (m : Module Msg) (refines : Relation M Msg) where
         made-there = turn-kept.made
 
         pub step-taken : (new : SimulationState M Msg) (x : EventOutcome) →
-            HasChanged m refines new (with_disks w (kept_at w i event) (stepped_to v.setup w.held i (Taken turn-kept.turn))) x → HasChanged m refines new (kept_to v.setup w i event (step_here w)) x
+            HasChanged m refines (Some i) new (with_disks w (kept_at w i event) (stepped_to v.setup w.held i (Taken turn-kept.turn))) x → HasChanged m refines (Some i) new (kept_to v.setup w i event (step_here w)) x
         step-taken new x k =
             let t = turn-kept in
             let taken : step_here w ≡ Taken t.turn = same-step w ∙ t.step_is in
             let kept : kept_to v.setup w i event (Taken t.turn) ≡ with_disks w (kept_at w i event) (stepped_to v.setup w.held i (Taken t.turn)) =
             ap (λ (b : Bool). cond b (with_disks w (kept_at w i event) (stepped_to v.setup w.held i (Taken t.turn))) (machines_lost (with_disk w i (fails (w.disks i))) Stopped)) t.room in
-            subst (λ (u : Upshot Msg). HasChanged m refines new u x) (sym (ap (λ (s : Stepped Msg). kept_to v.setup w i event s) taken ∙ kept)) k
+            subst (λ (u : Upshot Msg). HasChanged m refines (Some i) new u x) (sym (ap (λ (s : Stepped Msg). kept_to v.setup w i event s) taken ∙ kept)) k
 
   -- ---- the effect of a turn
 
@@ -487,25 +489,28 @@ module _ {M Msg : Type 0} (m : Module Msg) (refines : Relation M Msg) where
         entries = inr (event, kept ∙ (b.cores i g at).entries ∙ ap (λ (d : Disk). spelled d.kept) (set_at-same w.disks i (keeps (w.disks i) event)));
       }
 
-      pub left-so : IsLeft m refines (record { setup = v.setup; nodes = set v.nodes i later; network = net; signed = signed; hashed = hashed }) w
-      left-so = record {
-        core = i;
-        others = λ j k e ne. elim (written v.nodes i j later k lt e) [
-          | inl z ↦ absurd (ne z.1)
-          | inr z ↦ other-there j k z.0 z.1
-        ];
-        there = λ k e.
-            let is : k ≡ later = some-injective k later (sym e ∙ get-set_same v.nodes i later lt) in
-            subst (λ (x : KeptState M Msg MemoryDisk). HasRetreated m v.setup (node_of v.setup i) x (w.held.net.cores i) (w.disks i)) (sym is) retreated;
-        network = same_net ∙ b.network;
-        signed = subst (λ (xs : List (List ℕ)). AreSigned xs w.held.signed) (sym same_signed) b.signed;
-      }
+      left-so : IsLeftBy m refines (Some i) (record { setup = v.setup; nodes = set v.nodes i later; network = net; signed = signed; hashed = hashed }) w
+      left-so =
+          let left : IsLeft m refines (record { setup = v.setup; nodes = set v.nodes i later; network = net; signed = signed; hashed = hashed }) w =
+          record {
+            core = i;
+            others = λ j k e ne. elim (written v.nodes i j later k lt e) [
+              | inl z ↦ absurd (ne z.1)
+              | inr z ↦ other-there j k z.0 z.1
+            ];
+            there = λ k e.
+                let is : k ≡ later = some-injective k later (sym e ∙ get-set_same v.nodes i later lt) in
+                subst (λ (x : KeptState M Msg MemoryDisk). HasRetreated m v.setup (node_of v.setup i) x (w.held.net.cores i) (w.disks i)) (sym is) retreated;
+            network = same_net ∙ b.network;
+            signed = subst (λ (xs : List (List ℕ)). AreSigned xs w.held.signed) (sym same_signed) b.signed;
+          } in
+          (left, refl)
 
       pub turn-ended : (outcome : Outcome) (end : Evidence) → IsMade t outcome → Some (end_of end) ≡ ends_by v.setup w.held.signed w.held.hashed outcome.early outcome.hashed →
-          HasChanged m refines (record { setup = v.setup; nodes = set v.nodes i later; network = net; signed = signed; hashed = hashed })
+          HasChanged m refines (Some i) (record { setup = v.setup; nodes = set v.nodes i later; network = net; signed = signed; hashed = hashed })
           (with_disks w behind-it (stepped_to v.setup w.held i (Taken t))) (Ended end)
       turn-ended outcome end made is =
-          subst (λ (d : Happening Msg). HasChanged m refines (record { setup = v.setup; nodes = set v.nodes i later; network = net; signed = signed; hashed = hashed })
+          subst (λ (d : Happening Msg). HasChanged m refines (Some i) (record { setup = v.setup; nodes = set v.nodes i later; network = net; signed = signed; hashed = hashed })
           (with_disks w behind-it d) (Ended end))
           (sym (turn-ends v.setup w.held i t (end_of end) (sym (is ∙ made-ends v.setup w.held t outcome made))))
           (left-so, refl, refl)
@@ -513,10 +518,10 @@ module _ {M Msg : Type 0} (m : Module Msg) (refines : Relation M Msg) where
     pub turn-refines : (outcome : Outcome) (net : Network) (signed : List (List ℕ)) (hashed : List (List ℕ × List ℕ)) → IsMade t outcome →
         ends_by v.setup w.held.signed w.held.hashed outcome.early outcome.hashed ≡ None →
         net ≡ posted_all v.setup v.network i outcome.sends → AreSigned signed (booked v.setup i outcome.own ++ w.held.signed) → AreHashed hashed (push_all outcome.hashed w.held.hashed) →
-        HasChanged m refines (record { setup = v.setup; nodes = v.nodes; network = net; signed = signed; hashed = hashed })
+        HasChanged m refines (Some i) (record { setup = v.setup; nodes = v.nodes; network = net; signed = signed; hashed = hashed })
         (with_disks w behind-it (stepped_to v.setup w.held i (Taken t))) Done
     turn-refines outcome net signed hashed made none en es eh =
-        subst (λ (d : Happening Msg). HasChanged m refines (record { setup = v.setup; nodes = v.nodes; network = net; signed = signed; hashed = hashed }) (with_disks w behind-it d) Done)
+        subst (λ (d : Happening Msg). HasChanged m refines (Some i) (record { setup = v.setup; nodes = v.nodes; network = net; signed = signed; hashed = hashed }) (with_disks w behind-it d) Done)
         (sym (turn-done v.setup w.held i t (sym (made-ends v.setup w.held t outcome made) ∙ none))) (
           record {
             cores = b.cores;

@@ -1,6 +1,6 @@
 -- A world that refines a run, as events are applied to it.
-use Rattle.std.proofs.Common.{inl, inr, ◌≡◌, ℕ, suc, Bool, false, List, Option, Some, None, refl, sym, subst}
-use Rattle.std.specs.Prelude.{option_map, slice_get}
+use Rattle.std.proofs.Common.{inl, inr, ◌≡◌, ◌∙◌, ℕ, suc, Bool, true, false, List, Option, Some, None, refl, sym, ap, subst}
+use Rattle.std.specs.Prelude.{◌||◌, eqb, option_map, slice_get}
 use Rattle.std.proofs.lemmas.Bool.Decides.{eqb_tells}
 use Rattle.iss_disk.specs.declared.memory.MemoryDisk.{MemoryDisk}
 use Rattle.iss_keep.specs.State.{KeptState}
@@ -15,10 +15,14 @@ use Rattle.iss_rules.specs.Rules.{Rules}
 use Rattle.iss_schedule.specs.declared.schedules.Event.{Event}
 use Rattle.iss_sb.specs.Calls.{Relation}
 use Rattle.iss_sb.specs.Evidence.{Module}
-use Rattle.iss_world.specs.Refines.{HasChanged, HasHappened, RefinesMachines, RefinesOrRetreated, RefinesOrShows, RefinesRun, RefinesRunUntil, awake, end_of, result_of}
+use Rattle.iss_model.specs.CourseFrames.{apply_event_in}
+use Rattle.iss_model.specs.Frames.{Frame}
+use Rattle.iss_theorems.specs.Readers.{reader_at, reader_of}
+use Rattle.iss_world.proofs.OverLemmas.{over-stale}
+use Rattle.iss_world.specs.Refines.{AreStale, HasChanged, HasHappened, IsLeftBy, RefinesMachines, RefinesOrRetreated, RefinesOrShows, RefinesRun, RefinesRunUntil, awake, end_of, result_of}
 use Rattle.iss_world.specs.State.{SimulationState, WorldState}
 use Rattle.iss_world.specs.declared.ends.EventOutcome.{EventOutcome}
-use Rattle.iss_world.specs.declared.ends.EventOutcome.TheVariants.{Ended}
+use Rattle.iss_world.specs.declared.ends.EventOutcome.TheVariants.{Done, Lost, Ended}
 use Rattle.iss_world.specs.declared.ends.Evidence.{Evidence}
 use Rattle.iss_world.specs.declared.ends.Evidence.TheVariants.{Forged as Evidence_forged, Collision as Evidence_collision}
 use Rattle.iss_world.specs.declared.world.EventResult.{EventResult}
@@ -53,26 +57,71 @@ module _ {M Msg : Type 0} (m : Module Msg) (refines : Relation M Msg) where
   pub awake-at : (v : SimulationState M Msg) (end : Option Evidence) (b : Bool) (p : Course Msg) → b ≡ false → RefinesRun m refines (record { simulation = v; ended = end; stale = b }) p → RefinesRun m refines (awake v end) p
   awake-at v end b p e st = subst (λ (z : Bool). RefinesRun m refines (record { simulation = v; ended = end; stale = z }) p) e st
 
+  -- ---- which kept nodes are stale
+
+  or-false : (b : Bool) → b ≡ (b || false)
+  or-false true = refl
+  or-false false = refl
+
+  or-true : (b c : Bool) → c ≡ true → true ≡ (b || c)
+  or-true true c e = refl
+  or-true false c e = sym e
+
+  pub stale-goes : (v : SimulationState M Msg) (end : Option Evidence) (w : Machines Msg) → RefinesMachines m refines v w → AreStale (awake v end) w None
+  stale-goes v end w st i g at = over-stale m refines g (w.held.net.cores i) (w.disks i) (st.cores i g at) ∙ or-false (w.disks i).failed
+
+  stale-left : (v : SimulationState M Msg) (end : Option Evidence) (w : Machines Msg) (reader : Option ℕ) → IsLeftBy m refines reader v w → AreStale (awake v end) w reader
+  stale-left v end w reader k =
+      let left = k.0 in
+      subst (λ (o : Option ℕ). AreStale (awake v end) w o) (sym k.1) (λ i g at. elim (eqb_tells i left.core) [
+        | inl t ↦ (left.there g (subst (λ (n : ℕ). slice_get v.nodes n ≡ Some g) t.1 at)).stale ∙ or-true (w.disks i).failed (eqb i left.core) t.0
+        | inr t ↦ over-stale m refines g (w.held.net.cores i) (w.disks i) (left.others i g at t.1) ∙ or-false (w.disks i).failed
+            ∙ ap (λ (b : Bool). (w.disks i).failed || b) (sym t.0)
+      ])
+
+  stale-changed : (v : SimulationState M Msg) (end : Option Evidence) (d : Upshot Msg) (reader : Option ℕ) (r : EventOutcome) → HasChanged m refines reader v d r →
+      AreStale (awake v end) d.machines (reader_at d.ended reader None)
+  stale-changed v end d reader Done h = subst (λ (o : Option End). AreStale (awake v end) d.machines (reader_at o reader None)) (sym h.2) (stale-goes v end d.machines h.0)
+  stale-changed v end d reader (Lost why) h = subst (λ (o : Option End). AreStale (awake v end) d.machines (reader_at o reader None)) (sym h.2) (stale-goes v end d.machines h.0)
+  stale-changed v end d reader (Ended x) h = subst (λ (o : Option End). AreStale (awake v end) d.machines (reader_at o reader None)) (sym h.2) (stale-left v end d.machines reader h.0)
+
+  -- A run that had not ended, and one more event.
+  pub stale-then : (W : Frame Msg) (v later : SimulationState M Msg) (before after : Option Evidence) (p : Course Msg) (e : Event) (r : EventOutcome) →
+      ((w : Machines Msg) → RefinesMachines m refines v w →
+      HasChanged m refines (reader_of W w e) later (apply_event_in W w e) r) →
+      RefinesRun m refines (awake v before) p → p.ended ≡ None → AreStale (awake later after) (apply_event_in W p.machines e).machines (reader_at (apply_event_in W p.machines e).ended (reader_of W p.machines e) None)
+  stale-then W v later before after p e r happened st going =
+      let k = subst (λ (o : Option (ℕ × End)). RefinesRunUntil m refines (awake v before) p.machines o) going st in
+      stale-changed later after (apply_event_in W p.machines e) (reader_of W p.machines e) r (happened p.machines k.simulation)
+
+  -- Evidence ends a run.
+  pub not-ended : (v : SimulationState M Msg) (before : Option Evidence) (end : Evidence) (p : Course Msg) → before ≡ Some end → RefinesRun m refines (awake v before) p → p.ended ≡ None → ⊥
+  not-ended v before end p is st going =
+      let k = subst (λ (o : Option (ℕ × End)). RefinesRunUntil m refines (awake v before) p.machines o) going st in
+      none-some end (sym k.goes_on ∙ is)
+
   -- ---- an event that stops the run
 
   abbrev pub then_ended : ℕ → List (ℕ × Why) → Machines Msg → Option End → Course Msg
   then_ended k drops w o = record { machines = w; event = suc k; drops = drops; ended = ended_at k o }
 
-  told-ended : (v : SimulationState M Msg) (old : Course Msg) (d : Upshot Msg) (k : ℕ) (drops : List (ℕ × Why)) (end : Evidence) → HasChanged m refines v d (Ended end) →
+  told-ended : (reader : Option ℕ) (v : SimulationState M Msg) (old : Course Msg) (d : Upshot Msg) (k : ℕ) (drops : List (ℕ × Why)) (end : Evidence) → HasChanged m refines reader v d (Ended end) →
       HasHappened m refines (awake v (Some end)) old (then_ended k drops d.machines d.ended) (result_of end)
-  told-ended v old d k drops (Evidence_forged claim) h =
+  told-ended reader v old d k drops (Evidence_forged claim) h =
       subst (λ (o : Option End). HasHappened m refines (awake v (Some (Evidence_forged claim))) old (then_ended k drops d.machines o) (result_of (Evidence_forged claim))) (sym h.2)
-      (record { fresh = refl; ended = refl; left = h.0 }, refl)
-  told-ended v old d k drops (Evidence_collision first second) h =
+      (record { fresh = refl; ended = refl; left = h.0.0 }, refl)
+  told-ended reader v old d k drops (Evidence_collision first second) h =
       subst (λ (o : Option End). HasHappened m refines (awake v (Some (Evidence_collision first second))) old (then_ended k drops d.machines o) (result_of (Evidence_collision first second))) (sym h.2)
-      (record { fresh = refl; ended = refl; left = h.0 }, refl)
+      (record { fresh = refl; ended = refl; left = h.0.0 }, refl)
 
   module _ (s : Setup) (F : Formats Msg) (R : Rules) (v later : SimulationState M Msg) (before : Option Evidence) (p : Course Msg) (e : Event) (r : EventOutcome) (end : Evidence)
-      (none : before ≡ None) (was : r ≡ Ended end) (happened : (w : Machines Msg) → RefinesMachines m refines v w → HasChanged m refines later (apply_event s F R m w e) r) where
+      (none : before ≡ None) (was : r ≡ Ended end) (happened : (w : Machines Msg) → RefinesMachines m refines v w →
+      HasChanged m refines (reader_of (record { setup = s; formats = F; rules = R; spec = m }) w e) later (apply_event s F R m w e) r) where
     goes-then : (o : Option (ℕ × End)) → RefinesRunUntil m refines (awake v before) p.machines o → HasHappened m refines (awake later (Some end)) p (run_event_if_open o s F R m p e) (result_of end)
     goes-then None k =
         let d : Upshot Msg = apply_event s F R m p.machines e in
-        told-ended later p d p.event (noted p.event d.lost p.drops) end (subst (λ (x : EventOutcome). HasChanged m refines later d x) was (happened p.machines k.simulation))
+        let reader = reader_of (record { setup = s; formats = F; rules = R; spec = m }) p.machines e in
+        told-ended reader later p d p.event (noted p.event d.lost p.drops) end (subst (λ (x : EventOutcome). HasChanged m refines reader later d x) was (happened p.machines k.simulation))
     goes-then (Some at) k = absurd (none-some at.1 (subst (λ (o : Option Evidence). option_map end_of o ≡ Some at.1) none k.ended))
 
     pub goes-ended : (x : EventResult) → x ≡ result_of end → RefinesRun m refines (awake v before) p →

@@ -1,7 +1,7 @@
 -- When a simulation and a world refine a run with disk failures and restarts, and what an event made of it. A kept
 -- node refines a core over its disk: it is at the core, or its disk has failed and it shows the core's log and epoch.
 -- Its entries are the events that the disk keeps. The networks are the same, and the books hold what the run's hold.
-use Rattle.std.specs.Prelude.{◌≡◌, ◌≢◌, ◌⊎◌, ◌↔◌, ℕ, Bool, true, false, List, [], ◌∷◌, ◌++◌, length, Option, Some, None, option_map, reverse, slice_get}
+use Rattle.std.specs.Prelude.{◌≡◌, ◌≢◌, ◌⊎◌, ◌↔◌, ℕ, ◌||◌, Bool, true, false, List, [], ◌∷◌, ◌++◌, length, Option, Some, None, option_map, reverse, slice_get}
 use Rattle.iss_rules.specs.Ends.{End, Forged, Collision}
 use Rattle.iss_rules.specs.declared.events.NodeEvent.{NodeEvent}
 use Rattle.iss_disk.specs.Calls.{IfTold, Passes, script, up_to}
@@ -16,6 +16,10 @@ use Rattle.iss_model.specs.Node.{Core, initial_core}
 use Rattle.iss_model.specs.Run.{Held, node_of}
 use Rattle.iss_request.specs.declared.requests.Value.{Value}
 use Rattle.iss_request.specs.declared.setups.Setup.{Setup}
+use Rattle.iss_model.specs.CourseFrames.{apply_event_in}
+use Rattle.iss_model.specs.Frames.{Frame}
+use Rattle.iss_schedule.specs.declared.schedules.Event.{Event}
+use Rattle.iss_theorems.specs.Readers.{is_reader, reader_at, reader_of}
 use Rattle.iss_model.specs.Courses.{Course, Machines, Upshot, core_of as core_of_kept}
 use Rattle.iss_model.specs.Disks.{Disk, new_disk}
 use Rattle.iss_rules.specs.Concrete.{rules_of}
@@ -118,6 +122,11 @@ pub record IsLeft {M Msg : Type 0} (m : Module Msg) (refines : Relation M Msg) (
   pub network : v.network ≡ w.held.net.network
   pub signed : AreSigned v.signed w.held.signed
 
+-- Evidence left the simulation so, and this core read it.
+abbrev pub IsLeftBy : {M Msg : Type 0} → Module Msg → Relation M Msg → Option ℕ → SimulationState M Msg →
+    Machines Msg → Type 0
+IsLeftBy m refines reader v w = (left : IsLeft m refines v w) × (reader ≡ Some left.core)
+
 -- The simulation refines these machines, or evidence left it so.
 abbrev pub RefinesOrShows : {M Msg : Type 0} → Module Msg → Relation M Msg → SimulationState M Msg →
     Machines Msg → Type 0
@@ -129,12 +138,14 @@ end_of (Evidence_forged claim) = Forged claim
 end_of (Evidence_collision first second) = Collision first second
 
 -- The simulation refines the state after the event, with its reason of loss if it was lost. If the event revealed
--- evidence, all of the simulation but the node that took it still refines the state from before that delivery.
-abbrev pub HasChanged : {M Msg : Type 0} → Module Msg → Relation M Msg → SimulationState M Msg → Upshot Msg →
-    EventOutcome → Type 0
-HasChanged m refines v d Done = RefinesMachines m refines v d.machines × (d.lost ≡ None) × (d.ended ≡ None)
-HasChanged m refines v d (Lost why) = RefinesMachines m refines v d.machines × (d.lost ≡ Some why) × (d.ended ≡ None)
-HasChanged m refines v d (Ended end) = IsLeft m refines v d.machines × (d.lost ≡ None) × (d.ended ≡ Some (end_of end))
+-- evidence, all of the simulation but the core that read it still refines the state from before that delivery.
+abbrev pub HasChanged : {M Msg : Type 0} → Module Msg → Relation M Msg → Option ℕ → SimulationState M Msg →
+    Upshot Msg → EventOutcome → Type 0
+HasChanged m refines reader v d Done = RefinesMachines m refines v d.machines × (d.lost ≡ None) × (d.ended ≡ None)
+HasChanged m refines reader v d (Lost why) = RefinesMachines m refines v d.machines × (d.lost ≡ Some why)
+    × (d.ended ≡ None)
+HasChanged m refines reader v d (Ended end) = IsLeftBy m refines reader v d.machines × (d.lost ≡ None)
+    × (d.ended ≡ Some (end_of end))
 
 -- The simulation refines some state of the model.
 abbrev pub RefinesSome : {M Msg : Type 0} → Module Msg → Relation M Msg → SimulationState M Msg → Type 0
@@ -176,6 +187,18 @@ RefinesRunUntil m refines v w (Some at) = HasEnded m refines v w at.1
 -- The world refines this run, stopped or not.
 abbrev pub RefinesRun : {M Msg : Type 0} → Module Msg → Relation M Msg → WorldState M Msg → Course Msg → Type 0
 RefinesRun m refines v p = RefinesRunUntil m refines v p.machines p.ended
+
+-- A core's kept node is stale exactly where its disk has failed, or where it read the evidence that ended the run.
+-- rule: Evidence: Of all cores the one that read the evidence is stale, and those whose disk has failed
+abbrev pub AreStale : {M Msg : Type 0} → WorldState M Msg → Machines Msg → Option ℕ → Type 0
+AreStale {M = M} {Msg = Msg} v w reader = (i : ℕ) (g : KeptState M Msg MemoryDisk) →
+    slice_get v.simulation.nodes i ≡ Some g → g.stale ≡ ((w.disks i).failed || is_reader reader i)
+
+-- So after one more event of a run that had not ended.
+abbrev pub AreStaleBehind : {M Msg : Type 0} → Frame Msg → Course Msg → Event → WorldState M Msg → Type 0
+AreStaleBehind W p e v =
+    let d = apply_event_in W p.machines e in
+    AreStale v d.machines (reader_at d.ended (reader_of W p.machines e) None)
 
 -- A world that has not run out of memory.
 abbrev pub awake : {M Msg : Type 0} → SimulationState M Msg → Option Evidence → WorldState M Msg

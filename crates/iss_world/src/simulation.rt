@@ -1,5 +1,5 @@
 //! The cores of a cluster and the network between them, while memory suffices.
-ghost use Rattle.std.specs.Prelude.{◌≡◌, ◌<◌, IfOk, Some, reverse, slice_get, true, false};
+ghost use Rattle.std.specs.Prelude.{◌≡◌, ◌<◌, IfOk, None, Some, reverse, slice_get, true, false};
 ghost use Rattle.iss_base.specs.Lists.{nth};
 ghost use Rattle.iss_model.specs.Run.{cores_of, node_of};
 ghost use Rattle.iss_model.specs.Frames.{frame_of};
@@ -9,6 +9,7 @@ ghost use Rattle.iss_model.specs.CourseFrames.{apply_event_in, calms_in, deliver
 ghost use Rattle.iss_rules.specs.Setups.{IsSetupOf};
 ghost use Rattle.iss_network.specs.Network.{cleared, due, held_to};
 ghost use Rattle.iss_schedule.specs.Events.{IsInRange};
+ghost use Rattle.iss_theorems.specs.Readers.{addressee, reader_of, reader_of_calm, reader_of_each, reader_of_pump};
 ghost use Rattle.iss_world.specs.Refines.{HasChanged, RefinesMachines, RefinesOrShows, RefinesSome, ShowsCore, log_at};
 ghost use Rattle.iss_world.specs.State.{AreBetweenCores};
 
@@ -89,7 +90,8 @@ impl<M: Sequenced> Simulation<M> {
         requires range { IsInRange self.old.setup event.now }
         requires standing { RefinesSome M.spec M.refines self.old }
         ensures happened { IfOk result (λ r. (w : Machines M.Msg) → RefinesMachines M.spec M.refines self.old w →
-            HasChanged M.spec M.refines self.new (apply_event_in (frame_of self.old.setup M.spec) w event.now) r) }
+            HasChanged M.spec M.refines (reader_of (frame_of self.old.setup M.spec) w event.now) self.new
+            (apply_event_in (frame_of self.old.setup M.spec) w event.now) r) }
         ensures same { self.new.setup ≡ self.old.setup }
     {
         match event {
@@ -134,7 +136,7 @@ impl<M: Sequenced> Simulation<M> {
         requires range { IsInRange self.old.setup (Event.Request core id.client id.number payload.now) }
         requires standing { RefinesSome M.spec M.refines self.old }
         ensures happened { IfOk result (λ r. (w : Machines M.Msg) → RefinesMachines M.spec M.refines self.old w →
-            HasChanged M.spec M.refines self.new
+            HasChanged M.spec M.refines (Some core) self.new
             (apply_event_in (frame_of self.old.setup M.spec) w (Event.Request core id.client id.number payload.now))
             r) }
         ensures same { self.new.setup ≡ self.old.setup }
@@ -150,7 +152,8 @@ impl<M: Sequenced> Simulation<M> {
     fn deliver(&mut self, alloc: Global, packet: u64) -> Result<EventOutcome, NoMemory>
         requires { RefinesSome M.spec M.refines self.old }
         ensures happened { IfOk result (λ r. (w : Machines M.Msg) → RefinesMachines M.spec M.refines self.old w →
-            HasChanged M.spec M.refines self.new (delivers_in (frame_of self.old.setup M.spec) w packet) r) }
+            HasChanged M.spec M.refines (addressee w packet) self.new
+            (delivers_in (frame_of self.old.setup M.spec) w packet) r) }
         ensures same { self.new.setup ≡ self.old.setup }
     {
         let Some(sent) = self.network.packet(packet) else {
@@ -166,7 +169,8 @@ impl<M: Sequenced> Simulation<M> {
     // rule: Network: A lost packet waits no more
     fn lose(&mut self, packet: u64) -> EventOutcome
         ensures happened { (w : Machines M.Msg) → RefinesMachines M.spec M.refines self.old w →
-            HasChanged M.spec M.refines self.new (loses w packet (nth w.held.net.network.packets packet)) result }
+            HasChanged M.spec M.refines None self.new
+            (loses w packet (nth w.held.net.network.packets packet)) result }
         ensures same { self.new.setup ≡ self.old.setup }
     {
         match self.network.packet(packet) {
@@ -190,7 +194,8 @@ impl<M: Sequenced> Simulation<M> {
     fn pump(&mut self, alloc: Global) -> Result<EventOutcome, NoMemory>
         requires { RefinesSome M.spec M.refines self.old }
         ensures happened { IfOk result (λ r. (w : Machines M.Msg) → RefinesMachines M.spec M.refines self.old w →
-            HasChanged M.spec M.refines self.new (pumps_in (frame_of self.old.setup M.spec) w) r) }
+            HasChanged M.spec M.refines (reader_of_pump (frame_of self.old.setup M.spec) w) self.new
+            (pumps_in (frame_of self.old.setup M.spec) w) r) }
         ensures same { self.new.setup ≡ self.old.setup }
     {
         let packets = self.due(alloc)?;
@@ -201,7 +206,8 @@ impl<M: Sequenced> Simulation<M> {
     fn deliver_each(&mut self, alloc: Global, packets: &[u64]) -> Result<EventOutcome, NoMemory>
         requires { RefinesSome M.spec M.refines self.old }
         ensures happened { IfOk result (λ r. (w : Machines M.Msg) → RefinesMachines M.spec M.refines self.old w →
-            HasChanged M.spec M.refines self.new (delivers_each_in (frame_of self.old.setup M.spec) packets.now w) r) }
+            HasChanged M.spec M.refines (reader_of_each (frame_of self.old.setup M.spec) packets.now w) self.new
+            (delivers_each_in (frame_of self.old.setup M.spec) packets.now w) r) }
         ensures same { self.new.setup ≡ self.old.setup }
     {
         for packet in packets {
@@ -217,7 +223,8 @@ impl<M: Sequenced> Simulation<M> {
     fn calm(&mut self, alloc: Global, most: u32) -> Result<EventOutcome, NoMemory>
         requires { RefinesSome M.spec M.refines self.old }
         ensures happened { IfOk result (λ r. (w : Machines M.Msg) → RefinesMachines M.spec M.refines self.old w →
-            HasChanged M.spec M.refines self.new (calms_in (frame_of self.old.setup M.spec) most w) r) }
+            HasChanged M.spec M.refines (reader_of_calm (frame_of self.old.setup M.spec) most w) self.new
+            (calms_in (frame_of self.old.setup M.spec) most w) r) }
         ensures same { self.new.setup ≡ self.old.setup }
     {
         for done in 0..most {
@@ -236,7 +243,7 @@ impl<M: Sequenced> Simulation<M> {
     fn hold(&mut self, core: u32) -> EventOutcome
         requires { core < cores_of self.old.setup }
         ensures happened { (w : Machines M.Msg) → RefinesMachines M.spec M.refines self.old w →
-            HasChanged M.spec M.refines self.new
+            HasChanged M.spec M.refines None self.new
             (machines_done (with_packets w (held_to w.held.net.network core true))) result }
         ensures same { self.new.setup ≡ self.old.setup }
     {
@@ -248,7 +255,7 @@ impl<M: Sequenced> Simulation<M> {
     fn free(&mut self, core: u32) -> EventOutcome
         requires { core < cores_of self.old.setup }
         ensures happened { (w : Machines M.Msg) → RefinesMachines M.spec M.refines self.old w →
-            HasChanged M.spec M.refines self.new
+            HasChanged M.spec M.refines None self.new
             (machines_done (with_packets w (held_to w.held.net.network core false))) result }
         ensures same { self.new.setup ≡ self.old.setup }
     {
@@ -260,7 +267,7 @@ impl<M: Sequenced> Simulation<M> {
     fn clear(&mut self, core: u32) -> EventOutcome
         requires { core < cores_of self.old.setup }
         ensures happened { (w : Machines M.Msg) → RefinesMachines M.spec M.refines self.old w →
-            HasChanged M.spec M.refines self.new
+            HasChanged M.spec M.refines None self.new
             (machines_done (with_packets w (cleared w.held.net.network core))) result }
         ensures same { self.new.setup ≡ self.old.setup }
     {
@@ -275,7 +282,7 @@ impl<M: Sequenced> Simulation<M> {
         requires core { core < cores_of self.old.setup }
         requires standing { RefinesSome M.spec M.refines self.old }
         ensures happened { IfOk result (λ r. (w : Machines M.Msg) → RefinesMachines M.spec M.refines self.old w →
-            HasChanged M.spec M.refines self.new
+            HasChanged M.spec M.refines None self.new
             (machines_done (recover_in (frame_of self.old.setup M.spec) w core)) r) }
         ensures same { self.new.setup ≡ self.old.setup }
     {
@@ -290,7 +297,7 @@ impl<M: Sequenced> Simulation<M> {
     fn crash(&mut self, core: u32, calls: u32) -> EventOutcome
         requires { core < cores_of self.old.setup }
         ensures happened { (w : Machines M.Msg) → RefinesMachines M.spec M.refines self.old w →
-            HasChanged M.spec M.refines self.new
+            HasChanged M.spec M.refines None self.new
             (machines_done (with_disk w core (fused (w.disks core) calls))) result }
         ensures same { self.new.setup ≡ self.old.setup }
     {
@@ -304,7 +311,8 @@ impl<M: Sequenced> Simulation<M> {
         requires core { core < cores_of self.old.setup }
         requires standing { RefinesSome M.spec M.refines self.old }
         ensures happened { IfOk result (λ r. (w : Machines M.Msg) → RefinesMachines M.spec M.refines self.old w →
-            HasChanged M.spec M.refines self.new (injects_in (frame_of self.old.setup M.spec) w core bytes.now) r) }
+            HasChanged M.spec M.refines (Some core) self.new
+            (injects_in (frame_of self.old.setup M.spec) w core bytes.now) r) }
         ensures same { self.new.setup ≡ self.old.setup }
     {
         let _ = &self.setup;

@@ -17,7 +17,7 @@ ghost use Rattle.iss_model.specs.Disks.{Disk};
 ghost use Rattle.iss_model.specs.CourseFrames.{at_machine_in};
 ghost use Rattle.iss_sb.specs.Calls.{AreToNodes};
 ghost use Rattle.iss_world.specs.Books.{AreHashed, AreSigned};
-ghost use Rattle.iss_world.specs.Refines.{HasChanged, IsLeft, RefinesMachine, RefinesMachines, RefinesSome, end_of};
+ghost use Rattle.iss_world.specs.Refines.{HasChanged, IsLeftBy, RefinesMachine, RefinesMachines, RefinesSome, end_of};
 ghost use Rattle.iss_world.specs.Internal.Steps.{HasAnswered, IsBehind, IsWorking, ends_by, kept_at, kept_to, stepped_to};
 
 use crate::claims::{Claims, book_own};
@@ -114,7 +114,8 @@ impl<M: Sequenced> Simulation<M> {
         requires nodes { IsOfNodes self.old.setup.n event }
         requires standing { RefinesSome M.spec M.refines self.old }
         ensures happened { IfOk result (λ r. (w : Machines M.Msg) → RefinesMachines M.spec M.refines self.old w →
-            HasChanged M.spec M.refines self.new (at_machine_in (frame_of self.old.setup M.spec) w core event) r) }
+            HasChanged M.spec M.refines (Some core) self.new
+            (at_machine_in (frame_of self.old.setup M.spec) w core event) r) }
         ensures same { self.new.setup ≡ self.old.setup }
     {
         let node = &self.nodes[core as usize];
@@ -136,10 +137,11 @@ impl<M: Sequenced> Simulation<M> {
     }
 
     // The run stops at a core that read a forged claim. The core is stale from now on, and shows what it showed.
+    // rule: Evidence: Of all cores the one that read the evidence is stale, and those whose disk has failed
     fn stop_at(&mut self, core: u32)
         requires core { core < cores_of self.old.setup }
         ensures left { (w : Machines M.Msg) → RefinesMachines M.spec M.refines self.old w →
-            IsLeft M.spec M.refines self.new w }
+            IsLeftBy M.spec M.refines (Some core) self.new w }
         ensures same { self.new.setup ≡ self.old.setup }
     {
         let node = &mut self.nodes[core as usize];
@@ -155,7 +157,7 @@ impl<M: Sequenced> Simulation<M> {
         requires working { IsWorking M.spec M.refines self.old core }
         ensures happened { IfOk result (λ r. (w : Machines M.Msg) → RefinesMachines M.spec M.refines self.old w →
             (w.disks core).failed ≡ false →
-            HasChanged M.spec M.refines self.new (kept_to self.old.setup w core event
+            HasChanged M.spec M.refines (Some core) self.new (kept_to self.old.setup w core event
             (step_in (frame_of self.old.setup M.spec) (node_of self.old.setup core) (w.held.net.cores core) event)) r) }
         ensures same { self.new.setup ≡ self.old.setup }
     {
@@ -188,7 +190,7 @@ impl<M: Sequenced> Simulation<M> {
             epoch.0 ≤ g.node.state.epoch }
         ensures happened { IfOk result (λ r. (w : Machines M.Msg) (event : ModelEvent) (t : Turn M.Msg) →
             IsBehind M.spec M.refines self.old w event core t slots epoch.0 → IsMade t outcome.now →
-            HasChanged M.spec M.refines self.new
+            HasChanged M.spec M.refines (Some core) self.new
             (with_disks w (kept_at w core event) (stepped_to self.old.setup w.held core (Taken t))) r) }
         ensures same { self.new.setup ≡ self.old.setup }
     {

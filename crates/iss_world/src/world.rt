@@ -1,5 +1,5 @@
 //! The world of a cluster, with the evidence that stopped its run and whether memory ran out.
-ghost use Rattle.std.specs.Prelude.{◌≡◌, ◌<◌, ◌++◌, ◌∷◌, [], IfOk, List, None, OnOk, reverse};
+ghost use Rattle.std.specs.Prelude.{◌≡◌, ◌<◌, ◌++◌, ◌∷◌, [], IfOk, List, None, OnOk, Some, reverse, slice_get};
 ghost use Rattle.iss_model.specs.Run.{cores_of, node_of};
 ghost use Rattle.iss_model.specs.Frames.{frame_of};
 ghost use Rattle.iss_model.specs.Courses.{Course, Machines, begin_machines};
@@ -9,7 +9,7 @@ ghost use Rattle.iss_schedule.specs.Events.{AreInRange, IsInRange};
 ghost use Rattle.iss_schedule.specs.declared.schedules.Event.{Event as ScheduleEvent};
 ghost use Rattle.iss_world.specs.Headline.{IsAnswered, IsHeadline, RefinesEvents};
 ghost use Rattle.iss_world.specs.Internal.Shape.{IsWorld};
-ghost use Rattle.iss_world.specs.Refines.{HasHappened, IsOverOr, IsStaleOr, RefinesMachine, RefinesOrRetreated, RefinesRun, RefinesSome, WorldRefinesMachines, awake, log_at, result_of};
+ghost use Rattle.iss_world.specs.Refines.{AreStaleBehind, HasHappened, IsOverOr, IsStaleOr, RefinesMachine, RefinesOrRetreated, RefinesRun, RefinesSome, WorldRefinesMachines, awake, log_at, result_of};
 ghost use Rattle.iss_world.specs.State.{AreBetweenCores};
 
 use crate::ends::{EventOutcome, Evidence};
@@ -93,7 +93,8 @@ impl<M: Sequenced> World<M> {
 
     /// Applies one event. If it reveals evidence, the world rolls back to before that delivery and answers every later
     /// event with the same evidence. After `NoMemory` the world is stale. Otherwise the world refines the run with this
-    /// event added (`happened`), for which the headline holds (`headline`, see `IsHeadline`).
+    /// event added (`happened`), for which the headline holds (`headline`, see `IsHeadline`). Evidence leaves stale the
+    /// core that read it, and no other (`silent`).
     // rule: Runs: A node or a world that ran out of memory says so from then on
     // rule: Runs: After each event the world refines the run with that event
     // rule: Checkpoints: A certificate that a correct node keeps certifies the log of a correct signer
@@ -103,6 +104,8 @@ impl<M: Sequenced> World<M> {
         ensures happened { (p : Course M.Msg) → RefinesRun M.spec M.refines self.old p →
             HasHappened M.spec M.refines self.new p
             (run_event_if_open_in (frame_of self.old.simulation.setup M.spec) p event.now) result }
+        ensures silent { (p : Course M.Msg) → RefinesRun M.spec M.refines self.old p → p.ended ≡ None →
+            IsAnswered result → AreStaleBehind (frame_of self.old.simulation.setup M.spec) p event.now self.new }
         ensures headline { (events : List ScheduleEvent) → AreInRange self.old.simulation.setup events →
             RefinesEvents self.old.simulation.setup M.spec M.refines self.old events → IsAnswered result →
             IsHeadline self.old.simulation.setup M.spec M.refines self.new (events ++ event.now ∷ []) }
@@ -135,9 +138,10 @@ impl<M: Sequenced> World<M> {
     }
 
     /// The kept node of a core. Its calls report the core's state unless the core's disk has failed (`refines`). After
-    /// evidence they still do, but for the node whose event revealed it: that one is stale (`left`).
+    /// evidence they still do, but for the core that read it: that one is stale (`left`).
     pub fn node(&self, core: u32) -> &Kept<M, MemoryDisk>
         requires { core < cores_of self.now.simulation.setup }
+        ensures at { slice_get self.now.simulation.nodes core ≡ Some result.now }
         ensures refines { (w : Machines M.Msg) → WorldRefinesMachines M.spec M.refines self.now w →
             RefinesMachine M.spec M.refines result.now (w.held.net.cores core) (w.disks core) }
         ensures left { (p : Course M.Msg) → RefinesRun M.spec M.refines self.now p →
@@ -200,6 +204,9 @@ fn run_event<M: Sequenced>(
         (λ r. (p : Course M.Msg) → RefinesRun M.spec M.refines (awake simulation.old ended.old) p →
         HasHappened M.spec M.refines (awake simulation.new ended.new) p
         (run_event_if_open_in (frame_of simulation.old.setup M.spec) p event.now) r) }
+    ensures silent { OnOk result ((p : Course M.Msg) → RefinesRun M.spec M.refines (awake simulation.old ended.old) p →
+        p.ended ≡ None → AreStaleBehind (frame_of simulation.old.setup M.spec) p event.now
+        (awake simulation.new ended.new)) }
     ensures answered { IfOk result (λ r. IsAnswered r) }
     ensures world { OnOk result (IsWorld M.spec M.refines (awake simulation.new ended.new)) }
     ensures over { IsOverOr (awake simulation.old ended.old) (awake simulation.new ended.new) }

@@ -26,3 +26,15 @@ returns-in-Collision-clause-went g c = λ p n st.
     let s = c.args.world.now.simulation.setup in
     let m = g.M.Sequenced.spec in
     has-collided m g.M.Sequenced.refines s (formats_of s m) (rules_of s) c.event.new.self c.args.drops.now p c.args.event.now c.args.number c.in-Collision.first c.in-Collision.second (c.in-Collision.ensures.happened p st.refined) st.end_is n st.drops_are
+
+pub returns-in-Done-clause-silent : goal.returns-in-Done-clause-silent
+returns-in-Done-clause-silent g c = λ p going st. c.in-Done.ensures.silent p st going tt
+
+pub returns-in_ok-push-in-Lost-clause-silent : goal.returns-in_ok-push-in-Lost-clause-silent
+returns-in_ok-push-in-Lost-clause-silent g c = λ p going st. c.in-Lost.ensures.silent p st going tt
+
+pub returns-in-Forged-clause-silent : goal.returns-in-Forged-clause-silent
+returns-in-Forged-clause-silent g c = λ p going st. c.in-Forged.ensures.silent p st going tt
+
+pub returns-in-Collision-clause-silent : goal.returns-in-Collision-clause-silent
+returns-in-Collision-clause-silent g c = λ p going st. c.in-Collision.ensures.silent p st going tt

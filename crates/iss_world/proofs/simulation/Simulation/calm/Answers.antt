@@ -1,4 +1,4 @@
-use Rattle.std.proofs.Common.{◌∙◌, ◌<◌, ◌≡◌, ℕ, length, arith, ap, subst, sym}
+use Rattle.std.proofs.Common.{◌∙◌, ◌<◌, ◌≡◌, ℕ, length, arith, ap, subst, sym, None}
 use Rattle.iss_rules.specs.Concrete.{rules_of}
 use Rattle.iss_rules.specs.Formats.{formats_of}
 use Rattle.iss_network.specs.Network.{Network, due}
@@ -65,4 +65,4 @@ returns-clause-happened g c = λ w st.
     let m = g.M.Sequenced.spec in
     let s = c.args.self.now.setup in
     let all : c.loop-done.done ≡ c.args.most = omega (arith, c.loop-done-test.false, c.loop-done.auto.done-end) in
-    subst (λ (k : ℕ). HasChanged m g.M.Sequenced.refines c.loop-done.self (calms s (formats_of s m) (rules_of s) m k w) Done) all (c.loop-done.invariant.calmed w st)
+    subst (λ (k : ℕ). HasChanged m g.M.Sequenced.refines None c.loop-done.self (calms s (formats_of s m) (rules_of s) m k w) Done) all (c.loop-done.invariant.calmed w st)

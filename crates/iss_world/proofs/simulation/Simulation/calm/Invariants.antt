@@ -1,4 +1,4 @@
-use Rattle.std.proofs.Common.{◌≡◌}
+use Rattle.std.proofs.Common.{◌≡◌, None}
 use Rattle.iss_rules.specs.Concrete.{rules_of}
 use Rattle.iss_rules.specs.Formats.{formats_of}
 use Rattle.iss_model.specs.Courses.{Machines, calms}
@@ -9,7 +9,7 @@ use Rattle.iss_world.proofs.simulation.Simulation.calm.Given as goal
 abbrev pub invariant-loop-done : goal.invariant-loop-done
 invariant-loop-done g l = record {
   calmed : (w : Machines g.row.M-Msg.Denot) → RefinesMachines g.M.Sequenced.spec g.M.Sequenced.refines l.fn.self w →
-      HasChanged g.M.Sequenced.spec g.M.Sequenced.refines l.self
+      HasChanged g.M.Sequenced.spec g.M.Sequenced.refines None l.self
       (calms l.fn.self.setup (formats_of l.fn.self.setup g.M.Sequenced.spec) (rules_of l.fn.self.setup) g.M.Sequenced.spec l.done w) Done;
   same : l.self.setup ≡ l.fn.self.setup;
 }

@@ -26,3 +26,8 @@ returns-in-Ok-clause-headline g c =
     (awake c.run_event.new.simulation c.run_event.new.ended) events c.args.event.now c.in-Ok.happened range inside
     (c.in-Ok.ensures.happened (course_after s m events)
     (awake-at m g.M.Sequenced.refines c.self.inside.simulation c.self.inside.ended c.self.inside.stale (course_after s m events) c.if-self.false st)) answered)
+
+pub returns-in-Ok-clause-silent : goal.returns-in-Ok-clause-silent
+returns-in-Ok-clause-silent g c =
+    rw (← c.self.view_is)
+    (λ p st going answered. c.in-Ok.ensures.silent p (awake-at g.M.Sequenced.spec g.M.Sequenced.refines c.self.inside.simulation c.self.inside.ended c.self.inside.stale p c.if-self.false st) going)
