@@ -10,8 +10,8 @@ mod schedules;
 use crate::digests::time_digests;
 use crate::plans::{CHAINED, HOTSTUFF, PBFT, Plan, with_large_batches};
 use crate::schedules::text_of;
-use iss_cli::answers::respond;
-use iss_words::Order;
+use iss_cli::View;
+use iss_cli::answers::show_input;
 use std::alloc::Global;
 use std::env;
 use std::test::Fail;
@@ -29,7 +29,7 @@ fn lines_of(text: &[u8]) -> u32 {
 
 // Replays a schedule, and returns the number of lines of its report.
 fn replayed(alloc: Global, text: &[u8]) -> Result<u32, Fail> {
-    let answer = respond(alloc, Order::Replay, text)?;
+    let answer = show_input(alloc, View::Full, text)?;
     Ok(lines_of(answer.printed.as_slice()))
 }
 
