@@ -4,23 +4,24 @@ use Rattle.std.specs.Prelude.{filter, map, not}
 use Rattle.iss_base.proofs.Lists.{in_append}
 use Rattle.iss_base.specs.Lists.{In, below, nth}
 use Rattle.iss_cluster.proofs.EventLemmas.{are-events, goes-on, nth-front, one-more}
-use Rattle.iss_cluster.specs.Nodes.{HasRead, IsNodeRun, IsOpen, IsRefused, IsRunning, block_of, core_after, entries_of, events_in, is_taken, node_behavior_of, sends_of}
+use Rattle.iss_cluster.specs.Nodes.{HasRead, IsCutShort, IsNodeRun, IsOpen, IsRefused, IsRunning, Leaves, block_of, core_after, entries_of, events_in, is_taken, node_behavior_of, sends_of}
 use Rattle.iss_config.specs.Configs.{setup_of}
 use Rattle.iss_config.specs.declared.configs.Config.{Config}
-use Rattle.iss_disk.specs.Calls.{IfTold}
+use Rattle.iss_disk.specs.Calls.{EachState, IfTold}
 use Rattle.iss_disk.specs.File.{File}
 use Rattle.iss_journal.specs.Frames.{Reads, holds}
-use Rattle.iss_journal.specs.Promises.{OnlyLeaves}
+use Rattle.iss_journal.specs.Promises.{HoldsWithOrWithout, LeavesOnly, OnlyLeaves}
 use Rattle.iss_journal.specs.declared.errors.AttachError.{AttachError}
 use Rattle.iss_keep.proofs.EntryLemmas.{spelled-read}
 use Rattle.iss_keep.specs.Cores.{core_of, step_of}
 use Rattle.iss_keep.specs.Entries.{NamesNode, spell_event}
 use Rattle.iss_keep.specs.State.{KeptRefinesCore, KeptState, RefinesEntries}
-use Rattle.iss_keep.specs.Steps.{IsAttached, IsDrop, IsSame, IsTurn, Sight}
+use Rattle.iss_keep.specs.Steps.{IsAttached, IsDrop, IsSame, IsTaken, IsTurn, Sight, Writes}
+use Rattle.iss_keep.specs.declared.answers.Answer.TheVariants.{Failed}
 use Rattle.iss_links.specs.Ends.{End}
 use Rattle.iss_loops.specs.Behavior.{AreNodes}
-use Rattle.iss_loops.specs.NodeBehavior.{IsStep, NamesNodes, NodeBehavior, StaysOpen}
-use Rattle.iss_loops.specs.NodeLoop.{HasRun, node_loop_of}
+use Rattle.iss_loops.specs.NodeBehavior.{FailsAt, IsStep, NamesNodes, NodeBehavior, StaysOpen}
+use Rattle.iss_loops.specs.NodeLoop.{HasRun, HasSent, IsCut, begins, node_loop_of}
 use Rattle.iss_loops.specs.declared.node.NodeStep.TheVariants.{Taken as Step_taken, Dropped as Step_dropped}
 use Rattle.iss_model.specs.Node.{Core, Stepped}
 use Rattle.iss_model.specs.Views.{is_castable_now, unfilled}
@@ -86,6 +87,15 @@ in-below (suc n) x h = elim (in_append x (below n) (n ∷ []) h) [
 
 pub few-nodes : {Msg : Type 0} (m : Module Msg) (s : Setup) → IsSetupOf m s → s.n ≤ 64
 few-nodes m s h = let low = h.good.epoch_low in let high = h.good.epoch_high in omega (arith, low, high)
+
+-- every crash image at each moment of a call: so at its end
+told-now : (P : List ℕ → Type 0) (before now : List File) → LeavesOnly P before now → IfTold now (OnlyLeaves P)
+told-now P [] now is = subst (λ (h : List File). IfTold h (OnlyLeaves P)) (sym is) tt
+told-now P (file ∷ past) now moment = subst (λ (h : List File). IfTold h (OnlyLeaves P)) (sym moment.1.0) (go moment.0 moment.1.1.1)
+  where
+    go : (added : List File) → EachState (OnlyLeaves P) added → IfTold (added ++ file ∷ past) (OnlyLeaves P)
+    go [] each = moment.1.1.0
+    go (a ∷ more) each = each.0
 
 module _ {M Msg D : Type 0} (m : Module Msg) (refines : Relation M Msg) (history : D → List File) where
   abbrev does : KeptState M Msg D → NodeBehavior
@@ -179,6 +189,22 @@ module _ {M Msg D : Type 0} (m : Module Msg) (refines : Relation M Msg) (history
         grown = λ k e at. subst (λ (es : List NodeEvent). nth es k ≡ Some e) (sym (did-are old.entries kept)) at;
       }
 
+    -- the disk failed
+    module _ (names : NamesNodes old.setup.n event) (written : Writes old.entries (spell_event event) (history old.disk) (history new.disk) Failed) (taken : IsTaken answered) where
+      pub fails-at : FailsAt (does old) (does new) (λ (events : List NodeEvent) (e : NodeEvent). Leaves m new.setup new.me.0 (history new.disk) events e) (did old) event
+      fails-at = record {
+        same = does-same;
+        accepted = ap is_taken (step-is _ taken.1);
+        left = record {
+          accepted =
+              subst (λ (s : Setup). core_of s m new.me.0 (entries_of (did old)) ≡ Some (core_after s m new.me.0 (did old))) (sym same.setup)
+              (subst (λ (i : NodeId). core_of old.setup m i.0 (entries_of (did old)) ≡ Some (core_after old.setup m i.0 (did old))) (sym same.me)
+              (subst (λ (es : List (List ℕ)). core_of old.setup m old.me.0 es ≡ Some (core_now old)) (entries-are old opened) (leads-there old opened)));
+          left = subst (λ (es : List (List ℕ)). IfTold (history new.disk) (OnlyLeaves (HoldsWithOrWithout es (spell_event event)))) (entries-are old opened)
+              (told-now (HoldsWithOrWithout old.entries (spell_event event)) (history old.disk) (history new.disk) written.0);
+        };
+      }
+
   -- ---- from call to call
 
   pub running-on : (nodes : ℕ) (me : NodeId) (old new : KeptState M Msg D) → IsRunning m refines history nodes me old → IsSame old new → (new.stale ≡ false → IsOpen m refines history new)
@@ -266,6 +292,43 @@ module _ {M Msg D : Type 0} (m : Module Msg) (refines : Relation M Msg) (history
             (subst (λ (i : ℕ). HasRun (node_loop_of (node_behavior_of (setup_of c) m i) 200000 64 c.turns (did mid) there) (did end) ends_now) number
             (subst (λ (s : Setup). HasRun (node_loop_of (node_behavior_of s m mid.me.0) 200000 64 c.turns (did mid) there) (did end) ends_now) setup (loops there told)));
         block = printed-is printed is;
+      }
+
+  -- ---- a run that the disk ends
+
+  module _ (c : Config) (me : ℕ) (mid end : KeptState M Msg D) (opened : IsOpen m refines history mid) (setup : mid.setup ≡ setup_of c) (number : mid.me.0 ≡ me) (ends ends_now : Option (List End)) where
+    abbrev leaves_at : Setup → ℕ → List NodeEvent → NodeEvent → Type 0
+    leaves_at s i events event = Leaves m s i (history end.disk) events event
+
+    module _ (cut : IsCut (does mid) (does end) (leaves_at end.setup end.me.0) (did mid) ends (record { count = 0; idle = true; idle_turns = 0 }) ends_now) where
+      cut-more : (taken : List NodeEvent) × (cut.kept ≡ did mid ++ taken)
+      cut-more = goes-on (did mid) cut.kept cut.grown
+
+      cut-setup : end.setup ≡ setup_of c
+      cut-setup = ap (λ (b : NodeBehavior). b.setup) cut.fails.same ∙ setup
+
+      cut-me : end.me.0 ≡ me
+      cut-me = ap (λ (b : NodeBehavior). b.me) cut.fails.same ∙ number
+
+      -- what the node does
+      cut-does : does mid ≡ node_behavior_of (setup_of c) m me
+      cut-does = ap (λ (s : Setup). node_behavior_of s m mid.me.0) setup ∙ ap (λ (i : ℕ). node_behavior_of (setup_of c) m i) number
+
+      pub cut-short : (before : List File) → HasRead before mid.stale mid.entries → IsCutShort m c me ends ends_now before (history end.disk)
+      cut-short before read = record {
+        held = did mid;
+        taken = cut-more.0;
+        failed = cut.failed;
+        read = subst (λ (entries : List (List ℕ)). IfTold before (λ file. Reads file.content (holds entries))) (entries-are mid opened) read.read;
+        fails = subst (λ (events : List NodeEvent). is_taken (step_of (setup_of c) m me (core_after (setup_of c) m me events) cut.failed) ≡ true) cut-more.1
+            (subst (λ (b : NodeBehavior). b.accepts cut.kept cut.failed ≡ true) cut-does cut.fails.accepted);
+        kept = subst (λ (events : List NodeEvent). leaves_at (setup_of c) me events cut.failed) cut-more.1
+            (subst (λ (i : ℕ). leaves_at (setup_of c) i cut.kept cut.failed) cut-me
+            (subst (λ (s : Setup). leaves_at s end.me.0 cut.kept cut.failed) cut-setup cut.fails.left));
+        sent = λ there told.
+            subst (λ (events : List NodeEvent). HasSent (node_behavior_of (setup_of c) m me) (begins (did mid) there) events ends_now) cut-more.1
+            (subst (λ (b : NodeBehavior). HasSent b (begins (did mid) there) cut.kept ends_now) cut-does
+            (cut.sent (begins (did mid) there) (record { events_are = refl; ends_are = told; count = refl; idle = refl; idle_turns = refl })));
       }
 
   -- ---- a refusal
