@@ -1,13 +1,13 @@
 -- A running node, event by event: what it does is what its core does, and its journal holds the events.
-use Rattle.std.proofs.Common.{◌≡◌, true≢false, Result, Ok, Err, OnOk, is_ok, ◌∙◌, inl, inr, ℕ, zero, suc, ◌<◌, ◌≤◌, Bool, true, false, cond, List, [], ◌∷◌, ◌++◌, Option, Some, None, refl, sym, ap, subst, arith}
+use Rattle.std.proofs.Common.{◌≡◌, true≢false, Result, Ok, Err, IfOk, IsErrOf, OnOk, is_ok, ◌∙◌, inl, inr, ℕ, zero, suc, ◌<◌, ◌≤◌, Bool, true, false, cond, List, [], ◌∷◌, ◌++◌, Option, Some, None, refl, sym, ap, subst, arith}
 use Rattle.std.specs.Prelude.{filter, map, not}
 use Rattle.iss_base.proofs.Lists.{in_append}
 use Rattle.iss_base.specs.Lists.{In, below, nth}
 use Rattle.iss_cluster.proofs.EventLemmas.{are-events, goes-on, nth-front, one-more}
-use Rattle.iss_cluster.specs.Nodes.{HasRead, IsCutShort, IsNodeRun, IsOpen, IsRefused, IsRunning, Leaves, block_of, core_after, entries_of, events_in, is_taken, node_behavior_of, sends_of}
+use Rattle.iss_cluster.specs.Nodes.{HasRead, IsCutShort, IsNodeRun, IsOpen, IsRefused, IsRunning, Leaves, as_step, block_of, core_after, entries_of, events_in, is_taken, node_behavior_of, sends_of}
 use Rattle.iss_config.specs.Configs.{setup_of}
 use Rattle.iss_config.specs.declared.configs.Config.{Config}
-use Rattle.iss_disk.specs.Calls.{EachState, IfTold}
+use Rattle.iss_disk.specs.Calls.{EachState, HasCause, IfTold}
 use Rattle.iss_disk.specs.File.{File}
 use Rattle.iss_journal.specs.Frames.{Reads, holds}
 use Rattle.iss_journal.specs.Promises.{HoldsWithOrWithout, LeavesOnly, OnlyLeaves}
@@ -16,13 +16,15 @@ use Rattle.iss_keep.proofs.EntryLemmas.{spelled-read}
 use Rattle.iss_keep.specs.Cores.{core_of, step_of}
 use Rattle.iss_keep.specs.Entries.{NamesNode, spell_event}
 use Rattle.iss_keep.specs.State.{KeptRefinesCore, KeptState, RefinesEntries}
-use Rattle.iss_keep.specs.Steps.{IsAttached, IsDrop, IsSame, IsTaken, IsTurn, Sight, Writes}
-use Rattle.iss_keep.specs.declared.answers.Answer.TheVariants.{Failed}
+use Rattle.iss_keep.specs.Steps.{IsAnswer, IsAttached, IsDrop, IsSame, IsTaken, IsTurn, Sight, Writes, entries_after, makes_stale}
+use Rattle.iss_keep.specs.declared.answers.Answer.{Answer}
+use Rattle.iss_keep.specs.declared.answers.Answer.TheVariants.{Dropped as Kept_dropped, Failed, NoMemory, Stale, Taken as Kept_taken}
 use Rattle.iss_links.specs.Ends.{End}
 use Rattle.iss_loops.specs.Behavior.{AreNodes}
-use Rattle.iss_loops.specs.NodeBehavior.{FailsAt, IsStep, NamesNodes, NodeBehavior, StaysOpen}
+use Rattle.iss_loops.specs.NodeBehavior.{FailsAt, GoTo, IsStep, NamesNodes, NodeBehavior, StaysOpen}
 use Rattle.iss_loops.specs.NodeLoop.{HasRun, HasSent, IsCut, begins, node_loop_of}
 use Rattle.iss_loops.specs.declared.node.NodeStep.TheVariants.{Taken as Step_taken, Dropped as Step_dropped}
+use Rattle.iss_loops.specs.declared.node.StepError.TheVariants.{DiskFault}
 use Rattle.iss_model.specs.Node.{Core, Stepped}
 use Rattle.iss_model.specs.Views.{is_castable_now, unfilled}
 use Rattle.iss_node.specs.Steps.{IsOfNodes}
@@ -37,7 +39,7 @@ use Rattle.iss_rules.specs.Setups.{IsSetupOf}
 use Rattle.iss_rules.specs.declared.events.NodeEvent.{NodeEvent}
 use Rattle.iss_rules.specs.declared.events.NodeEvent.TheVariants.{Packet, Propose, Timeout, AskFrom}
 use Rattle.iss_rules.specs.declared.events.Why.{Why}
-use Rattle.iss_sb.specs.Calls.{Relation}
+use Rattle.iss_sb.specs.Calls.{AreToNodes, Relation}
 use Rattle.iss_sb.specs.Evidence.{Module}
 
 -- ---- an event that names nodes
@@ -204,6 +206,63 @@ module _ {M Msg D : Type 0} (m : Module Msg) (refines : Relation M Msg) (history
               (told-now (HoldsWithOrWithout old.entries (spell_event event)) (history old.disk) (history new.disk) written.0);
         };
       }
+
+    -- by the answer of the kept node
+    module _ (names : NamesNodes old.setup.n event) where
+      abbrev Says : Answer → Type 0
+      Says a = IsAnswer m refines (IsOfNodes old.setup.n event) old opened.core.0 answered new a
+
+      abbrev Adds : Answer → Type 0
+      Adds a = new.entries ≡ entries_after old.entries (spell_event event) a
+
+      abbrev Stored : Answer → Type 0
+      Stored a = Writes old.entries (spell_event event) (history old.disk) (history new.disk) a
+
+      said : (a : Answer) → ((c : Core Msg) → KeptRefinesCore m refines old c → IsAnswer m refines (IsOfNodes old.setup.n event) old c (step_of old.setup m old.me.0 c event) new a) → Says a
+      said a h = h opened.core.0 (at-core old opened)
+
+      pub by-step : (a : Answer) → Says a → Adds a → IfOk (as_step a) (IsStep (does old) (did old) event (did new))
+      by-step (Kept_taken outcome) turn added = taken-step names outcome turn added
+      by-step (Kept_dropped why) drop kept = dropped-step why drop kept
+      by-step Failed says adds = tt
+      by-step Stale says adds = tt
+      by-step NoMemory says adds = tt
+
+      pub by-address : (a : Answer) → Says a → IfOk (as_step a) (GoTo (does old).setup.n)
+      by-address (Kept_taken outcome) turn = subst (λ (s : Setup). AreToNodes s.n outcome.sends) same.setup (turn.addressed (of-nodes old.setup.n event names))
+      by-address (Kept_dropped why) drop = tt
+      by-address Failed says = tt
+      by-address Stale says = tt
+      by-address NoMemory says = tt
+
+      pub by-stay : (a : Answer) → Says a → Adds a → new.stale ≡ makes_stale a → OnOk (as_step a) (StaysOpen (does old) (does new) (did old) (did new) new.stale)
+      by-stay (Kept_taken outcome) turn added fresh = taken-stays names outcome turn added fresh
+      by-stay (Kept_dropped why) drop kept fresh = dropped-stays why drop kept fresh
+      by-stay Failed says adds stale = tt
+      by-stay Stale says adds stale = tt
+      by-stay NoMemory says adds stale = tt
+
+      pub by-open : (a : Answer) → Says a → Adds a → Stored a → new.stale ≡ makes_stale a → new.stale ≡ false → IsOpen m refines history new
+      by-open (Kept_taken outcome) turn added stored is fresh = taken-opened names outcome turn added stored.1
+      by-open (Kept_dropped why) drop kept stored is fresh = dropped-opened why drop kept stored
+      by-open Failed says adds stored is fresh = absurd (true≢false (sym is ∙ fresh))
+      by-open Stale says adds stored is fresh = absurd (true≢false (sym is ∙ fresh))
+      by-open NoMemory says adds stored is fresh = absurd (true≢false (sym is ∙ fresh))
+
+      pub by-cut : (a : Answer) → Says a → Stored a → IsErrOf (as_step a) DiskFault
+          → FailsAt (does old) (does new) (λ (events : List NodeEvent) (e : NodeEvent). Leaves m new.setup new.me.0 (history new.disk) events e) (did old) event
+      by-cut (Kept_taken outcome) says stored q = absurd (cc)
+      by-cut (Kept_dropped why) says stored q = absurd (cc)
+      by-cut Failed says stored q = fails-at names stored says
+      by-cut Stale says stored q = absurd (cc)
+      by-cut NoMemory says stored q = absurd (cc)
+
+  pub by-cause : (a : Answer) (before now : ℕ) → HasCause before now (a ≡ Failed) → HasCause before now (IsErrOf (as_step a) DiskFault)
+  by-cause (Kept_taken outcome) before now h = record { never_falls = h.never_falls; rose = λ q. absurd (cc) }
+  by-cause (Kept_dropped why) before now h = record { never_falls = h.never_falls; rose = λ q. absurd (cc) }
+  by-cause Failed before now h = record { never_falls = h.never_falls; rose = λ q. h.rose refl }
+  by-cause Stale before now h = record { never_falls = h.never_falls; rose = λ q. absurd (cc) }
+  by-cause NoMemory before now h = record { never_falls = h.never_falls; rose = λ q. absurd (cc) }
 
   -- ---- from call to call
 

@@ -1,6 +1,6 @@
 -- What one node does, as functions of the events that it has accepted, by the model of a node. And what its journal and
 -- its links hold behind its loop, and what it prints.
-use Rattle.std.specs.Prelude.{◌≡◌, ◌⊎◌, ℕ, ◌<◌, Bool, true, false, List, [], ◌∷◌, filter_map, map, reverse, Option, Some, None, ◌++◌}
+use Rattle.std.specs.Prelude.{◌≡◌, ◌⊎◌, ℕ, ◌<◌, Bool, true, false, List, [], ◌∷◌, Result, Ok, Err, filter_map, map, reverse, Option, Some, None, ◌++◌}
 use Rattle.iss_config.specs.Configs.{setup_of}
 use Rattle.iss_config.specs.declared.configs.Config.{Config}
 use Rattle.iss_disk.specs.Calls.{IfTold}
@@ -11,9 +11,15 @@ use Rattle.iss_keep.specs.Cores.{step_of, core_of as core_of_entries}
 use Rattle.iss_keep.specs.Entries.{event_in, spell_event}
 use Rattle.iss_keep.specs.State.{KeptState, RefinesEntries}
 use Rattle.iss_keep.specs.Steps.{IsDamaged, IsLeft}
+use Rattle.iss_keep.specs.declared.answers.Answer.{Answer}
+use Rattle.iss_keep.specs.declared.answers.Answer.TheVariants.{Dropped as Kept_dropped, Failed, NoMemory as NoMemory_kept, Stale, Taken as Kept_taken}
 use Rattle.iss_links.specs.Ends.{End}
 use Rattle.iss_loops.specs.NodeBehavior.{NodeBehavior}
 use Rattle.iss_loops.specs.NodeLoop.{HasRun, HasSent, begins, node_loop_of}
+use Rattle.iss_loops.specs.declared.node.NodeStep.{NodeStep}
+use Rattle.iss_loops.specs.declared.node.NodeStep.TheVariants.{Dropped as Step_dropped, Taken as Step_taken}
+use Rattle.iss_loops.specs.declared.node.StepError.{StepError}
+use Rattle.iss_loops.specs.declared.node.StepError.TheVariants.{DiskFault, NoMemory}
 use Rattle.iss_model.specs.Courses.{core_of}
 use Rattle.iss_model.specs.Node.{Core, Stepped, Dropped, Taken}
 use Rattle.iss_model.specs.Views.{is_castable_now, unfilled}
@@ -125,6 +131,14 @@ pub record IsRefused {Msg : Type 0} (M : Module Msg) (s : Setup) (me : ℕ) (bef
   pub left : IsLeft entries before now at
 
 -- ---- the code
+
+-- What a kept node's answer is to a loop. A node that has to be reopened is not asked.
+abbrev pub as_step : Answer → Result NodeStep StepError
+as_step (Kept_taken outcome) = Ok (Step_taken outcome.sends)
+as_step (Kept_dropped why) = Ok Step_dropped
+as_step Failed = Err DiskFault
+as_step Stale = Err NoMemory
+as_step NoMemory_kept = Err NoMemory
 
 -- The file held these entries, and the node that has read them need not be reopened.
 pub record HasRead (before : List File) (stale : Bool) (entries : List (List ℕ)) : Type 0 where

@@ -1,6 +1,6 @@
 //! One node of a cluster, which runs over links and keeps its events in a journal.
-ghost use Rattle.std.specs.Prelude.{◌≡◌, ◌<◌, ℕ, false, IfOk, IsErrOf, OnOk};
-ghost use Rattle.iss_cluster.specs.Nodes.{HasRead, IsNodeRun, IsRefused, IsStopped, block_of, core_after, events_in};
+ghost use Rattle.std.specs.Prelude.{◌≡◌, ◌≢◌, ◌<◌, ℕ, false, IfOk, IsErrOf, OnOk};
+ghost use Rattle.iss_cluster.specs.Nodes.{HasRead, IsNodeRun, IsRefused, IsStopped, as_step, block_of, core_after, events_in};
 ghost use Rattle.iss_config.specs.Configs.{IsInRange, setup_of};
 ghost use Rattle.iss_disk.specs.Calls.{HasCause as HasDiskCause};
 ghost use Rattle.iss_journal.specs.Promises.{LosesNothing};
@@ -146,13 +146,7 @@ impl<M: Sequenced, D: Disk> JournaledNode for RunningNode<M, D> {
     ghost leaves = { λ node events event. Leaves M.spec node.setup node.me.0 (D.history node.disk) events event };
 
     fn take(&mut self, event: NodeEvent) -> Result<NodeStep, StepError> {
-        match self.kept.take(event) {
-            Answer::Taken(outcome) => Ok(NodeStep::Taken(outcome.sends)),
-            Answer::Dropped(_) => Ok(NodeStep::Dropped),
-            Answer::Failed => Err(StepError::DiskFault),
-            Answer::NoMemory => Err(StepError::NoMemory),
-            Answer::Stale => unreachable!(),
-        }
+        as_step(self.kept.take(event))
     }
 
     fn castable(&self) -> bool {
@@ -169,6 +163,20 @@ impl<M: Sequenced, D: Disk> JournaledNode for RunningNode<M, D> {
 
     fn me(&self) -> u32 {
         self.me.0 as u32
+    }
+}
+
+// What a kept node's answer is to a loop.
+fn as_step(answer: Answer) -> Result<NodeStep, StepError>
+    requires { answer ≢ Answer.Stale }
+    ensures { result ≡ as_step answer }
+{
+    match answer {
+        Answer::Taken(outcome) => Ok(NodeStep::Taken(outcome.sends)),
+        Answer::Dropped(_) => Ok(NodeStep::Dropped),
+        Answer::Failed => Err(StepError::DiskFault),
+        Answer::NoMemory => Err(StepError::NoMemory),
+        Answer::Stale => unreachable!(),
     }
 }
 

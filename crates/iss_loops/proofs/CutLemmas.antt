@@ -8,6 +8,13 @@ use Rattle.iss_loops.specs.Loop.{packet_at, packet_of, packet_or, peer_of}
 use Rattle.iss_loops.specs.NodeBehavior.{FailsAt, NodeBehavior}
 use Rattle.iss_loops.specs.NodeLoop.{HasSent, IsAt, IsCut, NodeState, after_moves, arrives, asks, copies, moves_on, proposes, receives, rests, send_each, send_to, takes, times_out, turn, wakes}
 use Rattle.iss_loops.specs.declared.node_loop.NodeProgress.{NodeProgress}
+use Rattle.iss_loops.specs.Errors.{of_loop, of_step}
+use Rattle.iss_loops.specs.declared.errors.LoopError.{LoopError}
+use Rattle.iss_loops.specs.declared.errors.LoopError.TheVariants.{LinksFault, NoMemory}
+use Rattle.iss_loops.specs.declared.errors.NodeError.{NodeError}
+use Rattle.iss_loops.specs.declared.errors.NodeError.TheVariants.{DiskFault}
+use Rattle.iss_loops.specs.declared.node.StepError.{StepError}
+use Rattle.iss_loops.specs.declared.node.StepError.TheVariants.{DiskFault as Step_disk_fault, NoMemory as Step_no_memory}
 use Rattle.iss_request.specs.declared.ids.NodeId.{NodeId}
 use Rattle.iss_rules.specs.declared.events.NodeEvent.{NodeEvent}
 use Rattle.iss_rules.specs.declared.events.NodeEvent.TheVariants.{Packet, Propose, Timeout, AskFrom}
@@ -75,9 +82,9 @@ module _ (B : NodeBehavior) where
   frames-reach zero w = stays w
   frames-reach (suc n) w = go (end_at w.ends B.me).waiting (frames-reach n (record w { ends = after_take B.me w.ends }))
     where
-      abbrev after : NodeState
+      after : NodeState
       after = record w { ends = after_take B.me w.ends }
-      abbrev later : Option (List ℕ) × List End
+      later : Option (List ℕ) × List End
       later = packet_at B.me n (after_take B.me w.ends)
       here : Reaches w after
       here = record { moves = None ∷ []; idle = w.idle; idle_turns = w.idle_turns; is = refl }
@@ -210,3 +217,58 @@ module _ (B : NodeBehavior) where
   cut-idle now leaves events ends ends2 progress after same c = cut-behind B now leaves events events ends ends ends2 progress after
       (λ (w : NodeState). still after.idle after.idle_turns w) (λ w. rested after.idle after.idle_turns w) refl (λ k e h. h)
       (λ w at. record { events_are = at.events_are; ends_are = at.ends_are; count = same ∙ at.count; idle = refl; idle_turns = refl }) c
+
+  -- a packet arrived
+  pub cut-received : (now : NodeBehavior) (leaves : List NodeEvent → NodeEvent → Type 0) (me most : ℕ) (events : List NodeEvent) (ends ends1 ends2 : Option (List End)) (progress after : NodeProgress) → me ≡ B.me → after ≡ record progress { idle = false }
+      → ((es : List End) → ends ≡ Some es → ends1 ≡ Some (packet_at me most es).1)
+      → IsCut B now leaves events ends1 after ends2 → IsCut B now leaves events ends progress ends2
+  cut-received now leaves me most events ends ends1 ends2 progress after mine is left c = cut-behind B now leaves events events ends ends1 ends2 progress after
+      (λ (w : NodeState). still false w.idle_turns (record w { ends = (packet_at B.me most w.ends).1 }))
+      (λ w. goes-on w (record w { ends = (packet_at B.me most w.ends).1 }) (still false w.idle_turns (record w { ends = (packet_at B.me most w.ends).1 })) (frames-reach most w) (rested false w.idle_turns (record w { ends = (packet_at B.me most w.ends).1 })))
+      refl (λ k e h. h)
+      (λ w at. record {
+        events_are = at.events_are;
+        ends_are = left w.ends at.ends_are ∙ ap (λ (m : ℕ). Some (packet_at m most w.ends).1) mine;
+        count = ap (λ (x : NodeProgress). x.count) is ∙ at.count;
+        idle = ap (λ (x : NodeProgress). x.idle) is;
+        idle_turns = ap (λ (x : NodeProgress). x.idle_turns) is ∙ at.idle_turns;
+      }) c
+
+  -- a loop begins
+  pub gone-first : (events : List NodeEvent) (ends : Option (List End)) (progress0 progress : NodeProgress) → progress ≡ progress0 → (w : NodeState) → IsAt events ends progress0 w → Gone events ends progress w
+  gone-first events ends progress0 progress is w at = record {
+    now = w;
+    at = subst (λ (p : NodeProgress). IsAt events ends p w) (sym is) at;
+    reach = stays w;
+  }
+
+-- ---- errors that are passed on
+
+abbrev err-or : {T E : Type 0} → Result T E → E → E
+err-or (Ok x) e = e
+err-or (Err x) e = x
+
+pub passed : {T U E : Type 0} (P : Type 0) (r : Result T E) (x e : E) → r ≡ Err x → (IsErrOf r e → P) → IsErrOf {T = U} (Err x) e → P
+passed P r x e is h q = h (is ∙ ap (λ z. Err z) (ap (λ z. err-or z x) q))
+
+of-step-fault : (e : StepError) → of_step e ≡ DiskFault → e ≡ Step_disk_fault
+of-step-fault Step_disk_fault is = refl
+of-step-fault Step_no_memory is = absurd (cc)
+
+of-loop-fault : (e : LoopError) → of_loop e ≡ DiskFault → ⊥
+of-loop-fault LinksFault is = absurd (cc)
+of-loop-fault NoMemory is = absurd (cc)
+
+abbrev node-err-or : {T : Type 0} → Result T NodeError → NodeError → NodeError
+node-err-or (Ok x) e = e
+node-err-or (Err x) e = x
+
+err-is : {T : Type 0} (x e : NodeError) → IsErrOf {T = T} (Err x) e → x ≡ e
+err-is x e q = ap (λ r. node-err-or r x) q
+
+-- an error of a node's step, and one of the links
+pub step-failed : {T U : Type 0} (r : Result T StepError) (x : StepError) (e : NodeError) → r ≡ Err x → e ≡ of_step x → IsErrOf {T = U} (Err e) DiskFault → IsErrOf r Step_disk_fault
+step-failed r x e is from q = is ∙ ap (λ z. Err z) (of-step-fault x (sym from ∙ err-is e DiskFault q))
+
+pub links-failed : {U : Type 0} (P : Type 0) (x : LoopError) (e : NodeError) → e ≡ of_loop x → IsErrOf {T = U} (Err e) DiskFault → P
+links-failed P x e from q = absurd (of-loop-fault x (sym from ∙ err-is e DiskFault q))

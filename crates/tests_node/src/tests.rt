@@ -139,11 +139,11 @@ fn a_failing_disk_is_a_fault(rt: HostRuntime) -> Result<(), Fail> {
     check_fails(&rt, answer, NodeFailure::DiskFault)
 }
 
-// Whichever call fails, the next run goes on from what was kept.
+// Whether attaching fails, or the first append, or the second: the next run goes on from what was kept.
 #[test]
 fn a_node_recovers_from_each_failing_call(rt: HostRuntime) -> Result<(), Fail> {
-    for calls in 0..10 {
-        let mut disk = failing_disk(rt.alloc(), calls)?;
+    for step in 0..3 {
+        let mut disk = failing_disk(rt.alloc(), 2 + 3 * step)?;
         let answer = run(rt.alloc(), TWO_TURNS, &mut disk)?;
         check_fails(&rt, answer, NodeFailure::DiskFault)?;
         let printed = run(rt.alloc(), TWO_TURNS, &mut disk)??;

@@ -1,4 +1,4 @@
-use Rattle.std.proofs.Common.{◌≡◌, ◌≤◌, List, Some}
+use Rattle.std.proofs.Common.{◌≡◌, ◌≤◌, true, List, Some}
 use Rattle.iss_links.specs.Ends.{End}
 use Rattle.iss_loops.specs.NodeBehavior.{StaysOpen}
 use Rattle.iss_loops.specs.NodeLoop.{NodeState, begins, turns}
