@@ -218,7 +218,7 @@ module _ {M Msg D : Type 0} (m : Module Msg) (refines : Relation M Msg) (history
       abbrev Stored : Answer → Type 0
       Stored a = Writes old.entries (spell_event event) (history old.disk) (history new.disk) a
 
-      said : (a : Answer) → ((c : Core Msg) → KeptRefinesCore m refines old c → IsAnswer m refines (IsOfNodes old.setup.n event) old c (step_of old.setup m old.me.0 c event) new a) → Says a
+      pub said : (a : Answer) → ((c : Core Msg) → KeptRefinesCore m refines old c → IsAnswer m refines (IsOfNodes old.setup.n event) old c (step_of old.setup m old.me.0 c event) new a) → Says a
       said a h = h opened.core.0 (at-core old opened)
 
       pub by-step : (a : Answer) → Says a → Adds a → IfOk (as_step a) (IsStep (does old) (did old) event (did new))
