@@ -93,10 +93,10 @@ few-nodes m s h = let low = h.good.epoch_low in let high = h.good.epoch_high in 
 -- every crash image at each moment of a call: so at its end
 told-now : (P : List ℕ → Type 0) (before now : List File) → LeavesOnly P before now → IfTold now (OnlyLeaves P)
 told-now P [] now is = subst (λ (h : List File). IfTold h (OnlyLeaves P)) (sym is) tt
-told-now P (file ∷ past) now moment = subst (λ (h : List File). IfTold h (OnlyLeaves P)) (sym moment.1.0) (go moment.0 moment.1.1.1)
+told-now P (file ∷ past) now moment = subst (λ (h : List File). IfTold h (OnlyLeaves P)) (sym moment.1) (go moment.0 moment.3)
   where
     go : (added : List File) → EachState (OnlyLeaves P) added → IfTold (added ++ file ∷ past) (OnlyLeaves P)
-    go [] each = moment.1.1.0
+    go [] each = moment.2
     go (a ∷ more) each = each.0
 
 module _ {M Msg D : Type 0} (m : Module Msg) (refines : Relation M Msg) (history : D → List File) where
