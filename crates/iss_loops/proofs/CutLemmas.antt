@@ -84,13 +84,17 @@ module _ (B : NodeBehavior) where
     where
       after : NodeState
       after = record w { ends = after_take B.me w.ends }
+
       later : Option (List ℕ) × List End
       later = packet_at B.me n (after_take B.me w.ends)
+
       here : Reaches w after
       here = record { moves = None ∷ []; idle = w.idle; idle_turns = w.idle_turns; is = refl }
+
       by : (o : Option (List ℕ)) → Reaches after (record after { ends = later.1 }) → Reaches w (record w { ends = (packet_or o (after_take B.me w.ends) later).1 })
       by (Some p) rest = here
       by None rest = goes-on w after (record after { ends = later.1 }) here rest
+
       go : (ws : List Fragment) → Reaches after (record after { ends = later.1 })
           → Reaches w (record w { ends = (packet_of ws (end_at w.ends B.me).partials (after_take B.me w.ends) later).1 })
       go [] rest = here
@@ -132,6 +136,7 @@ module _ (B : NodeBehavior) where
       up : (b : Bool) → Reaches w (if b then wakes B (record w { idle_turns = 0 }) else record w { idle_turns = w.idle_turns + 1 })
       up true = goes-on w (still w.idle 0 w) _ (rested w.idle 0 w) (wakes-reaches (still w.idle 0 w))
       up false = rested w.idle (w.idle_turns + 1) w
+
       go : (b : Bool) → Reaches w (if b then (if w.idle_turns + 1 == patience then wakes B (record w { idle_turns = 0 }) else record w { idle_turns = w.idle_turns + 1 }) else record w { idle_turns = 0 })
       go true = up (w.idle_turns + 1 == patience)
       go false = rested w.idle 0 w

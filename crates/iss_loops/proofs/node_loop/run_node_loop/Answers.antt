@@ -1,4 +1,4 @@
-use Rattle.std.proofs.Common.{rules, ◌≡◌, true, refl}
+use Rattle.std.proofs.Common.{rules, true}
 use Rattle.std.proofs.lemmas.Result.{err_from_is_err_and}
 use Rattle.iss_loops.proofs.CutLemmas.{cut-gone, gone-first, gone-on, passed, turn-reaches}
 use Rattle.iss_loops.specs.NodeBehavior.{NodeBehavior}

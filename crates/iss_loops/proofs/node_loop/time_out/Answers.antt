@@ -1,4 +1,4 @@
-use Rattle.std.proofs.Common.{rules, ◌≡◌, ◌∙◌, sym, ap, subst, get_or}
+use Rattle.std.proofs.Common.{rules, subst, get_or}
 use Rattle.std.proofs.lemmas.Result.{err_from_is_err_and}
 use Rattle.iss_loops.proofs.CutLemmas.{cut-gone, gone-on, passed, stays, takes-reaches}
 use Rattle.iss_loops.specs.declared.errors.NodeError.TheVariants.{DiskFault}
@@ -6,9 +6,8 @@ use Rattle.iss_rules.specs.declared.events.NodeEvent.TheVariants.{Timeout}
 use Rattle.iss_loops.specs.NodeBehavior.{NodeBehavior}
 use Rattle.iss_loops.specs.NodeLoop.{NodeState, takes}
 use Rattle.iss_loops.specs.NodeLoop.{IsAt}
-use Rattle.iss_request.specs.declared.ids.NodeId.{NodeId}
 use Rattle.iss_loops.proofs.LoopLemmas.{leader-at}
-use Rattle.iss_loops.proofs.NodeLemmas.{Comes, times-out-more}
+use Rattle.iss_loops.proofs.NodeLemmas.{times-out-more}
 use Rattle.iss_loops.proofs.node_loop.time_out.Goals as goal
 
 pub take-requires-clause-names : goal.take-requires-clause-names
