@@ -85,6 +85,7 @@ pub fn start_node<M: Sequenced>(
 impl<M: Sequenced, D: Disk> RunningNode<M, D> {
     /// A node over the current file of `disk`. It has not read its journal.
     pub fn of(fresh: Fresh<M>, disk: D) -> RunningNode<M, D>
+        requires good { IsSetupOf M.spec fresh.setup }
         ensures same { (result.setup ≡ fresh.setup) × (result.me ≡ fresh.me) }
         ensures disk { result.disk ≡ disk }
     {
