@@ -5,8 +5,6 @@ use Rattle.iss_base.proofs.Lists.{in_append}
 use Rattle.iss_base.specs.Lists.{In, below, nth}
 use Rattle.iss_cluster.proofs.EventLemmas.{are-events, goes-on, nth-front, one-more}
 use Rattle.iss_cluster.specs.Nodes.{HasRead, IsCutShort, IsNodeRun, IsOpen, IsRefused, IsRunning, Leaves, as_step, block_of, core_after, entries_of, events_in, is_taken, node_behavior_of, sends_of}
-use Rattle.iss_cluster.specs.Failures.{of_loop}
-use Rattle.iss_cluster.specs.declared.errors.NodeFailure.{NodeFailure}
 use Rattle.iss_config.specs.Configs.{setup_of}
 use Rattle.iss_config.specs.declared.configs.Config.{Config}
 use Rattle.iss_disk.specs.Calls.{EachState, HasCause, IfTold}
@@ -25,8 +23,6 @@ use Rattle.iss_links.specs.Ends.{End}
 use Rattle.iss_loops.specs.Behavior.{AreNodes}
 use Rattle.iss_loops.specs.NodeBehavior.{FailsAt, GoTo, IsStep, NamesNodes, NodeBehavior, StaysOpen}
 use Rattle.iss_loops.specs.NodeLoop.{HasRun, HasSent, IsCut, begins, node_loop_of}
-use Rattle.iss_loops.specs.declared.errors.NodeError.{NodeError}
-use Rattle.iss_loops.specs.declared.errors.NodeError.TheVariants.{LinksFault as Loop_links_fault, DiskFault as Loop_disk_fault, NoMemory as Loop_no_memory}
 use Rattle.iss_loops.specs.declared.node.NodeStep.TheVariants.{Taken as Step_taken, Dropped as Step_dropped}
 use Rattle.iss_loops.specs.declared.node.StepError.TheVariants.{DiskFault}
 use Rattle.iss_model.specs.Node.{Core, Stepped}
@@ -59,13 +55,6 @@ of-nodes n (Packet bytes) h = tt
 of-nodes n Propose h = tt
 of-nodes n (Timeout leader) h = tt
 of-nodes n (AskFrom peer) h = h
-
--- ---- an error of the loop
-
-pub disk-failed : (e : NodeError) (f : NodeFailure) → f ≡ of_loop e → f ≡ NodeFailure.DiskFault → e ≡ NodeError.DiskFault
-disk-failed Loop_links_fault f is q = absurd (cc)
-disk-failed Loop_disk_fault f is q = refl
-disk-failed Loop_no_memory f is q = absurd (cc)
 
 -- ---- leaders
 
