@@ -1,5 +1,5 @@
 -- A running node, event by event: what it does is what its core does, and its journal holds the events.
-use Rattle.std.proofs.Common.{◌≡◌, true≢false, Result, Ok, Err, IfOk, IsErrOf, OnOk, is_ok, ◌∙◌, inl, inr, ℕ, zero, suc, ◌<◌, ◌≤◌, Bool, true, false, cond, List, [], ◌∷◌, ◌++◌, Option, Some, None, refl, sym, ap, subst, arith}
+use Rattle.std.proofs.Common.{◌≡◌, true≢false, Result, Ok, Err, IfOk, IsErrOf, OnOk, is_ok, ◌∙◌, inl, inr, ℕ, zero, suc, ◌<◌, ◌≤◌, Bool, true, false, cond, List, [], ◌∷◌, ◌++◌, Option, Some, refl, sym, ap, subst, arith}
 use Rattle.std.specs.Prelude.{filter, map, not}
 use Rattle.iss_base.proofs.Lists.{in_append}
 use Rattle.iss_base.specs.Lists.{In, below, nth}
@@ -26,7 +26,7 @@ use Rattle.iss_loops.specs.NodeLoop.{HasRun, HasSent, IsCut, begins, node_loop_o
 use Rattle.iss_loops.specs.declared.node.NodeStep.TheVariants.{Taken as Step_taken, Dropped as Step_dropped}
 use Rattle.iss_loops.specs.declared.node.StepError.TheVariants.{DiskFault}
 use Rattle.iss_model.specs.Node.{Core, Stepped}
-use Rattle.iss_model.specs.Views.{is_castable_now, unfilled}
+use Rattle.iss_model.specs.Views.{unfilled}
 use Rattle.iss_node.specs.Steps.{IsOfNodes}
 use Rattle.iss_node.specs.declared.answers.Outcome.{Outcome}
 use Rattle.iss_replay.specs.Text.{node_block}

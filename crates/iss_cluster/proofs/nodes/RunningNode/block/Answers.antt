@@ -1,7 +1,7 @@
 use Rattle.std.proofs.Common.{sym, subst, ap, ◌≡◌, ◌∙◌, ◌++◌, List, ℕ, false}
 use Rattle.std.specs.Prelude.{reverse}
 use Rattle.iss_cluster.proofs.NodeLemmas.{block-is}
-use Rattle.iss_cluster.specs.Nodes.{IsOpen, block_of, core_after, events_in}
+use Rattle.iss_cluster.specs.Nodes.{block_of, core_after, events_in}
 use Rattle.iss_keep.specs.State.{KeptState}
 use Rattle.iss_replay.specs.Text.{node_block}
 use Rattle.iss_request.specs.declared.ids.NodeId.{NodeId}

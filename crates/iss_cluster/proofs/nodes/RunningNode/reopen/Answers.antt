@@ -1,4 +1,4 @@
-use Rattle.std.proofs.Common.{sym, subst, ◌≡◌, refl, ℕ, IsErrOf}
+use Rattle.std.proofs.Common.{subst, refl, ℕ, IsErrOf}
 use Rattle.iss_cluster.proofs.NodeLemmas.{opens}
 use Rattle.iss_cluster.specs.Nodes.{IsRefused}
 use Rattle.iss_journal.specs.declared.errors.AttachError.TheVariants.{Damaged}

@@ -1,4 +1,4 @@
-use Rattle.std.proofs.Common.{sym, subst, ◌≡◌, ap, false, List, Result, IfOk, OnOk, IsErrOf}
+use Rattle.std.proofs.Common.{sym, subst, ◌≡◌, false, List, Result, IfOk, OnOk, IsErrOf}
 use Rattle.iss_cluster.proofs.NodeLemmas.{by-cut, by-open, by-stay, by-step, running-on, said}
 use Rattle.iss_cluster.specs.Nodes.{Leaves, events_in, node_behavior_of}
 use Rattle.iss_keep.specs.State.{KeptState}
