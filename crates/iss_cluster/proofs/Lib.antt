@@ -1,4 +1,6 @@
 mod CauseLemmas
 mod CourseLemmas
+mod EventLemmas
+mod NodeLemmas
 mod RunningLemmas
 mod TraceLemmas

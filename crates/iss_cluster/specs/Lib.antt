@@ -1,2 +1,4 @@
 pub mod Clusters
 pub mod Internal
+pub mod Failures
+pub mod Nodes

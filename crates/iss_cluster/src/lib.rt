@@ -1,7 +1,11 @@
-//! Running nodes over links: a whole cluster in one process, whose trace can be replayed.
+//! Running nodes over links: a whole cluster in one process, whose trace can be replayed, and one node with its journal.
 #![tactic(auto)]
 
 pub mod clusters;
+pub mod errors;
+pub mod nodes;
 mod running;
 
 pub use clusters::{Traced, cluster};
+pub use errors::NodeFailure;
+pub use nodes::{RunningNode, node, start_node};

@@ -1,0 +1,218 @@
+//! One node of a cluster, which runs over links and keeps its events in a journal.
+ghost use Rattle.std.specs.Prelude.{◌≡◌, ◌≢◌, ◌<◌, ℕ, false, IfOk, IsErrOf, OnOk};
+ghost use Rattle.iss_cluster.specs.Nodes.{HasRead, IsNodeRun, IsOpen, IsRefused, IsStopped, as_step, block_of, core_after, events_in};
+ghost use Rattle.iss_config.specs.Configs.{IsInRange, setup_of};
+ghost use Rattle.iss_disk.specs.Calls.{HasCause as HasDiskCause};
+ghost use Rattle.iss_journal.specs.Promises.{LosesNothing};
+ghost use Rattle.iss_keep.specs.Steps.{IsSame};
+ghost use Rattle.iss_links.specs.Calls.{HasCause};
+ghost use Rattle.iss_rules.specs.Setups.{IsSetupOf};
+
+use crate::errors::NodeFailure;
+use iss_config::Config;
+use iss_disk::Disk;
+use iss_journal::AttachError;
+use iss_keep::{Answer, Fresh, Kept};
+use iss_links::Links;
+use iss_loops::{JournaledNode, NodeStep, StepError, run_node_loop};
+use iss_replay::lines::put_node;
+use iss_request::{Bytes, NoMemory, NodeId, Seq};
+use iss_rules::NodeEvent;
+use iss_sb::Sequenced;
+use iss_world::cores::directory_of;
+use std::alloc::Global;
+use std::marker::Model;
+
+// The most frames that a node takes in a turn, and the idle turns in a row after which it wakes up.
+const FRAMES: u32 = 200_000;
+
+const PATIENCE: u32 = 64;
+
+/// A node of a cluster, whose journal is the current file of its disk.
+#[derive(Drop)]
+pub struct RunningNode<M: Sequenced, D: Disk> {
+    kept: Kept<M, D>,
+    nodes: u32,
+    me: NodeId,
+}
+
+impl<M: Sequenced, D: Disk> Model for RunningNode<M, D> {
+    ghost use Rattle.iss_cluster.specs.Nodes.{IsRunning};
+    ghost use Rattle.iss_keep.specs.State.{KeptState};
+
+    ghost Value = { KeptState M M.Msg D };
+
+    ghost view = { λ v. v.kept };
+
+    ghost invariant = { λ v. IsRunning M.spec M.refines D.history v.nodes v.me v.kept };
+}
+
+impl<M: Sequenced, D: Disk + Drop> RunningNode<M, D> {
+    /// Node `me` of the cluster with this configuration, over the current file of `disk`. It has not read its journal.
+    /// The only error is out of memory.
+    pub fn over(
+        alloc: Global,
+        config: &Config,
+        me: NodeId,
+        disk: D,
+    ) -> Result<RunningNode<M, D>, NoMemory>
+        requires range { IsInRange config.now }
+        requires good { IsSetupOf M.spec (setup_of config.now) }
+        requires me { me.0 < (setup_of config.now).n }
+        ensures same { IfOk result (λ v. (v.setup ≡ setup_of config.now) × (v.me ≡ me)) }
+        ensures disk { IfOk result (λ v. v.disk ≡ disk) }
+    {
+        Ok(RunningNode::of(start_node(alloc, config, me)?, disk))
+    }
+}
+
+/// Node `me` of the cluster with this configuration, without a journal. The only error is out of memory.
+pub fn start_node<M: Sequenced>(
+    alloc: Global,
+    config: &Config,
+    me: NodeId,
+) -> Result<Fresh<M>, NoMemory>
+    requires range { IsInRange config.now }
+    requires good { IsSetupOf M.spec (setup_of config.now) }
+    requires me { me.0 < (setup_of config.now).n }
+    ensures { IfOk result (λ v. (v.setup ≡ setup_of config.now) × (v.me ≡ me)) }
+{
+    let setup = config.setup(alloc)?;
+    let directory = directory_of(alloc, &setup)?;
+    Fresh::start(alloc, &setup, &directory, me)
+}
+
+impl<M: Sequenced, D: Disk> RunningNode<M, D> {
+    /// A node over the current file of `disk`. It has not read its journal.
+    pub fn of(fresh: Fresh<M>, disk: D) -> RunningNode<M, D>
+        requires { IsSetupOf M.spec fresh.setup }
+        ensures same { (result.setup ≡ fresh.setup) × (result.me ≡ fresh.me) }
+        ensures disk { result.disk ≡ disk }
+    {
+        let nodes = fresh.setup().n;
+        let me = fresh.me();
+        RunningNode {
+            kept: Kept::of(fresh, disk),
+            nodes,
+            me,
+        }
+    }
+
+    /// The disk.
+    pub fn into_disk(self) -> D
+        ensures { result ≡ self.disk }
+    {
+        self.kept.into_disk()
+    }
+
+    // Reads the journal, and recovers the node from the events in it.
+    fn reopen(&mut self) -> Result<(), AttachError>
+        ensures read { OnOk result (HasRead (D.history self.old.disk) self.new.stale self.new.entries) }
+        ensures open { OnOk result (IsOpen M.spec M.refines D.history self.new) }
+        ensures refused { (at : ℕ) → IsErrOf result (AttachError.Damaged at) → IsRefused M.spec self.old.setup
+            self.old.me.0 (D.history self.old.disk) (D.history self.new.disk) at }
+        ensures cause { HasDiskCause (D.faults self.old.disk) (D.faults self.new.disk)
+            (IsErrOf result AttachError.Failed) }
+        ensures place { D.current self.new.disk ≡ D.current self.old.disk }
+        ensures loses { LosesNothing (D.history self.old.disk) (D.history self.new.disk) }
+        ensures same { IsSame self.old self.new }
+    {
+        self.kept.reopen()
+    }
+
+    // The node's block of a report. The node is open.
+    fn block(&self, alloc: Global) -> Result<Bytes, NoMemory>
+        requires { self.now.stale ≡ false }
+        ensures block { IfOk result (λ block. block ≡ block_of self.now.setup M.spec self.now.me.0
+            (core_after self.now.setup M.spec self.now.me.0 (events_in self.now.setup.n self.now.entries))) }
+        ensures open { IsOpen M.spec M.refines D.history self.now }
+    {
+        let mut block = Vec::new(alloc);
+        put_node(&mut block, self.me, self.kept.epoch(), self.kept.log())?;
+        Ok(Bytes::of(block))
+    }
+}
+
+impl<M: Sequenced, D: Disk> JournaledNode for RunningNode<M, D> {
+    ghost use Rattle.iss_cluster.specs.Nodes.{Leaves, events_in, node_behavior_of};
+
+    ghost behavior = { λ node. node_behavior_of node.setup M.spec node.me.0 };
+
+    ghost events = { λ node. events_in node.setup.n node.entries };
+
+    ghost stale = { λ node. node.stale };
+
+    ghost faults = { λ node. D.faults node.disk };
+
+    ghost place = { λ node. D.current node.disk };
+
+    ghost leaves = { λ node events event. Leaves M.spec node.setup node.me.0 (D.history node.disk) events event };
+
+    fn take(&mut self, event: NodeEvent) -> Result<NodeStep, StepError> {
+        as_step(self.kept.take(event))
+    }
+
+    fn castable(&self) -> bool {
+        self.kept.castable()
+    }
+
+    fn unfilled(&self) -> Result<Seq<NodeId>, NoMemory> {
+        self.kept.unfilled()
+    }
+
+    fn nodes(&self) -> u32 {
+        self.nodes
+    }
+
+    fn me(&self) -> u32 {
+        self.me.0 as u32
+    }
+}
+
+// What a kept node's answer is to a loop.
+fn as_step(answer: Answer) -> Result<NodeStep, StepError>
+    requires { answer ≢ Answer.Stale }
+    ensures { result ≡ as_step answer }
+{
+    match answer {
+        Answer::Taken(outcome) => Ok(NodeStep::Taken(outcome.sends)),
+        Answer::Dropped(_) => Ok(NodeStep::Dropped),
+        Answer::Failed => Err(StepError::DiskFault),
+        Answer::NoMemory => Err(StepError::NoMemory),
+        Answer::Stale => unreachable!(),
+    }
+}
+
+/// Runs a node over links, as the configuration says (`node_loop_of`), from the events that its journal holds. The
+/// links have the node's end. The answer is the node's block of a report.
+///
+/// # Errors
+///
+/// `Damaged` if the journal is damaged; what it held stays. `LinksFault` only if the links failed, `DiskFault` only if
+/// the disk did, and `NoMemory`. At `DiskFault` nothing was sent of the event at which the disk failed.
+// rule: Loopback: A node's journal grows by the events that it takes, in their order
+// rule: Loopback: A node sends only what events in its journal made
+// rule: Loopback: A node prints its block of a report, which its journal's events give
+pub fn node<M: Sequenced, L: Links, D: Disk>(
+    alloc: Global,
+    config: &Config,
+    links: &mut L,
+    running: &mut RunningNode<M, D>,
+) -> Result<Bytes, NodeFailure>
+    requires { running.old.setup ≡ setup_of config.now }
+    ensures run { IfOk result (IsNodeRun M.spec config.now running.old.me.0 (L.ends links.old) (L.ends links.new)
+        (D.history running.old.disk) (D.history running.new.disk)) }
+    ensures damaged { (at : ℕ) → IsErrOf result (NodeFailure.Damaged at) → IsRefused M.spec (setup_of config.now)
+        running.old.me.0 (D.history running.old.disk) (D.history running.new.disk) at }
+    ensures stopped { IsErrOf result NodeFailure.DiskFault → IsStopped M.spec config.now running.old.me.0
+        (L.ends links.old) (L.ends links.new) (D.history running.old.disk) (D.history running.new.disk) }
+    ensures links { HasCause (L.faults links.old) (L.faults links.new) (IsErrOf result NodeFailure.LinksFault) }
+    ensures disk { HasDiskCause (D.faults running.old.disk) (D.faults running.new.disk)
+        (IsErrOf result NodeFailure.DiskFault) }
+    ensures place { D.current running.new.disk ≡ D.current running.old.disk }
+    ensures same { OnOk result ((running.new.setup ≡ running.old.setup) × (running.new.me ≡ running.old.me)) }
+{
+    running.reopen()?;
+    run_node_loop(running, links, FRAMES, PATIENCE, config.turns)?;
+    Ok(running.block(alloc)?)
+}
