@@ -1,11 +1,14 @@
 -- The answers to a configuration, and what a cluster or a node answers under the module that a configuration names.
-use Rattle.std.proofs.Common.{◌≡◌, ◌∙◌, ◌⊎◌, inl, inr, ℕ, ◌<◌, ◌≤◌, List, [], ◌∷◌, ◌++◌, Option, Some, None, Result, Ok, Err, IsErrOf, length, codes, refl, sym, ap, subst}
+use Rattle.std.proofs.Common.{◌≡◌, ◌∙◌, ◌⊎◌, inl, inr, ℕ, ◌<◌, ◌≤◌, List, [], ◌∷◌, ◌++◌, Option, Some, None, Result, Ok, Err, IsErrOf, length, codes, refl, sym, ap, subst, arith}
 use Rattle.std.specs.Prelude.{IfOk}
 use Rattle.iss_cluster.specs.Clusters.{IsTracedRun, behavior_of, loop_plan_of}
 use Rattle.iss_cluster.specs.declared.errors.NodeFailure.{NodeFailure}
 use Rattle.iss_config.specs.Configs.{IsInRange, setup_of}
 use Rattle.iss_config.specs.declared.configs.Config.{Config}
 use Rattle.iss_disk.specs.File.{File}
+use Rattle.iss_base.specs.Counts.{Rose}
+use Rattle.iss_disk.specs.Calls.{HasCause as DiskCause}
+use Rattle.iss_links.specs.Calls.{HasCause as LinksCause}
 use Rattle.iss_links.specs.Ends.{End}
 use Rattle.iss_loops.specs.Loop.{loop_of}
 use Rattle.iss_loops.specs.Plans.{HasRun}
@@ -43,6 +46,33 @@ of-config P input c (Err e) is h = tt
 pub of-no-config : {E : Type 0} (P : Config → Answer → Type 0) (input : List ℕ) (r : Result Answer E) → ((c : Config) → IsConfigOf input c → ⊥) → IfOk r (λ a. a ≡ refused_configuration) → IfOk r (IsOfConfig P input)
 of-no-config P input (Ok a) none h = inr (none, h)
 of-no-config P input (Err e) none h = tt
+
+-- ---- what failed
+
+-- a call that follows one without a fault
+pub links-behind : {T E : Type 0} (F : Type 0) (old mid new : ℕ) (r : Result T E) (x : T) (e : E) → r ≡ Ok x → LinksCause old mid (IsErrOf r e) → LinksCause mid new F → LinksCause old new F
+links-behind F old mid new r x e is first next =
+    let same : mid ≡ old = first.still (λ q. absurd (cc)) in
+    subst (λ (n : ℕ). LinksCause n new F) same next
+
+pub disk-behind : (F G : Type 0) (old mid new : ℕ) → DiskCause old mid F → DiskCause mid new G → DiskCause old new G
+disk-behind F G old mid new first next =
+    let a = first.never_falls in let b = next.never_falls in
+    record {
+      never_falls = omega (arith, a, b);
+      rose = λ f. rises (next.rose f);
+    }
+  where
+    rises : Rose mid new → Rose old new
+    rises (inl h) = let a = first.never_falls in inl (omega (arith, a, h))
+    rises (inr h) = inr h
+
+-- a fault that is passed on under another name
+pub links-failed : {T E : Type 0} (F : Type 0) (old new : ℕ) (r : Result T E) (e : E) → (IsErrOf r e → F) → (F → IsErrOf r e) → LinksCause old new (IsErrOf r e) → LinksCause old new F
+links-failed F old new r e there back h = record { never_falls = h.never_falls; rose = λ f. h.rose (back f); still = λ none. h.still (λ q. none (there q)) }
+
+pub disk-failed : {T E : Type 0} (F : Type 0) (old new : ℕ) (r : Result T E) (e : E) → (F → IsErrOf r e) → DiskCause old new (IsErrOf r e) → DiskCause old new F
+disk-failed F old new r e back h = record { never_falls = h.never_falls; rose = λ f. h.rose (back f) }
 
 -- ---- what is no refusal
 
