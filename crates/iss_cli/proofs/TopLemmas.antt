@@ -1,5 +1,5 @@
 -- The answer to an order and its input, of which a bounded front was read.
-use Rattle.std.proofs.Common.{◌≡◌, ◌∙◌, ◌⊎◌, inl, inr, ℕ, ◌<◌, ◌≤◌, Bool, true, false, Option, None, Some, Result, Ok, Err, List, [], length, take, refl, sym, ap, subst, arith}
+use Rattle.std.proofs.Common.{◌≡◌, ◌∙◌, ◌⊎◌, inl, inr, ℕ, ◌<◌, ◌≤◌, Bool, true, false, Option, None, Some, Result, Ok, Err, IsErrOf, List, [], length, take, refl, sym, ap, subst, arith}
 use Rattle.std.specs.Bool.{IsTrue}
 use Rattle.std.proofs.lemmas.Bool.Decides.{leb_tells}
 use Rattle.std.proofs.lemmas.List.{take_all, length-take}
@@ -13,13 +13,14 @@ use Rattle.iss_schedule.specs.BadLines.{IsBadLine}
 use Rattle.iss_schedule.specs.declared.errors.LineFault.{LineFault}
 use Rattle.iss_cli.specs.Answers.{IsAnswer, IsAudited, IsOfReplies, IsOfSchedule, Reads, refused_words}
 use Rattle.iss_cli.specs.Calls.{Ends, HasNone, IsAnswerTo, IsAnswered, IsStartedOn, IsUnanswered, Prints}
-use Rattle.iss_cli.specs.Ends.{Drains, IfTold, IsDrained}
+use Rattle.iss_cli.specs.Ends.{Drains, HasCause, IfTold, IsDrained}
 use Rattle.iss_cli.specs.Errors.{of_node, status_without}
 use Rattle.iss_cli.specs.Running.{Devices, HasPorts, IsConfigOf, IsOfCluster, IsOfConfig, IsOfNodeOrder, IsStarted, UsesDisk, UsesLinks}
 use Rattle.iss_cli.specs.Views.{IsShown, Under}
 use Rattle.iss_cli.specs.declared.errors.AnswerError.{AnswerError}
 use Rattle.iss_cli.specs.declared.errors.AnswerError.TheVariants.{SourceFailed as Source_failed, LinksFailed as Links_failed, DiskFailed as Disk_failed, NoMemory as No_memory}
 use Rattle.iss_config.specs.declared.configs.Config.{Config}
+use Rattle.iss_links.specs.Calls.{HasCause as LinksCause}
 use Rattle.iss_loops.specs.declared.errors.NodeError.{NodeError}
 use Rattle.iss_loops.specs.declared.errors.NodeError.TheVariants.{LinksFault, DiskFault, NoMemory as Node_no_memory}
 use Rattle.iss_cli.specs.declared.status.Outcome.{Outcome}
@@ -242,7 +243,7 @@ unanswered words left left_now order Links_failed asks h = (order, (asks, h))
 unanswered words left left_now order Disk_failed asks h = (order, (asks, h))
 unanswered words left left_now order No_memory asks h = tt
 
-outcome_in : Status → Outcome
+abbrev outcome_in : Status → Outcome
 outcome_in (Answered outcome) = outcome
 outcome_in status = Done
 
@@ -260,3 +261,17 @@ no_outcome P outcome Source_failed is = absurd (cc)
 no_outcome P outcome Links_failed is = absurd (cc)
 no_outcome P outcome Disk_failed is = absurd (cc)
 no_outcome P outcome No_memory is = absurd (cc)
+
+-- ---- whose fault it is
+
+pub source_said : (old new : ℕ) (e : AnswerError) → HasCause old new (IsErrOf {T = Answer} (Err e) Source_failed) → HasCause old new (status_without e ≡ SourceFailed)
+source_said old new Source_failed h = record { never_falls = h.never_falls; rose = λ q. h.rose refl; still = λ none. absurd (none refl) }
+source_said old new Links_failed h = record { never_falls = h.never_falls; rose = λ q. absurd (cc); still = λ none. h.still (λ q. absurd (cc)) }
+source_said old new Disk_failed h = record { never_falls = h.never_falls; rose = λ q. absurd (cc); still = λ none. h.still (λ q. absurd (cc)) }
+source_said old new No_memory h = record { never_falls = h.never_falls; rose = λ q. absurd (cc); still = λ none. h.still (λ q. absurd (cc)) }
+
+pub links_said : (old new : ℕ) (e : AnswerError) → LinksCause old new (IsErrOf {T = Answer} (Err e) Links_failed) → LinksCause old new (status_without e ≡ LinksFailed)
+links_said old new Links_failed h = record { never_falls = h.never_falls; rose = λ q. h.rose refl; still = λ none. absurd (none refl) }
+links_said old new Source_failed h = record { never_falls = h.never_falls; rose = λ q. absurd (cc); still = λ none. h.still (λ q. absurd (cc)) }
+links_said old new Disk_failed h = record { never_falls = h.never_falls; rose = λ q. absurd (cc); still = λ none. h.still (λ q. absurd (cc)) }
+links_said old new No_memory h = record { never_falls = h.never_falls; rose = λ q. absurd (cc); still = λ none. h.still (λ q. absurd (cc)) }
