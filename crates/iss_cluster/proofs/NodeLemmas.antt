@@ -1,27 +1,30 @@
 -- A running node, event by event: what it does is what its core does, and its journal holds the events.
-use Rattle.std.proofs.Common.{◌≡◌, true≢false, Result, Ok, Err, OnOk, is_ok, ◌∙◌, inl, inr, ℕ, zero, suc, ◌<◌, ◌≤◌, Bool, true, false, cond, List, [], ◌∷◌, ◌++◌, Option, Some, None, refl, sym, ap, subst, arith}
+use Rattle.std.proofs.Common.{◌≡◌, true≢false, Result, Ok, Err, IfOk, IsErrOf, OnOk, is_ok, ◌∙◌, inl, inr, ℕ, zero, suc, ◌<◌, ◌≤◌, Bool, true, false, cond, List, [], ◌∷◌, ◌++◌, Option, Some, None, refl, sym, ap, subst, arith}
 use Rattle.std.specs.Prelude.{filter, map, not}
 use Rattle.iss_base.proofs.Lists.{in_append}
 use Rattle.iss_base.specs.Lists.{In, below, nth}
 use Rattle.iss_cluster.proofs.EventLemmas.{are-events, goes-on, nth-front, one-more}
-use Rattle.iss_cluster.specs.Nodes.{HasRead, IsNodeRun, IsOpen, IsRefused, IsRunning, block_of, core_after, entries_of, events_in, is_taken, node_behavior_of, sends_of}
+use Rattle.iss_cluster.specs.Nodes.{HasRead, IsCutShort, IsNodeRun, IsOpen, IsRefused, IsRunning, Leaves, as_step, block_of, core_after, entries_of, events_in, is_taken, node_behavior_of, sends_of}
 use Rattle.iss_config.specs.Configs.{setup_of}
 use Rattle.iss_config.specs.declared.configs.Config.{Config}
-use Rattle.iss_disk.specs.Calls.{IfTold}
+use Rattle.iss_disk.specs.Calls.{EachState, HasCause, IfTold}
 use Rattle.iss_disk.specs.File.{File}
 use Rattle.iss_journal.specs.Frames.{Reads, holds}
-use Rattle.iss_journal.specs.Promises.{OnlyLeaves}
+use Rattle.iss_journal.specs.Promises.{HoldsWithOrWithout, LeavesOnly, OnlyLeaves}
 use Rattle.iss_journal.specs.declared.errors.AttachError.{AttachError}
 use Rattle.iss_keep.proofs.EntryLemmas.{spelled-read}
 use Rattle.iss_keep.specs.Cores.{core_of, step_of}
 use Rattle.iss_keep.specs.Entries.{NamesNode, spell_event}
 use Rattle.iss_keep.specs.State.{KeptRefinesCore, KeptState, RefinesEntries}
-use Rattle.iss_keep.specs.Steps.{IsAttached, IsDrop, IsSame, IsTurn, Sight}
+use Rattle.iss_keep.specs.Steps.{IsAnswer, IsAttached, IsDrop, IsSame, IsTaken, IsTurn, Sight, Writes, entries_after, makes_stale}
+use Rattle.iss_keep.specs.declared.answers.Answer.{Answer}
+use Rattle.iss_keep.specs.declared.answers.Answer.TheVariants.{Dropped as Kept_dropped, Failed, NoMemory, Stale, Taken as Kept_taken}
 use Rattle.iss_links.specs.Ends.{End}
 use Rattle.iss_loops.specs.Behavior.{AreNodes}
-use Rattle.iss_loops.specs.NodeBehavior.{IsStep, NamesNodes, NodeBehavior, StaysOpen}
-use Rattle.iss_loops.specs.NodeLoop.{HasRun, node_loop_of}
+use Rattle.iss_loops.specs.NodeBehavior.{FailsAt, GoTo, IsStep, NamesNodes, NodeBehavior, StaysOpen}
+use Rattle.iss_loops.specs.NodeLoop.{HasRun, HasSent, IsCut, begins, node_loop_of}
 use Rattle.iss_loops.specs.declared.node.NodeStep.TheVariants.{Taken as Step_taken, Dropped as Step_dropped}
+use Rattle.iss_loops.specs.declared.node.StepError.TheVariants.{DiskFault}
 use Rattle.iss_model.specs.Node.{Core, Stepped}
 use Rattle.iss_model.specs.Views.{is_castable_now, unfilled}
 use Rattle.iss_node.specs.Steps.{IsOfNodes}
@@ -36,7 +39,7 @@ use Rattle.iss_rules.specs.Setups.{IsSetupOf}
 use Rattle.iss_rules.specs.declared.events.NodeEvent.{NodeEvent}
 use Rattle.iss_rules.specs.declared.events.NodeEvent.TheVariants.{Packet, Propose, Timeout, AskFrom}
 use Rattle.iss_rules.specs.declared.events.Why.{Why}
-use Rattle.iss_sb.specs.Calls.{Relation}
+use Rattle.iss_sb.specs.Calls.{AreToNodes, Relation}
 use Rattle.iss_sb.specs.Evidence.{Module}
 
 -- ---- an event that names nodes
@@ -86,6 +89,15 @@ in-below (suc n) x h = elim (in_append x (below n) (n ∷ []) h) [
 
 pub few-nodes : {Msg : Type 0} (m : Module Msg) (s : Setup) → IsSetupOf m s → s.n ≤ 64
 few-nodes m s h = let low = h.good.epoch_low in let high = h.good.epoch_high in omega (arith, low, high)
+
+-- every crash image at each moment of a call: so at its end
+told-now : (P : List ℕ → Type 0) (before now : List File) → LeavesOnly P before now → IfTold now (OnlyLeaves P)
+told-now P [] now is = subst (λ (h : List File). IfTold h (OnlyLeaves P)) (sym is) tt
+told-now P (file ∷ past) now moment = subst (λ (h : List File). IfTold h (OnlyLeaves P)) (sym moment.1) (go moment.0 moment.3)
+  where
+    go : (added : List File) → EachState (OnlyLeaves P) added → IfTold (added ++ file ∷ past) (OnlyLeaves P)
+    go [] each = moment.2
+    go (a ∷ more) each = each.0
 
 module _ {M Msg D : Type 0} (m : Module Msg) (refines : Relation M Msg) (history : D → List File) where
   abbrev does : KeptState M Msg D → NodeBehavior
@@ -179,6 +191,79 @@ module _ {M Msg D : Type 0} (m : Module Msg) (refines : Relation M Msg) (history
         grown = λ k e at. subst (λ (es : List NodeEvent). nth es k ≡ Some e) (sym (did-are old.entries kept)) at;
       }
 
+    -- the disk failed
+    module _ (names : NamesNodes old.setup.n event) (written : Writes old.entries (spell_event event) (history old.disk) (history new.disk) Failed) (taken : IsTaken answered) where
+      pub fails-at : FailsAt (does old) (does new) (λ (events : List NodeEvent) (e : NodeEvent). Leaves m new.setup new.me.0 (history new.disk) events e) (did old) event
+      fails-at = record {
+        same = does-same;
+        accepted = ap is_taken (step-is _ taken.1);
+        left = record {
+          accepted =
+              subst (λ (s : Setup). core_of s m new.me.0 (entries_of (did old)) ≡ Some (core_after s m new.me.0 (did old))) (sym same.setup)
+              (subst (λ (i : NodeId). core_of old.setup m i.0 (entries_of (did old)) ≡ Some (core_after old.setup m i.0 (did old))) (sym same.me)
+              (subst (λ (es : List (List ℕ)). core_of old.setup m old.me.0 es ≡ Some (core_now old)) (entries-are old opened) (leads-there old opened)));
+          left = subst (λ (es : List (List ℕ)). IfTold (history new.disk) (OnlyLeaves (HoldsWithOrWithout es (spell_event event)))) (entries-are old opened)
+              (told-now (HoldsWithOrWithout old.entries (spell_event event)) (history old.disk) (history new.disk) written.0);
+        };
+      }
+
+    -- by the answer of the kept node
+    module _ (names : NamesNodes old.setup.n event) where
+      abbrev Says : Answer → Type 0
+      Says a = IsAnswer m refines (IsOfNodes old.setup.n event) old opened.core.0 answered new a
+
+      abbrev Adds : Answer → Type 0
+      Adds a = new.entries ≡ entries_after old.entries (spell_event event) a
+
+      abbrev Stored : Answer → Type 0
+      Stored a = Writes old.entries (spell_event event) (history old.disk) (history new.disk) a
+
+      pub said : (a : Answer) → ((c : Core Msg) → KeptRefinesCore m refines old c → IsAnswer m refines (IsOfNodes old.setup.n event) old c (step_of old.setup m old.me.0 c event) new a) → Says a
+      said a h = h opened.core.0 (at-core old opened)
+
+      pub by-step : (a : Answer) → Says a → Adds a → IfOk (as_step a) (IsStep (does old) (did old) event (did new))
+      by-step (Kept_taken outcome) turn added = taken-step names outcome turn added
+      by-step (Kept_dropped why) drop kept = dropped-step why drop kept
+      by-step Failed says adds = tt
+      by-step Stale says adds = tt
+      by-step NoMemory says adds = tt
+
+      pub by-address : (a : Answer) → Says a → IfOk (as_step a) (GoTo (does old).setup.n)
+      by-address (Kept_taken outcome) turn = subst (λ (s : Setup). AreToNodes s.n outcome.sends) same.setup (turn.addressed (of-nodes old.setup.n event names))
+      by-address (Kept_dropped why) drop = tt
+      by-address Failed says = tt
+      by-address Stale says = tt
+      by-address NoMemory says = tt
+
+      pub by-stay : (a : Answer) → Says a → Adds a → new.stale ≡ makes_stale a → OnOk (as_step a) (StaysOpen (does old) (does new) (did old) (did new) new.stale)
+      by-stay (Kept_taken outcome) turn added fresh = taken-stays names outcome turn added fresh
+      by-stay (Kept_dropped why) drop kept fresh = dropped-stays why drop kept fresh
+      by-stay Failed says adds stale = tt
+      by-stay Stale says adds stale = tt
+      by-stay NoMemory says adds stale = tt
+
+      pub by-open : (a : Answer) → Says a → Adds a → Stored a → new.stale ≡ makes_stale a → new.stale ≡ false → IsOpen m refines history new
+      by-open (Kept_taken outcome) turn added stored is fresh = taken-opened names outcome turn added stored.1
+      by-open (Kept_dropped why) drop kept stored is fresh = dropped-opened why drop kept stored
+      by-open Failed says adds stored is fresh = absurd (true≢false (sym is ∙ fresh))
+      by-open Stale says adds stored is fresh = absurd (true≢false (sym is ∙ fresh))
+      by-open NoMemory says adds stored is fresh = absurd (true≢false (sym is ∙ fresh))
+
+      pub by-cut : (a : Answer) → Says a → Stored a → IsErrOf (as_step a) DiskFault
+          → FailsAt (does old) (does new) (λ (events : List NodeEvent) (e : NodeEvent). Leaves m new.setup new.me.0 (history new.disk) events e) (did old) event
+      by-cut (Kept_taken outcome) says stored q = absurd (cc)
+      by-cut (Kept_dropped why) says stored q = absurd (cc)
+      by-cut Failed says stored q = fails-at names stored says
+      by-cut Stale says stored q = absurd (cc)
+      by-cut NoMemory says stored q = absurd (cc)
+
+  pub by-cause : (a : Answer) (before now : ℕ) → HasCause before now (a ≡ Failed) → HasCause before now (IsErrOf (as_step a) DiskFault)
+  by-cause (Kept_taken outcome) before now h = record { never_falls = h.never_falls; rose = λ q. absurd (cc) }
+  by-cause (Kept_dropped why) before now h = record { never_falls = h.never_falls; rose = λ q. absurd (cc) }
+  by-cause Failed before now h = record { never_falls = h.never_falls; rose = λ q. h.rose refl }
+  by-cause Stale before now h = record { never_falls = h.never_falls; rose = λ q. absurd (cc) }
+  by-cause NoMemory before now h = record { never_falls = h.never_falls; rose = λ q. absurd (cc) }
+
   -- ---- from call to call
 
   pub running-on : (nodes : ℕ) (me : NodeId) (old new : KeptState M Msg D) → IsRunning m refines history nodes me old → IsSame old new → (new.stale ≡ false → IsOpen m refines history new)
@@ -266,6 +351,43 @@ module _ {M Msg D : Type 0} (m : Module Msg) (refines : Relation M Msg) (history
             (subst (λ (i : ℕ). HasRun (node_loop_of (node_behavior_of (setup_of c) m i) 200000 64 c.turns (did mid) there) (did end) ends_now) number
             (subst (λ (s : Setup). HasRun (node_loop_of (node_behavior_of s m mid.me.0) 200000 64 c.turns (did mid) there) (did end) ends_now) setup (loops there told)));
         block = printed-is printed is;
+      }
+
+  -- ---- a run that the disk ends
+
+  module _ (c : Config) (me : ℕ) (mid end : KeptState M Msg D) (opened : IsOpen m refines history mid) (setup : mid.setup ≡ setup_of c) (number : mid.me.0 ≡ me) (ends ends_now : Option (List End)) where
+    abbrev leaves_at : Setup → ℕ → List NodeEvent → NodeEvent → Type 0
+    leaves_at s i events event = Leaves m s i (history end.disk) events event
+
+    module _ (cut : IsCut (does mid) (does end) (leaves_at end.setup end.me.0) (did mid) ends (record { count = 0; idle = true; idle_turns = 0 }) ends_now) where
+      cut-more : (taken : List NodeEvent) × (cut.kept ≡ did mid ++ taken)
+      cut-more = goes-on (did mid) cut.kept cut.grown
+
+      cut-setup : end.setup ≡ setup_of c
+      cut-setup = ap (λ (b : NodeBehavior). b.setup) cut.fails.same ∙ setup
+
+      cut-me : end.me.0 ≡ me
+      cut-me = ap (λ (b : NodeBehavior). b.me) cut.fails.same ∙ number
+
+      -- what the node does
+      cut-does : does mid ≡ node_behavior_of (setup_of c) m me
+      cut-does = ap (λ (s : Setup). node_behavior_of s m mid.me.0) setup ∙ ap (λ (i : ℕ). node_behavior_of (setup_of c) m i) number
+
+      pub cut-short : (before : List File) → HasRead before mid.stale mid.entries → IsCutShort m c me ends ends_now before (history end.disk)
+      cut-short before read = record {
+        held = did mid;
+        taken = cut-more.0;
+        failed = cut.failed;
+        read = subst (λ (entries : List (List ℕ)). IfTold before (λ file. Reads file.content (holds entries))) (entries-are mid opened) read.read;
+        fails = subst (λ (events : List NodeEvent). is_taken (step_of (setup_of c) m me (core_after (setup_of c) m me events) cut.failed) ≡ true) cut-more.1
+            (subst (λ (b : NodeBehavior). b.accepts cut.kept cut.failed ≡ true) cut-does cut.fails.accepted);
+        kept = subst (λ (events : List NodeEvent). leaves_at (setup_of c) me events cut.failed) cut-more.1
+            (subst (λ (i : ℕ). leaves_at (setup_of c) i cut.kept cut.failed) cut-me
+            (subst (λ (s : Setup). leaves_at s end.me.0 cut.kept cut.failed) cut-setup cut.fails.left));
+        sent = λ there told.
+            subst (λ (events : List NodeEvent). HasSent (node_behavior_of (setup_of c) m me) (begins (did mid) there) events ends_now) cut-more.1
+            (subst (λ (b : NodeBehavior). HasSent b (begins (did mid) there) cut.kept ends_now) cut-does
+            (cut.sent (begins (did mid) there) (record { events_are = refl; ends_are = told; count = refl; idle = refl; idle_turns = refl })));
       }
 
   -- ---- a refusal

@@ -1,19 +1,25 @@
 -- What one node does, as functions of the events that it has accepted, by the model of a node. And what its journal and
 -- its links hold behind its loop, and what it prints.
-use Rattle.std.specs.Prelude.{◌≡◌, ℕ, ◌<◌, Bool, true, false, List, [], ◌∷◌, filter_map, map, reverse, Option, Some, None, ◌++◌}
+use Rattle.std.specs.Prelude.{◌≡◌, ◌⊎◌, ℕ, ◌<◌, Bool, true, false, List, [], ◌∷◌, Result, Ok, Err, filter_map, map, reverse, Option, Some, None, ◌++◌}
 use Rattle.iss_config.specs.Configs.{setup_of}
 use Rattle.iss_config.specs.declared.configs.Config.{Config}
 use Rattle.iss_disk.specs.Calls.{IfTold}
 use Rattle.iss_disk.specs.File.{File}
 use Rattle.iss_journal.specs.Frames.{Reads, holds}
-use Rattle.iss_journal.specs.Promises.{OnlyLeaves}
+use Rattle.iss_journal.specs.Promises.{HoldsWithOrWithout, LosesNothing, OnlyLeaves}
 use Rattle.iss_keep.specs.Cores.{step_of, core_of as core_of_entries}
 use Rattle.iss_keep.specs.Entries.{event_in, spell_event}
 use Rattle.iss_keep.specs.State.{KeptState, RefinesEntries}
 use Rattle.iss_keep.specs.Steps.{IsDamaged, IsLeft}
+use Rattle.iss_keep.specs.declared.answers.Answer.{Answer}
+use Rattle.iss_keep.specs.declared.answers.Answer.TheVariants.{Dropped as Kept_dropped, Failed, NoMemory as NoMemory_kept, Stale, Taken as Kept_taken}
 use Rattle.iss_links.specs.Ends.{End}
 use Rattle.iss_loops.specs.NodeBehavior.{NodeBehavior}
-use Rattle.iss_loops.specs.NodeLoop.{HasRun, node_loop_of}
+use Rattle.iss_loops.specs.NodeLoop.{HasRun, HasSent, begins, node_loop_of}
+use Rattle.iss_loops.specs.declared.node.NodeStep.{NodeStep}
+use Rattle.iss_loops.specs.declared.node.NodeStep.TheVariants.{Dropped as Step_dropped, Taken as Step_taken}
+use Rattle.iss_loops.specs.declared.node.StepError.{StepError}
+use Rattle.iss_loops.specs.declared.node.StepError.TheVariants.{DiskFault, NoMemory}
 use Rattle.iss_model.specs.Courses.{core_of}
 use Rattle.iss_model.specs.Node.{Core, Stepped, Dropped, Taken}
 use Rattle.iss_model.specs.Views.{is_castable_now, unfilled}
@@ -88,6 +94,34 @@ pub record IsNodeRun {Msg : Type 0} (M : Module Msg) (c : Config) (me : ℕ) (en
       HasRun (node_loop_of (node_behavior_of (setup_of c) M me) 200000 64 c.turns held there) (held ++ taken) ends_now
   pub block : printed ≡ block_of (setup_of c) M me (core_after (setup_of c) M me (held ++ taken))
 
+-- A disk failed at an event that the node accepts, with these events before it. They were all accepted. Every crash
+-- image of the journal holds them, or them and this one.
+pub record Leaves {Msg : Type 0} (M : Module Msg) (s : Setup) (me : ℕ) (file : List File) (events : List NodeEvent)
+    (event : NodeEvent) : Type 0 where
+  pub accepted : core_of_entries s M me (entries_of events) ≡ Some (core_after s M me events)
+  pub left : IfTold file (OnlyLeaves (HoldsWithOrWithout (entries_of events) (spell_event event)))
+
+-- A node ran until its disk failed at an event. Its journal held some events; it holds these and behind them those that
+-- the node took, in order, and perhaps the one at which the disk failed. Over links that record their frames the node
+-- took frames, and sent what its journal's events made: nothing of the one at which the disk failed.
+-- rule: Loopback: A node sends only what events in its journal made
+pub record IsCutShort {Msg : Type 0} (M : Module Msg) (c : Config) (me : ℕ) (ends ends_now : Option (List End))
+    (before now : List File) : Type 0 where
+  pub held : List NodeEvent
+  pub taken : List NodeEvent
+  pub failed : NodeEvent
+  pub read : IfTold before (λ file. Reads file.content (holds (entries_of held)))
+  pub fails : is_taken (step_of (setup_of c) M me (core_after (setup_of c) M me (held ++ taken)) failed) ≡ true
+  pub kept : Leaves M (setup_of c) me now (held ++ taken) failed
+  pub sent : (there : List End) → ends ≡ Some there →
+      HasSent (node_behavior_of (setup_of c) M me) (begins held there) (held ++ taken) ends_now
+
+-- A disk failed. Either the node had not read its journal: then it sent nothing, and no crash lost an entry. Or it ran.
+abbrev pub IsStopped : {Msg : Type 0} → Module Msg → Config → ℕ → (ends ends_now : Option (List End)) →
+    (before now : List File) → Type 0
+IsStopped M c me ends ends_now before now =
+    ((ends_now ≡ ends) × LosesNothing before now) ⊎ IsCutShort M c me ends ends_now before now
+
 -- The journal is damaged at this offset: the file itself, or an entry that is no event or that the node would drop. What
 -- it held stays.
 pub record IsRefused {Msg : Type 0} (M : Module Msg) (s : Setup) (me : ℕ) (before now : List File) (at : ℕ)
@@ -97,6 +131,14 @@ pub record IsRefused {Msg : Type 0} (M : Module Msg) (s : Setup) (me : ℕ) (bef
   pub left : IsLeft entries before now at
 
 -- ---- the code
+
+-- What a kept node's answer is to a loop. A node that has to be reopened is not asked.
+abbrev pub as_step : Answer → Result NodeStep StepError
+as_step (Kept_taken outcome) = Ok (Step_taken outcome.sends)
+as_step (Kept_dropped why) = Ok Step_dropped
+as_step Failed = Err DiskFault
+as_step Stale = Err NoMemory
+as_step NoMemory_kept = Err NoMemory
 
 -- The file held these entries, and the node that has read them need not be reopened.
 pub record HasRead (before : List File) (stale : Bool) (entries : List (List ℕ)) : Type 0 where

@@ -1,8 +1,9 @@
 //! One node of a cluster, which runs over links and keeps its events in a journal.
-ghost use Rattle.std.specs.Prelude.{◌≡◌, ◌<◌, ℕ, false, IfOk, IsErrOf, OnOk};
-ghost use Rattle.iss_cluster.specs.Nodes.{HasRead, IsNodeRun, IsRefused, block_of, core_after, events_in};
+ghost use Rattle.std.specs.Prelude.{◌≡◌, ◌≢◌, ◌<◌, ℕ, false, IfOk, IsErrOf, OnOk};
+ghost use Rattle.iss_cluster.specs.Nodes.{HasRead, IsNodeRun, IsRefused, IsStopped, as_step, block_of, core_after, events_in};
 ghost use Rattle.iss_config.specs.Configs.{IsInRange, setup_of};
 ghost use Rattle.iss_disk.specs.Calls.{HasCause as HasDiskCause};
+ghost use Rattle.iss_journal.specs.Promises.{LosesNothing};
 ghost use Rattle.iss_keep.specs.Steps.{IsSame};
 ghost use Rattle.iss_links.specs.Calls.{HasCause};
 ghost use Rattle.iss_rules.specs.Setups.{IsSetupOf};
@@ -84,6 +85,7 @@ pub fn start_node<M: Sequenced>(
 impl<M: Sequenced, D: Disk> RunningNode<M, D> {
     /// A node over the current file of `disk`. It has not read its journal.
     pub fn of(fresh: Fresh<M>, disk: D) -> RunningNode<M, D>
+        requires good { IsSetupOf M.spec fresh.setup }
         ensures same { (result.setup ≡ fresh.setup) × (result.me ≡ fresh.me) }
         ensures disk { result.disk ≡ disk }
     {
@@ -111,6 +113,7 @@ impl<M: Sequenced, D: Disk> RunningNode<M, D> {
         ensures cause { HasDiskCause (D.faults self.old.disk) (D.faults self.new.disk)
             (IsErrOf result AttachError.Failed) }
         ensures place { D.current self.new.disk ≡ D.current self.old.disk }
+        ensures loses { LosesNothing (D.history self.old.disk) (D.history self.new.disk) }
         ensures same { IsSame self.old self.new }
     {
         self.kept.reopen()
@@ -129,7 +132,7 @@ impl<M: Sequenced, D: Disk> RunningNode<M, D> {
 }
 
 impl<M: Sequenced, D: Disk> JournaledNode for RunningNode<M, D> {
-    ghost use Rattle.iss_cluster.specs.Nodes.{events_in, node_behavior_of};
+    ghost use Rattle.iss_cluster.specs.Nodes.{Leaves, events_in, node_behavior_of};
 
     ghost behavior = { λ node. node_behavior_of node.setup M.spec node.me.0 };
 
@@ -141,14 +144,10 @@ impl<M: Sequenced, D: Disk> JournaledNode for RunningNode<M, D> {
 
     ghost place = { λ node. D.current node.disk };
 
+    ghost leaves = { λ node events event. Leaves M.spec node.setup node.me.0 (D.history node.disk) events event };
+
     fn take(&mut self, event: NodeEvent) -> Result<NodeStep, StepError> {
-        match self.kept.take(event) {
-            Answer::Taken(outcome) => Ok(NodeStep::Taken(outcome.sends)),
-            Answer::Dropped(_) => Ok(NodeStep::Dropped),
-            Answer::Failed => Err(StepError::DiskFault),
-            Answer::NoMemory => Err(StepError::NoMemory),
-            Answer::Stale => unreachable!(),
-        }
+        as_step(self.kept.take(event))
     }
 
     fn castable(&self) -> bool {
@@ -168,14 +167,29 @@ impl<M: Sequenced, D: Disk> JournaledNode for RunningNode<M, D> {
     }
 }
 
+// What a kept node's answer is to a loop.
+fn as_step(answer: Answer) -> Result<NodeStep, StepError>
+    requires { answer ≢ Answer.Stale }
+    ensures { result ≡ as_step answer }
+{
+    match answer {
+        Answer::Taken(outcome) => Ok(NodeStep::Taken(outcome.sends)),
+        Answer::Dropped(_) => Ok(NodeStep::Dropped),
+        Answer::Failed => Err(StepError::DiskFault),
+        Answer::NoMemory => Err(StepError::NoMemory),
+        Answer::Stale => unreachable!(),
+    }
+}
+
 /// Runs a node over links, as the configuration says (`node_loop_of`), from the events that its journal holds. The
 /// links have the node's end. The answer is the node's block of a report.
 ///
 /// # Errors
 ///
 /// `Damaged` if the journal is damaged; what it held stays. `LinksFault` only if the links failed, `DiskFault` only if
-/// the disk did, and `NoMemory`.
+/// the disk did, and `NoMemory`. At `DiskFault` nothing was sent of the event at which the disk failed.
 // rule: Loopback: A node's journal grows by the events that it takes, in their order
+// rule: Loopback: A node sends only what events in its journal made
 // rule: Loopback: A node prints its block of a report, which its journal's events give
 pub fn node<M: Sequenced, L: Links, D: Disk>(
     alloc: Global,
@@ -188,6 +202,8 @@ pub fn node<M: Sequenced, L: Links, D: Disk>(
         (D.history running.old.disk) (D.history running.new.disk)) }
     ensures damaged { (at : ℕ) → IsErrOf result (NodeFailure.Damaged at) → IsRefused M.spec (setup_of config.now)
         running.old.me.0 (D.history running.old.disk) (D.history running.new.disk) at }
+    ensures stopped { IsErrOf result NodeFailure.DiskFault → IsStopped M.spec config.now running.old.me.0
+        (L.ends links.old) (L.ends links.new) (D.history running.old.disk) (D.history running.new.disk) }
     ensures links { HasCause (L.faults links.old) (L.faults links.new) (IsErrOf result NodeFailure.LinksFault) }
     ensures disk { HasDiskCause (D.faults running.old.disk) (D.faults running.new.disk)
         (IsErrOf result NodeFailure.DiskFault) }

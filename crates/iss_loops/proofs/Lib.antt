@@ -1,3 +1,4 @@
+mod CutLemmas
 mod IndexLemmas
 mod LoopLemmas
 mod NodeLemmas

@@ -1,5 +1,5 @@
 -- A loop, event by event.
-use Rattle.std.proofs.Common.{inl, inr, ◌≡◌, ◌∙◌, ℕ, zero, suc, false, true, Bool, ◌||◌, if◌then◌else◌, ◌+◌, ◌<◌, List, [], ◌∷◌, length, get_or, drop, Option, Some, refl, ap, sym, subst, arith}
+use Rattle.std.proofs.Common.{inl, inr, ◌≡◌, ◌∙◌, ℕ, zero, suc, false, true, Bool, ◌||◌, ◌+◌, ◌<◌, List, [], ◌∷◌, length, get_or, drop, Option, refl, ap, sym, subst, arith}
 use Rattle.std.proofs.lemmas.List.{drop_more}
 use Rattle.iss_base.specs.Lists.{In}
 use Rattle.iss_links.specs.Ends.{End}

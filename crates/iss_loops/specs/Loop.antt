@@ -1,6 +1,6 @@
 -- Which events the loop of a cluster makes, as a function of its plan, of what the cluster does, and of what its links
 -- hold at the start. Links that record no frames, as those over sockets, have no such function.
-use Rattle.std.specs.Prelude.{◌≡◌, ℕ, zero, suc, ◌+◌, ◌/◌, ◌%◌, ◌==◌, ◌&&◌, ◌||◌, nat_lt, Bool, true, false, bytes_eq, List, [], ◌∷◌, ◌++◌, length, drop, Option, Some, None, if◌then◌else◌}
+use Rattle.std.specs.Prelude.{ℕ, zero, suc, ◌+◌, ◌/◌, ◌%◌, ◌==◌, ◌&&◌, ◌||◌, nat_lt, Bool, true, false, bytes_eq, List, [], ◌∷◌, ◌++◌, length, drop, Option, Some, None, if◌then◌else◌}
 use Rattle.std.specs.Int.{w32, to_be_bytes}
 use Rattle.iss_links.specs.Ends.{End, after_send, after_take, end_at}
 use Rattle.iss_links.specs.Frames.{Fragment}

@@ -54,3 +54,11 @@ pub record StaysOpen (before now : NodeBehavior) (events later : List NodeEvent)
   pub same : now ≡ before
   pub fresh : stale ≡ false
   pub grown : (k : ℕ) (e : NodeEvent) → nth events k ≡ Some e → nth later k ≡ Some e
+
+-- The disk failed while the journal was to get this event, which the node accepts. What a crash leaves of the journal
+-- (`leaves`) is the events before it, or these and this one.
+pub record FailsAt (before now : NodeBehavior) (leaves : List NodeEvent → NodeEvent → Type 0)
+    (events : List NodeEvent) (event : NodeEvent) : Type 0 where
+  pub same : now ≡ before
+  pub accepted : before.accepts events event ≡ true
+  pub left : leaves events event

@@ -1,9 +1,10 @@
 -- Which events the loop of one node makes, as a function of what the node does, of the events that its journal held,
 -- and of what its links hold at the start.
 use Rattle.std.specs.Prelude.{◌≡◌, ℕ, zero, suc, ◌+◌, ◌==◌, nat_lt, Bool, true, false, List, [], ◌∷◌, ◌++◌, Option, Some, None, if◌then◌else◌}
-use Rattle.iss_links.specs.Ends.{End, after_send}
+use Rattle.iss_base.specs.Lists.{nth}
+use Rattle.iss_links.specs.Ends.{End, after_send, after_take}
 use Rattle.iss_loops.specs.Loop.{packet_at, peer_of}
-use Rattle.iss_loops.specs.NodeBehavior.{NodeBehavior}
+use Rattle.iss_loops.specs.NodeBehavior.{FailsAt, NodeBehavior}
 use Rattle.iss_loops.specs.declared.node_loop.NodeProgress.{NodeProgress}
 use Rattle.iss_request.specs.declared.ids.NodeId.{NodeId}
 use Rattle.iss_rules.specs.declared.events.NodeEvent.{NodeEvent}
@@ -99,6 +100,25 @@ begins held ends = record { events = held; count = 0; ends = ends; idle = true; 
 abbrev pub node_loop_of : NodeBehavior → (frames patience n : ℕ) → List NodeEvent → List End → NodeState
 node_loop_of B frames patience n held ends = turns B frames patience n (begins held ends)
 
+-- ---- a loop that is cut short
+
+-- a frame is taken at the node's end, or the node takes an event and sends what it made
+abbrev pub moves_on : NodeBehavior → Option NodeEvent → NodeState → NodeState
+moves_on B None w = record w { ends = after_take B.me w.ends }
+moves_on B (Some event) w = takes B event w
+
+abbrev pub after_moves : NodeBehavior → List (Option NodeEvent) → NodeState → NodeState
+after_moves B [] w = w
+after_moves B (move ∷ moves) w = after_moves B moves (moves_on B move w)
+
+-- The node has accepted these events, and nothing else was sent than what they made.
+-- rule: Loopback: A node sends only what events in its journal made
+pub record HasSent (B : NodeBehavior) (start : NodeState) (events : List NodeEvent) (ends : Option (List End))
+    : Type 0 where
+  pub moves : List (Option NodeEvent)
+  pub events_are : events ≡ (after_moves B moves start).events
+  pub ends_are : ends ≡ Some (after_moves B moves start).ends
+
 -- ---- the code
 
 -- The node has accepted these events, the links hold this, and the progress is that of the loop. Links that record no
@@ -115,3 +135,12 @@ pub record IsAt (events : List NodeEvent) (ends : Option (List End)) (progress :
 pub record HasRun (w : NodeState) (events : List NodeEvent) (ends : Option (List End)) : Type 0 where
   pub events_are : events ≡ w.events
   pub ends_are : ends ≡ Some w.ends
+
+-- The disk failed at an event. The journal has the events before it, and perhaps this one. Nothing was sent of this one.
+pub record IsCut (B now : NodeBehavior) (leaves : List NodeEvent → NodeEvent → Type 0) (events : List NodeEvent)
+    (ends : Option (List End)) (progress : NodeProgress) (ends_now : Option (List End)) : Type 0 where
+  pub kept : List NodeEvent
+  pub failed : NodeEvent
+  pub fails : FailsAt B now leaves kept failed
+  pub grown : (k : ℕ) (e : NodeEvent) → nth events k ≡ Some e → nth kept k ≡ Some e
+  pub sent : (w : NodeState) → IsAt events ends progress w → HasSent B w kept ends_now

@@ -2,7 +2,7 @@
 ghost use Rattle.std.specs.Prelude.{◌≡◌, ◌<◌, ◌≤◌, false, ℕ, Bool, List, IfOk, OnOk, IsErrOf};
 ghost use Rattle.iss_disk.specs.Calls.{HasCause as HasDiskCause, Place};
 ghost use Rattle.iss_loops.specs.Behavior.{AreNodes};
-ghost use Rattle.iss_loops.specs.NodeBehavior.{GoTo, IsStep, NamesNodes, NodeBehavior, StaysOpen};
+ghost use Rattle.iss_loops.specs.NodeBehavior.{FailsAt, GoTo, IsStep, NamesNodes, NodeBehavior, StaysOpen};
 ghost use Rattle.iss_rules.specs.declared.events.NodeEvent.{NodeEvent as ModelEvent};
 
 use iss_request::{Bytes, NoMemory, NodeId, Seq};
@@ -44,6 +44,9 @@ pub trait JournaledNode {
     /// The file of its journal, and which disk it is on.
     ghost place: { Self → Place };
 
+    /// Every crash leaves these events in its journal, or these and this one behind them.
+    ghost leaves: { Self → List ModelEvent → ModelEvent → Type 0 };
+
     /// Takes an event. One that it accepts is in the journal before its sends are released.
     fn take(&mut self, event: NodeEvent) -> Result<NodeStep, StepError>
         requires fresh { stale self.old ≡ false }
@@ -52,6 +55,8 @@ pub trait JournaledNode {
         ensures addressed { IfOk result (GoTo (behavior self.old).setup.n) }
         ensures kept { OnOk result (StaysOpen (behavior self.old) (behavior self.new) (events self.old)
             (events self.new) (stale self.new)) }
+        ensures cut { IsErrOf result StepError.DiskFault →
+            FailsAt (behavior self.old) (behavior self.new) (leaves self.new) (events self.old) event }
         ensures cause { HasDiskCause (faults self.old) (faults self.new) (IsErrOf result StepError.DiskFault) }
         ensures place { place self.new ≡ place self.old };
 

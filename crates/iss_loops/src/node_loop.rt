@@ -5,7 +5,7 @@ ghost use Rattle.iss_links.specs.Calls.{HasCause};
 ghost use Rattle.iss_links.specs.Ends.{End};
 ghost use Rattle.iss_loops.specs.Behavior.{AreNodes};
 ghost use Rattle.iss_loops.specs.NodeBehavior.{AreOfNewest, NamesNodes, NodeBehavior, StaysOpen};
-ghost use Rattle.iss_loops.specs.NodeLoop.{HasRun, IsAt, NodeState, asks, copies, node_loop_of, proposes, receives, rests, send_below, send_each, send_to, takes, times_out, turn, wakes};
+ghost use Rattle.iss_loops.specs.NodeLoop.{HasRun, IsAt, IsCut, NodeState, asks, copies, node_loop_of, proposes, receives, rests, send_below, send_each, send_to, takes, times_out, turn, wakes};
 ghost use Rattle.iss_rules.specs.declared.events.NodeEvent.{NodeEvent as ModelEvent};
 ghost use Rattle.iss_sb.specs.Calls.{AreToNodes, IsToNode};
 
@@ -159,6 +159,8 @@ fn take<N: JournaledNode, L: Links>(
     ensures kept { OnOk result (StaysOpen (N.behavior node.old) (N.behavior node.new) (N.events node.old)
         (N.events node.new) (N.stale node.new)) }
     ensures idle_turns { progress.new.idle_turns ≡ progress.old.idle_turns }
+    ensures cut { IsErrOf result NodeError.DiskFault → IsCut (N.behavior node.old) (N.behavior node.new)
+        (N.leaves node.new) (N.events node.old) (L.ends links.old) progress.old (L.ends links.new) }
     ensures links { HasCause (L.faults links.old) (L.faults links.new) (IsErrOf result NodeError.LinksFault) }
     ensures disk { HasDiskCause (N.faults node.old) (N.faults node.new) (IsErrOf result NodeError.DiskFault) }
     ensures place { N.place node.new ≡ N.place node.old }
@@ -181,6 +183,8 @@ fn propose<N: JournaledNode, L: Links>(
     ensures kept { OnOk result (StaysOpen (N.behavior node.old) (N.behavior node.new) (N.events node.old)
         (N.events node.new) (N.stale node.new)) }
     ensures idle_turns { progress.new.idle_turns ≡ progress.old.idle_turns }
+    ensures cut { IsErrOf result NodeError.DiskFault → IsCut (N.behavior node.old) (N.behavior node.new)
+        (N.leaves node.new) (N.events node.old) (L.ends links.old) progress.old (L.ends links.new) }
     ensures links { HasCause (L.faults links.old) (L.faults links.new) (IsErrOf result NodeError.LinksFault) }
     ensures disk { HasDiskCause (N.faults node.old) (N.faults node.new) (IsErrOf result NodeError.DiskFault) }
     ensures place { N.place node.new ≡ N.place node.old }
@@ -206,6 +210,8 @@ fn receive<N: JournaledNode, L: Links>(
     ensures kept { OnOk result (StaysOpen (N.behavior node.old) (N.behavior node.new) (N.events node.old)
         (N.events node.new) (N.stale node.new)) }
     ensures idle_turns { progress.new.idle_turns ≡ progress.old.idle_turns }
+    ensures cut { IsErrOf result NodeError.DiskFault → IsCut (N.behavior node.old) (N.behavior node.new)
+        (N.leaves node.new) (N.events node.old) (L.ends links.old) progress.old (L.ends links.new) }
     ensures links { HasCause (L.faults links.old) (L.faults links.new) (IsErrOf result NodeError.LinksFault) }
     ensures disk { HasDiskCause (N.faults node.old) (N.faults node.new) (IsErrOf result NodeError.DiskFault) }
     ensures place { N.place node.new ≡ N.place node.old }
@@ -237,6 +243,8 @@ fn time_out<N: JournaledNode, L: Links>(
     ensures kept { OnOk result (StaysOpen (N.behavior node.old) (N.behavior node.new) (N.events node.old)
         (N.events node.new) (N.stale node.new)) }
     ensures idle_turns { progress.new.idle_turns ≡ progress.old.idle_turns }
+    ensures cut { IsErrOf result NodeError.DiskFault → IsCut (N.behavior node.old) (N.behavior node.new)
+        (N.leaves node.new) (N.events node.old) (L.ends links.old) progress.old (L.ends links.new) }
     ensures links { HasCause (L.faults links.old) (L.faults links.new) (IsErrOf result NodeError.LinksFault) }
     ensures disk { HasDiskCause (N.faults node.old) (N.faults node.new) (IsErrOf result NodeError.DiskFault) }
     ensures place { N.place node.new ≡ N.place node.old }
@@ -259,6 +267,8 @@ fn ask<N: JournaledNode, L: Links>(
     ensures kept { OnOk result (StaysOpen (N.behavior node.old) (N.behavior node.new) (N.events node.old)
         (N.events node.new) (N.stale node.new)) }
     ensures idle_turns { progress.new.idle_turns ≡ progress.old.idle_turns }
+    ensures cut { IsErrOf result NodeError.DiskFault → IsCut (N.behavior node.old) (N.behavior node.new)
+        (N.leaves node.new) (N.events node.old) (L.ends links.old) progress.old (L.ends links.new) }
     ensures links { HasCause (L.faults links.old) (L.faults links.new) (IsErrOf result NodeError.LinksFault) }
     ensures disk { HasDiskCause (N.faults node.old) (N.faults node.new) (IsErrOf result NodeError.DiskFault) }
     ensures place { N.place node.new ≡ N.place node.old }
@@ -284,6 +294,8 @@ fn wake<N: JournaledNode, L: Links>(
     ensures kept { OnOk result (StaysOpen (N.behavior node.old) (N.behavior node.new) (N.events node.old)
         (N.events node.new) (N.stale node.new)) }
     ensures idle_turns { progress.new.idle_turns ≡ progress.old.idle_turns }
+    ensures cut { IsErrOf result NodeError.DiskFault → IsCut (N.behavior node.old) (N.behavior node.new)
+        (N.leaves node.new) (N.events node.old) (L.ends links.old) progress.old (L.ends links.new) }
     ensures links { HasCause (L.faults links.old) (L.faults links.new) (IsErrOf result NodeError.LinksFault) }
     ensures disk { HasDiskCause (N.faults node.old) (N.faults node.new) (IsErrOf result NodeError.DiskFault) }
     ensures place { N.place node.new ≡ N.place node.old }
@@ -307,6 +319,8 @@ fn rest<N: JournaledNode, L: Links>(
     ensures kept { OnOk result (StaysOpen (N.behavior node.old) (N.behavior node.new) (N.events node.old)
         (N.events node.new) (N.stale node.new)) }
     ensures idle_turns { OnOk result (progress.new.idle_turns ≤ progress.old.idle_turns + 1) }
+    ensures cut { IsErrOf result NodeError.DiskFault → IsCut (N.behavior node.old) (N.behavior node.new)
+        (N.leaves node.new) (N.events node.old) (L.ends links.old) progress.old (L.ends links.new) }
     ensures links { HasCause (L.faults links.old) (L.faults links.new) (IsErrOf result NodeError.LinksFault) }
     ensures disk { HasDiskCause (N.faults node.old) (N.faults node.new) (IsErrOf result NodeError.DiskFault) }
     ensures place { N.place node.new ≡ N.place node.old }
@@ -338,6 +352,8 @@ fn take_turn<N: JournaledNode, L: Links>(
     ensures kept { OnOk result (StaysOpen (N.behavior node.old) (N.behavior node.new) (N.events node.old)
         (N.events node.new) (N.stale node.new)) }
     ensures idle_turns { OnOk result (progress.new.idle_turns ≤ progress.old.idle_turns + 1) }
+    ensures cut { IsErrOf result NodeError.DiskFault → IsCut (N.behavior node.old) (N.behavior node.new)
+        (N.leaves node.new) (N.events node.old) (L.ends links.old) progress.old (L.ends links.new) }
     ensures links { HasCause (L.faults links.old) (L.faults links.new) (IsErrOf result NodeError.LinksFault) }
     ensures disk { HasDiskCause (N.faults node.old) (N.faults node.new) (IsErrOf result NodeError.DiskFault) }
     ensures place { N.place node.new ≡ N.place node.old }
@@ -354,7 +370,8 @@ fn take_turn<N: JournaledNode, L: Links>(
 ///
 /// # Errors
 ///
-/// `LinksFault` only if the links' count of faults increased, `DiskFault` only if the disk's did, and `NoMemory`.
+/// `LinksFault` only if the links' count of faults increased, `DiskFault` only if the disk's did, and `NoMemory`. At
+/// `DiskFault` nothing was sent of the event at which the disk failed.
 // A node goes on from the events of its journal, and ends after its turns
 pub fn run_node_loop<N: JournaledNode, L: Links>(
     node: &mut N,
@@ -369,6 +386,9 @@ pub fn run_node_loop<N: JournaledNode, L: Links>(
         (N.events node.new) (L.ends links.new)) }
     ensures kept { OnOk result (StaysOpen (N.behavior node.old) (N.behavior node.new) (N.events node.old)
         (N.events node.new) (N.stale node.new)) }
+    ensures cut { IsErrOf result NodeError.DiskFault → IsCut (N.behavior node.old) (N.behavior node.new)
+        (N.leaves node.new) (N.events node.old) (L.ends links.old) (record { count = 0; idle = true; idle_turns = 0 })
+        (L.ends links.new) }
     ensures links { HasCause (L.faults links.old) (L.faults links.new) (IsErrOf result NodeError.LinksFault) }
     ensures disk { HasDiskCause (N.faults node.old) (N.faults node.new) (IsErrOf result NodeError.DiskFault) }
     ensures place { N.place node.new ≡ N.place node.old }

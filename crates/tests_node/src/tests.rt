@@ -2,7 +2,7 @@
 use crate::pbft_config;
 use iss_cluster::{NodeFailure, RunningNode, node};
 use iss_disk::{Disk, MemoryDisk};
-use iss_links::{FailingLinks, Links, MemoryLinks};
+use iss_links::{Arrival, FailingLinks, Links, MemoryLinks};
 use iss_request::{Bytes, NodeId};
 use sb_pbft::Pbft;
 use std::alloc::Global;
@@ -75,6 +75,16 @@ fn new_disk(alloc: Global) -> Result<MemoryDisk, Fail> {
     Ok(disk)
 }
 
+// A disk whose call number `calls` fails, and no other.
+fn failing_disk(alloc: Global, calls: usize) -> Result<MemoryDisk, Fail> {
+    let mut outcomes = Vec::new(alloc);
+    for _ in 0..calls {
+        outcomes.push(true)?;
+    }
+    outcomes.push(false)?;
+    Ok(new_disk(alloc)?.with_outcomes(outcomes))
+}
+
 // The texts are those of an independent program.
 #[test]
 fn one_turn_delivers_nothing(rt: HostRuntime) -> Result<(), Fail> {
@@ -124,11 +134,38 @@ fn a_damaged_journal_is_refused(rt: HostRuntime) -> Result<(), Fail> {
 
 #[test]
 fn a_failing_disk_is_a_fault(rt: HostRuntime) -> Result<(), Fail> {
-    let mut outcomes = Vec::new(rt.alloc());
-    outcomes.push(false)?;
-    let mut disk = new_disk(rt.alloc())?.with_outcomes(outcomes);
+    let mut disk = failing_disk(rt.alloc(), 0)?;
     let answer = run(rt.alloc(), TWO_TURNS, &mut disk)?;
     check_fails(&rt, answer, NodeFailure::DiskFault)
+}
+
+// Whether attaching fails, or the first append, or the second: the next run goes on from what was kept.
+#[test]
+fn a_node_recovers_from_each_failing_call(rt: HostRuntime) -> Result<(), Fail> {
+    for step in 0..3 {
+        let mut disk = failing_disk(rt.alloc(), 2 + 3 * step)?;
+        let answer = run(rt.alloc(), TWO_TURNS, &mut disk)?;
+        check_fails(&rt, answer, NodeFailure::DiskFault)?;
+        let printed = run(rt.alloc(), TWO_TURNS, &mut disk)??;
+        assert!(&rt; 0 < printed.as_slice().len());
+    }
+    Ok(())
+}
+
+// To attach a new journal and to append its first entry takes more than five calls. Before that nothing is sent.
+#[test]
+fn an_event_that_was_not_kept_sends_nothing(rt: HostRuntime) -> Result<(), Fail> {
+    for calls in 0..5 {
+        let mut disk = failing_disk(rt.alloc(), calls)?;
+        let mut links = MemoryLinks::new(rt.alloc())?;
+        let answer = run_over(rt.alloc(), TWO_TURNS, &mut links, &mut disk)?;
+        check_fails(&rt, answer, NodeFailure::DiskFault)?;
+        match links.take(0)? {
+            Arrival::Nothing => assert!(&rt; true),
+            _ => assert!(&rt; false),
+        }
+    }
+    Ok(())
 }
 
 #[test]

@@ -1,6 +1,5 @@
-use Rattle.std.proofs.Common.{rules, ◌≡◌, ◌∙◌, sym}
-use Rattle.iss_loops.specs.Loop.{packet_at}
-use Rattle.iss_loops.proofs.TakeLemmas.{Takes, ends-got, ends-nothing, goes-on}
+use Rattle.std.proofs.Common.{rules}
+use Rattle.iss_loops.proofs.TakeLemmas.{ends-got, ends-nothing, goes-on}
 use Rattle.iss_loops.proofs.events.take_packet.Goals as goal
 
 pub returns-in-Got-clause-packet : goal.returns-in-Got-clause-packet

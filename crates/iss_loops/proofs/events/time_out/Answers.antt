@@ -1,9 +1,9 @@
-use Rattle.std.proofs.Common.{rules, ◌≡◌, ◌∙◌, sym, ap, subst, get_or}
-use Rattle.iss_loops.specs.Behavior.{AreNodes, Behavior}
+use Rattle.std.proofs.Common.{rules, subst, get_or}
+use Rattle.iss_loops.specs.Behavior.{Behavior}
 use Rattle.iss_loops.specs.Loop.{LoopState, step}
 use Rattle.iss_loops.specs.Progress.{IsAt}
 use Rattle.iss_schedule.specs.declared.schedules.Event.TheVariants.{Timeout}
-use Rattle.iss_loops.proofs.LoopLemmas.{Comes, timeout-range, times-out-more}
+use Rattle.iss_loops.proofs.LoopLemmas.{timeout-range, times-out-more}
 use Rattle.iss_loops.proofs.events.time_out.Goals as goal
 
 pub step-requires-clause-range : goal.step-requires-clause-range

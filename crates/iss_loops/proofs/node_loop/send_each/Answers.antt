@@ -1,5 +1,5 @@
-use Rattle.std.proofs.Common.{rules, ◌≡◌}
-use Rattle.iss_loops.proofs.NodeLemmas.{Comes, goes-to-node, send-in, sends-more}
+use Rattle.std.proofs.Common.{rules}
+use Rattle.iss_loops.proofs.NodeLemmas.{goes-to-node, send-in, sends-more}
 use Rattle.iss_loops.proofs.node_loop.send_each.Goals as goal
 
 pub send_one-requires-clause-to : goal.send_one-requires-clause-to

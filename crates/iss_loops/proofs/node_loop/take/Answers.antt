@@ -1,8 +1,8 @@
-use Rattle.std.proofs.Common.{rules, ◌≡◌, ◌∙◌, ℕ, List, sym, subst}
+use Rattle.std.proofs.Common.{ℕ, List, sym, subst}
 use Rattle.std.proofs.lemmas.Result.{on_ok_weaker}
 use Rattle.iss_loops.proofs.NodeLemmas.{newest, taken-goes}
 use Rattle.iss_loops.specs.NodeBehavior.{GoTo, IsStep, NodeBehavior}
-use Rattle.iss_loops.specs.NodeLoop.{IsAt, NodeState, send_each}
+use Rattle.iss_loops.specs.NodeLoop.{IsAt, send_each}
 use Rattle.iss_loops.specs.declared.node.NodeStep.{NodeStep}
 use Rattle.iss_loops.specs.declared.node.NodeStep.TheVariants.{Taken}
 use Rattle.iss_sb.specs.Calls.{AreToNodes}

@@ -1,4 +1,4 @@
-use Rattle.std.proofs.Common.{◌≡◌, ◌∙◌, ℕ, ap, sym, true≢false, true, false, refl}
+use Rattle.std.proofs.Common.{◌∙◌, ℕ, ap, sym, true≢false}
 use Rattle.std.specs.Prelude.{◌==◌}
 use Rattle.iss_loops.proofs.TraceLemmas.{word-length}
 use Rattle.iss_loops.proofs.trace.word_length.Goals as goal

@@ -1,4 +1,4 @@
-use Rattle.std.proofs.Common.{◌≡◌, ap, sym, ◌++◌, ◌∷◌, [], ◌∙◌, ◌<◌, length, arith}
+use Rattle.std.proofs.Common.{ap, ◌++◌, ◌∷◌, [], ◌∙◌, ◌<◌, length, arith}
 use Rattle.iss_loops.specs.Traces.{is_within_limits, most_trace_events}
 use Rattle.iss_schedule.specs.declared.schedules.Schedule.{Schedule}
 use Rattle.iss_loops.proofs.TraceLemmas.{limits}
