@@ -1,14 +1,22 @@
 -- The answers to a configuration, and what a cluster or a node answers under the module that a configuration names.
-use Rattle.std.proofs.Common.{◌≡◌, ◌∙◌, ◌⊎◌, inl, inr, ℕ, ◌<◌, ◌≤◌, List, [], ◌∷◌, ◌++◌, Option, Some, None, Result, Ok, Err, IsErrOf, length, codes, refl, sym, ap, subst}
+use Rattle.std.proofs.Common.{◌≡◌, ◌∙◌, ◌⊎◌, inl, inr, ℕ, ◌<◌, ◌≤◌, List, [], ◌∷◌, ◌++◌, Option, Some, None, Result, Ok, Err, IsErrOf, length, codes, refl, sym, ap, subst, arith}
+use Rattle.std.proofs.lemmas.Result.{IfOk-at_ok}
 use Rattle.std.specs.Prelude.{IfOk}
 use Rattle.iss_cluster.specs.Clusters.{IsTracedRun, behavior_of, loop_plan_of}
+use Rattle.iss_cluster.specs.Nodes.{IsNodeRun, IsRefused}
 use Rattle.iss_cluster.specs.declared.errors.NodeFailure.{NodeFailure}
+use Rattle.iss_cluster.specs.declared.errors.NodeFailure.TheVariants.{Damaged, LinksFault as Node_links_fault, DiskFault as Node_disk_fault}
 use Rattle.iss_config.specs.Configs.{IsInRange, setup_of}
 use Rattle.iss_config.specs.declared.configs.Config.{Config}
 use Rattle.iss_disk.specs.File.{File}
+use Rattle.iss_base.specs.Counts.{Rose}
+use Rattle.iss_disk.specs.Calls.{HasCause as DiskCause, Place, lent}
+use Rattle.iss_links.specs.Calls.{HasCause as LinksCause}
 use Rattle.iss_links.specs.Ends.{End}
 use Rattle.iss_loops.specs.Loop.{loop_of}
 use Rattle.iss_loops.specs.Plans.{HasRun}
+use Rattle.iss_loops.specs.declared.errors.NodeError.{NodeError}
+use Rattle.iss_loops.specs.declared.errors.NodeError.TheVariants.{LinksFault, DiskFault, NoMemory}
 use Rattle.iss_model.specs.Courses.{Course}
 use Rattle.iss_replay.specs.Refines.{ReportRefinesRun, end_kept}
 use Rattle.iss_replay.specs.Report.{text_of as text_of_run}
@@ -28,7 +36,7 @@ use Rattle.sb_pbft.specs.Pbft.{pbft}
 use Rattle.sb_raft.specs.Raft.{raft}
 use Rattle.sb_relay.specs.Relay.{relay}
 use Rattle.iss_cli.proofs.TraceLemmas.{trace-is-schedule}
-use Rattle.iss_cli.specs.Running.{IsConfigOf, IsOfCluster, IsOfConfig, IsOfNode, damaged_answer, log_answer, refused_configuration}
+use Rattle.iss_cli.specs.Running.{IsConfigOf, IsOfCluster, IsOfConfig, IsOfNode, IsPrintedRun, damaged_answer, log_answer, refused_configuration}
 use Rattle.iss_cli.specs.Views.{Under, outcome_of}
 use Rattle.iss_cli.specs.declared.answers.Answer.{Answer}
 use Rattle.iss_cli.specs.declared.status.Outcome.{Outcome}
@@ -43,6 +51,63 @@ of-config P input c (Err e) is h = tt
 pub of-no-config : {E : Type 0} (P : Config → Answer → Type 0) (input : List ℕ) (r : Result Answer E) → ((c : Config) → IsConfigOf input c → ⊥) → IfOk r (λ a. a ≡ refused_configuration) → IfOk r (IsOfConfig P input)
 of-no-config P input (Ok a) none h = inr (none, h)
 of-no-config P input (Err e) none h = tt
+
+-- ---- what failed
+
+-- a call that follows one without a fault
+pub links-behind : {T E : Type 0} (F : Type 0) (old mid new : ℕ) (r : Result T E) (x : T) (e : E) → r ≡ Ok x → LinksCause old mid (IsErrOf r e) → LinksCause mid new F → LinksCause old new F
+links-behind F old mid new r x e is first next =
+    let same : mid ≡ old = first.still (λ q. absurd (cc)) in
+    subst (λ (n : ℕ). LinksCause n new F) same next
+
+pub disk-behind : (F G : Type 0) (old mid new : ℕ) → DiskCause old mid F → DiskCause mid new G → DiskCause old new G
+disk-behind F G old mid new first next =
+    let a = first.never_falls in let b = next.never_falls in
+    record {
+      never_falls = omega (arith, a, b);
+      rose = λ f. rises (next.rose f);
+    }
+  where
+    rises : Rose mid new → Rose old new
+    rises (inl h) = let a = first.never_falls in inl (omega (arith, a, h))
+    rises (inr h) = inr h
+
+-- a fault that is passed on under another name
+pub links-failed : {T E : Type 0} (F : Type 0) (old new : ℕ) (r : Result T E) (e : E) → (IsErrOf r e → F) → (F → IsErrOf r e) → LinksCause old new (IsErrOf r e) → LinksCause old new F
+links-failed F old new r e there back h = record { never_falls = h.never_falls; rose = λ f. h.rose (back f); still = λ none. h.still (λ q. none (there q)) }
+
+pub disk-failed : {T E : Type 0} (F : Type 0) (old new : ℕ) (r : Result T E) (e : E) → (F → IsErrOf r e) → DiskCause old new (IsErrOf r e) → DiskCause old new F
+disk-failed F old new r e back h = record { never_falls = h.never_falls; rose = λ f. h.rose (back f) }
+
+-- ---- what is printed of a node's run
+
+pub printed-links : (ran : Result (List ℕ) NodeFailure) (r : Result Answer NodeError) → IsPrintedRun ran r → IsErrOf r LinksFault → IsErrOf ran Node_links_fault
+printed-links ran (Ok a) is q = absurd (cc)
+printed-links ran (Err LinksFault) is q = is
+printed-links ran (Err DiskFault) is q = absurd (cc)
+printed-links ran (Err NoMemory) is q = absurd (cc)
+
+pub printed-disk : (ran : Result (List ℕ) NodeFailure) (r : Result Answer NodeError) → IsPrintedRun ran r → IsErrOf r DiskFault → IsErrOf ran Node_disk_fault
+printed-disk ran (Ok a) is q = absurd (cc)
+printed-disk ran (Err LinksFault) is q = absurd (cc)
+printed-disk ran (Err DiskFault) is q = is
+printed-disk ran (Err NoMemory) is q = absurd (cc)
+
+-- What is printed of a node's run is the node's answer.
+pub of-node : {Msg : Type 0} (m : Module Msg) (c : Config) (me : ℕ) (ends ends_now : Option (List End)) (before now : List File) (ran : Result (List ℕ) NodeFailure) (r : Result Answer NodeError)
+    → IsPrintedRun ran r → IfOk ran (IsNodeRun m c me ends ends_now before now) → ((at : ℕ) → IsErrOf ran (Damaged at) → IsRefused m (setup_of c) me before now at)
+    → IfOk r (λ a. IsOfNode c me ends ends_now before now a Msg m)
+of-node m c me ends ends_now before now ran (Ok a) (inl (block, (is, same))) run damaged = inl (block, (IfOk-at_ok (IsNodeRun m c me ends ends_now before now) is run, same))
+of-node m c me ends ends_now before now ran (Ok a) (inr (at, (is, same))) run damaged = inr (at, (damaged at is, same))
+of-node m c me ends ends_now before now ran (Err e) is run damaged = tt
+
+-- the place of a disk that is lent tells which loan it is
+pub same-loan : (a b : ℕ) (p q : Place) → lent a p ≡ lent b q → a ≡ b
+same-loan a b p q e = ap (λ (place : Place). first_of place.borrows) e
+  where
+    abbrev first_of : List ℕ → ℕ
+    first_of [] = 0
+    first_of (x ∷ xs) = x
 
 -- ---- what is no refusal
 

@@ -1,5 +1,5 @@
 -- The answer to an order and its input, of which a bounded front was read.
-use Rattle.std.proofs.Common.{◌≡◌, ◌∙◌, ◌⊎◌, inl, inr, ℕ, ◌<◌, ◌≤◌, Bool, true, false, Option, None, Some, Result, Ok, Err, List, [], length, take, refl, sym, ap, subst, arith}
+use Rattle.std.proofs.Common.{◌≡◌, ◌∙◌, ◌⊎◌, inl, inr, ℕ, ◌<◌, ◌≤◌, Bool, true, false, Option, None, Some, Result, Ok, Err, IsErrOf, List, [], length, take, refl, sym, ap, subst, arith}
 use Rattle.std.specs.Bool.{IsTrue}
 use Rattle.std.proofs.lemmas.Bool.Decides.{leb_tells}
 use Rattle.std.proofs.lemmas.List.{take_all, length-take}
@@ -13,15 +13,18 @@ use Rattle.iss_schedule.specs.BadLines.{IsBadLine}
 use Rattle.iss_schedule.specs.declared.errors.LineFault.{LineFault}
 use Rattle.iss_cli.specs.Answers.{IsAnswer, IsAudited, IsOfReplies, IsOfSchedule, Reads, refused_words}
 use Rattle.iss_cli.specs.Calls.{Ends, HasNone, IsAnswerTo, IsAnswered, IsStartedOn, IsUnanswered, Prints}
-use Rattle.iss_cli.specs.Ends.{Drains, IfTold, IsDrained}
+use Rattle.iss_cli.specs.Ends.{Drains, HasCause, IfTold, IsDrained}
 use Rattle.iss_cli.specs.Errors.{of_node, status_without}
-use Rattle.iss_cli.specs.Running.{Devices, IsConfigOf, IsOfCluster, IsOfConfig, IsOfNodeOrder, IsStarted, UsesDisk, UsesLinks}
+use Rattle.iss_cli.specs.Running.{Devices, HasPorts, IsConfigOf, IsOfCluster, IsOfConfig, IsOfNodeOrder, IsStarted, UsesDisk, UsesLinks}
 use Rattle.iss_cli.specs.Views.{IsShown, Under}
 use Rattle.iss_cli.specs.declared.errors.AnswerError.{AnswerError}
 use Rattle.iss_cli.specs.declared.errors.AnswerError.TheVariants.{SourceFailed as Source_failed, LinksFailed as Links_failed, DiskFailed as Disk_failed, NoMemory as No_memory}
 use Rattle.iss_config.specs.declared.configs.Config.{Config}
+use Rattle.iss_links.specs.Calls.{HasCause as LinksCause}
 use Rattle.iss_loops.specs.declared.errors.NodeError.{NodeError}
 use Rattle.iss_loops.specs.declared.errors.NodeError.TheVariants.{LinksFault, DiskFault, NoMemory as Node_no_memory}
+use Rattle.iss_cli.specs.declared.status.Outcome.{Outcome}
+use Rattle.iss_cli.specs.declared.status.Outcome.TheVariants.{Done, RefusedConfiguration}
 use Rattle.iss_cli.specs.declared.status.Status.{Status}
 use Rattle.iss_cli.specs.declared.status.Status.TheVariants.{Answered, NoMemory, SourceFailed, SinkFailed, LinksFailed, DiskFailed}
 use Rattle.iss_cli.specs.declared.views.View.TheVariants.{Full, Replied}
@@ -204,6 +207,17 @@ pub answer_refused : (words : List (List ℕ)) (left left_now : Option (List ℕ
     (r ≡ Err Refused → (order : Order) → Asks words order → ⊥) → a ≡ refused_words → IsAnswered words left left_now before now a
 answer_refused words left left_now before now a r e is refused none same = inr (none (is ∙ ap (λ (x : WordsError). Err x) refused), same)
 
+-- the ports of an order that words ask for exist
+pub ports_of : (words : List (List ℕ)) (order : Order) → Asks words order → HasPorts order
+ports_of words (Cluster port) asks = asks.is.1.most
+ports_of words (Node node) asks = asks.is.2.most
+ports_of words Replay asks = tt
+ports_of words (Lab number events) asks = tt
+ports_of words Replies asks = tt
+ports_of words Answers asks = tt
+ports_of words (Export core) asks = tt
+ports_of words Audit asks = tt
+
 -- ---- the end of a call
 
 pub ends : (words : List (List ℕ)) (left left_now : Option (List ℕ)) (before now : Devices) (held held_now : Option (List ℕ)) (a : Answer) (status : Status) → IsAnswered words left left_now before now a →
@@ -228,3 +242,36 @@ unanswered words left left_now order Source_failed asks h = (order, (asks, h))
 unanswered words left left_now order Links_failed asks h = (order, (asks, h))
 unanswered words left left_now order Disk_failed asks h = (order, (asks, h))
 unanswered words left left_now order No_memory asks h = tt
+
+abbrev outcome_in : Status → Outcome
+outcome_in (Answered outcome) = outcome
+outcome_in status = Done
+
+-- what holds if the configuration is refused
+pub refused_is_said : (P : Type 0) (held held_now : Option (List ℕ)) (a : Answer) (status : Status) → Prints a held held_now status → (a.outcome ≡ RefusedConfiguration → P) → status ≡ Answered RefusedConfiguration → P
+refused_is_said P held held_now a (Answered outcome) prints h e = h (sym prints.0 ∙ ap (λ (s : Status). outcome_in s) e)
+refused_is_said P held held_now a SinkFailed prints h e = absurd (cc)
+refused_is_said P held held_now a NoMemory prints h e = absurd (cc)
+refused_is_said P held held_now a SourceFailed prints h e = absurd (cc)
+refused_is_said P held held_now a LinksFailed prints h e = absurd (cc)
+refused_is_said P held held_now a DiskFailed prints h e = absurd (cc)
+
+pub no_outcome : (P : Type 0) (outcome : Outcome) (e : AnswerError) → status_without e ≡ Answered outcome → P
+no_outcome P outcome Source_failed is = absurd (cc)
+no_outcome P outcome Links_failed is = absurd (cc)
+no_outcome P outcome Disk_failed is = absurd (cc)
+no_outcome P outcome No_memory is = absurd (cc)
+
+-- ---- whose fault it is
+
+pub source_said : (old new : ℕ) (e : AnswerError) → HasCause old new (IsErrOf {T = Answer} (Err e) Source_failed) → HasCause old new (status_without e ≡ SourceFailed)
+source_said old new Source_failed h = record { never_falls = h.never_falls; rose = λ q. h.rose refl; still = λ none. absurd (none refl) }
+source_said old new Links_failed h = record { never_falls = h.never_falls; rose = λ q. absurd (cc); still = λ none. h.still (λ q. absurd (cc)) }
+source_said old new Disk_failed h = record { never_falls = h.never_falls; rose = λ q. absurd (cc); still = λ none. h.still (λ q. absurd (cc)) }
+source_said old new No_memory h = record { never_falls = h.never_falls; rose = λ q. absurd (cc); still = λ none. h.still (λ q. absurd (cc)) }
+
+pub links_said : (old new : ℕ) (e : AnswerError) → LinksCause old new (IsErrOf {T = Answer} (Err e) Links_failed) → LinksCause old new (status_without e ≡ LinksFailed)
+links_said old new Links_failed h = record { never_falls = h.never_falls; rose = λ q. h.rose refl; still = λ none. absurd (none refl) }
+links_said old new Source_failed h = record { never_falls = h.never_falls; rose = λ q. absurd (cc); still = λ none. h.still (λ q. absurd (cc)) }
+links_said old new Disk_failed h = record { never_falls = h.never_falls; rose = λ q. absurd (cc); still = λ none. h.still (λ q. absurd (cc)) }
+links_said old new No_memory h = record { never_falls = h.never_falls; rose = λ q. absurd (cc); still = λ none. h.still (λ q. absurd (cc)) }

@@ -32,7 +32,7 @@ pub struct Answer {
 
 /// Whether the order reads the input.
 pub fn reads(order: Order<'_>) -> bool
-    ensures { IsTrue result ↔ Reads order }
+    ensures { IsTrue result ↔ Reads order.entry }
 {
     match order {
         Order::Replay => true,
@@ -53,14 +53,14 @@ pub fn respond<L: Links, D: Disk>(
     disk: &mut D,
 ) -> Result<Answer, NodeError>
     requires { HasPorts order }
-    ensures ok { IfOk result (IsAnswer order (devices (L.ends links.old) (D.files disk.old) (D.history disk.old))
+    ensures ok { IfOk result (IsAnswer order.entry (devices (L.ends links.old) (D.files disk.old) (D.history disk.old))
         (devices (L.ends links.new) (D.files disk.new) (D.history disk.new)) input.now) }
-    ensures links_fail { IsErrOf result NodeError.LinksFault → UsesLinks order × IsStarted order input.now }
-    ensures disk_fails { IsErrOf result NodeError.DiskFault → UsesDisk order × IsStarted order input.now }
+    ensures links_fail { IsErrOf result NodeError.LinksFault → UsesLinks order.entry × IsStarted order.entry input.now }
+    ensures disk_fails { IsErrOf result NodeError.DiskFault → UsesDisk order.entry × IsStarted order.entry input.now }
     ensures links { HasCause (L.faults links.old) (L.faults links.new) (IsErrOf result NodeError.LinksFault) }
     ensures disk { HasDiskCause (D.faults disk.old) (D.faults disk.new) (IsErrOf result NodeError.DiskFault) }
-    ensures same_links { ¬ UsesLinks order → links.new ≡ links.old }
-    ensures same_disk { ¬ UsesDisk order → disk.new ≡ disk.old }
+    ensures same_links { ¬ UsesLinks order.entry → links.new ≡ links.old }
+    ensures same_disk { ¬ UsesDisk order.entry → disk.new ≡ disk.old }
     ensures refused { IfOk result (λ a. a.outcome ≡ Outcome.RefusedConfiguration →
         (links.new ≡ links.old) × (disk.new ≡ disk.old)) }
 {

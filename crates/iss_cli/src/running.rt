@@ -184,10 +184,10 @@ pub fn run_node<L: Links, D: Disk>(
 ) -> Result<Answer, NodeError>
     requires { order.port ≤ 65000 }
     ensures ok { IfOk result (IsOfConfig
-        (IsOfNodeOrder order (devices (L.ends links.old) (D.files disk.old) (D.history disk.old))
+        (IsOfNodeOrder order.entry (devices (L.ends links.old) (D.files disk.old) (D.history disk.old))
         (devices (L.ends links.new) (D.files disk.new) (D.history disk.new))) input.now) }
-    ensures links_fail { IsErrOf result NodeError.LinksFault → IsStarted (ModelNode order) input.now }
-    ensures disk_fails { IsErrOf result NodeError.DiskFault → IsStarted (ModelNode order) input.now }
+    ensures links_fail { IsErrOf result NodeError.LinksFault → IsStarted (ModelNode order.entry) input.now }
+    ensures disk_fails { IsErrOf result NodeError.DiskFault → IsStarted (ModelNode order.entry) input.now }
     ensures links { HasCause (L.faults links.old) (L.faults links.new) (IsErrOf result NodeError.LinksFault) }
     ensures disk { HasDiskCause (D.faults disk.old) (D.faults disk.new) (IsErrOf result NodeError.DiskFault) }
     ensures refused { IfOk result (λ a. a.outcome ≡ Outcome.RefusedConfiguration →
@@ -210,10 +210,10 @@ fn run_one<L: Links, D: Disk>(
     requires port { order.port ≤ 65000 }
     requires range { IsInRange config.now }
     ensures ok { IfOk result
-        (IsOfNodeOrder order (devices (L.ends links.old) (D.files disk.old) (D.history disk.old))
+        (IsOfNodeOrder order.entry (devices (L.ends links.old) (D.files disk.old) (D.history disk.old))
         (devices (L.ends links.new) (D.files disk.new) (D.history disk.new)) config.now) }
-    ensures links_fail { IsErrOf result NodeError.LinksFault → order.node < (setup_of config.now).n }
-    ensures disk_fails { IsErrOf result NodeError.DiskFault → order.node < (setup_of config.now).n }
+    ensures links_fail { IsErrOf result NodeError.LinksFault → order.entry.node < (setup_of config.now).n }
+    ensures disk_fails { IsErrOf result NodeError.DiskFault → order.entry.node < (setup_of config.now).n }
     ensures links { HasCause (L.faults links.old) (L.faults links.new) (IsErrOf result NodeError.LinksFault) }
     ensures disk { HasDiskCause (D.faults disk.old) (D.faults disk.new) (IsErrOf result NodeError.DiskFault) }
     ensures refused { IfOk result (λ a. a.outcome ≡ Outcome.RefusedConfiguration →
@@ -236,8 +236,8 @@ fn run_existing<L: Links, D: Disk>(
     requires port { order.port ≤ 65000 }
     requires range { IsInRange config.now }
     requires node { order.node < (setup_of config.now).n }
-    ensures ok { IfOk result (λ a. Under config.now.module (IsOfNode config.now order.node (L.ends links.old)
-        (L.ends links.new) (D.files disk.old order.file.now) (D.history disk.new) a)) }
+    ensures ok { IfOk result (λ a. Under config.now.module (IsOfNode config.now order.entry.node (L.ends links.old)
+        (L.ends links.new) (D.files disk.old order.entry.file.now) (D.history disk.new) a)) }
     ensures links { HasCause (L.faults links.old) (L.faults links.new) (IsErrOf result NodeError.LinksFault) }
     ensures disk { HasDiskCause (D.faults disk.old) (D.faults disk.new) (IsErrOf result NodeError.DiskFault) }
 {
@@ -255,7 +255,7 @@ fn attach<L: Links, D: Disk>(
     requires port { order.port ≤ 65000 }
     requires node { order.node < 10 }
     ensures ends { OnOk result (L.ends links.new ≡ L.ends links.old) }
-    ensures file { OnOk result (D.history disk.new ≡ D.files disk.old order.file.now) }
+    ensures file { OnOk result (D.history disk.new ≡ D.files disk.old order.entry.file.now) }
     ensures links { HasCause (L.faults links.old) (L.faults links.new) (IsErrOf result NodeError.LinksFault) }
     ensures disk { HasDiskCause (D.faults disk.old) (D.faults disk.new) (IsErrOf result NodeError.DiskFault) }
 {
@@ -318,7 +318,8 @@ fn run_node_under<M: Sequenced, L: Links, D: Disk>(
 
 // What came of a node's loop.
 fn print_ran(alloc: Global, ran: Result<Bytes, NodeFailure>) -> Result<Answer, NodeError>
-    ensures { IsPrintedRun ran result }
+    ensures printed { IsPrintedRun ran result }
+    ensures links { IsErrOf ran NodeFailure.LinksFault → IsErrOf result NodeError.LinksFault }
 {
     match ran {
         Ok(block) => Ok(print_log(alloc, block.as_slice())?),

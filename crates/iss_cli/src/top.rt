@@ -99,15 +99,15 @@ fn answer_order<I: Source, L: Links, D: Disk>(
     disk: &mut D,
 ) -> Result<Answer, AnswerError>
     requires { HasPorts order }
-    ensures ok { IfOk result (IsAnswerTo order (I.left input.old) (I.left input.new)
+    ensures ok { IfOk result (IsAnswerTo order.entry (I.left input.old) (I.left input.new)
         (devices (L.ends links.old) (D.files disk.old) (D.history disk.old))
         (devices (L.ends links.new) (D.files disk.new) (D.history disk.new))) }
-    ensures err { IfErr result (HasNone order (I.left input.old) (I.left input.new)) }
+    ensures err { IfErr result (HasNone order.entry (I.left input.old) (I.left input.new)) }
     ensures taken { Drains 16777217 (I.left input.old) (I.left input.new) }
     ensures empty { I.empties input.new ≤ I.empties input.old + 1 }
-    ensures unread { ¬ Reads order → input.new ≡ input.old }
-    ensures same_links { ¬ UsesLinks order → links.new ≡ links.old }
-    ensures same_disk { ¬ UsesDisk order → disk.new ≡ disk.old }
+    ensures unread { ¬ Reads order.entry → input.new ≡ input.old }
+    ensures same_links { ¬ UsesLinks order.entry → links.new ≡ links.old }
+    ensures same_disk { ¬ UsesDisk order.entry → disk.new ≡ disk.old }
     ensures refused { IfOk result (λ a. a.outcome ≡ Outcome.RefusedConfiguration →
         (links.new ≡ links.old) × (disk.new ≡ disk.old)) }
     ensures source { HasCause (I.faults input.old) (I.faults input.new) (IsErrOf result AnswerError.SourceFailed) }
