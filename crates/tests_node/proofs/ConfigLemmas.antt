@@ -15,8 +15,8 @@ is-pbft c range is =
     record {
       good = known.good;
       kind = lies;
-      nodes = known.good.nodes ∙ rw (is, lies) refl;
-      majority = known.good.majority ∙ rw (is, lies) refl;
+      nodes = known.good.nodes ∙ rw (is) refl;
+      majority = known.good.majority ∙ rw (is) refl;
     }
 
 pub has-nodes : (s : Setup) → IsSetupOf pbft s → 0 < s.n

@@ -1,6 +1,6 @@
 //! Tests of public calls only.
 use crate::pbft_config;
-use iss_cluster::{NodeFailure, RunningNode, node};
+use iss_cluster::{NodeFailure, RunningNode, node, start_node};
 use iss_disk::{Disk, MemoryDisk};
 use iss_links::{Arrival, FailingLinks, Links, MemoryLinks};
 use iss_request::{Bytes, NodeId};
@@ -26,8 +26,12 @@ fn run_over<L: Links>(
     disk: &mut MemoryDisk,
 ) -> Result<Result<Bytes, NodeFailure>, Fail> {
     let config = pbft_config(alloc, text)?;
-    let mut running = RunningNode::<Pbft, &mut MemoryDisk>::over(alloc, &config, NodeId(0), disk)?;
-    Ok(node(alloc, &config, links, &mut running))
+    let fresh = start_node::<Pbft>(alloc, &config, NodeId(0))?;
+    let mut running = RunningNode::of(fresh, disk);
+    let ran = node(alloc, &config, links, &mut running);
+    // The disk is given back.
+    let _disk = running.into_disk();
+    Ok(ran)
 }
 
 // Runs the node over links in memory.
