@@ -1,5 +1,6 @@
 //! What `bench/run` cannot time by the program alone: digests, keys, and reading and writing a schedule. The first
-//! argument says which: `digests COUNT`, `keys`, or `schedule PAIRS`. Each line of the output is a name and nanoseconds.
+//! argument says which: `digests COUNT`, `keys`, or `schedule PAIRS`. Each line of the output is a name and
+//! nanoseconds.
 //! Without arguments a small workload of each runs, and its counts are printed, the same on each machine.
 #![tactic(auto)]
 

@@ -122,8 +122,8 @@ abbrev pub IsStopped : {Msg : Type 0} → Module Msg → Config → ℕ → (end
 IsStopped M c me ends ends_now before now =
     ((ends_now ≡ ends) × LosesNothing before now) ⊎ IsCutShort M c me ends ends_now before now
 
--- The journal is damaged at this offset: the file itself, or an entry that is no event or that the node would drop. What
--- it held stays.
+-- The journal is damaged at this offset: the file itself, or an entry that is no event or that the node would drop.
+-- What it held stays.
 pub record IsRefused {Msg : Type 0} (M : Module Msg) (s : Setup) (me : ℕ) (before now : List File) (at : ℕ)
     : Type 0 where
   pub entries : List (List ℕ)

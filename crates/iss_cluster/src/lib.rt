@@ -1,4 +1,5 @@
-//! Running nodes over links: a whole cluster in one process, whose trace can be replayed, and one node with its journal.
+//! Running nodes over links: a whole cluster in one process, whose trace can be replayed, or one node with its
+//! journal.
 #![tactic(auto)]
 
 pub mod clusters;

@@ -40,7 +40,8 @@ pub record HasRun {M Msg : Type 0} (m : Module Msg) (refines : Relation M Msg) (
   pub disks : Work (course_after trace.setup m trace.events).machines.disks
 
 -- The cluster has the trace's set-up. Unless memory ran out, it has run the trace's events.
-pub record IsRunning {M Msg : Type 0} (m : Module Msg) (refines : Relation M Msg) (r : RunningState M Msg) : Type 0 where
+pub record IsRunning {M Msg : Type 0} (m : Module Msg) (refines : Relation M Msg) (r : RunningState M Msg)
+    : Type 0 where
   pub good : IsSetupOf m r.trace.setup
   pub cluster : r.world.simulation.setup ≡ r.trace.setup
   pub run : r.stale ≡ false → HasRun m refines r.world r.drops r.ended r.trace r.index
