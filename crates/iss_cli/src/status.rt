@@ -17,12 +17,10 @@ pub enum Outcome {
     Collision,
     /// A client counted a reply to a request, and accepted no answer.
     Unconfirmed,
-    /// The input is no configuration, or there is no node that the words name.
+    /// The schedule's cluster has no core that the words name.
     RefusedConfiguration,
     /// An epoch of the exported log is not certified.
     Uncertified,
-    /// The node's journal is damaged.
-    DamagedJournal,
 }
 
 /// How the top call ends.
@@ -36,10 +34,6 @@ pub enum Status {
     SourceFailed,
     /// The sink failed. A prefix of the answer may have been printed.
     SinkFailed,
-    /// The links failed. Nothing was printed.
-    LinksFailed,
-    /// The disk failed. Nothing was printed.
-    DiskFailed,
 }
 
 impl Outcome {
@@ -56,7 +50,6 @@ impl Outcome {
             Outcome::Unconfirmed => 12,
             Outcome::RefusedConfiguration => 11,
             Outcome::Uncertified => 12,
-            Outcome::DamagedJournal => 10,
         }
     }
 }
@@ -71,8 +64,6 @@ impl Status {
             Status::NoMemory => 1,
             Status::SourceFailed => 4,
             Status::SinkFailed => 5,
-            Status::LinksFailed => 8,
-            Status::DiskFailed => 9,
         }
     }
 }
