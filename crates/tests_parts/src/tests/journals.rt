@@ -3,7 +3,8 @@ ghost use Rattle.std.specs.Prelude.{◌≡◌, [], ◌∷◌};
 ghost use Rattle.iss_disk.specs.File.{settled};
 
 use iss_disk::{Disk, FileDisk, Fused, MemoryDisk};
-use iss_journal::{AttachError, Journal};
+use iss_journal::{AttachError, Journal, Part};
+use iss_request::Bytes;
 use std::alloc::Global;
 use std::fs;
 use std::process::Abort;
@@ -45,6 +46,35 @@ fn assert_attached(
 }
 
 #[test]
+fn a_shared_part_is_of_the_entry(rt: HostRuntime) -> Result<(), Fail> {
+    let alloc = rt.alloc();
+    let mut disk = MemoryDisk::new(alloc)?;
+    {
+        let mut journal = Journal::over(alloc, &mut disk);
+        journal.attach()?;
+        journal.append(b"one")?;
+        journal.append_parts(
+            b"t",
+            Part::Shared(Bytes::shared(Vec::from_slice(alloc, b"wo")?)?),
+        )?;
+        journal.append(b"three")?;
+        assert_eq!(rt; journal.entries().len(), 3);
+        assert_eq!(rt; journal.entries().get(1).0, b"t".as_slice());
+        assert_eq!(rt; journal.entries().get(1).1, b"wo".as_slice());
+        assert_eq!(rt; journal.gate_of(1), 8);
+        assert_eq!(rt; journal.gate_of(2), 16);
+        journal.attach()?;
+        assert_eq!(rt; journal.entries().get(1).0, b"two".as_slice());
+        assert_eq!(rt; journal.gate_of(2), 16);
+    }
+    assert_file(
+        &rt,
+        &mut disk,
+        b"\x01\0\0\0\x03one\x01\0\0\0\x03two\x01\0\0\0\x05three\0",
+    )
+}
+
+#[test]
 fn an_append_writes_a_frame(rt: HostRuntime) -> Result<(), Fail> {
     let mut disk = MemoryDisk::new(rt.alloc())?;
     {
@@ -52,7 +82,7 @@ fn an_append_writes_a_frame(rt: HostRuntime) -> Result<(), Fail> {
         journal.attach()?;
         journal.append(&[0xaa])?;
         assert_eq!(rt; journal.entries().len(), 1);
-        assert_eq!(rt; journal.entries().get(0), [0xaa].as_slice());
+        assert_eq!(rt; journal.entries().get(0).0, [0xaa].as_slice());
         assert_eq!(rt; journal.gate_of(0), 0);
     }
     assert_file(&rt, &mut disk, &[1, 0, 0, 0, 1, 0xaa, 0])
@@ -154,7 +184,7 @@ fn a_file_is_attached_anew(rt: HostRuntime) -> Result<(), Fail> {
     let journal = file_journal(&rt, name)?;
     fs::remove_file(&rt, name)?;
     assert_eq!(rt; journal.entries().len(), 1);
-    assert_eq!(rt; journal.entries().get(0), b"kept".as_slice());
+    assert_eq!(rt; journal.entries().get(0).0, b"kept".as_slice());
     Ok(())
 }
 
