@@ -1,4 +1,5 @@
 pub mod Branches
+pub mod BranchesDecode
 mod Examples
 mod Reading
 pub mod CertificateGrammar

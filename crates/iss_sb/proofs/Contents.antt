@@ -146,6 +146,14 @@ module _ (version : ℕ) where
       let again = read-again (spell_value version) (parse_value version) (value_grammar version) h.0 [] (Value_batch b) value in
       (h.2 ∙ ap (λ (x : List ℕ). 1 ∷ x) spelled, λ rest. holds-again b (spell_value version (Value_batch b) ++ rest) rest (again rest))
 
+  -- a row of the table with a batch is one of a batch with an encoding
+  pub table-batch : (b : Batch) (bytes : List ℕ) → IsSpelledContent version (Holds b) bytes → IsReadAgain (spell_value version) (parse_value version) (Value_batch b)
+  table-batch b bytes h = holds-value b (content-table (Holds b) bytes h).1
+
+  -- nil has an encoding
+  pub nil-value : IsReadAgain (spell_value version) (parse_value version) Value_nil
+  nil-value = read-again (spell_value version) (parse_value version) (value_grammar version) (0 ∷ []) [] Value_nil ((value_related version Value_nil (0 ∷ [])).1 refl)
+
   -- a batch with an encoding has a row in the table
   pub batch-table : (b : Batch) → IsReadAgain (spell_value version) (parse_value version) (Value_batch b) → (bytes : List ℕ) × IsSpelledContent version (Holds b) bytes
   batch-table b h = (spell_content version (Holds b), value-row b h)

@@ -6,7 +6,7 @@ ghost use Rattle.iss_request.specs.Fields.{IsGrammar, IsRead, IsUnreadable, and_
 ghost use Rattle.iss_keys.specs.KeyStates.{left_of};
 ghost use Rattle.iss_sb.specs.Calls.{IsStep, IsTrueStep, IsGoodParams, IsGoodInput, named};
 ghost use Rattle.iss_sb.specs.Evidence.{Item, Module};
-ghost use Rattle.iss_sb.specs.Laws.{AcceptsOnce, IsLawful, IsSafe, SignsOnce};
+ghost use Rattle.iss_sb.specs.Laws.{AcceptsOnce, DecidesReadable, IsLawful, IsSafe, SignsOnce};
 
 use crate::effects::{Claim, Effects, Input, Params, StepError};
 use iss_keys::Keys;
@@ -136,8 +136,8 @@ pub trait Sequenced: Drop + Sized {
 
     /// The laws that the module proves; the body is empty. `grammar`: in each version a message has at most one
     /// encoding, and none is a prefix of another. `lawful`: the laws of single steps. `safe`: agreement, no duplication
-    /// and integrity. `accepts_once`: a correct leader accepts one batch at a slot. `signs_once`: no leaf signs two
-    /// statements.
+    /// and integrity. `accepts_once`: a correct leader accepts one batch at a slot. `decides_readable`: values that are
+    /// decided have encodings. `signs_once`: no leaf signs two statements.
     fn laws()
         ensures tagged { spec.tag ≡ TAG }
         ensures stopping { spec.stopping ≡ STOPPING }
@@ -145,6 +145,7 @@ pub trait Sequenced: Drop + Sized {
         ensures lawful { IsLawful spec }
         ensures safe { IsSafe spec }
         ensures accepts_once { AcceptsOnce spec }
+        ensures decides_readable { DecidesReadable spec }
         ensures signs_once { SignsOnce spec };
 }
 

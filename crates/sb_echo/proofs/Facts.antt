@@ -94,7 +94,7 @@ made-accepted p me x xs a made h =
 
 -- ---- the batch of a slot
 
-batch_for-is : (s : ℕ) (o : Option (Slot × Batch)) (b : Batch) → batch_for s o ≡ Some b →
+pub batch_for-is : (s : ℕ) (o : Option (Slot × Batch)) (b : Batch) → batch_for s o ≡ Some b →
     ◌≡◌ {A = Option (Slot × Batch)} o (Some (record { 0 = s }, b))
 batch_for-is s None b h = absurd (cc)
 batch_for-is s (Some a) b h = go (a.0.0 == s) refl h

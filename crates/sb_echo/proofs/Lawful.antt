@@ -1,11 +1,15 @@
 -- The laws of single steps hold of echo.
-use Rattle.std.proofs.Common.{◌≡◌, ◌≤◌, ◌<◌, ◌+◌, ◌^◌, ℕ, Bool, true, false, List, ◌∷◌, ◌++◌, length, Option, Some, None, refl, sym, ap, subst, inl, inr, arith}
+use Rattle.std.proofs.Common.{◌≡◌, ◌≤◌, ◌<◌, ◌+◌, ◌^◌, ℕ, Bool, true, false, List, [], ◌∷◌, ◌++◌, length, Option, Some, None, refl, sym, ap, ◌∙◌, subst, inl, inr, arith}
 use Rattle.sha2.proofs.Facts256.{length-sha256}
 use Rattle.iss_base.specs.Lists.{In}
+use Rattle.iss_base.proofs.Lists.{first-cases}
 use Rattle.iss_sb.proofs.Inputs.{cast-is}
 use Rattle.iss_request.specs.declared.ids.NodeId.{NodeId}
 use Rattle.iss_request.specs.declared.ids.Slot.{Slot}
 use Rattle.iss_request.specs.declared.requests.Batch.{Batch}
+use Rattle.iss_request.specs.declared.requests.Value.{Value}
+use Rattle.iss_request.specs.Fields.{IsReadAgain}
+use Rattle.iss_request.specs.Formats.{parse_value, spell_value}
 use Rattle.iss_sb.specs.declared.effects.Claim.{Claim}
 use Rattle.iss_sb.specs.declared.effects.Input.{Input}
 use Rattle.iss_sb.specs.declared.effects.Input.TheVariants.{Cast, Receive}
@@ -122,3 +126,21 @@ echo-lawful = record {
   few = λ p good. omega arith;
   uses = λ p me xs i leaf good input. used-is p me leaf (is_cast i) (asks p me xs i);
 }
+
+-- ---- what is decided decodes
+
+-- the batch of a slot came with an input
+taken-read : (p : Params) (me : ℕ) (xs : List (Item Word)) (s : ℕ) (b : Batch) → AreHeard echo p me xs →
+    taken s xs ≡ Some b → IsReadBatch p b
+taken-read p me [] s b heard h = absurd (cc)
+taken-read p me (x ∷ xs) s b heard h = elim (first-cases (taken s xs) (batch_for s x.made.accepted) b h) [
+  | inl old ↦ taken-read p me xs s b heard.2 old
+  | inr new ↦
+      let asked_for : asks p me xs x.input ≡ Some (record { 0 = s }, b) = sym (accepted-is p me x.leaf (is_cast x.input) (asks p me xs x.input)) ∙ sym (ap (λ (z : Made Word). z.accepted) heard.1) ∙ batch_for-is s x.made.accepted b new.1 in
+      asked-read p me xs x.input (record { 0 = s }, b) heard.0 asked_for
+]
+
+pub echo-decides-readable : DecidesReadable echo
+echo-decides-readable p me xs s x good below heard h =
+    let d = decided-is p me xs s x h in
+    subst (λ (z : Value). IsReadAgain (spell_value p.setup.version) (parse_value p.setup.version) z) (sym d.value) (taken-read p me xs s d.batch heard d.taken)

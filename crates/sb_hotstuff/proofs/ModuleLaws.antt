@@ -1,2 +1,3 @@
+pub mod DecidedValuesDecode
 pub mod SentMessagesDecode
 pub mod StepsAreLawful

@@ -1,3 +1,4 @@
+pub mod DecidedDecodes
 pub mod LeafSignsOneStatement
 pub mod OwnClaimsWereSent
 pub mod ReceivedIsWellFormed

@@ -1,3 +1,4 @@
+pub mod DecidedValuesDecode
 pub mod LogLengthIsBounded
 pub mod SentMessagesDecode
 pub mod StepsAreLawful

@@ -6,6 +6,8 @@ use Rattle.iss_base.specs.Lists.{In}
 use Rattle.iss_base.proofs.Lists.{and-true, first-cases, is-eq, not-true, some-injective}
 use Rattle.iss_sb.proofs.Inputs.{cast-is}
 use Rattle.iss_request.proofs.Identities.{holds-injective}
+use Rattle.iss_request.specs.Fields.{IsReadAgain}
+use Rattle.iss_request.specs.Formats.{parse_value, spell_value}
 use Rattle.iss_request.specs.declared.ids.NodeId.{NodeId}
 use Rattle.iss_request.specs.declared.ids.Slot.{Slot}
 use Rattle.iss_request.specs.declared.requests.Batch.{Batch}
@@ -18,7 +20,7 @@ use Rattle.iss_sb.specs.declared.effects.To.{To}
 use Rattle.iss_sb.specs.declared.effects.To.TheVariants.{All as To_all, One as To_one}
 use Rattle.iss_sb.specs.Calls.{IsGoodParams, has_slot}
 use Rattle.iss_sb.specs.Evidence.{Item, Made, World, IsReadBatch, IsReadMessage, IsSent, MayCome, accepts, delivered}
-use Rattle.iss_sb.specs.Laws.{AcceptsOnce, IsBroadcast, IsHeard, IsLawful, IsSafe, SignsOnce}
+use Rattle.iss_sb.specs.Laws.{AcceptsOnce, AreHeard, DecidesReadable, IsBroadcast, IsHeard, IsLawful, IsSafe, SignsOnce}
 use Rattle.iss_sb.specs.Legal.{AreMade, IsLegal}
 use Rattle.iss_sb.proofs.Legal.{all-correct, once-made, safe-legal}
 use Rattle.iss_sb.proofs.Silent.{silent-once}
@@ -27,7 +29,7 @@ use Rattle.iss_sb.proofs.Worlds.{accepts-cases, accepts-new, accepts-old}
 use Rattle.sb_relay.specs.declared.say.Say.{Say}
 use Rattle.sb_relay.specs.Relay.{asks, decided, is_for, made_of, relay, said, says, was_cast}
 use Rattle.sb_relay.proofs.Marks.{delivered-is}
-use Rattle.sb_relay.proofs.Spelling.{say-again}
+use Rattle.sb_relay.proofs.Spelling.{say-again, say-batch}
 
 abbrev Same : Input Say → Input Say → Type 0
 Same x y = x ≡ y
@@ -226,3 +228,17 @@ relay-lawful = record {
 
 pub relay-once : SignsOnce relay
 relay-once = silent-once relay (λ p from msg c h. h) (λ p me xs i leaf. let few = no-leaves (asks p me xs i) in omega (arith, few))
+
+-- ---- what is decided decodes
+
+heard-in : (p : Params) (me : ℕ) (xs : List (Item Say)) (x : Item Say) → AreHeard relay p me xs → In x xs →
+    IsHeard relay p x.input
+heard-in p me [] x heard h = absurd h
+heard-in p me (y ∷ xs) x heard (inl e) = subst (λ (z : Item Say). IsHeard relay p z.input) (sym e) heard.0
+heard-in p me (y ∷ xs) x heard (inr i) = heard-in p me xs x heard.2 i
+
+pub relay-decides-readable : DecidesReadable relay
+relay-decides-readable p me xs s x good below heard h =
+    let r = said-told p xs s x (decided-said p me xs s x h).1 in
+    let k : IsHeard relay p (Receive p.leader r.0) = subst (λ (z : Input Say). IsHeard relay p z) r.5 (heard-in p me xs r.1 heard r.4) in
+    subst (λ (z : Value). IsReadAgain (spell_value p.setup.version) (parse_value p.setup.version) z) (sym r.2) (say-batch p.setup.version r.0 k.1)

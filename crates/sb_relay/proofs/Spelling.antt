@@ -1,5 +1,5 @@
 -- A message has one encoding, that of its table.
-use Rattle.std.proofs.Common.{◌≡◌, ◌≢◌, ℕ, ◌^◌, ◌<◌, ◌==◌, Bool, true, false, List, [], ◌∷◌, ◌++◌, append_assoc, refl, sym, ap, subst, ◌∙◌, ◌⊎◌, inl, inr, true≢false}
+use Rattle.std.proofs.Common.{◌≡◌, ◌≢◌, ℕ, ◌^◌, ◌<◌, ◌==◌, Bool, true, false, List, [], ◌∷◌, ◌++◌, append_assoc, append-nil, refl, sym, ap, subst, ◌∙◌, ◌⊎◌, inl, inr, true≢false}
 use Rattle.std.specs.Prelude.{nat_lt, ◌↔◌}
 use Rattle.std.specs.Int.{to_be_bytes, w64}
 use Rattle.std.proofs.lemmas.Bool.{eq-eqb, eqb-true, lt-ltb, ltb-true, ne_eqb}
@@ -11,6 +11,7 @@ use Rattle.iss_request.proofs.ParserLemmas.{byte_again, byte_parts, done_parts, 
 use Rattle.iss_request.specs.declared.requests.Batch.{Batch}
 use Rattle.iss_request.specs.declared.requests.Value.{Value}
 use Rattle.iss_request.specs.declared.requests.Value.TheVariants.{Nil as Value_nil, Batch as Value_batch}
+use Rattle.iss_sb.proofs.Read.{read-again}
 use Rattle.sb_relay.specs.declared.say.Say.{Say}
 use Rattle.sb_relay.specs.Relay.{IsSpelledSay, parse, spell}
 
@@ -132,6 +133,13 @@ module _ (version : ℕ) where
 
   pub say-grammar : IsGrammar (spell version) (parse version)
   say-grammar = record { only = only; whole = whole }
+
+  -- the batch of a message that decodes decodes
+  pub say-batch : (msg : Say) → IsReadAgain (spell version) (parse version) msg →
+      IsReadAgain (spell_value version) (parse_value version) (Value_batch msg.batch)
+  say-batch msg h =
+      let is = say-parts (spell version msg) [] msg (ap (parse version) (sym (append-nil (spell version msg))) ∙ h []) in
+      read-again (spell_value version) (parse_value version) (value_grammar version) is.value [] (Value_batch msg.batch) is.read
 
   -- the table
   pub say-related : (msg : Say) (bytes : List ℕ) → (parse version bytes ≡ Good msg []) ↔ IsSpelledSay version msg bytes

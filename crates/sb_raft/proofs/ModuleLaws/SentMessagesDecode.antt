@@ -34,7 +34,7 @@ use Rattle.sb_raft.proofs.StateChanges.StepCases.{append_cases, ask_cases, cast_
 
 -- ---- Logs
 
-take-in : (n : ℕ) (x : Entry) (xs : List Entry) → In x (take n xs) → In x xs
+pub take-in : (n : ℕ) (x : Entry) (xs : List Entry) → In x (take n xs) → In x xs
 take-in zero x xs h = absurd h
 take-in (suc n) x [] h = absurd h
 take-in (suc n) x (y ∷ xs) (inl e) = inl e

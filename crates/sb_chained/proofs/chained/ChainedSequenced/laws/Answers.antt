@@ -3,6 +3,7 @@ use Rattle.sb_chained.proofs.LeaderProposals.OneBatchASlot.{accepted-once}
 use Rattle.sb_chained.proofs.Safety.VotesSentWereReceived.{chained-signs-once}
 use Rattle.sb_chained.proofs.ModuleLaws.StepsAreLawful.{chained-is-lawful}
 use Rattle.sb_chained.proofs.Safety.WorldsAreBroadcasts.{chained-safe}
+use Rattle.sb_chained.proofs.ModuleLaws.DecidedValuesDecode.{chained-decides-readable}
 use Rattle.sb_chained.proofs.chained.ChainedSequenced.laws.Goals as goal
 
 pub returns-clause-grammar : goal.returns-clause-grammar
@@ -19,3 +20,6 @@ returns-clause-signs_once c = chained-signs-once
 
 pub returns-clause-accepts_once : goal.returns-clause-accepts_once
 returns-clause-accepts_once c = accepted-once
+
+pub returns-clause-decides_readable : goal.returns-clause-decides_readable
+returns-clause-decides_readable c = chained-decides-readable

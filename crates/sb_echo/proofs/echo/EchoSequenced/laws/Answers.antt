@@ -1,4 +1,4 @@
-use Rattle.sb_echo.proofs.Lawful.{echo-lawful}
+use Rattle.sb_echo.proofs.Lawful.{echo-decides-readable, echo-lawful}
 use Rattle.sb_echo.proofs.Once.{echo-once}
 use Rattle.sb_echo.proofs.Safe.{echo-accepts-once, echo-safe}
 use Rattle.sb_echo.proofs.Spelling.{word-grammar}
@@ -18,3 +18,6 @@ returns-clause-accepts_once c = echo-accepts-once
 
 pub returns-clause-signs_once : goal.returns-clause-signs_once
 returns-clause-signs_once c = echo-once
+
+pub returns-clause-decides_readable : goal.returns-clause-decides_readable
+returns-clause-decides_readable c = echo-decides-readable

@@ -1,4 +1,4 @@
-use Rattle.sb_relay.proofs.Safe.{relay-accepts-once, relay-lawful, relay-once, relay-safe}
+use Rattle.sb_relay.proofs.Safe.{relay-accepts-once, relay-decides-readable, relay-lawful, relay-once, relay-safe}
 use Rattle.sb_relay.proofs.Spelling.{say-grammar}
 use Rattle.sb_relay.proofs.relay.RelaySequenced.laws.Goals as goal
 
@@ -16,3 +16,6 @@ returns-clause-accepts_once c = relay-accepts-once
 
 pub returns-clause-signs_once : goal.returns-clause-signs_once
 returns-clause-signs_once c = relay-once
+
+pub returns-clause-decides_readable : goal.returns-clause-decides_readable
+returns-clause-decides_readable c = relay-decides-readable
