@@ -17,16 +17,16 @@ use Rattle.iss_sb.specs.declared.effects.Params.{Params}
 use Rattle.iss_sb.specs.declared.effects.To.{To}
 use Rattle.iss_sb.specs.declared.effects.To.TheVariants.{All as To_all, One as To_one}
 use Rattle.iss_sb.specs.Calls.{IsGoodParams}
-use Rattle.iss_sb.specs.Evidence.{Item, IsReadBatch, IsReadMessage}
-use Rattle.iss_sb.specs.Laws.{IsHeard, IsLawful}
+use Rattle.iss_sb.specs.Evidence.{Item, Made, IsReadBatch, IsReadMessage}
+use Rattle.iss_sb.specs.Laws.{AreHeard, DecidesReadable, IsHeard, IsLawful}
 use Rattle.iss_sb.specs.Statements.{eight_bytes, signature, statement_head}
 use Rattle.iss_sb.proofs.Signatures.{signature-shape}
 use Rattle.iss_sb.proofs.Slots.{below-In, has_slot-In}
 use Rattle.sb_echo.specs.declared.word.Word.{Word}
 use Rattle.sb_echo.specs.declared.word.Word.TheVariants.{Say, Echo as Echo_word}
-use Rattle.sb_echo.specs.Echo.{asks, claims, digest_of, echo, echo_of, is_cast, made_of, makes, say, statement, string_of, tag, taken, words}
+use Rattle.sb_echo.specs.Echo.{asks, batch_for, claims, digest_of, echo, echo_of, is_cast, made_of, makes, say, statement, string_of, tag, taken, words}
 use Rattle.sb_echo.proofs.Bytes.{same-is}
-use Rattle.sb_echo.proofs.Facts.{IsOwn, Same, accepted-is, asked, decided-is}
+use Rattle.sb_echo.proofs.Facts.{IsOwn, Same, accepted-is, asked, batch_for-is, decided-is}
 use Rattle.sb_echo.proofs.Spelling.{echo-again, say-again, say-read}
 
 named : (p : Params) (from : ℕ) (msg : Word) (c : Claim) → In c (claims p from msg) →
