@@ -11,5 +11,9 @@ pub mod Printed
 pub mod Ranges
 pub mod Filed
 pub mod Places
+pub mod AlikeLogs
+pub mod AlikeVotes
+pub mod AlikeSteps
+pub mod AlikeSlims
 pub mod Example
 pub mod CourseExample

@@ -1,5 +1,6 @@
 pub mod Node
 pub mod Run
+pub mod Slims
 pub mod Runs
 pub mod Sound
 pub mod Views

@@ -2,5 +2,6 @@ pub mod AnswersRefine
 pub mod OutcomesCompose
 pub mod QueriesAgree
 pub mod ReportsAgree
+pub mod SlimCoresRefine
 pub mod StepsCompose
 pub mod VotesDoNotMatter

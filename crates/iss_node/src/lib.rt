@@ -13,6 +13,7 @@ pub mod node;
 pub mod packets;
 pub mod parcels;
 pub mod requests;
+pub mod slims;
 pub mod starting;
 pub mod state;
 pub mod transfer;
@@ -20,3 +21,4 @@ pub mod votes;
 
 pub use answers::{Accepted, Answer, Outcome};
 pub use node::Node;
+pub use slims::nodes_stand_for_slims;
