@@ -190,7 +190,8 @@ fn read_packet(alloc: Global, f: &mut Fields) -> Result<Bytes, DecodeError>
     let size = f.read_u32()?;
     let first = f.at();
     let _lent = f.read_bytes(size as usize)?;
-    Ok(f.since(alloc, first)?)
+    let packet = f.since(alloc, first)?;
+    Ok(packet)
 }
 
 fn read_each_packet(alloc: Global, count: u16, f: &mut Fields) -> Result<Seq<Bytes>, DecodeError>
@@ -253,7 +254,8 @@ fn read_snapshot(alloc: Global, slots: u64, f: &mut Fields) -> Result<Snapshot, 
     let span = read_span(f)?;
     let count = length_of(span);
     let epochs = read_epochs(alloc, count, slots, f)?;
-    read_body(alloc, span, epochs, f)
+    let snapshot = read_body(alloc, span, epochs, f)?;
+    Ok(snapshot)
 }
 
 /// Decodes a snapshot, which must take up all of the bytes. Each epoch has `slots` slots. `BadField` gives the offset of

@@ -17,6 +17,7 @@ const NO_SNAPSHOT: u8 = 0;
 
 // One more than the largest number of four bytes, and of two bytes.
 const MOST: usize = 1 << 32;
+
 const MOST_PACKETS: usize = 1 << 16;
 
 fn are_short(packets: &[Bytes]) -> bool
@@ -31,12 +32,10 @@ fn are_short(packets: &[Bytes]) -> bool
 fn has_spelling(s: &Snapshot) -> bool
     ensures { result ≡ fits s.now }
 {
-    let counts = s.waiting.len() < MOST && s.certs.len() < MOST && s.votes.len() < MOST;
-    s.from.0 < s.to.0
-        && s.epochs.len() as u64 == s.to.0 - s.from.0
-        && counts
-        && s.early.len() < MOST_PACKETS
-        && are_short(s.early.as_slice())
+    let epochs = s.epochs.len() as u64;
+    let goes_on = s.from.0 < s.to.0 && epochs == s.to.0 - s.from.0 && s.waiting.len() < MOST;
+    let rows = s.certs.len() < MOST && s.votes.len() < MOST;
+    goes_on && (rows && (s.early.len() < MOST_PACKETS && are_short(s.early.as_slice())))
 }
 
 fn put_values(values: &[Value], out: &mut Writer) -> Result<(), NoMemory>
@@ -177,11 +176,7 @@ fn write(s: &Snapshot, out: &mut Writer) -> Result<(), NoMemory>
 /// The encoding of a snapshot in a version. A snapshot without one gives bytes that decode to no snapshot. The only
 /// error is out of memory.
 // rule: Formats: A snapshot has one encoding a version: epochs, leaf, requests, certificates, votes, packets
-pub fn encode_snapshot(
-    alloc: Global,
-    version: u8,
-    snapshot: &Snapshot,
-) -> Result<Bytes, NoMemory>
+pub fn encode_snapshot(alloc: Global, version: u8, snapshot: &Snapshot) -> Result<Bytes, NoMemory>
     ensures { IfOk result (λ bytes. bytes ≡ spell_snapshot version snapshot.now) }
 {
     let mut out = Writer::new(alloc, version);
