@@ -9,5 +9,6 @@ mod packets;
 mod relay;
 mod requests;
 mod schedules;
+mod snapshots;
 mod waiting;
 mod windows;
