@@ -66,7 +66,7 @@ fits s =
     ((nat_lt (length s.certs) (2 ^ 32) && nat_lt (length s.votes) (2 ^ 32)) &&
     (nat_lt (length s.early) (2 ^ 16) && list_all is_short s.early))
 
--- A snapshot without an encoding is written as one byte that is no snapshot's kind.
+-- A snapshot that does not fit is written as one byte that is no snapshot's kind.
 unfoldable pub spell_snapshot : ℕ → Snapshot → List ℕ
 spell_snapshot version s = if fits s then snapshot_row version s else 0 ∷ []
 

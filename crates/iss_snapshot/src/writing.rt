@@ -12,7 +12,7 @@ use iss_checkpoint::{Cert, Vote, write_cert, write_vote};
 use iss_request::{Bytes, NoMemory, Request, Seq, Value, Writer, write_request, write_value};
 use std::alloc::Global;
 
-// What is written for a snapshot without an encoding: no snapshot's kind.
+// What is written for a snapshot whose numbers do not fit: no snapshot's kind.
 const NO_SNAPSHOT: u8 = 0;
 
 // One more than the largest number of four bytes, and of two bytes.
@@ -29,7 +29,7 @@ fn are_short(packets: &[Bytes]) -> bool
     }
 }
 
-fn has_spelling(s: &Snapshot) -> bool
+fn does_fit(s: &Snapshot) -> bool
     ensures { result ≡ fits s.now }
 {
     let epochs = s.epochs.len() as u64;
@@ -56,15 +56,21 @@ fn put_epochs(epochs: &[Seq<Value>], out: &mut Writer) -> Result<(), NoMemory>
     Ok(())
 }
 
+fn put_each_request(requests: &[Request], out: &mut Writer) -> Result<(), NoMemory>
+    ensures { OnOk result (out.new ≡ and_bytes out.old (flat_map spell_request requests.now)) }
+{
+    for request in requests {
+        write_request(request, out)?;
+    }
+    Ok(())
+}
+
 fn put_requests(requests: &[Request], out: &mut Writer) -> Result<(), NoMemory>
     requires { length requests.now < 2 ^ 32 }
     ensures { OnOk result (out.new ≡ and_bytes out.old (counted w32 spell_request requests.now)) }
 {
     out.put_u32(requests.len() as u32)?;
-    for request in requests {
-        write_request(request, out)?;
-    }
-    Ok(())
+    put_each_request(requests, out)
 }
 
 fn put_cert(cert: &Cert, out: &mut Writer) -> Result<(), NoMemory>
@@ -74,15 +80,21 @@ fn put_cert(cert: &Cert, out: &mut Writer) -> Result<(), NoMemory>
     write_cert(cert, out)
 }
 
+fn put_each_cert(certs: &[Cert], out: &mut Writer) -> Result<(), NoMemory>
+    ensures { OnOk result (out.new ≡ and_bytes out.old (flat_map cert_entry certs.now)) }
+{
+    for cert in certs {
+        put_cert(cert, out)?;
+    }
+    Ok(())
+}
+
 fn put_certs(certs: &[Cert], out: &mut Writer) -> Result<(), NoMemory>
     requires { length certs.now < 2 ^ 32 }
     ensures { OnOk result (out.new ≡ and_bytes out.old (counted w32 cert_entry certs.now)) }
 {
     out.put_u32(certs.len() as u32)?;
-    for cert in certs {
-        put_cert(cert, out)?;
-    }
-    Ok(())
+    put_each_cert(certs, out)
 }
 
 fn put_vote(vote: &Vote, out: &mut Writer) -> Result<(), NoMemory>
@@ -93,15 +105,21 @@ fn put_vote(vote: &Vote, out: &mut Writer) -> Result<(), NoMemory>
     write_vote(vote, out)
 }
 
+fn put_each_vote(votes: &[Vote], out: &mut Writer) -> Result<(), NoMemory>
+    ensures { OnOk result (out.new ≡ and_bytes out.old (flat_map vote_entry votes.now)) }
+{
+    for vote in votes {
+        put_vote(vote, out)?;
+    }
+    Ok(())
+}
+
 fn put_votes(votes: &[Vote], out: &mut Writer) -> Result<(), NoMemory>
     requires { length votes.now < 2 ^ 32 }
     ensures { OnOk result (out.new ≡ and_bytes out.old (counted w32 vote_entry votes.now)) }
 {
     out.put_u32(votes.len() as u32)?;
-    for vote in votes {
-        put_vote(vote, out)?;
-    }
-    Ok(())
+    put_each_vote(votes, out)
 }
 
 fn put_packet(packet: &Bytes, out: &mut Writer) -> Result<(), NoMemory>
@@ -166,15 +184,14 @@ fn put_row(s: &Snapshot, out: &mut Writer) -> Result<(), NoMemory>
 fn write(s: &Snapshot, out: &mut Writer) -> Result<(), NoMemory>
     ensures { OnOk result (out.new ≡ and_bytes out.old (spell_snapshot out.old.version s.now)) }
 {
-    if has_spelling(s) {
+    if does_fit(s) {
         put_row(s, out)
     } else {
         out.put_u8(NO_SNAPSHOT)
     }
 }
 
-/// The encoding of a snapshot in a version. A snapshot without one gives bytes that decode to no snapshot. The only
-/// error is out of memory.
+/// The bytes of a snapshot in a version: its encoding, if it has one. The only error is out of memory.
 // rule: Formats: A snapshot has one encoding a version: epochs, leaf, requests, certificates, votes, packets
 pub fn encode_snapshot(alloc: Global, version: u8, snapshot: &Snapshot) -> Result<Bytes, NoMemory>
     ensures { IfOk result (λ bytes. bytes ≡ spell_snapshot version snapshot.now) }
