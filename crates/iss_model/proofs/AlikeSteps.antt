@@ -442,7 +442,7 @@ module _ {Msg : Type 0} (F : Formats Msg) (R : Rules) (slots : HasSlots R) (M : 
 
     pub step-alike : (event : NodeEvent) → AlikeStep (step F R M me c event) (step F R M me d event)
     step-alike (On_packet bytes) = bytes-alike (F.unwrap bytes)
-    step-alike Proposes =
+    step-alike On_propose =
         either (not (leads_in R M me c.past me)) (not (leads_in R M me d.past me)) (ap (λ (b : Bool). not b) (leads-alike R M me c.past d.past a.past me))
         (Dropped NotLeader) (Dropped NotLeader) (casts_at F R M me c (next_slot R M me c)) (casts_at F R M me d (next_slot R M me d)) (λ z. refl)
         (λ z. subst (λ (o : Option Slot). AlikeStep (casts_at F R M me c (next_slot R M me c)) (casts_at F R M me d o)) slot-same
@@ -465,6 +465,6 @@ module _ {Msg : Type 0} (F : Formats Msg) (R : Rules) (slots : HasSlots R) (M : 
 
     pub claims-alike : (event : NodeEvent) → claims_at F R M me c event ≡ claims_at F R M me d event
     claims-alike (On_packet bytes) = parcel-claims (F.unwrap bytes)
-    claims-alike Proposes = refl
+    claims-alike On_propose = refl
     claims-alike (On_timeout l) = refl
     claims-alike (On_ask peer) = refl
