@@ -8,20 +8,21 @@ use Rattle.iss_request.specs.declared.ids.Slot.{Slot}
 use Rattle.iss_request.specs.declared.requests.Value.{Value}
 use Rattle.iss_sb.specs.Content.{IsSpelledContent}
 use Rattle.iss_sb.specs.Laws.{DecidesReadable}
+use Rattle.iss_sb.specs.Paired.{value_with}
 use Rattle.iss_sb.specs.declared.content.Content.{Content}
 use Rattle.iss_sb.specs.declared.content.Content.TheVariants.{Nil, Holds, Mark}
 use Rattle.iss_sb.proofs.Contents.{nil-value, table-batch}
 use Rattle.raft_wire.specs.declared.entries.Entry.{Entry}
 use Rattle.sb_raft.specs.Logs.{content, contents}
-use Rattle.sb_raft.specs.Raft.{commit, raft, raft_log, value_at}
+use Rattle.sb_raft.specs.Raft.{commit, raft, raft_log}
 use Rattle.sb_raft.proofs.ModuleLaws.SentMessagesDecode.{ranged, take-in}
 
-value-in : (s : ℕ) (ss : List Slot) (vs : List Value) (x : Value) → value_at s ss vs ≡ Some x → In x vs
+value-in : (s : ℕ) (ss : List Slot) (vs : List Value) (x : Value) → value_with s ss vs ≡ Some x → In x vs
 value-in s [] vs x h = absurd cc
 value-in s (t ∷ ts) [] x h = absurd cc
 value-in s (t ∷ ts) (v ∷ vs) x h = go (t.0 == s) h (value-in s ts vs x)
   where
-    go : (b : Bool) → (if b then Some v else value_at s ts vs) ≡ Some x → (value_at s ts vs ≡ Some x → In x vs) → In x (v ∷ vs)
+    go : (b : Bool) → (if b then Some v else value_with s ts vs) ≡ Some x → (value_with s ts vs ≡ Some x → In x vs) → In x (v ∷ vs)
     go true q more = inl (sym (some-injective v x q))
     go false q more = inr (more q)
 
