@@ -6,8 +6,8 @@ use std::alloc::Global;
 use std::test::Fail;
 
 const BYTES: [u8; 41] = [
-    5, 0, 0, 0, 0, 0, 0, 0, 0, 0, 0, 0, 0, 0, 0, 0, 1, 1, 0, 1, 0, 1, 0, 0, 0, 0, 1, 0, 0, 0, 0, 0, 0,
-    0, 0, 0, 0, 0, 0, 0, 0,
+    5, 0, 0, 0, 0, 0, 0, 0, 0, 0, 0, 0, 0, 0, 0, 0, 1, 1, 0, 1, 0, 1, 0, 0, 0, 0, 1, 0, 0, 0, 0, 0,
+    0, 0, 0, 0, 0, 0, 0, 0, 0,
 ];
 
 // A snapshot of an epoch with three empty batches, after which one leaf is used.
@@ -61,7 +61,10 @@ fn a_snapshot_decodes_again(rt: HostRuntime) -> Result<(), Fail> {
     assert_eq!(rt; snapshot.to, Epoch(1));
     assert_eq!(rt; snapshot.leaf, 1);
     assert_eq!(rt; snapshot.epochs.len(), 1);
-    assert_eq!(rt; snapshot.early.as_slice()[0].as_slice(), [1, 2, 3].as_slice());
+    assert_eq!(rt;
+        snapshot.early.as_slice()[0].as_slice(),
+        [1, 2, 3].as_slice()
+    );
     assert_eq!(rt; snapshot.early.as_slice()[1].len(), 0);
     Ok(())
 }
