@@ -1,5 +1,5 @@
 -- What HotStuff decides decodes, if all that it took does: each known node's content has an encoding.
-use Rattle.std.proofs.Common.{◌≡◌, ℕ, ◌&&◌, List, [], ◌∷◌, Option, Some, None, inl, inr}
+use Rattle.std.proofs.Common.{◌≡◌, ℕ, ◌&&◌, true, List, [], ◌∷◌, Option, Some, None, inl, inr}
 use Rattle.iss_base.proofs.Lists.{first-cases}
 use Rattle.iss_request.specs.declared.requests.Value.{Value}
 use Rattle.iss_sb.specs.declared.effects.Input.{Input}
