@@ -1,4 +1,5 @@
 pub mod Node
+pub mod Driver
 pub mod Run
 pub mod Runs
 pub mod Sound
@@ -6,4 +7,3 @@ pub mod Views
 pub mod Frames
 pub mod Courses
 pub mod Disks
-pub mod CourseFrames
