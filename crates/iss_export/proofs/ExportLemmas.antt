@@ -119,14 +119,14 @@ module _ {M Msg : Type 0} (m : Module Msg) (refines : Relation M Msg) (g : KeptS
   failed-stale s me d (inr k) failed = k.stale
 
 module _ {M Msg : Type 0} (m : Module Msg) (refines : Relation M Msg) (v : WorldState M Msg) (events : List Event) (p : Course Msg) (i : ℕ) (g : KeptState M Msg MemoryDisk) where
-  pub silent-is : (s : Setup) (me : ℕ) (silent : Bool) → RefinesRun m refines v p → RefinesOrRetreated m refines s me g (p.machines.held.net.cores i) (p.machines.disks i) →
+  pub silent-is : (s : Setup) (me : ℕ) (silent : Bool) → RefinesRun m refines v p → RefinesOrRetreated m refines s me g (p.state.held.net.cores i) (p.state.disks i) →
       ((w : Machines Msg) → WorldRefinesMachines m refines v w → RefinesMachine m refines g (w.held.net.cores i) (w.disks i)) → silent ≡ (g.stale || was_given events p.ended i) → IsSilent events p i silent
   silent-is s me silent st left goes is = record {
-    failed = λ failed. is ∙ or_left g.stale (was_given events p.ended i) (failed-stale m refines g (p.machines.held.net.cores i) s me (p.machines.disks i) left failed);
+    failed = λ failed. is ∙ or_left g.stale (was_given events p.ended i) (failed-stale m refines g (p.state.held.net.cores i) s me (p.state.disks i) left failed);
     given = λ given. is ∙ or_right_true g.stale (was_given events p.ended i) given;
     goes_on = λ none.
-        let here = goes p.machines (subst (λ (o : Option (ℕ × End)). RefinesRunUntil m refines v p.machines o) none st) in
-        is ∙ or-none g.stale (was_given events p.ended i) (ap (λ (o : Option (ℕ × End)). was_given events o i) none) ∙ stale-is m refines g (p.machines.held.net.cores i) (p.machines.disks i).failed here.there;
+        let here = goes p.state (subst (λ (o : Option (ℕ × End)). RefinesRunUntil m refines v p.state o) none st) in
+        is ∙ or-none g.stale (was_given events p.ended i) (ap (λ (o : Option (ℕ × End)). was_given events o i) none) ∙ stale-is m refines g (p.state.held.net.cores i) (p.state.disks i).failed here.there;
   }
 
 -- ---- the text

@@ -47,9 +47,9 @@ was_given events (Some at) i = is_given_by (nth events at.0) i
 -- it something. While the run goes on no other core is.
 -- rule: Audit: A core exports nothing after its disk failed, or if evidence was found in what it took
 pub record IsSilent {Msg : Type 0} (events : List Event) (p : Course Msg) (i : ℕ) (silent : Bool) : Type 0 where
-  pub failed : (p.machines.disks i).failed ≡ true → silent ≡ true
+  pub failed : (p.state.disks i).failed ≡ true → silent ≡ true
   pub given : was_given events p.ended i ≡ true → silent ≡ true
-  pub goes_on : p.ended ≡ None → silent ≡ (p.machines.disks i).failed
+  pub goes_on : p.ended ≡ None → silent ≡ (p.state.disks i).failed
 
 -- ---- the text
 
@@ -77,12 +77,12 @@ pub record HasExported {Msg : Type 0} (s : Setup) (M : Module Msg) (events : Lis
     (old now : List ℕ) : Type 0 where
   pub silent : Bool
   pub is_silent : IsSilent events p i silent
-  pub put : HasPut s (certs_shown (p.machines.held.net.cores i) silent) (shown s M p.machines.held i) old now
+  pub put : HasPut s (certs_shown (p.state.held.net.cores i) silent) (shown s M p.state.held i) old now
 
 -- the bytes are what core i exports after this run
 pub record IsWritten {Msg : Type 0} (s : Setup) (M : Module Msg) (events : List Event) (p : Course Msg) (i : ℕ)
     (bytes : List ℕ) : Type 0 where
   pub silent : Bool
   pub is_silent : IsSilent events p i silent
-  pub text : IsExportOf s M p.machines.held i silent bytes
+  pub text : IsExportOf s M p.state.held i silent bytes
   pub ranged : EachEpoch (IsRanged s) [] text.epochs

@@ -1,9 +1,8 @@
 //! The run of a schedule, event by event.
 ghost use Rattle.std.specs.Prelude.{◌≡◌, IfOk, None};
-ghost use Rattle.iss_model.specs.Frames.{frame_of};
-ghost use Rattle.iss_model.specs.Courses.{Course};
-ghost use Rattle.iss_model.specs.CourseFrames.{run_event_in};
+ghost use Rattle.iss_model.specs.Courses.{Course, driver_of};
 ghost use Rattle.iss_theorems.specs.Headline.{IsWhole, course_after};
+ghost use Rattle.iss_model.specs.Driver.{run_event};
 ghost use Rattle.iss_rules.specs.Setups.{IsSetupOf};
 ghost use Rattle.iss_replay.specs.Refines.{ReportRefinesRun, numbered};
 ghost use Rattle.iss_schedule.specs.Events.{AreInRange, IsInRange};
@@ -87,7 +86,7 @@ pub fn run_event<M: Sequenced>(
     ensures went { IfOk result
         (λ end. (p : Course M.Msg) → p.event ≡ number → ReportRefinesRun M.spec M.refines world.old drops.old None p →
         ReportRefinesRun M.spec M.refines world.new drops.new (numbered number end)
-        (run_event_in (frame_of world.old.simulation.setup M.spec) p event.now)) }
+        (run_event (driver_of world.old.simulation.setup M.spec) p event.now)) }
     ensures same { world.new.simulation.setup ≡ world.old.simulation.setup }
 {
     match world.event(alloc, event) {

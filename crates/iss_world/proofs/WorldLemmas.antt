@@ -7,9 +7,10 @@ use Rattle.iss_keep.specs.State.{KeptState}
 use Rattle.iss_base.proofs.Lists.{none-some}
 use Rattle.iss_rules.specs.Ends.{End}
 use Rattle.iss_rules.specs.declared.events.Why.{Why}
-use Rattle.iss_model.specs.Run.{ended_at, node_of, noted}
+use Rattle.iss_model.specs.Run.{node_of}
 use Rattle.iss_request.specs.declared.setups.Setup.{Setup}
-use Rattle.iss_model.specs.Courses.{Course, Machines, Upshot, apply_event, run_event_if_open}
+use Rattle.iss_model.specs.Courses.{Course, Machines, with_crashes}
+use Rattle.iss_model.specs.Driver.{Upshot, apply_event, ended_at, noted, run_event_if_open}
 use Rattle.iss_rules.specs.Parcels.{Formats}
 use Rattle.iss_rules.specs.Rules.{Rules}
 use Rattle.iss_schedule.specs.declared.schedules.Event.{Event}
@@ -29,8 +30,8 @@ module _ {M Msg : Type 0} (m : Module Msg) (refines : Relation M Msg) where
   shown-then v w None k = inl k.simulation
   shown-then v w (Some at) k = inr k.left
 
-  pub shown-at : (v : WorldState M Msg) (p : Course Msg) → RefinesRun m refines v p → RefinesOrShows m refines v.simulation p.machines
-  shown-at v p k = shown-then v p.machines p.ended k
+  pub shown-at : (v : WorldState M Msg) (p : Course Msg) → RefinesRun m refines v p → RefinesOrShows m refines v.simulation p.state
+  shown-at v p k = shown-then v p.state p.ended k
 
   -- A kept node of the world refines its core, or has retreated to it.
   left-then : (v : WorldState M Msg) (w : Machines Msg) (o : Option (ℕ × End)) → RefinesRunUntil m refines v w o → (i : ℕ) (g : KeptState M Msg MemoryDisk) →
@@ -46,8 +47,8 @@ module _ {M Msg : Type 0} (m : Module Msg) (refines : Relation M Msg) where
 
   pub node-left : (v : WorldState M Msg) (p : Course Msg) → RefinesRun m refines v p → (i : ℕ) (g : KeptState M Msg MemoryDisk) →
       slice_get v.simulation.nodes i ≡ Some g →
-      RefinesOrRetreated m refines v.simulation.setup (node_of v.simulation.setup i) g (p.machines.held.net.cores i) (p.machines.disks i)
-  node-left v p k = left-then v p.machines p.ended k
+      RefinesOrRetreated m refines v.simulation.setup (node_of v.simulation.setup i) g (p.state.held.net.cores i) (p.state.disks i)
+  node-left v p k = left-then v p.state p.ended k
 
   -- A world that was not stale.
   pub awake-at : (v : SimulationState M Msg) (end : Option Evidence) (b : Bool) (p : Course Msg) → b ≡ false → RefinesRun m refines (record { simulation = v; ended = end; stale = b }) p → RefinesRun m refines (awake v end) p
@@ -56,25 +57,25 @@ module _ {M Msg : Type 0} (m : Module Msg) (refines : Relation M Msg) where
   -- ---- an event that stops the run
 
   abbrev pub then_ended : ℕ → List (ℕ × Why) → Machines Msg → Option End → Course Msg
-  then_ended k drops w o = record { machines = w; event = suc k; drops = drops; ended = ended_at k o }
+  then_ended k drops w o = record { state = w; event = suc k; drops = drops; ended = ended_at k o }
 
-  told-ended : (v : SimulationState M Msg) (old : Course Msg) (d : Upshot Msg) (k : ℕ) (drops : List (ℕ × Why)) (end : Evidence) → HasChanged m refines v d (Ended end) →
-      HasHappened m refines (awake v (Some end)) old (then_ended k drops d.machines d.ended) (result_of end)
+  told-ended : (v : SimulationState M Msg) (old : Course Msg) (d : Upshot (Machines Msg)) (k : ℕ) (drops : List (ℕ × Why)) (end : Evidence) → HasChanged m refines v d (Ended end) →
+      HasHappened m refines (awake v (Some end)) old (then_ended k drops d.state d.ended) (result_of end)
   told-ended v old d k drops (Evidence_forged claim) h =
-      subst (λ (o : Option End). HasHappened m refines (awake v (Some (Evidence_forged claim))) old (then_ended k drops d.machines o) (result_of (Evidence_forged claim))) (sym h.2)
+      subst (λ (o : Option End). HasHappened m refines (awake v (Some (Evidence_forged claim))) old (then_ended k drops d.state o) (result_of (Evidence_forged claim))) (sym h.2)
       (record { fresh = refl; ended = refl; left = h.0 }, refl)
   told-ended v old d k drops (Evidence_collision first second) h =
-      subst (λ (o : Option End). HasHappened m refines (awake v (Some (Evidence_collision first second))) old (then_ended k drops d.machines o) (result_of (Evidence_collision first second))) (sym h.2)
+      subst (λ (o : Option End). HasHappened m refines (awake v (Some (Evidence_collision first second))) old (then_ended k drops d.state o) (result_of (Evidence_collision first second))) (sym h.2)
       (record { fresh = refl; ended = refl; left = h.0 }, refl)
 
   module _ (s : Setup) (F : Formats Msg) (R : Rules) (v later : SimulationState M Msg) (before : Option Evidence) (p : Course Msg) (e : Event) (r : EventOutcome) (end : Evidence)
-      (none : before ≡ None) (was : r ≡ Ended end) (happened : (w : Machines Msg) → RefinesMachines m refines v w → HasChanged m refines later (apply_event s F R m w e) r) where
-    goes-then : (o : Option (ℕ × End)) → RefinesRunUntil m refines (awake v before) p.machines o → HasHappened m refines (awake later (Some end)) p (run_event_if_open o s F R m p e) (result_of end)
+      (none : before ≡ None) (was : r ≡ Ended end) (happened : (w : Machines Msg) → RefinesMachines m refines v w → HasChanged m refines later (apply_event (with_crashes s F R m) w e) r) where
+    goes-then : (o : Option (ℕ × End)) → RefinesRunUntil m refines (awake v before) p.state o → HasHappened m refines (awake later (Some end)) p (run_event_if_open o (with_crashes s F R m) p e) (result_of end)
     goes-then None k =
-        let d : Upshot Msg = apply_event s F R m p.machines e in
-        told-ended later p d p.event (noted p.event d.lost p.drops) end (subst (λ (x : EventOutcome). HasChanged m refines later d x) was (happened p.machines k.simulation))
+        let d : Upshot (Machines Msg) = apply_event (with_crashes s F R m) p.state e in
+        told-ended later p d p.event (noted p.event d.lost p.drops) end (subst (λ (x : EventOutcome). HasChanged m refines later d x) was (happened p.state k.simulation))
     goes-then (Some at) k = absurd (none-some at.1 (subst (λ (o : Option Evidence). option_map end_of o ≡ Some at.1) none k.ended))
 
     pub goes-ended : (x : EventResult) → x ≡ result_of end → RefinesRun m refines (awake v before) p →
-        HasHappened m refines (awake later (Some end)) p (run_event_if_open p.ended s F R m p e) x
-    goes-ended x told st = subst (λ (y : EventResult). HasHappened m refines (awake later (Some end)) p (run_event_if_open p.ended s F R m p e) y) (sym told) (goes-then p.ended st)
+        HasHappened m refines (awake later (Some end)) p (run_event_if_open p.ended (with_crashes s F R m) p e) x
+    goes-ended x told st = subst (λ (y : EventResult). HasHappened m refines (awake later (Some end)) p (run_event_if_open p.ended (with_crashes s F R m) p e) y) (sym told) (goes-then p.ended st)

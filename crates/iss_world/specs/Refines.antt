@@ -16,8 +16,9 @@ use Rattle.iss_model.specs.Node.{Core, initial_core}
 use Rattle.iss_model.specs.Run.{Held, node_of}
 use Rattle.iss_request.specs.declared.requests.Value.{Value}
 use Rattle.iss_request.specs.declared.setups.Setup.{Setup}
-use Rattle.iss_model.specs.Courses.{Course, Machines, Upshot, core_of as core_of_kept}
+use Rattle.iss_model.specs.Courses.{Course, Machines, core_of as core_of_kept}
 use Rattle.iss_model.specs.Disks.{Disk, new_disk}
+use Rattle.iss_model.specs.Driver.{Upshot}
 use Rattle.iss_rules.specs.Concrete.{rules_of}
 use Rattle.iss_rules.specs.Formats.{formats_of}
 use Rattle.iss_rules.specs.Past.{log_of}
@@ -130,11 +131,11 @@ end_of (Evidence_collision first second) = Collision first second
 
 -- The simulation refines the state after the event, with its reason of loss if it was lost. If the event revealed
 -- evidence, all of the simulation but the node that took it still refines the state from before that delivery.
-abbrev pub HasChanged : {M Msg : Type 0} → Module Msg → Relation M Msg → SimulationState M Msg → Upshot Msg →
+abbrev pub HasChanged : {M Msg : Type 0} → Module Msg → Relation M Msg → SimulationState M Msg → Upshot (Machines Msg) →
     EventOutcome → Type 0
-HasChanged m refines v d Done = RefinesMachines m refines v d.machines × (d.lost ≡ None) × (d.ended ≡ None)
-HasChanged m refines v d (Lost why) = RefinesMachines m refines v d.machines × (d.lost ≡ Some why) × (d.ended ≡ None)
-HasChanged m refines v d (Ended end) = IsLeft m refines v d.machines × (d.lost ≡ None) × (d.ended ≡ Some (end_of end))
+HasChanged m refines v d Done = RefinesMachines m refines v d.state × (d.lost ≡ None) × (d.ended ≡ None)
+HasChanged m refines v d (Lost why) = RefinesMachines m refines v d.state × (d.lost ≡ Some why) × (d.ended ≡ None)
+HasChanged m refines v d (Ended end) = IsLeft m refines v d.state × (d.lost ≡ None) × (d.ended ≡ Some (end_of end))
 
 -- The simulation refines some state of the model.
 abbrev pub RefinesSome : {M Msg : Type 0} → Module Msg → Relation M Msg → SimulationState M Msg → Type 0
@@ -175,7 +176,7 @@ RefinesRunUntil m refines v w (Some at) = HasEnded m refines v w at.1
 
 -- The world refines this run, stopped or not.
 abbrev pub RefinesRun : {M Msg : Type 0} → Module Msg → Relation M Msg → WorldState M Msg → Course Msg → Type 0
-RefinesRun m refines v p = RefinesRunUntil m refines v p.machines p.ended
+RefinesRun m refines v p = RefinesRunUntil m refines v p.state p.ended
 
 -- A world that has not run out of memory.
 abbrev pub awake : {M Msg : Type 0} → SimulationState M Msg → Option Evidence → WorldState M Msg

@@ -21,7 +21,7 @@ returns-then-is_silent g c = λ p r.
     record {
       silent = true;
       is_silent = silent-is m g.M.Sequenced.refines v c.args.events.now p i node s (node_of s i) true r.refined (c.node-node.ensures.left p r.refined) c.node-node.ensures.refines (sym c.if-is_silent.true ∙ is);
-      put = put-none s (p.machines.held.net.cores i) (shown s m p.machines.held i) c.args.out.now.items;
+      put = put-none s (p.state.held.net.cores i) (shown s m p.state.held i) c.args.out.now.items;
     }
 
 pub returns : goal.returns
@@ -33,16 +33,16 @@ returns g c =
     let node = c.node-node.result.now in
     let out = c.args.out.now.items in
     on_ok_weaker c.put_kept.result (λ h p r.
-    let k = p.machines.held.net.cores i in
+    let k = p.state.held.net.cores i in
     let is = told-silent c.is_silent.result node.stale c.args.events.now _ p.ended i c.is_silent.ensures r.end_is in
     let quiet = sym c.if-is_silent.false ∙ is in
     let left = c.node-node.ensures.left p r.refined in
-    let put = h k (refines-core m g.M.Sequenced.refines node k s (node_of s i) (p.machines.disks i) left (or_parts node.stale (was_given c.args.events.now p.ended i) (sym quiet)).0) in
+    let put = h k (refines-core m g.M.Sequenced.refines node k s (node_of s i) (p.state.disks i) left (or_parts node.stale (was_given c.args.events.now p.ended i) (sym quiet)).0) in
     let at = subst (λ (t : Setup). HasPut t (certs_shown k false) c.entries.result.now out c.put_kept.new.out.items) c.setup.ensures.same put in
     record {
       silent = false;
       is_silent = silent-is m g.M.Sequenced.refines v c.args.events.now p i node s (node_of s i) false r.refined left c.node-node.ensures.refines quiet;
       put = subst (λ (l : List Value). HasPut s (certs_shown k false) l out c.put_kept.new.out.items)
-          (log-shown s m p.machines.held i c.entries.result.now c.requires (c.entries.ensures p r.refined)) at;
+          (log-shown s m p.state.held i c.entries.result.now c.requires (c.entries.ensures p r.refined)) at;
     })
     c.put_kept.ensures
