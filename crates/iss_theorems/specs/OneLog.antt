@@ -16,6 +16,7 @@ use Rattle.iss_composition.specs.Checkpoints.{scheme_of}
 use Rattle.iss_composition.specs.Cluster.{Cluster, Reach}
 use Rattle.iss_composition.specs.Ordered.{Among, IsExact, WasAccepted}
 use Rattle.iss_rules.specs.Concrete.{rules_of}
+use Rattle.iss_rules.specs.Formats.{formats_of}
 use Rattle.iss_rules.specs.SoundRules.{IsSoundRules}
 use Rattle.iss_rules.specs.Past.{log_of}
 use Rattle.iss_model.specs.Run.{Held, begin_run, failure_free}
