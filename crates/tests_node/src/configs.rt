@@ -1,0 +1,22 @@
+//! The configurations of the tests.
+ghost use Rattle.std.specs.Prelude.{◌≡◌, ◌<◌, IfOk};
+ghost use Rattle.iss_config.specs.Configs.{IsInRange, setup_of};
+ghost use Rattle.iss_rules.specs.Setups.{IsSetupOf};
+ghost use Rattle.sb_pbft.specs.Pbft.{pbft};
+
+use iss_config::{Config, ConfigError};
+use std::alloc::Global;
+
+/// A configuration that must be of PBFT.
+pub fn pbft_config(alloc: Global, text: &[u8]) -> Result<Config, ConfigError>
+    ensures range { IfOk result IsInRange }
+    ensures good { IfOk result (λ config. IsSetupOf pbft (setup_of config)) }
+    ensures nodes { IfOk result (λ config. 0 < (setup_of config).n) }
+{
+    let config = Config::read(alloc, text)?;
+    if config.module == 3 {
+        Ok(config)
+    } else {
+        Err(ConfigError::BadConfig)
+    }
+}

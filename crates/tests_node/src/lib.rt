@@ -1,0 +1,8 @@
+//! Tests of a node over links and disks in memory.
+#![tactic(auto)]
+
+pub mod configs;
+#[cfg(test)]
+mod tests;
+
+pub use configs::pbft_config;
