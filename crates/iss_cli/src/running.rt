@@ -161,14 +161,23 @@ fn print_traced<M: Sequenced>(alloc: Global, traced: &Traced<M>) -> Result<Answe
         ∷ text_of_run traced.now.report.world.simulation.setup M.spec p) }
     ensures outcome { IfOk result (λ a. a.outcome ≡ outcome_of (end_kept traced.now.report.ended)) }
 {
-    let mut printed = Vec::new(alloc);
-    put_text(&mut printed, write(alloc, &traced.trace)?.as_slice())?;
-    put_text(&mut printed, b"report\n")?;
-    put_text(&mut printed, text(alloc, &traced.report)?.as_slice())?;
+    let trace = write(alloc, &traced.trace)?;
+    let report = text(alloc, &traced.report)?;
     Ok(Answer {
-        printed: Bytes::of(printed),
+        printed: join_report(alloc, trace.as_slice(), report.as_slice())?,
         outcome: outcome_of(&traced.report.ended),
     })
+}
+
+// A trace, the line `report`, and a report. The only error is out of memory.
+fn join_report(alloc: Global, trace: &[u8], report: &[u8]) -> Result<Bytes, NoMemory>
+    ensures { IfOk result (λ bytes. bytes ≡ trace.now ++ codes "report" ++ 10 ∷ report.now) }
+{
+    let mut printed = Vec::new(alloc);
+    put_text(&mut printed, trace)?;
+    put_text(&mut printed, b"report\n")?;
+    put_text(&mut printed, report)?;
+    Ok(Bytes::of(printed))
 }
 
 // ---- one node

@@ -8,9 +8,7 @@ returns-in-Ok-clause-printed g c =
     (g.O.Sink.held c.print.new.out) c.in-Ok.answer c.print.result c.in-Ok.ensures.ok c.print.ensures.printed
 
 pub returns-in-Err-clause-source : goal.returns-in-Err-clause-source
-returns-in-Err-clause-source g c =
-    ?
+returns-in-Err-clause-source g c = rw c.status_without.ensures (source_said _ _ c.in-Err.error c.in-Err.ensures.source)
 
 pub returns-in-Err-clause-links : goal.returns-in-Err-clause-links
-returns-in-Err-clause-links g c =
-    ?
+returns-in-Err-clause-links g c = rw c.status_without.ensures (links_said _ _ c.in-Err.error c.in-Err.ensures.links)
