@@ -23,7 +23,7 @@ use Rattle.iss_rules.specs.declared.events.NodeEvent.TheVariants.{Packet as On_p
 use Rattle.iss_rules.specs.declared.events.Why.TheVariants.{Stopped}
 use Rattle.iss_model.specs.Courses.{Course, Machines, apply_event, at_machine, by_step, delivered_to, disks_behind, machines_done, machines_lost, run_event_if_open, stops, with_disks, with_packets}
 use Rattle.iss_model.specs.Disks.{Disk, keeps, may_keep}
-use Rattle.iss_model.specs.Node.{Dropped, Stepped, Taken, Turn, step}
+use Rattle.iss_model.specs.Node.{Dropped, Stepped, Taken, step}
 use Rattle.iss_model.specs.Run.{Happening, addressees, at_core, claims_at, first_forged, node_of, posted_all, posted_to}
 use Rattle.iss_theorems.proofs.CrashRecovery.CourseKeepsWhatStepsKeep.{course-holds}
 use Rattle.iss_theorems.proofs.CrashRecovery.LostEventsAreNumbered.{after-more}

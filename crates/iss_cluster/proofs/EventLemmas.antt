@@ -1,6 +1,6 @@
 -- The events of a journal's entries, and the core that they lead to.
 use Rattle.std.proofs.Common.{◌≡◌, ◌∙◌, ℕ, zero, suc, List, [], ◌∷◌, ◌++◌, Option, Some, None, refl, sym, ap, append_assoc}
-use Rattle.std.specs.Prelude.{filter_map, reverse}
+use Rattle.std.specs.Prelude.{reverse}
 use Rattle.std.specs.List.{cons_option}
 use Rattle.std.proofs.lemmas.List.{append-nil, reverse-append}
 use Rattle.std.proofs.lemmas.List.Elements.{filter_map-append}
@@ -11,7 +11,7 @@ use Rattle.iss_keep.specs.Cores.{core_after as core_behind, core_from, core_of, 
 use Rattle.iss_keep.specs.Entries.{event_in, spell_event}
 use Rattle.iss_cluster.specs.Nodes.{core_after, entries_of, events_in}
 use Rattle.iss_model.specs.Courses.{after_step, core_of as core_of_events}
-use Rattle.iss_model.specs.Node.{Core, Stepped, Dropped, Taken, initial_core, step}
+use Rattle.iss_model.specs.Node.{Core, Stepped, Dropped, Taken, initial_core}
 use Rattle.iss_request.specs.declared.setups.Setup.{Setup}
 use Rattle.iss_rules.specs.Concrete.{rules_of}
 use Rattle.iss_rules.specs.Formats.{formats_of}

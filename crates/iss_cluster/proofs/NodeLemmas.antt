@@ -1,5 +1,5 @@
 -- A running node, event by event: what it does is what its core does, and its journal holds the events.
-use Rattle.std.proofs.Common.{◌≡◌, true≢false, Result, Ok, Err, IfOk, IsErrOf, OnOk, is_ok, ◌∙◌, inl, inr, ℕ, zero, suc, ◌<◌, ◌≤◌, Bool, true, false, cond, List, [], ◌∷◌, ◌++◌, Option, Some, None, refl, sym, ap, subst, arith}
+use Rattle.std.proofs.Common.{◌≡◌, true≢false, Result, Ok, Err, IfOk, IsErrOf, OnOk, is_ok, ◌∙◌, inl, inr, ℕ, zero, suc, ◌<◌, ◌≤◌, Bool, true, false, cond, List, [], ◌∷◌, ◌++◌, Option, Some, refl, sym, ap, subst, arith}
 use Rattle.std.specs.Prelude.{filter, map, not}
 use Rattle.iss_base.proofs.Lists.{in_append}
 use Rattle.iss_base.specs.Lists.{In, below, nth}
@@ -26,7 +26,7 @@ use Rattle.iss_loops.specs.NodeLoop.{HasRun, HasSent, IsCut, begins, node_loop_o
 use Rattle.iss_loops.specs.declared.node.NodeStep.TheVariants.{Taken as Step_taken, Dropped as Step_dropped}
 use Rattle.iss_loops.specs.declared.node.StepError.TheVariants.{DiskFault}
 use Rattle.iss_model.specs.Node.{Core, Stepped}
-use Rattle.iss_model.specs.Views.{is_castable_now, unfilled}
+use Rattle.iss_model.specs.Views.{unfilled}
 use Rattle.iss_node.specs.Steps.{IsOfNodes}
 use Rattle.iss_node.specs.declared.answers.Outcome.{Outcome}
 use Rattle.iss_replay.specs.Text.{node_block}
@@ -91,13 +91,15 @@ pub few-nodes : {Msg : Type 0} (m : Module Msg) (s : Setup) → IsSetupOf m s �
 few-nodes m s h = let low = h.good.epoch_low in let high = h.good.epoch_high in omega (arith, low, high)
 
 -- every crash image at each moment of a call: so at its end
+told-there : (P : List ℕ → Type 0) (file : File) (past added : List File) → OnlyLeaves P file → EachState (OnlyLeaves P) added → IfTold (added ++ file ∷ past) (OnlyLeaves P)
+told-there P file past [] here each = here
+told-there P file past (a ∷ more) here each = each.0
+
 told-now : (P : List ℕ → Type 0) (before now : List File) → LeavesOnly P before now → IfTold now (OnlyLeaves P)
 told-now P [] now is = subst (λ (h : List File). IfTold h (OnlyLeaves P)) (sym is) tt
-told-now P (file ∷ past) now moment = subst (λ (h : List File). IfTold h (OnlyLeaves P)) (sym moment.1) (go moment.0 moment.3)
-  where
-    go : (added : List File) → EachState (OnlyLeaves P) added → IfTold (added ++ file ∷ past) (OnlyLeaves P)
-    go [] each = moment.2
-    go (a ∷ more) each = each.0
+told-now P (file ∷ past) now moment =
+    let here : LeavesOnly P (file ∷ past) now = moment in
+    subst (λ (h : List File). IfTold h (OnlyLeaves P)) (sym here.1) (told-there P file past here.0 here.2 here.3)
 
 module _ {M Msg D : Type 0} (m : Module Msg) (refines : Relation M Msg) (history : D → List File) where
   abbrev does : KeptState M Msg D → NodeBehavior
@@ -266,6 +268,16 @@ module _ {M Msg D : Type 0} (m : Module Msg) (refines : Relation M Msg) (history
 
   -- ---- from call to call
 
+  pub starts : (s : Setup) (i me : NodeId) (nodes : ℕ) (v : KeptState M Msg D) → IsSetupOf m s → i.0 < s.n → nodes ≡ s.n → i ≡ me
+      → v.setup ≡ s → v.me ≡ me → v.stale ≡ true → IsRunning m refines history nodes i v
+  starts s i me nodes v good member count number setup is stale = record {
+    good = subst (λ (t : Setup). IsSetupOf m t) (sym setup) good;
+    member = subst (λ (t : Setup). v.me.0 < t.n) (sym setup) (subst (λ (k : NodeId). k.0 < s.n) (number ∙ sym is) member);
+    count = count ∙ ap (λ (t : Setup). t.n) (sym setup);
+    number = number ∙ sym is;
+    fresh = λ fresh. absurd (true≢false (sym stale ∙ fresh));
+  }
+
   pub running-on : (nodes : ℕ) (me : NodeId) (old new : KeptState M Msg D) → IsRunning m refines history nodes me old → IsSame old new → (new.stale ≡ false → IsOpen m refines history new)
       → IsRunning m refines history nodes me new
   running-on nodes me old new runs same opened = record {
@@ -290,6 +302,13 @@ module _ {M Msg D : Type 0} (m : Module Msg) (refines : Relation M Msg) (history
     pub reopened-running : (nodes : ℕ) (me : NodeId) (r : Result (Unit {0}) AttachError) → IsRunning m refines history nodes me old → new.stale ≡ not (is_ok r)
         → OnOk r ((c : Core Msg) × RefinesEntries m refines new c) → OnOk r (IsAttached before now new.entries) → IsRunning m refines history nodes me new
     reopened-running nodes me r runs is core attached = running-on nodes me old new runs same (reopened-opened r is core attached)
+
+    pub opens : (r : Result (Unit {0}) AttachError) → OnOk r ((c : Core Msg) × RefinesEntries m refines new c) → OnOk r (IsAttached before now new.entries) → OnOk r (IsOpen m refines history new)
+    opens (Ok x) core attached = record {
+      core = core;
+      durable = subst (λ (h : List File). IfTold h (OnlyLeaves (λ bytes. Reads bytes (holds new.entries)))) seen attached.durable;
+    }
+    opens (Err e) core attached = tt
 
     pub has-read : (r : Result (Unit {0}) AttachError) → new.stale ≡ not (is_ok r) → OnOk r (IsAttached before now new.entries) → OnOk r (HasRead before.history new.stale new.entries)
     has-read (Ok x) is attached = record { fresh = is; read = attached.read }

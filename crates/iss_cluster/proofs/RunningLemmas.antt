@@ -1,9 +1,9 @@
 -- A cluster in its loop: what it shows by its trace, and one more event.
-use Rattle.std.proofs.Common.{inl, inr, ◌≡◌, ◌⊎◌, ◌∙◌, ℕ, zero, suc, ◌+◌, ◌-◌, ◌/◌, ◌^◌, ◌<◌, ◌≤◌, ◌≢◌, Bool, true, false, cond, List, [], ◌∷◌, ◌++◌, length, take, map, Option, Some, None, Vec, Global, Result, Ok, Err, OnOk, OnErr, refl, sym, ap, subst, arith, reverse}
+use Rattle.std.proofs.Common.{inl, inr, ◌≡◌, ◌⊎◌, ◌∙◌, ℕ, zero, suc, ◌+◌, ◌<◌, ◌≤◌, Bool, true, false, cond, List, [], ◌∷◌, ◌++◌, length, take, map, Option, Some, None, Vec, Global, Result, Ok, Err, OnOk, OnErr, refl, sym, ap, subst, arith}
 use Rattle.std.specs.Prelude.{is_some}
 use Rattle.std.specs.List.{filter}
 use Rattle.iss_base.proofs.Lists.{in_append, some-injective}
-use Rattle.iss_base.specs.Lists.{In, below, nth}
+use Rattle.iss_base.specs.Lists.{In, below}
 use Rattle.iss_cluster.proofs.CourseLemmas.{sent-first, works-on}
 use Rattle.iss_cluster.proofs.TraceLemmas.{trace-begins, trace-in-range, trace-more}
 use Rattle.iss_cluster.specs.Clusters.{IsTracedRun, behavior_of}
@@ -20,8 +20,8 @@ use Rattle.iss_model.specs.Run.{node_of}
 use Rattle.iss_model.specs.Runs.{AreAtCores}
 use Rattle.iss_model.specs.Views.{is_castable_now, unfilled}
 use Rattle.iss_network.specs.declared.packets.Sent.{Sent}
-use Rattle.iss_replay.specs.Refines.{ReportRefinesRun, end_at, end_kept, numbered}
-use Rattle.iss_request.specs.Setup.{IsFewFaulty, IsGoodSetup, nodes_of_kind, node_count}
+use Rattle.iss_replay.specs.Refines.{ReportRefinesRun, end_kept, numbered}
+use Rattle.iss_request.specs.Setup.{IsFewFaulty, IsGoodSetup}
 use Rattle.iss_request.specs.declared.ids.NodeId.{NodeId}
 use Rattle.iss_request.specs.declared.setups.Kind.{Kind}
 use Rattle.iss_request.specs.declared.setups.Kind.TheVariants.{Byzantine, Stopping}

@@ -1,5 +1,5 @@
 -- A trace with one more event.
-use Rattle.std.proofs.Common.{inl, inr, ◌≡◌, ◌⊎◌, ◌∙◌, ℕ, List, [], ◌∷◌, ◌++◌, drop, get_or, refl, sym, ap, subst}
+use Rattle.std.proofs.Common.{inl, inr, ◌≡◌, ◌⊎◌, ◌∙◌, List, [], ◌∷◌, ◌++◌, drop, get_or, refl, sym, ap, subst}
 use Rattle.iss_loops.specs.Behavior.{Behavior}
 use Rattle.iss_loops.specs.Traces.{IsNext, IsTrace}
 use Rattle.iss_request.specs.declared.setups.Setup.{Setup}

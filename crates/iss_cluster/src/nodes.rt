@@ -1,6 +1,6 @@
 //! One node of a cluster, which runs over links and keeps its events in a journal.
 ghost use Rattle.std.specs.Prelude.{◌≡◌, ◌≢◌, ◌<◌, ℕ, false, IfOk, IsErrOf, OnOk};
-ghost use Rattle.iss_cluster.specs.Nodes.{HasRead, IsNodeRun, IsRefused, IsStopped, as_step, block_of, core_after, events_in};
+ghost use Rattle.iss_cluster.specs.Nodes.{HasRead, IsNodeRun, IsOpen, IsRefused, IsStopped, as_step, block_of, core_after, events_in};
 ghost use Rattle.iss_config.specs.Configs.{IsInRange, setup_of};
 ghost use Rattle.iss_disk.specs.Calls.{HasCause as HasDiskCause};
 ghost use Rattle.iss_journal.specs.Promises.{LosesNothing};
@@ -85,7 +85,7 @@ pub fn start_node<M: Sequenced>(
 impl<M: Sequenced, D: Disk> RunningNode<M, D> {
     /// A node over the current file of `disk`. It has not read its journal.
     pub fn of(fresh: Fresh<M>, disk: D) -> RunningNode<M, D>
-        requires good { IsSetupOf M.spec fresh.setup }
+        requires { IsSetupOf M.spec fresh.setup }
         ensures same { (result.setup ≡ fresh.setup) × (result.me ≡ fresh.me) }
         ensures disk { result.disk ≡ disk }
     {
@@ -108,6 +108,7 @@ impl<M: Sequenced, D: Disk> RunningNode<M, D> {
     // Reads the journal, and recovers the node from the events in it.
     fn reopen(&mut self) -> Result<(), AttachError>
         ensures read { OnOk result (HasRead (D.history self.old.disk) self.new.stale self.new.entries) }
+        ensures open { OnOk result (IsOpen M.spec M.refines D.history self.new) }
         ensures refused { (at : ℕ) → IsErrOf result (AttachError.Damaged at) → IsRefused M.spec self.old.setup
             self.old.me.0 (D.history self.old.disk) (D.history self.new.disk) at }
         ensures cause { HasDiskCause (D.faults self.old.disk) (D.faults self.new.disk)
@@ -119,11 +120,12 @@ impl<M: Sequenced, D: Disk> RunningNode<M, D> {
         self.kept.reopen()
     }
 
-    // The node's block of a report.
+    // The node's block of a report. The node is open.
     fn block(&self, alloc: Global) -> Result<Bytes, NoMemory>
         requires { self.now.stale ≡ false }
-        ensures { IfOk result (λ block. block ≡ block_of self.now.setup M.spec self.now.me.0
+        ensures block { IfOk result (λ block. block ≡ block_of self.now.setup M.spec self.now.me.0
             (core_after self.now.setup M.spec self.now.me.0 (events_in self.now.setup.n self.now.entries))) }
+        ensures open { IsOpen M.spec M.refines D.history self.now }
     {
         let mut block = Vec::new(alloc);
         put_node(&mut block, self.me, self.kept.epoch(), self.kept.log())?;

@@ -1,6 +1,6 @@
 use Rattle.std.proofs.Common.{sym, subst, ◌≡◌, false}
 use Rattle.iss_cluster.proofs.NodeLemmas.{is-there}
-use Rattle.iss_cluster.specs.Nodes.{core_after, events_in, node_behavior_of}
+use Rattle.iss_cluster.specs.Nodes.{events_in, node_behavior_of}
 use Rattle.iss_keep.specs.State.{KeptState}
 use Rattle.iss_cluster.proofs.nodes.RunningNodeJournaledNode.castable.Goals as goal
 

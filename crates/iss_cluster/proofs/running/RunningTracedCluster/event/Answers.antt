@@ -1,4 +1,4 @@
-use Rattle.std.proofs.Common.{sym, subst, ◌≡◌, ◌∙◌, ap, false}
+use Rattle.std.proofs.Common.{sym, subst, ◌≡◌, false}
 use Rattle.iss_cluster.specs.Internal.Running.{RunningState}
 use Rattle.iss_cluster.proofs.RunningLemmas.{gives-up, goes-further, next-is}
 use Rattle.iss_cluster.proofs.running.RunningTracedCluster.event.Goals as goal
