@@ -30,13 +30,14 @@ use Rattle.iss_schedule.specs.declared.schedules.Schedule.{Schedule}
 use Rattle.iss_theorems.specs.Headline.{IsWhole, course_after}
 use Rattle.iss_world.specs.State.{WorldState}
 use Rattle.iss_world.specs.declared.ends.Evidence.{Evidence}
+use Rattle.iss_words.specs.declared.orders.NodeOrder.{NodeOrder}
 use Rattle.sb_chained.specs.Chained.{chained}
 use Rattle.sb_hotstuff.specs.HotStuff.{hotstuff}
 use Rattle.sb_pbft.specs.Pbft.{pbft}
 use Rattle.sb_raft.specs.Raft.{raft}
 use Rattle.sb_relay.specs.Relay.{relay}
 use Rattle.iss_cli.proofs.TraceLemmas.{trace-is-schedule}
-use Rattle.iss_cli.specs.Running.{IsConfigOf, IsOfCluster, IsOfConfig, IsOfNode, IsPrintedRun, damaged_answer, log_answer, refused_configuration}
+use Rattle.iss_cli.specs.Running.{IsConfigOf, IsOfCluster, Devices, IsOfConfig, IsOfNode, IsOfNodeOrder, IsPrintedRun, damaged_answer, log_answer, refused_configuration}
 use Rattle.iss_cli.specs.Views.{Under, outcome_of}
 use Rattle.iss_cli.specs.declared.answers.Answer.{Answer}
 use Rattle.iss_cli.specs.declared.status.Outcome.{Outcome}
@@ -101,13 +102,30 @@ of-node m c me ends ends_now before now ran (Ok a) (inl (block, (is, same))) run
 of-node m c me ends ends_now before now ran (Ok a) (inr (at, (is, same))) run damaged = inr (at, (damaged at is, same))
 of-node m c me ends ends_now before now ran (Err e) is run damaged = tt
 
+-- The same where the node, and what the disk held and holds, are named otherwise.
+pub of-node-at : {Msg : Type 0} (m : Module Msg) (c : Config) (me other : ℕ) (ends ends_now : Option (List End)) (before first now last : List File) (ran : Result (List ℕ) NodeFailure) (r : Result Answer NodeError)
+    → other ≡ me → first ≡ before → last ≡ now → IsPrintedRun ran r → IfOk ran (IsNodeRun m c other ends ends_now first last) → ((at : ℕ) → IsErrOf ran (Damaged at) → IsRefused m (setup_of c) other first last at)
+    → IfOk r (λ a. IsOfNode c me ends ends_now before now a Msg m)
+of-node-at m c me other ends ends_now before first now last ran r is from to printed run damaged =
+    of-node m c me ends ends_now before now ran r printed
+    (subst (λ (x : ℕ). IfOk ran (IsNodeRun m c x ends ends_now before now)) is
+    (subst (λ (x : List File). IfOk ran (IsNodeRun m c other ends ends_now x now)) from (subst (λ (x : List File). IfOk ran (IsNodeRun m c other ends ends_now first x)) to run)))
+    (λ at bad. subst (λ (x : ℕ). IsRefused m (setup_of c) x before now at) is
+    (subst (λ (x : List File). IsRefused m (setup_of c) other x now at) from (subst (λ (x : List File). IsRefused m (setup_of c) other first x at) to (damaged at bad))))
+
+abbrev first_of : List ℕ → ℕ
+first_of [] = 0
+first_of (x ∷ xs) = x
+
 -- the place of a disk that is lent tells which loan it is
 pub same-loan : (a b : ℕ) (p q : Place) → lent a p ≡ lent b q → a ≡ b
 same-loan a b p q e = ap (λ (place : Place). first_of place.borrows) e
-  where
-    abbrev first_of : List ℕ → ℕ
-    first_of [] = 0
-    first_of (x ∷ xs) = x
+
+-- the answer of a node of the cluster
+pub of-existing : {E : Type 0} (order : NodeOrder) (before now : Devices) (c : Config) (r : Result Answer E) → order.node < (setup_of c).n
+    → IfOk r (λ a. Under c.module (IsOfNode c order.node before.ends now.ends (before.files order.file.now) now.current a)) → IfOk r (IsOfNodeOrder order before now c)
+of-existing order before now c (Ok a) low h = inr (low, h)
+of-existing order before now c (Err e) low h = tt
 
 -- ---- what is no refusal
 
@@ -167,6 +185,10 @@ by-chained number P (Ok a) is h = inr (inr (inr (inr (is, h))))
 by-chained number P (Err e) is h = tt
 
 -- ---- a trace and its report
+
+pub joined : (xs trace ys report zs : List ℕ) → zs ≡ xs ++ codes "report" ++ 10 ∷ ys → xs ≡ trace → ys ≡ report → zs ≡ trace ++ codes "report" ++ 10 ∷ report
+joined xs trace ys report zs is first second =
+    is ∙ ap (λ (l : List ℕ). l ++ codes "report" ++ 10 ∷ ys) first ∙ ap (λ (l : List ℕ). trace ++ codes "report" ++ 10 ∷ l) second
 
 -- A printed trace with its report is the cluster's answer.
 module _ {M Msg : Type 0} (m : Module Msg) (refines : Relation M Msg) (c : Config) (trace : Schedule) (world : WorldState M Msg) (drops : List (ℕ × Why)) (ended : Option (ℕ × Evidence))

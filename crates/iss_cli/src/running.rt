@@ -163,8 +163,9 @@ fn print_traced<M: Sequenced>(alloc: Global, traced: &Traced<M>) -> Result<Answe
 {
     let trace = write(alloc, &traced.trace)?;
     let report = text(alloc, &traced.report)?;
+    let printed = join_report(alloc, trace.as_slice(), report.as_slice())?;
     Ok(Answer {
-        printed: join_report(alloc, trace.as_slice(), report.as_slice())?,
+        printed,
         outcome: outcome_of(&traced.report.ended),
     })
 }
