@@ -7,7 +7,7 @@ use Rattle.iss_cli.proofs.running.run_node_under.Goals as goal
 
 pub returns-clause-ok : goal.returns-clause-ok
 returns-clause-ok g c =
-    let loan : c.into_disk-disk.result.ghost_name ≡ c.args.disk.ghost_name =
+    let loan : c.into_disk-disk.result.ghost_name ≡ c.of-arg-1.given =
     ap (λ (r : MutBor g.row.D.Denot). r.ghost_name) c.into_disk-disk.ensures ∙ same-loan _ _ _ _ c.node-ran.ensures.place ∙ ap (λ (r : MutBor g.row.D.Denot). r.ghost_name) c.of-running.ensures.disk in
     let back : c.into_disk-disk.result.now ≡ c.disk-1.given.0 = search rules in
     of-node-at g.M.Sequenced.spec c.args.config.now c.args.me.0 _ (g.L.Links.ends c.args.links.now) (g.L.Links.ends c.node-ran.new.links) (g.D.Disk.history c.args.disk.now) _ (g.D.Disk.history c.disk-1.given.0) _
@@ -16,7 +16,7 @@ returns-clause-ok g c =
 
 pub returns-clause-disk : goal.returns-clause-disk
 returns-clause-disk g c =
-    let loan : c.into_disk-disk.result.ghost_name ≡ c.args.disk.ghost_name =
+    let loan : c.into_disk-disk.result.ghost_name ≡ c.of-arg-1.given =
     ap (λ (r : MutBor g.row.D.Denot). r.ghost_name) c.into_disk-disk.ensures ∙ same-loan _ _ _ _ c.node-ran.ensures.place ∙ ap (λ (r : MutBor g.row.D.Denot). r.ghost_name) c.of-running.ensures.disk in
     let back : c.into_disk-disk.result.now ≡ c.disk-1.given.0 = search rules in
     let F = IsErrOf c.print_ran.result DiskFault in
