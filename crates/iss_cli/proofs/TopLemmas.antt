@@ -1,5 +1,5 @@
 -- The answer to an order and its input, of which a bounded front was read.
-use Rattle.std.proofs.Common.{◌≡◌, ◌∙◌, ◌⊎◌, inl, inr, ℕ, ◌<◌, ◌≤◌, Bool, true, false, Option, None, Some, Result, Ok, Err, List, [], length, take, refl, sym, ap, subst, arith}
+use Rattle.std.proofs.Common.{◌≡◌, ◌∙◌, ◌⊎◌, inl, inr, ℕ, ◌<◌, ◌≤◌, Bool, true, false, Option, None, Some, Result, Ok, Err, IsErrOf, List, [], length, take, refl, sym, ap, subst, arith}
 use Rattle.std.specs.Bool.{IsTrue}
 use Rattle.std.proofs.lemmas.Bool.Decides.{leb_tells}
 use Rattle.std.proofs.lemmas.List.{take_all, length-take}
@@ -7,16 +7,26 @@ use Rattle.iss_schedule.specs.Schedules.{most_bytes}
 use Rattle.iss_schedule.specs.declared.schedules.Schedule.{Schedule}
 use Rattle.iss_words.specs.Commands.{Asks}
 use Rattle.iss_words.specs.declared.orders.Order.{Order}
-use Rattle.iss_words.specs.declared.orders.Order.TheVariants.{Replay, Lab, Replies, Answers, Export, Audit}
+use Rattle.iss_words.specs.declared.orders.Order.TheVariants.{Replay, Lab, Replies, Answers, Export, Audit, Cluster, Node}
 use Rattle.iss_cli.specs.declared.answers.Answer.{Answer}
 use Rattle.iss_schedule.specs.BadLines.{IsBadLine}
 use Rattle.iss_schedule.specs.declared.errors.LineFault.{LineFault}
 use Rattle.iss_cli.specs.Answers.{IsAnswer, IsAudited, IsOfReplies, IsOfSchedule, Reads, refused_words}
-use Rattle.iss_cli.specs.Calls.{Ends, IsAnswerTo, IsAnswered, Prints}
-use Rattle.iss_cli.specs.Ends.{Drains, IfTold, IsDrained}
-use Rattle.iss_cli.specs.Views.{IsShown}
+use Rattle.iss_cli.specs.Calls.{Ends, HasNone, IsAnswerTo, IsAnswered, IsStartedOn, IsUnanswered, Prints}
+use Rattle.iss_cli.specs.Ends.{Drains, HasCause, IfTold, IsDrained}
+use Rattle.iss_cli.specs.Errors.{of_node, status_without}
+use Rattle.iss_cli.specs.Running.{Devices, HasPorts, IsConfigOf, IsOfCluster, IsOfConfig, IsOfNodeOrder, IsStarted, UsesDisk, UsesLinks}
+use Rattle.iss_cli.specs.Views.{IsShown, Under}
+use Rattle.iss_cli.specs.declared.errors.AnswerError.{AnswerError}
+use Rattle.iss_cli.specs.declared.errors.AnswerError.TheVariants.{SourceFailed as Source_failed, LinksFailed as Links_failed, DiskFailed as Disk_failed, NoMemory as No_memory}
+use Rattle.iss_config.specs.declared.configs.Config.{Config}
+use Rattle.iss_links.specs.Calls.{HasCause as LinksCause}
+use Rattle.iss_loops.specs.declared.errors.NodeError.{NodeError}
+use Rattle.iss_loops.specs.declared.errors.NodeError.TheVariants.{LinksFault, DiskFault, NoMemory as Node_no_memory}
+use Rattle.iss_cli.specs.declared.status.Outcome.{Outcome}
+use Rattle.iss_cli.specs.declared.status.Outcome.TheVariants.{Done, RefusedConfiguration}
 use Rattle.iss_cli.specs.declared.status.Status.{Status}
-use Rattle.iss_cli.specs.declared.status.Status.TheVariants.{Answered, NoMemory, SourceFailed, SinkFailed}
+use Rattle.iss_cli.specs.declared.status.Status.TheVariants.{Answered, NoMemory, SourceFailed, SinkFailed, LinksFailed, DiskFailed}
 use Rattle.iss_cli.specs.declared.views.View.TheVariants.{Full, Replied}
 use Rattle.iss_cli.specs.Auditing.{IsOfCore}
 use Rattle.iss_cli.specs.Believing.{AreReplied}
@@ -29,21 +39,23 @@ some_input : (left : Option (List ℕ)) → (input : List ℕ) × IfTold left (�
 some_input None = ([], tt)
 some_input (Some bytes) = (bytes, refl)
 
-same_answer : (order : Order) (input other : List ℕ) (a : Answer) → (Reads order → ⊥) → IsAnswer order input a → IsAnswer order other a
-same_answer Replay input other a unread is = absurd (unread tt)
-same_answer (Lab number events) input other a unread is = is
-same_answer Replies input other a unread is = absurd (unread tt)
-same_answer Answers input other a unread is = absurd (unread tt)
-same_answer (Export core) input other a unread is = absurd (unread tt)
-same_answer Audit input other a unread is = absurd (unread tt)
+same_answer : (order : Order) (before now : Devices) (input other : List ℕ) (a : Answer) → (Reads order → ⊥) → IsAnswer order before now input a → IsAnswer order before now other a
+same_answer Replay before now input other a unread is = absurd (unread tt)
+same_answer (Lab number events) before now input other a unread is = is
+same_answer Replies before now input other a unread is = absurd (unread tt)
+same_answer Answers before now input other a unread is = absurd (unread tt)
+same_answer (Export core) before now input other a unread is = absurd (unread tt)
+same_answer Audit before now input other a unread is = absurd (unread tt)
+same_answer (Cluster port) before now input other a unread is = absurd (unread tt)
+same_answer (Node node) before now input other a unread is = absurd (unread tt)
 
-pub answer_unread : (order : Order) (left : Option (List ℕ)) (input : List ℕ) (a : Answer) → (Reads order → ⊥) → IsAnswer order input a → IsAnswerTo order left left a
-answer_unread order left input a unread is =
+pub answer_unread : (order : Order) (left : Option (List ℕ)) (before now : Devices) (input : List ℕ) (a : Answer) → (Reads order → ⊥) → IsAnswer order before now input a → IsAnswerTo order left left before now a
+answer_unread order left before now input a unread is =
     let any = some_input left in
     record {
       input = any.0;
       whole = any.1;
-      right = same_answer order input any.0 a unread is;
+      right = same_answer order before now input any.0 a unread is;
       drained = λ reads. absurd (unread reads);
     }
 
@@ -106,36 +118,160 @@ audited_of_front most all a h answer = go (at_most_or_more (length all) most_byt
     go (inr long) (inr (inl (line, (why, (inr bad, e))))) = absurd (omega (arith, bad.short, long_front most_bytes most all h long))
     go (inr long) (inr (inr (epoch, (why, (bad, e))))) = absurd (omega (arith, bad.export.short, long_front most_bytes most all h long))
 
--- The answer to the bytes that are read is that to all bytes.
-answer_of_front : (order : Order) (most : ℕ) (all : List ℕ) (a : Answer) → most_bytes < most → IsAnswer order (take most all) a → IsAnswer order all a
-answer_of_front Replay most all a h is = schedule_of_front (IsShown Full) most all a h is
-answer_of_front (Lab number events) most all a h is = is
-answer_of_front Replies most all a h is = schedule_of_front (λ s answer. IsShown Replied s answer × AreReplied s) most all a h is
-answer_of_front Answers most all a h is = replies_of_front most all a h is
-answer_of_front (Export core) most all a h is = schedule_of_front (IsOfCore core) most all a h is
-answer_of_front Audit most all a h is = audited_of_front most all a h is
+-- A configuration that is too long is refused, and so is its prefix.
+config_of_front : (most : ℕ) (all : List ℕ) (c : Config) → most_bytes < most → IsConfigOf (take most all) c → IsConfigOf all c
+config_of_front most all c h is = go (at_most_or_more (length all) most_bytes)
+  where
+    go : (length all ≤ most_bytes) ⊎ (most_bytes < length all) → IsConfigOf all c
+    go (inl short) =
+        let whole : take most all ≡ all = take_all most all (omega (arith, short, h)) in
+        subst (λ (bytes : List ℕ). IsConfigOf bytes c) whole is
+    go (inr long) = absurd (omega (arith, is.short, long_front most_bytes most all h long))
 
-pub answer_read : (order : Order) (left left_now : Option (List ℕ)) (bytes : List ℕ) (a : Answer) → IfTold left (λ all. bytes ≡ take 16777217 all) →
-    IsDrained 16777217 left left_now → IsAnswer order bytes a → IsAnswerTo order left left_now a
-answer_read order None left_now bytes a is drained answer = record { input = bytes; whole = tt; right = answer; drained = λ reads. drained }
-answer_read order (Some all) left_now bytes a is drained answer =
-    let P : List ℕ → Type 0 = λ b. IsAnswer order b a in
-    record { input = all; whole = refl; right = answer_of_front order 16777217 all a (omega arith) (subst P is answer); drained = λ reads. drained }
+no_config_of_front : (most : ℕ) (all : List ℕ) (c : Config) → most_bytes < most → (IsConfigOf (take most all) c → ⊥) → IsConfigOf all c → ⊥
+no_config_of_front most all c h none is =
+    let short = is.short in
+    let whole : take most all ≡ all = take_all most all (omega (arith, short, h)) in
+    none (subst (λ (bytes : List ℕ). IsConfigOf bytes c) (sym whole) is)
+
+of_config_of_front : (P : Config → Answer → Type 0) (most : ℕ) (all : List ℕ) (a : Answer) → most_bytes < most → IsOfConfig P (take most all) a → IsOfConfig P all a
+of_config_of_front P most all a h (inl (c, (is, p))) = inl (c, (config_of_front most all c h is, p))
+of_config_of_front P most all a h (inr (none, e)) = inr (λ c. no_config_of_front most all c h (none c), e)
+
+-- The answer to the bytes that are read is that to all bytes.
+answer_of_front : (order : Order) (before now : Devices) (most : ℕ) (all : List ℕ) (a : Answer) → most_bytes < most → IsAnswer order before now (take most all) a → IsAnswer order before now all a
+answer_of_front Replay before now most all a h is = schedule_of_front (IsShown Full) most all a h is
+answer_of_front (Lab number events) before now most all a h is = is
+answer_of_front Replies before now most all a h is = schedule_of_front (λ s answer. IsShown Replied s answer × AreReplied s) most all a h is
+answer_of_front Answers before now most all a h is = replies_of_front most all a h is
+answer_of_front (Export core) before now most all a h is = schedule_of_front (IsOfCore core) most all a h is
+answer_of_front Audit before now most all a h is = audited_of_front most all a h is
+answer_of_front (Cluster port) before now most all a h is = of_config_of_front (λ c answer. Under c.module (IsOfCluster c before.ends now.ends answer)) most all a h is
+answer_of_front (Node order) before now most all a h is = of_config_of_front (IsOfNodeOrder order before now) most all a h is
+
+pub answer_read : (order : Order) (left left_now : Option (List ℕ)) (before now : Devices) (bytes : List ℕ) (a : Answer) → IfTold left (λ all. bytes ≡ take 16777217 all) →
+    IsDrained 16777217 left left_now → IsAnswer order before now bytes a → IsAnswerTo order left left_now before now a
+answer_read order None left_now before now bytes a is drained answer = record { input = bytes; whole = tt; right = answer; drained = λ reads. drained }
+answer_read order (Some all) left_now before now bytes a is drained answer =
+    let P : List ℕ → Type 0 = λ b. IsAnswer order before now b a in
+    record { input = all; whole = refl; right = answer_of_front order before now 16777217 all a (omega arith) (subst P is answer); drained = λ reads. drained }
+
+-- ---- nodes that fail
+
+pub started_read : (order : Order) (left left_now : Option (List ℕ)) (bytes : List ℕ) → IfTold left (λ all. bytes ≡ take 16777217 all) →
+    IsDrained 16777217 left left_now → IsStarted order bytes → IsStartedOn order left left_now
+started_read order None left_now bytes is drained started = record { input = bytes; whole = tt; started = started; drained = drained }
+started_read order (Some all) left_now bytes is drained started =
+    let read = subst (λ (b : List ℕ). IsConfigOf b started.0) is started.1.0 in
+    record { input = all; whole = refl; started = (started.0, (config_of_front 16777217 all started.0 (omega arith) read, started.1.1)); drained = drained }
+
+-- what the failure of running nodes is to an answer
+pub failed_read : (order : Order) (left left_now : Option (List ℕ)) (bytes : List ℕ) (e : NodeError) → IfTold left (λ all. bytes ≡ take 16777217 all) → IsDrained 16777217 left left_now →
+    (e ≡ LinksFault → UsesLinks order × IsStarted order bytes) → (e ≡ DiskFault → UsesDisk order × IsStarted order bytes) → HasNone order left left_now (of_node e)
+failed_read order left left_now bytes LinksFault is drained links disk = let h = links refl in (h.0, started_read order left left_now bytes is drained h.1)
+failed_read order left left_now bytes DiskFault is drained links disk = let h = disk refl in (h.0, started_read order left left_now bytes is drained h.1)
+failed_read order left left_now bytes Node_no_memory is drained links disk = tt
+
+-- an order that reads nothing runs no nodes
+pub failed_unread : (order : Order) (left : Option (List ℕ)) (e : NodeError) → (Reads order → ⊥) → (e ≡ LinksFault → UsesLinks order) → (e ≡ DiskFault → UsesDisk order) → HasNone order left left (of_node e)
+failed_unread order left LinksFault unread links disk = absurd (unread (links_read order (links refl)))
+  where
+    links_read : (order : Order) → UsesLinks order → Reads order
+    links_read (Cluster port) uses = tt
+    links_read (Node node) uses = tt
+    links_read Replay uses = absurd uses
+    links_read (Lab number events) uses = absurd uses
+    links_read Replies uses = absurd uses
+    links_read Answers uses = absurd uses
+    links_read (Export core) uses = absurd uses
+    links_read Audit uses = absurd uses
+failed_unread order left DiskFault unread links disk = absurd (unread (disk_read order (disk refl)))
+  where
+    disk_read : (order : Order) → UsesDisk order → Reads order
+    disk_read (Node node) uses = tt
+    disk_read (Cluster port) uses = absurd uses
+    disk_read Replay uses = absurd uses
+    disk_read (Lab number events) uses = absurd uses
+    disk_read Replies uses = absurd uses
+    disk_read Answers uses = absurd uses
+    disk_read (Export core) uses = absurd uses
+    disk_read Audit uses = absurd uses
+failed_unread order left Node_no_memory unread links disk = tt
 
 -- ---- words
 
 pub not_true : (b : Bool) → b ≡ false → IsTrue b → ⊥
 not_true b e t = let wrong : false ≡ true = sym e ∙ t in absurd (cc)
 
-pub answer_refused : (words : List (List ℕ)) (left left_now : Option (List ℕ)) (a : Answer) (r : Result Order WordsError) (e : WordsError) → r ≡ Err e → e ≡ Refused →
-    (r ≡ Err Refused → (order : Order) → Asks words order → ⊥) → a ≡ refused_words → IsAnswered words left left_now a
-answer_refused words left left_now a r e is refused none same = inr (none (is ∙ ap (λ (x : WordsError). Err x) refused), same)
+pub answer_refused : (words : List (List ℕ)) (left left_now : Option (List ℕ)) (before now : Devices) (a : Answer) (r : Result Order WordsError) (e : WordsError) → r ≡ Err e → e ≡ Refused →
+    (r ≡ Err Refused → (order : Order) → Asks words order → ⊥) → a ≡ refused_words → IsAnswered words left left_now before now a
+answer_refused words left left_now before now a r e is refused none same = inr (none (is ∙ ap (λ (x : WordsError). Err x) refused), same)
+
+-- the ports of an order that words ask for exist
+pub ports_of : (words : List (List ℕ)) (order : Order) → Asks words order → HasPorts order
+ports_of words (Cluster port) asks = asks.is.1.most
+ports_of words (Node node) asks = asks.is.2.most
+ports_of words Replay asks = tt
+ports_of words (Lab number events) asks = tt
+ports_of words Replies asks = tt
+ports_of words Answers asks = tt
+ports_of words (Export core) asks = tt
+ports_of words Audit asks = tt
 
 -- ---- the end of a call
 
-pub ends : (words : List (List ℕ)) (left left_now held held_now : Option (List ℕ)) (a : Answer) (status : Status) → IsAnswered words left left_now a →
-    Prints a held held_now status → Ends words left left_now held held_now status
-ends words left left_now held held_now a (Answered outcome) is prints = (a, (is, prints))
-ends words left left_now held held_now a SinkFailed is prints = (a, (is, prints))
-ends words left left_now held held_now a NoMemory is prints = inr (a, (is, prints))
-ends words left left_now held held_now a SourceFailed is prints = absurd prints
+pub ends : (words : List (List ℕ)) (left left_now : Option (List ℕ)) (before now : Devices) (held held_now : Option (List ℕ)) (a : Answer) (status : Status) → IsAnswered words left left_now before now a →
+    Prints a held held_now status → Ends words left left_now before now held held_now status
+ends words left left_now before now held held_now a (Answered outcome) is prints = (a, (is, prints))
+ends words left left_now before now held held_now a SinkFailed is prints = (a, (is, prints))
+ends words left left_now before now held held_now a NoMemory is prints = inr (a, (is, prints))
+ends words left left_now before now held held_now a SourceFailed is prints = absurd prints
+ends words left left_now before now held held_now a LinksFailed is prints = absurd prints
+ends words left left_now before now held held_now a DiskFailed is prints = absurd prints
+
+pub ends_without : (words : List (List ℕ)) (left left_now : Option (List ℕ)) (before now : Devices) (held held_now : Option (List ℕ)) (e : AnswerError) →
+    IsUnanswered words left left_now e → held_now ≡ held → Ends words left left_now before now held held_now (status_without e)
+ends_without words left left_now before now held held_now Source_failed h same = (h, same)
+ends_without words left left_now before now held held_now Links_failed h same = (h, same)
+ends_without words left left_now before now held held_now Disk_failed h same = (h, same)
+ends_without words left left_now before now held held_now No_memory h same = inl same
+
+-- the lack of an answer to an order is that to the words that ask for it
+pub unanswered : (words : List (List ℕ)) (left left_now : Option (List ℕ)) (order : Order) (e : AnswerError) → Asks words order → HasNone order left left_now e → IsUnanswered words left left_now e
+unanswered words left left_now order Source_failed asks h = (order, (asks, h))
+unanswered words left left_now order Links_failed asks h = (order, (asks, h))
+unanswered words left left_now order Disk_failed asks h = (order, (asks, h))
+unanswered words left left_now order No_memory asks h = tt
+
+abbrev outcome_in : Status → Outcome
+outcome_in (Answered outcome) = outcome
+outcome_in status = Done
+
+-- what holds if the configuration is refused
+pub refused_is_said : (P : Type 0) (held held_now : Option (List ℕ)) (a : Answer) (status : Status) → Prints a held held_now status → (a.outcome ≡ RefusedConfiguration → P) → status ≡ Answered RefusedConfiguration → P
+refused_is_said P held held_now a (Answered outcome) prints h e = h (sym prints.0 ∙ ap (λ (s : Status). outcome_in s) e)
+refused_is_said P held held_now a SinkFailed prints h e = absurd (cc)
+refused_is_said P held held_now a NoMemory prints h e = absurd (cc)
+refused_is_said P held held_now a SourceFailed prints h e = absurd (cc)
+refused_is_said P held held_now a LinksFailed prints h e = absurd (cc)
+refused_is_said P held held_now a DiskFailed prints h e = absurd (cc)
+
+pub no_outcome : (P : Type 0) (outcome : Outcome) (e : AnswerError) → status_without e ≡ Answered outcome → P
+no_outcome P outcome Source_failed is = absurd (cc)
+no_outcome P outcome Links_failed is = absurd (cc)
+no_outcome P outcome Disk_failed is = absurd (cc)
+no_outcome P outcome No_memory is = absurd (cc)
+
+-- ---- whose fault it is
+
+pub source_said : (old new : ℕ) (e : AnswerError) → HasCause old new (IsErrOf {T = Answer} (Err e) Source_failed) → HasCause old new (status_without e ≡ SourceFailed)
+source_said old new Source_failed h = record { never_falls = h.never_falls; rose = λ q. h.rose refl; still = λ none. absurd (none refl) }
+source_said old new Links_failed h = record { never_falls = h.never_falls; rose = λ q. absurd (cc); still = λ none. h.still (λ q. absurd (cc)) }
+source_said old new Disk_failed h = record { never_falls = h.never_falls; rose = λ q. absurd (cc); still = λ none. h.still (λ q. absurd (cc)) }
+source_said old new No_memory h = record { never_falls = h.never_falls; rose = λ q. absurd (cc); still = λ none. h.still (λ q. absurd (cc)) }
+
+pub links_said : (old new : ℕ) (e : AnswerError) → LinksCause old new (IsErrOf {T = Answer} (Err e) Links_failed) → LinksCause old new (status_without e ≡ LinksFailed)
+links_said old new Links_failed h = record { never_falls = h.never_falls; rose = λ q. h.rose refl; still = λ none. absurd (none refl) }
+links_said old new Source_failed h = record { never_falls = h.never_falls; rose = λ q. absurd (cc); still = λ none. h.still (λ q. absurd (cc)) }
+links_said old new Disk_failed h = record { never_falls = h.never_falls; rose = λ q. absurd (cc); still = λ none. h.still (λ q. absurd (cc)) }
+links_said old new No_memory h = record { never_falls = h.never_falls; rose = λ q. absurd (cc); still = λ none. h.still (λ q. absurd (cc)) }

@@ -7,7 +7,7 @@ use Rattle.iss_schedule.specs.declared.errors.LineFault.{LineFault}
 use Rattle.iss_schedule.specs.declared.errors.LineFault.TheVariants.{Cut, Form, Faulty, Injected, Range, Size}
 use Rattle.iss_schedule.specs.declared.schedules.Schedule.{Schedule}
 use Rattle.iss_words.specs.declared.orders.Order.{Order}
-use Rattle.iss_words.specs.declared.orders.Order.TheVariants.{Replay, Lab, Replies, Answers, Export, Audit}
+use Rattle.iss_words.specs.declared.orders.Order.TheVariants.{Replay, Lab, Replies, Answers, Export, Audit, Cluster, Node}
 use Rattle.iss_answers.specs.Refusals.{IsBadText}
 use Rattle.iss_audit.specs.Refusals.{IsBadEpoch, IsBadText as IsBadExport}
 use Rattle.iss_audit.specs.declared.errors.EpochFault.{EpochFault}
@@ -15,7 +15,8 @@ use Rattle.iss_answers.specs.Texts.{IsTold}
 use Rattle.iss_answers.specs.declared.told.Told.{Told}
 use Rattle.iss_cli.specs.Auditing.{IsCertifiedAnswer, IsOfCore, refused_epoch}
 use Rattle.iss_cli.specs.Believing.{AreReplied, IsBelieved}
-use Rattle.iss_cli.specs.Views.{IsShown}
+use Rattle.iss_cli.specs.Running.{IsOfCluster, IsOfConfig, IsOfNodeOrder, Devices}
+use Rattle.iss_cli.specs.Views.{IsShown, Under}
 use Rattle.iss_cli.specs.declared.answers.Answer.{Answer}
 use Rattle.iss_cli.specs.declared.status.Outcome.TheVariants.{RefusedWords, RefusedInput}
 use Rattle.iss_cli.specs.declared.views.View.TheVariants.{Full, Replied, Summary}
@@ -61,15 +62,18 @@ IsAudited input a =
 
 -- ---- orders
 
--- The answer to an order and its input.
+-- The answer to an order and its input, given what links and disk held before and hold now.
 -- rule: Program: Each exit status comes exactly where its cause does
-abbrev pub IsAnswer : Order → List ℕ → Answer → Type 0
-IsAnswer Replay input a = IsOfSchedule (IsShown Full) input a
-IsAnswer (Lab number events) input a = IsShown Summary (generated number events) a
-IsAnswer Replies input a = IsOfSchedule (λ s answer. IsShown Replied s answer × AreReplied s) input a
-IsAnswer Answers input a = IsOfReplies input a
-IsAnswer (Export core) input a = IsOfSchedule (IsOfCore core) input a
-IsAnswer Audit input a = IsAudited input a
+abbrev pub IsAnswer : Order → Devices → Devices → List ℕ → Answer → Type 0
+IsAnswer Replay before now input a = IsOfSchedule (IsShown Full) input a
+IsAnswer (Lab number events) before now input a = IsShown Summary (generated number events) a
+IsAnswer Replies before now input a = IsOfSchedule (λ s answer. IsShown Replied s answer × AreReplied s) input a
+IsAnswer Answers before now input a = IsOfReplies input a
+IsAnswer (Export core) before now input a = IsOfSchedule (IsOfCore core) input a
+IsAnswer Audit before now input a = IsAudited input a
+IsAnswer (Cluster port) before now input a =
+    IsOfConfig (λ c answer. Under c.module (IsOfCluster c before.ends now.ends answer)) input a
+IsAnswer (Node order) before now input a = IsOfConfig (IsOfNodeOrder order before now) input a
 
 -- the order reads the input
 abbrev pub Reads : Order → Type 0
@@ -79,3 +83,5 @@ Reads Replies = Unit {0}
 Reads Answers = Unit {0}
 Reads (Export core) = Unit {0}
 Reads Audit = Unit {0}
+Reads (Cluster port) = Unit {0}
+Reads (Node order) = Unit {0}

@@ -12,15 +12,12 @@ use Rattle.iss_schedule.specs.declared.schedules.Event.{Event}
 use Rattle.iss_schedule.specs.declared.schedules.Schedule.{Schedule}
 use Rattle.iss_sb.specs.Evidence.{Module}
 use Rattle.iss_theorems.specs.Headline.{IsWhole, course_after, held_after}
+use Rattle.iss_cli.specs.Running.{refused_configuration}
 use Rattle.iss_cli.specs.Views.{Under, outcome_of}
 use Rattle.iss_cli.specs.declared.answers.Answer.{Answer}
-use Rattle.iss_cli.specs.declared.status.Outcome.TheVariants.{Done, RefusedConfiguration, Uncertified}
+use Rattle.iss_cli.specs.declared.status.Outcome.TheVariants.{Done, Uncertified}
 
 -- ---- an export
-
--- rule: Program: An export of a core that is no node's exits with 11
-abbrev pub refused_configuration : Answer
-refused_configuration = record { printed = codes "refused configuration" ++ 10 ∷ []; outcome = RefusedConfiguration }
 
 -- The answer is what a core exports after the schedule's run under this module, and the headline holds for that run.
 pub record IsExportedUnder (core : ℕ) (s : Schedule) (a : Answer) (Msg : Type 0) (M : Module Msg) : Type 0 where
@@ -29,6 +26,7 @@ pub record IsExportedUnder (core : ℕ) (s : Schedule) (a : Answer) (Msg : Type 
   pub whole : IsWhole s.setup M s.events
 
 -- The answer is what a core exports after the schedule's run under the module that it names, or there is no such node.
+-- rule: Program: What is no configuration, or has no such node, exits with 11
 abbrev pub IsOfCore : ℕ → Schedule → Answer → Type 0
 IsOfCore core s a =
     ((s.setup.n ≤ core) × (a ≡ refused_configuration))

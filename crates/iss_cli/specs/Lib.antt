@@ -4,4 +4,6 @@ pub mod Believing
 pub mod Calls
 pub mod Codes
 pub mod Ends
+pub mod Errors
+pub mod Running
 pub mod Views

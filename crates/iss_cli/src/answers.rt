@@ -1,15 +1,22 @@
 //! The answers of the program to each order and its input.
-ghost use Rattle.std.specs.Prelude.{◌≡◌, ◌↔◌, IfOk, IsTrue};
+ghost use Rattle.std.specs.Prelude.{◌≡◌, ◌↔◌, IfOk, IsErrOf, IsTrue};
+ghost use Rattle.iss_disk.specs.Calls.{HasCause as HasDiskCause};
+ghost use Rattle.iss_links.specs.Calls.{HasCause};
 ghost use Rattle.iss_cli.specs.Answers.{IsAnswer, IsOfSchedule, Reads, refused_line, refused_words, why_word};
+ghost use Rattle.iss_cli.specs.Running.{HasPorts, IsStarted, UsesDisk, UsesLinks, devices};
 ghost use Rattle.iss_cli.specs.Views.{IsShown};
 ghost use Rattle.iss_cli.specs.declared.views.View.TheVariants.{Summary};
 ghost use Rattle.iss_lab.specs.Generated.{generated};
 
 use crate::audits::{audit, export_core};
 use crate::believing::{believe, reply};
+use crate::running::{run_cluster, run_node};
 use crate::status::Outcome;
 use crate::views::{View, show};
+use iss_disk::Disk;
 use iss_lab::generate;
+use iss_links::Links;
+use iss_loops::NodeError;
 use iss_replay::words::{put_number, put_text};
 use iss_request::{Bytes, NoMemory};
 use iss_schedule::{LineFault, ReadError, read};
@@ -24,28 +31,48 @@ pub struct Answer {
 }
 
 /// Whether the order reads the input.
-pub fn reads(order: Order) -> bool
-    ensures { IsTrue result ↔ Reads order }
+pub fn reads(order: Order<'_>) -> bool
+    ensures { IsTrue result ↔ Reads order.entry }
 {
     match order {
         Order::Replay => true,
         Order::Lab { .. } => false,
         Order::Replies | Order::Answers => true,
         Order::Export { .. } | Order::Audit => true,
+        Order::Cluster { .. } | Order::Node(_) => true,
     }
 }
 
-/// The answer to an order and the input. The only error is out of memory.
-pub fn respond(alloc: Global, order: Order, input: &[u8]) -> Result<Answer, NoMemory>
-    ensures { IfOk result (IsAnswer order input.now) }
+/// The answer to an order and the input. Only running nodes use the links, and only a node with a journal uses the
+/// disk. A fault of theirs is the error, or out of memory.
+pub fn respond<L: Links, D: Disk>(
+    alloc: Global,
+    order: Order<'_>,
+    input: &[u8],
+    links: &mut L,
+    disk: &mut D,
+) -> Result<Answer, NodeError>
+    requires { HasPorts order }
+    ensures ok { IfOk result (IsAnswer order.entry (devices (L.ends links.old) (D.files disk.old) (D.history disk.old))
+        (devices (L.ends links.new) (D.files disk.new) (D.history disk.new)) input.now) }
+    ensures links_fail { IsErrOf result NodeError.LinksFault → UsesLinks order.entry × IsStarted order.entry input.now }
+    ensures disk_fails { IsErrOf result NodeError.DiskFault → UsesDisk order.entry × IsStarted order.entry input.now }
+    ensures links { HasCause (L.faults links.old) (L.faults links.new) (IsErrOf result NodeError.LinksFault) }
+    ensures disk { HasDiskCause (D.faults disk.old) (D.faults disk.new) (IsErrOf result NodeError.DiskFault) }
+    ensures same_links { ¬ UsesLinks order.entry → links.new ≡ links.old }
+    ensures same_disk { ¬ UsesDisk order.entry → disk.new ≡ disk.old }
+    ensures refused { IfOk result (λ a. a.outcome ≡ Outcome.RefusedConfiguration →
+        (links.new ≡ links.old) × (disk.new ≡ disk.old)) }
 {
     match order {
-        Order::Replay => show_input(alloc, View::Full, input),
-        Order::Lab { number, events } => show_generated(alloc, number, events),
-        Order::Replies => reply(alloc, input),
-        Order::Answers => believe(alloc, input),
-        Order::Export { core } => export_core(alloc, core, input),
-        Order::Audit => audit(alloc, input),
+        Order::Replay => Ok(show_input(alloc, View::Full, input)?),
+        Order::Lab { number, events } => Ok(show_generated(alloc, number, events)?),
+        Order::Replies => Ok(reply(alloc, input)?),
+        Order::Answers => Ok(believe(alloc, input)?),
+        Order::Export { core } => Ok(export_core(alloc, core, input)?),
+        Order::Audit => Ok(audit(alloc, input)?),
+        Order::Cluster { port } => Ok(run_cluster(alloc, port, input, links)?),
+        Order::Node(order) => run_node(alloc, order, input, links, disk),
     }
 }
 

@@ -3,7 +3,7 @@ ghost use Rattle.std.specs.Prelude.{◌≡◌, ◌<◌, ℕ, IfOk, List};
 ghost use Rattle.iss_audit.specs.Exports.{IsCertifiedText};
 ghost use Rattle.iss_audit.specs.declared.exports.Export.{Export as ModelExport};
 ghost use Rattle.iss_cli.specs.Answers.{IsAudited, IsOfSchedule};
-ghost use Rattle.iss_cli.specs.Auditing.{AreOfRuns, IsExportedUnder, IsOfCore, certified_answer, fault_word, refused_configuration, refused_epoch};
+ghost use Rattle.iss_cli.specs.Auditing.{AreOfRuns, IsExportedUnder, IsOfCore, certified_answer, fault_word, refused_epoch};
 ghost use Rattle.iss_cli.specs.Views.{Under, outcome_of};
 ghost use Rattle.iss_export.specs.Exporting.{IsExported};
 ghost use Rattle.iss_rules.specs.Setups.{IsSetupOf};
@@ -12,6 +12,7 @@ ghost use Rattle.iss_schedule.specs.Schedules.{IsKnown};
 ghost use Rattle.iss_theorems.specs.Headline.{IsWhole, course_after};
 
 use crate::answers::{Answer, refuse_line};
+use crate::running::refuse_configuration;
 use crate::status::Outcome;
 use crate::views::outcome_of;
 use iss_audit::{AuditError, EpochFault, Export, check_text, quorums_signed_each_epoch};
@@ -42,7 +43,7 @@ pub fn export_core(alloc: Global, core: u32, input: &[u8]) -> Result<Answer, NoM
 }
 
 // What a core exports after the run of a schedule, if there is a node with its number.
-// rule: Program: An export of a core that is no node's exits with 11
+// rule: Program: What is no configuration, or has no such node, exits with 11
 fn export_of(alloc: Global, core: u32, schedule: &Schedule) -> Result<Answer, NoMemory>
     requires known { IsKnown schedule.now.setup }
     requires range { AreInRange schedule.now.setup schedule.now.events }
@@ -155,16 +156,4 @@ fn name_of(why: EpochFault) -> &'static [u8]
         EpochFault::BadCert => b"BadCert",
         EpochFault::WrongChain => b"WrongChain",
     }
-}
-
-// The answer to a core that is no node's.
-fn refuse_configuration(alloc: Global) -> Result<Answer, NoMemory>
-    ensures { IfOk result (λ a. a ≡ refused_configuration) }
-{
-    let mut printed = Vec::new(alloc);
-    put_text(&mut printed, b"refused configuration\n")?;
-    Ok(Answer {
-        printed: Bytes::of(printed),
-        outcome: Outcome::RefusedConfiguration,
-    })
 }

@@ -10,6 +10,7 @@ pub mod failing;
 pub mod input;
 pub mod memory;
 pub mod output;
+pub mod running;
 pub mod status;
 pub mod streams;
 pub mod top;
@@ -17,7 +18,7 @@ pub mod views;
 
 pub use answers::Answer;
 pub use ends::{Sink, Source};
-pub use errors::{EndError, Failed};
+pub use errors::{AnswerError, EndError, Failed};
 pub use failing::{FailingSink, FailingSource, Script};
 pub use memory::{MemorySink, MemorySource};
 pub use status::{Outcome, Status};

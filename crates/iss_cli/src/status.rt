@@ -17,10 +17,12 @@ pub enum Outcome {
     Collision,
     /// A client counted a reply to a request, and accepted no answer.
     Unconfirmed,
-    /// The schedule's cluster has no core that the words name.
+    /// The input is no configuration, or there is no node that the words name.
     RefusedConfiguration,
     /// An epoch of the exported log is not certified.
     Uncertified,
+    /// The node's journal is damaged.
+    DamagedJournal,
 }
 
 /// How the top call ends.
@@ -34,6 +36,10 @@ pub enum Status {
     SourceFailed,
     /// The sink failed. A prefix of the answer may have been printed.
     SinkFailed,
+    /// The links failed. Nothing was printed.
+    LinksFailed,
+    /// The disk failed. Nothing was printed.
+    DiskFailed,
 }
 
 impl Outcome {
@@ -50,6 +56,7 @@ impl Outcome {
             Outcome::Unconfirmed => 12,
             Outcome::RefusedConfiguration => 11,
             Outcome::Uncertified => 12,
+            Outcome::DamagedJournal => 10,
         }
     }
 }
@@ -64,6 +71,8 @@ impl Status {
             Status::NoMemory => 1,
             Status::SourceFailed => 4,
             Status::SinkFailed => 5,
+            Status::LinksFailed => 8,
+            Status::DiskFailed => 9,
         }
     }
 }

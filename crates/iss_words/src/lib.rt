@@ -6,5 +6,5 @@ mod orders;
 mod reading;
 
 pub use numbers::read_number;
-pub use orders::{Order, WordsError};
+pub use orders::{NodeOrder, Order, WordsError};
 pub use reading::read_words;

@@ -3,7 +3,7 @@ use std::alloc::AllocError;
 
 /// What the words of a call ask for.
 #[derive(Clone, Copy, Debug, PartialEq, Eq)]
-pub enum Order {
+pub enum Order<'a> {
     /// The report of a schedule.
     Replay,
     /// The summary of the run of a generated schedule.
@@ -16,6 +16,18 @@ pub enum Order {
     Export { core: u32 },
     /// Whether a text is a certified log.
     Audit,
+    /// What all nodes of a cluster do in one process. End i of their links is at port `port + i`.
+    Cluster { port: u16 },
+    /// What one node of a cluster does, which keeps a journal.
+    Node(NodeOrder<'a>),
+}
+
+/// Which node runs. End i of the cluster's links is at port `port + i`, and the journal is the file of this name.
+#[derive(Clone, Copy, Debug, PartialEq, Eq)]
+pub struct NodeOrder<'a> {
+    pub node: u32,
+    pub port: u16,
+    pub file: &'a str,
 }
 
 /// Why words were not read.

@@ -2,19 +2,19 @@
 ghost use Rattle.std.specs.Prelude.{◌≡◌, ◌≢◌, ◌↔◌, ℕ, [], Err, IfNone, IfOk, IfSome, IsTrue, codes, false, map, option_map, string_bytes};
 ghost use Rattle.clap.specs.Words.{app_of, fault_of, first_of, found_of, kind_of, new_app, rows_of, subcommand_of, subcommand_rows_of, with_rule, with_subcommand};
 ghost use Rattle.clap.specs.declared.Command.TheViews.{out-Command};
-ghost use Rattle.iss_words.specs.Commands.{Asks, IsOrder, commands, export, lab, top, with_replies, with_runs, word_rule};
+ghost use Rattle.iss_words.specs.Commands.{Asks, IsOrder, IsPort, cluster, commands, export, lab, node, top, with_audits, with_replies, with_runs, word_rule};
 ghost use Rattle.iss_words.specs.Numbers.{IsNumberAt};
 ghost use Rattle.iss_words.specs.declared.orders.Order.{Order};
 
 use crate::numbers::read_number;
-use crate::orders::{Order, WordsError};
+use crate::orders::{NodeOrder, Order, WordsError};
 use clap::error::ErrorKind;
 use clap::{Arg, ArgMatches, Command, Error};
 use std::alloc::{AllocError, Global};
 
 /// What the words of a call ask for. They are refused exactly if `clap` refuses them for another cause than memory, or
 /// a number is not spelled as it should be or not in its range.
-pub fn read_words<'a>(alloc: Global, words: &'a [String]) -> Result<Order, WordsError>
+pub fn read_words<'a>(alloc: Global, words: &'a [String]) -> Result<Order<'a>, WordsError>
     ensures ok { IfOk result (Asks (map string_bytes words.entry.now)) }
     ensures refused { result ≡ Err WordsError.Refused → (order : Order) →
         ¬ Asks (map string_bytes words.entry.now) order }
@@ -30,7 +30,7 @@ pub fn read_words<'a>(alloc: Global, words: &'a [String]) -> Result<Order, Words
 }
 
 // What is asked for by the name of a command and its positionals.
-fn order_of(name: &str, matches: &ArgMatches<'_>) -> Option<Order>
+fn order_of<'a>(name: &str, matches: &ArgMatches<'a>) -> Option<Order<'a>>
     ensures some { IfSome result (IsOrder name.now (rows_of (found_of matches.now))) }
     ensures none { IfNone result ((order : Order) → ¬ IsOrder name.now (rows_of (found_of matches.now)) order) }
 {
@@ -41,11 +41,13 @@ fn order_of(name: &str, matches: &ArgMatches<'_>) -> Option<Order>
         "answers" => Some(Order::Answers),
         "export" => export_of(matches),
         "audit" => Some(Order::Audit),
+        "cluster" => cluster_of(matches),
+        "node" => node_of(matches),
         _ => None,
     }
 }
 
-fn lab_of(matches: &ArgMatches<'_>) -> Option<Order>
+fn lab_of<'a>(matches: &ArgMatches<'a>) -> Option<Order<'a>>
     ensures some { IfSome result (IsOrder (codes "lab") (rows_of (found_of matches.now))) }
     ensures none { IfNone result ((order : Order) → ¬ IsOrder (codes "lab") (rows_of (found_of matches.now)) order) }
 {
@@ -57,13 +59,46 @@ fn lab_of(matches: &ArgMatches<'_>) -> Option<Order>
     })
 }
 
-fn export_of(matches: &ArgMatches<'_>) -> Option<Order>
+fn export_of<'a>(matches: &ArgMatches<'a>) -> Option<Order<'a>>
     ensures some { IfSome result (IsOrder (codes "export") (rows_of (found_of matches.now))) }
     ensures none { IfNone result ((order : Order) →
         ¬ IsOrder (codes "export") (rows_of (found_of matches.now)) order) }
 {
     let core = number_at(matches, "core", 0, 9)?;
     Some(Order::Export { core: core as u32 })
+}
+
+fn cluster_of<'a>(matches: &ArgMatches<'a>) -> Option<Order<'a>>
+    ensures some { IfSome result (IsOrder (codes "cluster") (rows_of (found_of matches.now))) }
+    ensures none { IfNone result ((order : Order) →
+        ¬ IsOrder (codes "cluster") (rows_of (found_of matches.now)) order) }
+{
+    let port = port_at(matches)?;
+    Some(Order::Cluster { port })
+}
+
+// rule: Program: A file's name may be any word, the empty one too
+fn node_of<'a>(matches: &ArgMatches<'a>) -> Option<Order<'a>>
+    ensures some { IfSome result (IsOrder (codes "node") (rows_of (found_of matches.now))) }
+    ensures none { IfNone result ((order : Order) → ¬ IsOrder (codes "node") (rows_of (found_of matches.now)) order) }
+{
+    let node = number_at(matches, "node", 0, 9)?;
+    let port = port_at(matches)?;
+    let file = word_at(matches, "file")?;
+    Some(Order::Node(NodeOrder {
+        node: node as u32,
+        port,
+        file,
+    }))
+}
+
+// The first port of the ends.
+fn port_at(matches: &ArgMatches<'_>) -> Option<u16>
+    ensures some { IfSome result (IsPort (rows_of (found_of matches.now))) }
+    ensures none { IfNone result ((n : ℕ) → ¬ IsPort (rows_of (found_of matches.now)) n) }
+{
+    let port = number_at(matches, "port", 1024, 65_000)?;
+    Some(port as u16)
 }
 
 // The number at a positional, if it is spelled as it should be and in the range.
@@ -117,6 +152,15 @@ fn is_memory(error: &Error) -> bool
 fn commands<'a>(alloc: Global) -> Result<Command<'a>, AllocError>
     ensures { IfOk result (λ c. app_of c ≡ commands) }
 {
+    let command = with_command(with_audits(alloc)?, cluster(alloc)?)?;
+    with_command(command, node(alloc)?)
+}
+
+// The commands on runs, on replies and on certified logs.
+fn with_audits<'a>(alloc: Global) -> Result<Command<'a>, AllocError>
+    ensures shape { IfOk result (λ c. app_of c ≡ with_audits) }
+    ensures globals { IfOk result (λ c. (out-Command c).has_globals ≡ false) }
+{
     let command = with_command(with_replies(alloc)?, export(alloc)?)?;
     with_command(command, Command::new(alloc, "audit"))
 }
@@ -160,6 +204,22 @@ fn export<'a>(alloc: Global) -> Result<Command<'a>, AllocError>
     ensures globals { IfOk result (λ c. (out-Command c).has_globals ≡ false) }
 {
     with_word(alloc, Command::new(alloc, "export"), "core")
+}
+
+fn cluster<'a>(alloc: Global) -> Result<Command<'a>, AllocError>
+    ensures shape { IfOk result (λ c. app_of c ≡ cluster) }
+    ensures globals { IfOk result (λ c. (out-Command c).has_globals ≡ false) }
+{
+    with_word(alloc, Command::new(alloc, "cluster"), "port")
+}
+
+fn node<'a>(alloc: Global) -> Result<Command<'a>, AllocError>
+    ensures shape { IfOk result (λ c. app_of c ≡ node) }
+    ensures globals { IfOk result (λ c. (out-Command c).has_globals ≡ false) }
+{
+    let command = with_word(alloc, Command::new(alloc, "node"), "node")?;
+    let command = with_word(alloc, command, "port")?;
+    with_word(alloc, command, "file")
 }
 
 // The command with one more positional.

@@ -1,7 +1,11 @@
 //! Tests of public calls only.
+mod calls;
+mod clusters;
 mod damaged;
 mod four;
 mod liars;
 mod mutations;
+mod running;
 mod spelled;
 mod top;
+mod words;

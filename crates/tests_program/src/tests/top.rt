@@ -1,7 +1,8 @@
 //! The top call with sources and sinks that fail.
 
 use crate::ends::{status_of_sink, status_of_source};
-use iss_cli::{FailingSink, FailingSource, MemorySink, MemorySource, Script, run};
+use crate::tests::calls::run_call;
+use iss_cli::{FailingSink, FailingSource, MemorySink, MemorySource, Script};
 use std::alloc::{AllocError, Global};
 use std::test::Fail;
 
@@ -18,11 +19,6 @@ const READS: u64 = 10;
 
 const PUTS: u64 = 9;
 
-fn words(alloc: Global, command: &str) -> Result<Vec<String>, AllocError> {
-    let program = String::from_str(alloc, "iss")?;
-    Ok(vec![in alloc; program, String::from_str(alloc, command)?]?)
-}
-
 fn failing_at(alloc: Global, call: u64) -> Result<Script, AllocError> {
     Ok(Script::new(vec![in alloc; call]?))
 }
@@ -31,12 +27,7 @@ fn failing_at(alloc: Global, call: u64) -> Result<Script, AllocError> {
 fn words_are_met_first(rt: HostRuntime) -> Result<(), Fail> {
     let mut input = FailingSource::new(Vec::new(rt.alloc()), 1, failing_at(rt.alloc(), 0)?);
     let mut out = MemorySink::new(rt.alloc());
-    let status = run(
-        rt.alloc(),
-        &words(rt.alloc(), "jump")?,
-        &mut input,
-        &mut out,
-    );
+    let status = run_call(rt.alloc(), "jump", &mut input, &mut out)?;
     assert_eq!(rt; status.code(), 2);
     assert_eq!(rt; out.held(), b"refused words\n".as_slice());
     Ok(())
@@ -44,12 +35,11 @@ fn words_are_met_first(rt: HostRuntime) -> Result<(), Fail> {
 
 #[test]
 fn a_source_fails_at_each_call(rt: HostRuntime) -> Result<(), Fail> {
-    let words = words(rt.alloc(), "replay")?;
     for call in 0..=READS {
         let script = failing_at(rt.alloc(), call)?;
         let mut input = FailingSource::new(Vec::from_slice(rt.alloc(), INPUT)?, 16, script);
         let mut out = MemorySink::new(rt.alloc());
-        let status = run(rt.alloc(), &words, &mut input, &mut out);
+        let status = run_call(rt.alloc(), "replay", &mut input, &mut out)?;
         let text = if call < READS { b"".as_slice() } else { TEXT };
         assert_eq!(rt;
             status.code(),
@@ -63,12 +53,11 @@ fn a_source_fails_at_each_call(rt: HostRuntime) -> Result<(), Fail> {
 
 #[test]
 fn a_sink_fails_at_each_call(rt: HostRuntime) -> Result<(), Fail> {
-    let words = words(rt.alloc(), "replay")?;
     for call in 0..=PUTS {
         let script = failing_at(rt.alloc(), call)?;
         let mut input = MemorySource::new(Vec::from_slice(rt.alloc(), INPUT)?);
         let mut out = FailingSink::new(rt.alloc(), 16, script);
-        let status = run(rt.alloc(), &words, &mut input, &mut out);
+        let status = run_call(rt.alloc(), "replay", &mut input, &mut out)?;
         let part = TEXT.len().min(16 * call as usize);
         assert_eq!(rt; status.code(), status_of_sink(call, PUTS), "at call {call}");
         assert_eq!(rt; out.held(), &TEXT[..part], "at call {call}");

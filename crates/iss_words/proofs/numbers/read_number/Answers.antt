@@ -1,7 +1,6 @@
-use Rattle.std.proofs.Common.{rules, ◌≡◌, ◌∙◌, sym, ap, decimal, ℕ, arith, inl, inr, List, [], ◌∷◌, not, true, false, refl, subst, eqb}
+use Rattle.std.proofs.Common.{rules, ◌≡◌, ◌∙◌, sym, ap, decimal, ℕ, arith, inl, inr, List, [], ◌∷◌, not, true, refl, subst, eqb}
 use Rattle.std.proofs.lemmas.Bool.{eq-eqb, false≢true}
 use Rattle.std.specs.Cmp.Lexicographic.{pointwise}
-use Rattle.iss_words.specs.Numbers.{IsNumber}
 use Rattle.iss_words.proofs.NumberLemmas.{not-err, same-number}
 use Rattle.iss_words.proofs.numbers.read_number.Goals as goal
 
