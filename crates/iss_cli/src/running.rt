@@ -183,8 +183,8 @@ fn join_report(alloc: Global, trace: &[u8], report: &[u8]) -> Result<Bytes, NoMe
 
 // ---- one node
 
-/// The answer to an input that must be a configuration: the log of one of its cluster's nodes, which runs over links and
-/// keeps a journal, or where the journal is damaged. Where the links or the disk fail there is no answer.
+/// The answer to an input that must be a configuration: the log of one of its cluster's nodes, which runs over links
+/// and keeps a journal, or where the journal is damaged. Where the links or the disk fail there is no answer.
 pub fn run_node<L: Links, D: Disk>(
     alloc: Global,
     order: NodeOrder<'_>,

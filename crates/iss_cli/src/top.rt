@@ -25,8 +25,8 @@ const PIECE: usize = 65_536;
 
 /// The program: the words ask for an order, and its answer to the input is printed (`IsAnswer` has a line for each
 /// order). What is printed of a run is the run of the whole schedule, and the headline holds for it. An order reads the
-/// input to its end, or not at all. Each read but the last gives some bytes. Only nodes that run use the links, and only
-/// a node with a journal uses the disk.
+/// input to its end, or not at all. Each read but the last gives some bytes. Only nodes that run use the links, and
+/// only a node with a journal uses the disk.
 ///
 /// Errors are detected in the order words, source, input, links, disk, sink. Memory may run out at any point.
 // rule: Program: Each exit status comes exactly where its cause does
