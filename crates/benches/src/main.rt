@@ -1,11 +1,12 @@
-//! What `bench/run` cannot time by the program alone: digests, keys, and reading and writing a schedule. The first
-//! argument says which: `digests COUNT`, `keys`, or `schedule PAIRS`. Each line of the output is a name and
-//! nanoseconds.
+//! What `bench/run` cannot time by the program alone: digests, keys, links, and reading and writing a schedule. The
+//! first argument says which: `digests COUNT`, `keys`, `links PACKETS`, or `schedule PAIRS`. Each line of the output
+//! is a name and nanoseconds.
 //! Without arguments a small workload of each runs, and its counts are printed, the same on each machine.
 #![tactic(auto)]
 
 mod digests;
 mod keys;
+mod links;
 mod schedule;
 mod times;
 
@@ -18,8 +19,15 @@ fn number_in(words: &[String]) -> Result<u32, Fail> {
     Ok(word.as_str().parse::<u32>()?)
 }
 
+// The second argument, which names packets.
+fn packets_in(words: &[String]) -> Result<&str, Fail> {
+    let word = words.get(2).ok_or("which packets?")?;
+    Ok(word.as_str())
+}
+
 fn count_all(rt: &HostRuntime) -> Result<(), Fail> {
     keys::count_all(rt)?;
+    links::count_all(rt)?;
     schedule::count_all(rt)
 }
 
@@ -27,6 +35,7 @@ fn time(rt: &HostRuntime, what: &str, words: &[String]) -> Result<(), Fail> {
     match what {
         "digests" => digests::time_all(rt, number_in(words)?),
         "keys" => keys::time_all(rt),
+        "links" => links::time(rt, packets_in(words)?),
         "schedule" => schedule::time_all(rt, number_in(words)?),
         _ => Err("what is to be timed?")?,
     }
