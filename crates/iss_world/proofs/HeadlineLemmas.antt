@@ -11,7 +11,7 @@ use Rattle.iss_model.specs.Frames.{frame_of}
 use Rattle.iss_model.specs.Runs.{AreAtCores}
 use Rattle.iss_request.specs.declared.setups.Setup.{Setup}
 use Rattle.iss_theorems.proofs.CrashRecovery.LostEventsAreNumbered.{after-more}
-use Rattle.iss_model.specs.Courses.{Course, run_event_if_open}
+use Rattle.iss_model.specs.Courses.{Course, with_crashes}
 use Rattle.iss_theorems.specs.Headline.{IsWhole, course_after}
 use Rattle.iss_rules.specs.Concrete.{rules_of}
 use Rattle.iss_rules.specs.Formats.{formats_of}
@@ -21,6 +21,7 @@ use Rattle.iss_schedule.proofs.BadLines.PrefixesAreRead.{in_range_push}
 use Rattle.iss_sb.specs.Calls.{Relation}
 use Rattle.iss_sb.specs.Evidence.{Module}
 use Rattle.iss_theorems.specs.Leaves.{SignsOnceEach}
+use Rattle.iss_model.specs.Driver.{run_event_if_open}
 use Rattle.iss_world.specs.Headline.{HoldsKept, IsAnswered, IsHeadline, RefinesEvents}
 use Rattle.iss_world.specs.Refines.{HasHappened, RefinesRun, RefinesRunUntil}
 use Rattle.iss_world.specs.State.{WorldState}
@@ -51,13 +52,13 @@ module _ {M Msg : Type 0} (m : Module Msg) (refines : Relation M Msg) (s : Setup
   module _ (wholes : (events : List Event) → AreAtCores s events → IsWhole s m events)
       (once : (me : ℕ) (entries : List (List ℕ)) → SignsOnceEach (frame_of s m) me (deeds_of s m me entries)) where
     -- the journals of a world that refines a run
-    journals-then : (v : WorldState M Msg) (p : Course Msg) (o : Option (ℕ × End)) → RefinesRunUntil m refines v p.machines o → (i : ℕ) (g : KeptState M Msg MemoryDisk) →
-        slice_get v.simulation.nodes i ≡ Some g → HoldsKept g.entries (p.machines.disks i) o
+    journals-then : (v : WorldState M Msg) (p : Course Msg) (o : Option (ℕ × End)) → RefinesRunUntil m refines v p.state o → (i : ℕ) (g : KeptState M Msg MemoryDisk) →
+        slice_get v.simulation.nodes i ≡ Some g → HoldsKept g.entries (p.state.disks i) o
     journals-then v p None k i g at = (k.simulation.cores i g at).entries
     journals-then v p (Some end) k i g at = elim (eqb_tells i k.left.core) [
       | inr t ↦ inl (k.left.others i g at t.1).entries
       | inl t ↦
-          let P : ℕ → Type 0 = λ n. HoldsKept g.entries (p.machines.disks n) (Some end) in
+          let P : ℕ → Type 0 = λ n. HoldsKept g.entries (p.state.disks n) (Some end) in
           subst P (sym t.1) (k.left.there g (subst (λ (n : ℕ). slice_get v.simulation.nodes n ≡ Some g) t.1 at)).entries
     ]
 
