@@ -23,12 +23,12 @@ use Rattle.iss_rules.specs.declared.events.NodeEvent.TheVariants.{Packet as On_p
 use Rattle.iss_rules.specs.declared.events.Why.TheVariants.{Stopped}
 use Rattle.iss_model.specs.Courses.{Course, Machines, at_machine, by_step, disks_behind, stops, with_disks, with_packets, with_crashes}
 use Rattle.iss_model.specs.Disks.{Disk, keeps, may_keep}
+use Rattle.iss_model.specs.Driver.{Upshot, apply_event, delivered_to, done, lost_by, run_event_if_open}
 use Rattle.iss_model.specs.Node.{Dropped, Stepped, Taken, step}
 use Rattle.iss_model.specs.Run.{addressees, at_core, claims_at, first_forged, node_of, posted_all, posted_to, Held}
 use Rattle.iss_theorems.proofs.CrashRecovery.CourseKeepsWhatStepsKeep.{course-holds}
 use Rattle.iss_theorems.proofs.CrashRecovery.LostEventsAreNumbered.{after-more}
 use Rattle.iss_theorems.specs.Headline.{course_after, held_after}
-use Rattle.iss_model.specs.Driver.{Upshot, apply_event, delivered_to, done, lost_by, run_event_if_open}
 
 -- ---- disks
 

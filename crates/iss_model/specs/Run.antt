@@ -19,12 +19,12 @@ use Rattle.iss_rules.specs.declared.events.NodeEvent.{NodeEvent}
 use Rattle.iss_rules.specs.declared.events.NodeEvent.TheVariants.{Packet as On_packet, Propose as On_propose, Timeout as On_timeout, AskFrom as On_ask}
 use Rattle.iss_rules.specs.Books.{Signed}
 use Rattle.iss_rules.specs.Parcels.{Formats, OfRequest}
+use Rattle.iss_model.specs.Driver.{Driver, Progress, Upshot, begin_at, done, ended_by, lost_by}
 use Rattle.iss_model.specs.Node.{Core, Stepped, Dropped, Taken, Turn, initial_core, step}
 use Rattle.iss_rules.specs.Rules.{Rules}
 use Rattle.iss_model.specs.Views.{claims_of_bytes}
 use Rattle.iss_rules.specs.Ends.{Collision, End, Forged}
 use Rattle.iss_rules.specs.Concrete.{request_of}
-use Rattle.iss_model.specs.Driver.{Driver, Progress, Upshot, begin_at, done, ended_by, lost_by}
 
 -- Core i < n runs node i. Core n + k is the twin of the k-th faulty node: a second core with the same keys.
 abbrev pub number_at : Option NodeId → ℕ

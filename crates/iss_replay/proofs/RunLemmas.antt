@@ -9,10 +9,10 @@ use Rattle.iss_rules.specs.Rules.{Rules}
 use Rattle.iss_rules.specs.Ends.{End}
 use Rattle.iss_model.specs.Run.{Net, node_of}
 use Rattle.iss_model.specs.Courses.{Course, Machines, driver_of, with_crashes}
+use Rattle.iss_model.specs.Driver.{Upshot, apply_event, ended_at, run_event, run_event_if_open}
 use Rattle.iss_base.specs.Lists.{nth}
 use Rattle.iss_theorems.specs.Readers.{reader_after, reader_at, reader_of, reader_of_some, reader_until}
 use Rattle.iss_theorems.specs.Headline.{course_after}
-use Rattle.iss_model.specs.Driver.{Upshot, apply_event, ended_at, run_event, run_event_if_open}
 use Rattle.iss_theorems.proofs.CrashRecovery.LostEventsAreNumbered.{after-one, after-stays, end-notes-nothing, further-on}
 use Rattle.iss_model.proofs.Twins.{node-is}
 use Rattle.iss_rules.specs.declared.events.Why.{Why}

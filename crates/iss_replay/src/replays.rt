@@ -1,12 +1,12 @@
 //! The run of a schedule, event by event.
 ghost use Rattle.std.specs.Prelude.{◌≡◌, IfOk, None, OnOk};
 ghost use Rattle.iss_model.specs.Courses.{Course, driver_of};
+ghost use Rattle.iss_model.specs.Driver.{run_event};
 ghost use Rattle.iss_theorems.specs.Headline.{IsWhole, course_after};
 ghost use Rattle.iss_rules.specs.Setups.{IsSetupOf};
 ghost use Rattle.iss_replay.specs.Refines.{ReportRefinesRun, numbered};
 ghost use Rattle.iss_schedule.specs.Events.{AreInRange, IsInRange};
 ghost use Rattle.iss_theorems.specs.Readers.{reader_after};
-ghost use Rattle.iss_model.specs.Driver.{run_event};
 ghost use Rattle.iss_world.specs.Refines.{AreStale, AreStaleBehind, RefinesRun};
 
 use iss_request::{NoMemory, Seq};

@@ -9,8 +9,8 @@ use Rattle.iss_schedule.specs.declared.schedules.Event.{Event}
 use Rattle.iss_schedule.specs.declared.schedules.Event.TheVariants.{Request as Event_request, Propose, Timeout as Event_timeout, Ask, Deliver, Lose, Pump, Calm, Hold, Free, Drop as Event_drop, Restart, Crash, Bytes}
 use Rattle.iss_rules.specs.Ends.{End}
 use Rattle.iss_model.specs.Courses.{Machines, driver_of}
-use Rattle.iss_theorems.specs.Recovery.{course_after}
 use Rattle.iss_model.specs.Driver.{Driver, delivers, pumps}
+use Rattle.iss_theorems.specs.Recovery.{course_after}
 
 -- whether core i is the reader
 abbrev pub is_reader : Option ℕ → ℕ → Bool

@@ -9,8 +9,8 @@ use Rattle.iss_rules.specs.Ends.{End}
 use Rattle.iss_model.specs.Run.{Held}
 use Rattle.iss_model.specs.Runs.{AreAtCores}
 use Rattle.iss_model.specs.Courses.{Course, begin_course, driver_of}
-use Rattle.iss_theorems.specs.OneLog.{run_after}
 use Rattle.iss_model.specs.Driver.{run}
+use Rattle.iss_theorems.specs.OneLog.{run_after}
 
 -- the run of these events, with disk failures
 abbrev pub course_after : {Msg : Type 0} → Setup → Module Msg → List Event → Course Msg

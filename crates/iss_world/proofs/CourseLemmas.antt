@@ -14,13 +14,13 @@ use Rattle.iss_request.specs.declared.errors.NoMemory.{NoMemory}
 use Rattle.iss_request.specs.declared.setups.Kind.TheVariants.{Byzantine}
 use Rattle.iss_request.specs.declared.setups.Setup.{Setup}
 use Rattle.iss_model.specs.Courses.{Machines, at_machine, driver_of, with_crashes, with_packets}
+use Rattle.iss_model.specs.Driver.{Upshot, apply_event, calms, delivered_to, delivers, delivers_each, done, injects, loses, pumps, unless}
 use Rattle.iss_schedule.specs.declared.schedules.Event.{Event}
 use Rattle.iss_schedule.specs.declared.schedules.Event.TheVariants.{Request as Event_request}
 use Rattle.iss_sb.specs.Calls.{Relation, kind_of}
 use Rattle.iss_sb.specs.Evidence.{Module}
 use Rattle.iss_theorems.proofs.StoppedRuns.ReadersOfDeliveries.{reader-append, reader-plus}
 use Rattle.iss_theorems.specs.Readers.{addressee, reader_at, reader_of, reader_of_calm, reader_of_each, reader_of_pump}
-use Rattle.iss_model.specs.Driver.{Upshot, apply_event, calms, delivered_to, delivers, delivers_each, done, injects, loses, pumps, unless}
 use Rattle.iss_world.proofs.PostLemmas.{take-next}
 use Rattle.iss_world.specs.Refines.{HasChanged, RefinesMachines, end_of}
 use Rattle.iss_world.specs.State.{SimulationState}

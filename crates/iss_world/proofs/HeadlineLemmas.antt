@@ -12,6 +12,7 @@ use Rattle.iss_model.specs.Runs.{AreAtCores}
 use Rattle.iss_request.specs.declared.setups.Setup.{Setup}
 use Rattle.iss_theorems.proofs.CrashRecovery.LostEventsAreNumbered.{after-more}
 use Rattle.iss_model.specs.Courses.{Course, with_crashes}
+use Rattle.iss_model.specs.Driver.{run_event_if_open}
 use Rattle.iss_theorems.specs.Headline.{IsWhole, course_after}
 use Rattle.iss_rules.specs.Concrete.{rules_of}
 use Rattle.iss_rules.specs.Formats.{formats_of}
@@ -21,7 +22,6 @@ use Rattle.iss_schedule.proofs.BadLines.PrefixesAreRead.{in_range_push}
 use Rattle.iss_sb.specs.Calls.{Relation}
 use Rattle.iss_sb.specs.Evidence.{Module}
 use Rattle.iss_theorems.specs.Leaves.{SignsOnceEach}
-use Rattle.iss_model.specs.Driver.{run_event_if_open}
 use Rattle.iss_world.specs.Headline.{HoldsKept, IsAnswered, IsHeadline, RefinesEvents}
 use Rattle.iss_world.specs.Refines.{HasHappened, RefinesRun, RefinesRunUntil}
 use Rattle.iss_world.specs.State.{WorldState}

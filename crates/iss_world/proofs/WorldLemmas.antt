@@ -10,13 +10,13 @@ use Rattle.iss_rules.specs.declared.events.Why.{Why}
 use Rattle.iss_model.specs.Run.{node_of}
 use Rattle.iss_request.specs.declared.setups.Setup.{Setup}
 use Rattle.iss_model.specs.Courses.{Course, Machines, driver_of, with_crashes}
+use Rattle.iss_model.specs.Driver.{Driver, Upshot, apply_event, ended_at, noted, run_event_if_open}
 use Rattle.iss_rules.specs.Parcels.{Formats}
 use Rattle.iss_rules.specs.Rules.{Rules}
 use Rattle.iss_schedule.specs.declared.schedules.Event.{Event}
 use Rattle.iss_sb.specs.Calls.{Relation}
 use Rattle.iss_sb.specs.Evidence.{Module}
 use Rattle.iss_theorems.specs.Readers.{reader_at, reader_of}
-use Rattle.iss_model.specs.Driver.{Driver, Upshot, apply_event, ended_at, noted, run_event_if_open}
 use Rattle.iss_world.proofs.OverLemmas.{over-stale}
 use Rattle.iss_world.specs.Refines.{AreStale, HasChanged, HasHappened, IsLeftBy, RefinesMachines, RefinesOrRetreated, RefinesOrShows, RefinesRun, RefinesRunUntil, awake, end_of, result_of}
 use Rattle.iss_world.specs.State.{SimulationState, WorldState}

@@ -4,11 +4,11 @@ ghost use Rattle.iss_base.specs.Lists.{nth};
 ghost use Rattle.iss_model.specs.Run.{cores_of, node_of};
 ghost use Rattle.iss_model.specs.Courses.{Machines, begin_machines, with_disk, with_packets, driver_of};
 ghost use Rattle.iss_model.specs.Disks.{fused};
+ghost use Rattle.iss_model.specs.Driver.{apply_event, calms, delivers, delivers_each, done, injects, loses, pumps};
 ghost use Rattle.iss_rules.specs.Setups.{IsSetupOf};
 ghost use Rattle.iss_network.specs.Network.{cleared, due, held_to};
 ghost use Rattle.iss_schedule.specs.Events.{IsInRange};
 ghost use Rattle.iss_theorems.specs.Readers.{addressee, reader_of, reader_of_calm, reader_of_each, reader_of_pump};
-ghost use Rattle.iss_model.specs.Driver.{apply_event, calms, delivers, delivers_each, done, injects, loses, pumps};
 ghost use Rattle.iss_world.specs.Refines.{HasChanged, RefinesMachines, RefinesOrShows, RefinesSome, ShowsCore, log_at};
 ghost use Rattle.iss_world.specs.State.{AreBetweenCores};
 

@@ -18,9 +18,9 @@ use Rattle.iss_theorems.specs.Leaves.{AreOfJournals}
 use Rattle.iss_theorems.specs.OneLog.{AreOfCluster, AreOneLog, ClaimsAreApart, free_after, run_after, shown}
 use Rattle.iss_theorems.proofs.Refinement.RunKeepsInvariant.{run-append}
 use Rattle.iss_model.specs.Courses.{Course, begin_course, begin_machines, with_crashes}
+use Rattle.iss_model.specs.Driver.{Progress, run}
 use Rattle.iss_theorems.specs.Headline.{IsWhole}
 use Rattle.iss_theorems.specs.Recovery.{course_after, held_after, why_ended}
-use Rattle.iss_model.specs.Driver.{Progress, run}
 use Rattle.iss_theorems.proofs.CrashRecovery.RunsInSequence.{Leads, course-append, course-over, going, going-is, leads-behind, over-is}
 use Rattle.iss_theorems.proofs.CrashRecovery.JournaledEventsEnter.{Follows, begin-own, follows}
 

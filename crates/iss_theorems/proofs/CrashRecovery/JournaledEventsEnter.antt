@@ -28,8 +28,8 @@ use Rattle.iss_model.specs.Runs.{AreAtCores, IsAtCore}
 use Rattle.iss_theorems.proofs.CrashRecovery.RunsInSequence.{Leads, course-over, going, leads-less, leads-none, leads-on, leads-one, leads-same, nobody, nobody-asked, over, standing}
 use Rattle.iss_model.specs.Courses.{Course, Machines, after_step, at_machine, begin_machines, by_step, core_of, recover, stops, with_disk, with_disks, with_packets, with_crashes}
 use Rattle.iss_model.specs.Disks.{Disk, fails, fused, keeps, may_keep, works_again}
-use Rattle.iss_theorems.specs.Recovery.{IsUndisturbed, why_ended}
 use Rattle.iss_model.specs.Driver.{Progress, Upshot, apply_event, calms, delivered_to, delivers, delivers_each, done, ended_at, ended_by, loses, lost_by, noted, pumps, run, unless}
+use Rattle.iss_theorems.specs.Recovery.{IsUndisturbed, why_ended}
 
 -- each core is the one that its journaled events lead to
 abbrev AreOfTheirDisks : {Msg : Type 0} → Setup → Formats Msg → Rules → Module Msg → Machines Msg → Type 0

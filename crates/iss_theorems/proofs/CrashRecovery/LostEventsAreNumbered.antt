@@ -23,8 +23,8 @@ use Rattle.iss_model.specs.Node.{Dropped, Stepped, Taken, step}
 use Rattle.iss_model.specs.Run.{Held, at_core, by_collision, by_forged, claims_at, collision_in, early_of, first_forged, node_of, turned_to, after_step as free_step}
 use Rattle.iss_model.specs.Courses.{Course, Machines, at_machine, begin_course, by_step, stops, with_disks, with_packets, with_crashes}
 use Rattle.iss_model.specs.Disks.{Disk, keeps, may_keep}
-use Rattle.iss_theorems.specs.Recovery.{course_after}
 use Rattle.iss_model.specs.Driver.{Upshot, apply_event, calms, delivered_to, delivers, delivers_each, done, ended_at, loses, lost_by, noted, pumps, run, run_event, run_event_if_open, unless}
+use Rattle.iss_theorems.specs.Recovery.{course_after}
 use Rattle.iss_theorems.proofs.CrashRecovery.RunsInSequence.{course-append}
 
 -- ---- numbers

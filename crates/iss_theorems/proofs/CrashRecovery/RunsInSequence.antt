@@ -14,8 +14,8 @@ use Rattle.iss_model.specs.Run.{Held, failure_free}
 use Rattle.iss_model.specs.Runs.{AreAtCores, IsAtCore}
 use Rattle.iss_theorems.proofs.Refinement.RunKeepsInvariant.{run-append}
 use Rattle.iss_model.specs.Courses.{Course, Machines, with_crashes}
-use Rattle.iss_theorems.specs.Recovery.{AreUndisturbed, IsUndisturbed, why_ended}
 use Rattle.iss_model.specs.Driver.{Progress, Upshot, apply_event, ended_at, run, run_event_if_open}
+use Rattle.iss_theorems.specs.Recovery.{AreUndisturbed, IsUndisturbed, why_ended}
 
 module _ {Msg : Type 0} (s : Setup) (F : Formats Msg) (R : Rules) (M : Module Msg) where
   -- ---- lists of events

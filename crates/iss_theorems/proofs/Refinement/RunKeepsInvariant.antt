@@ -15,19 +15,16 @@ use Rattle.iss_rules.specs.declared.events.NodeEvent.TheVariants.{Packet as On_p
 use Rattle.iss_composition.specs.Checkpoints.{scheme_of}
 use Rattle.iss_composition.specs.Cluster.{Cluster, Message, begin, chain_strings}
 use Rattle.iss_rules.specs.Parcels.{Body, Formats, OfRequest}
-use Rattle.iss_composition.specs.Ordered.{Ordered}
 use Rattle.iss_rules.specs.Rules.{Rules}
 use Rattle.iss_rules.specs.Ends.{End}
 use Rattle.iss_rules.specs.Concrete.{request_of}
 use Rattle.iss_model.specs.Run.{Held, at_core, begin_run, cores_of, node_of, with_network, failure_free}
 use Rattle.iss_rules.proofs.Faithful.{is_message}
-use Rattle.iss_model.specs.Runs.{AreAtCores, IsAtCore, pasts_of}
+use Rattle.iss_model.specs.Runs.{AreAtCores, IsAtCore}
 use Rattle.iss_model.specs.Driver.{Progress, Upshot, apply_event, calms, delivered_to, delivers, delivers_each, done, loses, pumps, run, run_event_if_open, unless}
 use Rattle.iss_theorems.proofs.Refinement.EventKeepsInvariant.{at-fits}
 use Rattle.iss_rules.proofs.Logs.{newborn-log}
 use Rattle.iss_model.proofs.Casts.{idle-ready}
-use Rattle.iss_composition.proofs.Checkpoints.{exact-of}
-use Rattle.iss_composition.proofs.Reached.{composition}
 use Rattle.iss_model.proofs.Grown.{Grows, at-grows, grows-trans, same-net}
 use Rattle.iss_theorems.proofs.Refinement.Invariant.{Fits as FitsBy, IsPosted, Premises, view}
 use Rattle.iss_theorems.proofs.Refinement.ClusterDuringStep.{Comes-in}

@@ -1,9 +1,9 @@
 -- Who read the evidence among deliveries in sequence: the reader of the first ones, or that of the later ones.
 use Rattle.std.proofs.Common.{◌≡◌, ℕ, zero, suc, ◌+◌, List, [], ◌∷◌, ◌++◌, Option, Some, None, refl, sym, ap, ◌∙◌, arith}
 use Rattle.iss_rules.specs.Ends.{End}
-use Rattle.iss_model.specs.Courses.{Machines, driver_of}
-use Rattle.iss_theorems.specs.Readers.{addressee, reader_at, reader_of_calm, reader_of_each, reader_of_pump}
+use Rattle.iss_model.specs.Courses.{Machines}
 use Rattle.iss_model.specs.Driver.{Driver, Upshot, calms, delivers, delivers_each, pumps, unless}
+use Rattle.iss_theorems.specs.Readers.{addressee, reader_at, reader_of_calm, reader_of_each, reader_of_pump}
 
 -- The reader of one delivery or pump and the later ones.
 reader-step : {Msg : Type 0} (o : Option End) (d : Upshot (Machines Msg)) → d.ended ≡ o → (f : Machines Msg → Upshot (Machines Msg)) (here : Option ℕ) (all some more : Machines Msg → Option ℕ) →

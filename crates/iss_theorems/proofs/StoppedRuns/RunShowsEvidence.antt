@@ -1,8 +1,8 @@
 -- A run that stopped shows why: in what the event with that number gave to a core.
 use Rattle.std.proofs.Common.{◌≡◌, ◌⊎◌, inl, inr, ℕ, zero, suc, ◌+◌, Bool, true, false, cond, List, [], ◌∷◌, ◌++◌, Option, Some, None, refl, sym, ap, ◌∙◌, subst, arith}
-use Rattle.iss_base.specs.Lists.{In, nth, set_at}
+use Rattle.iss_base.specs.Lists.{nth, set_at}
 use Rattle.iss_base.proofs.Lists.{in_left, some-injective}
-use Rattle.iss_network.specs.Network.{Network, due, settled}
+use Rattle.iss_network.specs.Network.{due, settled}
 use Rattle.iss_network.specs.declared.packets.Sent.{Sent}
 use Rattle.iss_request.specs.declared.setups.Setup.{Setup}
 use Rattle.iss_schedule.specs.declared.schedules.Event.{Event}
@@ -24,8 +24,8 @@ use Rattle.iss_model.specs.Node.{Dropped, Stepped, Taken, Turn, step}
 use Rattle.iss_model.specs.Run.{Held, by_collision, by_forged, claims_at, collision_in, early_of, first_forged, node_of, turned_to, after_step as free_step}
 use Rattle.iss_model.specs.Courses.{Course, Machines, at_machine, begin_course, by_step, disks_behind, stops, with_disks, with_packets, with_crashes}
 use Rattle.iss_model.specs.Disks.{Disk, keeps, may_keep}
-use Rattle.iss_theorems.specs.Ends.{Gives, HasCollided, HasEvidence, IsEvidenced, IsForgery, IsPacketFor, IsShown, Took}
-use Rattle.iss_model.specs.Driver.{Upshot, apply_event, calms, delivered_to, delivers, delivers_each, done, ended_at, loses, lost_by, pumps, run, run_event, run_event_if_open, unless}
+use Rattle.iss_model.specs.Driver.{Upshot, apply_event, calms, delivered_to, delivers, delivers_each, done, ended_at, loses, lost_by, pumps, run, run_event, unless}
+use Rattle.iss_theorems.specs.Ends.{Gives, HasCollided, HasEvidence, IsEvidenced, IsForgery, IsPacketFor, Took}
 use Rattle.iss_theorems.proofs.CrashRecovery.LostEventsAreNumbered.{after-stays, course-stays, further-on}
 use Rattle.iss_theorems.proofs.StoppedRuns.EvidenceIsValid.{collided-with, collision-shown, forged-shown}
 
