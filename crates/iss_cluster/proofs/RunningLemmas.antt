@@ -12,8 +12,8 @@ use Rattle.iss_loops.specs.Behavior.{AreNodes, HaveEnds}
 use Rattle.iss_loops.specs.Internal.PacketIndex.{IsIndexOf}
 use Rattle.iss_loops.specs.Loop.{number_from}
 use Rattle.iss_loops.specs.Traces.{IsNext, IsOfLoop, is_within_limits}
-use Rattle.iss_model.specs.Courses.{Course, Machines, driver_of, with_crashes}
-use Rattle.iss_model.specs.Frames.{frame_of}
+use Rattle.iss_model.specs.Courses.{Course, Machines, begin_course, driver_of}
+use Rattle.iss_model.specs.Driver.{run_event}
 use Rattle.iss_model.proofs.Ranges.{at-cores}
 use Rattle.iss_model.specs.Run.{node_of}
 use Rattle.iss_model.specs.Runs.{AreAtCores}
@@ -38,8 +38,6 @@ use Rattle.iss_schedule.specs.declared.schedules.Event.{Event}
 use Rattle.iss_schedule.specs.declared.schedules.Schedule.{Schedule}
 use Rattle.iss_theorems.proofs.CrashRecovery.LostEventsAreNumbered.{after-one, all-counted}
 use Rattle.iss_theorems.specs.Headline.{IsWhole, course_after, held_after}
-use Rattle.iss_model.specs.Courses.{begin_course}
-use Rattle.iss_model.specs.Driver.{run_event}
 use Rattle.iss_world.specs.Refines.{RefinesRun, RefinesRunUntil, WorldRefinesMachines}
 use Rattle.iss_world.specs.State.{AreBetweenCores, WorldState}
 use Rattle.iss_world.specs.declared.ends.Evidence.{Evidence}
@@ -161,7 +159,7 @@ module _ {M Msg : Type 0} (m : Module Msg) (refines : Relation M Msg) (world : W
         let now = subst (λ (o : Option (ℕ × Evidence)). ReportRefinesRun m refines world drops o (course_after t.setup m t.events)) (ended-none h next.no_evidence) h.report in
         let there = went (course_after t.setup m t.events) (counted h next.no_evidence ∙ sym number_is) now in
         subst (λ (p : Course Msg). ReportRefinesRun m refines world2 drops2 (numbered number end) p) (sym (after-one t.setup m t.events e going))
-        (subst (λ (s : Setup). ReportRefinesRun m refines world2 drops2 (numbered number end) (run_event (with_crashes s (formats_of s m) (rules_of s) m) (course_after t.setup m t.events) e)) same there)
+        (subst (λ (s : Setup). ReportRefinesRun m refines world2 drops2 (numbered number end) (run_event (driver_of s m) (course_after t.setup m t.events) e)) same there)
 
     index-on : IsIndexOf index2 later.state.held.net.network.packets
     index-on =

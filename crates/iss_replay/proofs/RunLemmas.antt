@@ -2,7 +2,6 @@
 use Rattle.std.proofs.Common.{◌≡◌, ℕ, zero, suc, ◌+◌, ◌<◌, ◌≤◌, List, [], ◌∷◌, ◌++◌, length, take, get_or, refl, sym, ap, ◌∙◌, subst, arith, add-one, Option, Some, None, reverse, append_assoc, drop, Bool, true, false, cond}
 use Rattle.std.proofs.lemmas.List.{append-nil, reverse-append, take-append-drop}
 use Rattle.iss_rules.specs.Concrete.{rules_of}
-use Rattle.iss_rules.specs.Formats.{formats_of}
 use Rattle.iss_rules.specs.Parcels.{Formats}
 use Rattle.iss_rules.specs.Past.{log_of}
 use Rattle.iss_rules.specs.Rules.{Rules}
@@ -139,17 +138,17 @@ module _ {M Msg : Type 0} (m : Module Msg) (refines : Relation M Msg) where
 
   -- One more event.
   next-run : (s : Setup) (es : List Event) (i : ℕ) (e : Event) → i < length es → e ≡ get_or es i e → end_kept None ≡ (course_after s m (take i es)).ended →
-      course_after s m (take (i + 1) es) ≡ run_event (with_crashes s (formats_of s m) (rules_of s) m) (course_after s m (take i es)) e
+      course_after s m (take (i + 1) es) ≡ run_event (driver_of s m) (course_after s m (take i es)) e
   next-run s es i e lt is going =
       ap (λ (fs : List Event). course_after s m fs) (take-next es i e lt is)
       ∙ after-one s m (take i es) e (sym going)
 
   pub run-next : (s t : Setup) (later : WorldState M Msg) (drops : List (ℕ × Why)) (ended : Option (ℕ × Evidence)) (es : List Event) (i : ℕ) (e : Event) →
       t ≡ s → i < length es → e ≡ get_or es i e → end_kept None ≡ (course_after s m (take i es)).ended →
-      ReportRefinesRun m refines later drops ended (run_event (with_crashes t (formats_of t m) (rules_of t) m) (course_after s m (take i es)) e) → ReportRefinesRun m refines later drops ended (course_after s m (take (i + 1) es))
+      ReportRefinesRun m refines later drops ended (run_event (driver_of t m) (course_after s m (take i es)) e) → ReportRefinesRun m refines later drops ended (course_after s m (take (i + 1) es))
   run-next s t later drops ended es i e same lt is going h =
-      let there : ReportRefinesRun m refines later drops ended (run_event (with_crashes s (formats_of s m) (rules_of s) m) (course_after s m (take i es)) e) =
-      subst (λ (u : Setup). ReportRefinesRun m refines later drops ended (run_event (with_crashes u (formats_of u m) (rules_of u) m) (course_after s m (take i es)) e)) same h in
+      let there : ReportRefinesRun m refines later drops ended (run_event (driver_of s m) (course_after s m (take i es)) e) =
+      subst (λ (u : Setup). ReportRefinesRun m refines later drops ended (run_event (driver_of u m) (course_after s m (take i es)) e)) same h in
       subst (λ (p : Course Msg). ReportRefinesRun m refines later drops ended p) (sym (next-run s es i e lt is going)) there
 
   pub number-next : (s : Setup) (es : List Event) (i : ℕ) (e : Event) → i < length es → e ≡ get_or es i e → end_kept None ≡ (course_after s m (take i es)).ended →

@@ -11,11 +11,9 @@ use Rattle.iss_model.specs.Frames.{frame_of}
 use Rattle.iss_model.specs.Runs.{AreAtCores}
 use Rattle.iss_request.specs.declared.setups.Setup.{Setup}
 use Rattle.iss_theorems.proofs.CrashRecovery.LostEventsAreNumbered.{after-more}
-use Rattle.iss_model.specs.Courses.{Course, with_crashes}
+use Rattle.iss_model.specs.Courses.{Course, driver_of}
 use Rattle.iss_model.specs.Driver.{run_event_if_open}
 use Rattle.iss_theorems.specs.Headline.{IsWhole, course_after}
-use Rattle.iss_rules.specs.Concrete.{rules_of}
-use Rattle.iss_rules.specs.Formats.{formats_of}
 use Rattle.iss_schedule.specs.Events.{AreInRange, IsInRange}
 use Rattle.iss_schedule.specs.declared.schedules.Event.{Event}
 use Rattle.iss_schedule.proofs.BadLines.PrefixesAreRead.{in_range_push}
@@ -33,7 +31,7 @@ module _ {M Msg : Type 0} (m : Module Msg) (refines : Relation M Msg) (s : Setup
 
   -- The run with one more event.
   abbrev pub further : List Event → Event → Course Msg
-  further es e = run_event_if_open (course_after s m es).ended s (formats_of s m) (rules_of s) m (course_after s m es) e
+  further es e = run_event_if_open (course_after s m es).ended (driver_of s m) (course_after s m es) e
 
   refines-there : (v : WorldState M Msg) (old new : Course Msg) (x : EventResult) → HasHappened m refines v old new x → IsAnswered x → RefinesRun m refines v new
   refines-there v old new Result_done h a = h.0

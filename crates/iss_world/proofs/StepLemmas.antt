@@ -14,7 +14,6 @@ use Rattle.iss_rules.specs.Setups.{IsSetupOf}
 use Rattle.iss_log.specs.LogState.{GoesOn}
 use Rattle.iss_model.specs.Node.{Core, Dropped, Stepped, Taken, Turn, step}
 use Rattle.iss_rules.specs.Past.{log_of}
-use Rattle.iss_rules.specs.Rules.{Rules}
 use Rattle.iss_rules.specs.Ends.{End, Forged}
 use Rattle.iss_model.specs.Run.{Held, after_step, at_core, booked, by_collision, by_forged, claims_at, collision_in, early_of, first_forged, node_of, posted_all, turned_to}
 use Rattle.iss_rules.specs.declared.events.NodeEvent.{NodeEvent}

@@ -9,7 +9,7 @@ use Rattle.iss_rules.specs.Ends.{End}
 use Rattle.iss_rules.specs.declared.events.Why.{Why}
 use Rattle.iss_model.specs.Run.{node_of}
 use Rattle.iss_request.specs.declared.setups.Setup.{Setup}
-use Rattle.iss_model.specs.Courses.{Course, Machines, driver_of, with_crashes}
+use Rattle.iss_model.specs.Courses.{Course, Machines, with_crashes}
 use Rattle.iss_model.specs.Driver.{Driver, Upshot, apply_event, ended_at, noted, run_event_if_open}
 use Rattle.iss_rules.specs.Parcels.{Formats}
 use Rattle.iss_rules.specs.Rules.{Rules}
@@ -115,11 +115,11 @@ module _ {M Msg : Type 0} (m : Module Msg) (refines : Relation M Msg) where
 
   module _ (s : Setup) (F : Formats Msg) (R : Rules) (v later : SimulationState M Msg) (before : Option Evidence) (p : Course Msg) (e : Event) (r : EventOutcome) (end : Evidence)
       (none : before ≡ None) (was : r ≡ Ended end) (happened : (w : Machines Msg) → RefinesMachines m refines v w →
-      HasChanged m refines (reader_of (record { setup = s; formats = F; rules = R; spec = m }) w e) later (apply_event (with_crashes s F R m) w e) r) where
+      HasChanged m refines (reader_of (with_crashes s F R m) w e) later (apply_event (with_crashes s F R m) w e) r) where
     goes-then : (o : Option (ℕ × End)) → RefinesRunUntil m refines (awake v before) p.state o → HasHappened m refines (awake later (Some end)) p (run_event_if_open o (with_crashes s F R m) p e) (result_of end)
     goes-then None k =
         let d : Upshot (Machines Msg) = apply_event (with_crashes s F R m) p.state e in
-        let reader = reader_of (record { setup = s; formats = F; rules = R; spec = m }) p.state e in
+        let reader = reader_of (with_crashes s F R m) p.state e in
         told-ended reader later p d p.event (noted p.event d.lost p.drops) end (subst (λ (x : EventOutcome). HasChanged m refines reader later d x) was (happened p.state k.simulation))
     goes-then (Some at) k = absurd (none-some at.1 (subst (λ (o : Option Evidence). option_map end_of o ≡ Some at.1) none k.ended))
 

@@ -18,7 +18,7 @@ use Rattle.iss_request.specs.declared.requests.Value.{Value}
 use Rattle.iss_request.specs.declared.setups.Setup.{Setup}
 use Rattle.iss_schedule.specs.declared.schedules.Event.{Event}
 use Rattle.iss_theorems.specs.Readers.{is_reader, reader_at, reader_of}
-use Rattle.iss_model.specs.Courses.{Course, Machines, core_of as core_of_kept, driver_of}
+use Rattle.iss_model.specs.Courses.{Course, Machines, core_of as core_of_kept}
 use Rattle.iss_model.specs.Disks.{Disk, new_disk}
 use Rattle.iss_model.specs.Driver.{Driver, Upshot, apply_event}
 use Rattle.iss_rules.specs.Concrete.{rules_of}
