@@ -29,7 +29,7 @@ replies_of_nodes s logs (suc n) = replies_of_nodes s logs n ++ made_by s logs n
 
 -- rule: Replies: The replies of a run are those of each correct node to the requests of its printed log
 abbrev pub replies_of_run : {Msg : Type 0} → Setup → Module Msg → Course Msg → List Reply
-replies_of_run s M p = replies_of_nodes s (shown s M p.machines.held) s.n
+replies_of_run s M p = replies_of_nodes s (shown s M p.state.held) s.n
 
 abbrev pub text_of_run : {Msg : Type 0} → Setup → Module Msg → Course Msg → List ℕ
 text_of_run s M p = replies_text s (replies_of_run s M p)

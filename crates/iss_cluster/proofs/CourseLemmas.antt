@@ -21,10 +21,11 @@ use Rattle.iss_rules.specs.Rules.{Rules}
 use Rattle.iss_rules.specs.declared.events.NodeEvent.{NodeEvent}
 use Rattle.iss_rules.specs.declared.events.NodeEvent.TheVariants.{Packet as On_packet, Propose as On_propose, Timeout as On_timeout, AskFrom as On_ask}
 use Rattle.iss_rules.specs.declared.events.Why.TheVariants.{Stopped}
-use Rattle.iss_model.specs.Courses.{Course, Machines, apply_event, at_machine, by_step, delivered_to, disks_behind, machines_done, machines_lost, run_event_if_open, stops, with_disks, with_packets}
+use Rattle.iss_model.specs.Courses.{Course, Machines, at_machine, by_step, disks_behind, stops, with_disks, with_packets, with_crashes}
 use Rattle.iss_model.specs.Disks.{Disk, keeps, may_keep}
+use Rattle.iss_model.specs.Driver.{Upshot, apply_event, delivered_to, done, lost_by, run_event_if_open}
 use Rattle.iss_model.specs.Node.{Dropped, Stepped, Taken, step}
-use Rattle.iss_model.specs.Run.{Happening, addressees, at_core, claims_at, first_forged, node_of, posted_all, posted_to}
+use Rattle.iss_model.specs.Run.{addressees, at_core, claims_at, first_forged, node_of, posted_all, posted_to, Held}
 use Rattle.iss_theorems.proofs.CrashRecovery.CourseKeepsWhatStepsKeep.{course-holds}
 use Rattle.iss_theorems.proofs.CrashRecovery.LostEventsAreNumbered.{after-more}
 use Rattle.iss_theorems.specs.Headline.{course_after, held_after}
@@ -49,38 +50,38 @@ behind-works (Some end) before behind a b = a
 
 module _ {Msg : Type 0} (s : Setup) (F : Formats Msg) (R : Rules) (M : Module Msg) where
   -- a disk without a budget keeps the event
-  kept-works : (w : Machines Msg) (behind : ℕ → Disk) (c : ℕ) (d : Happening Msg) (o : Option Claim) (passes : Option ℕ) → passes ≡ None → Work w.disks → Work behind
-      → Work (cond (may_keep passes) (with_disks w behind d) (stops o w c)).machines.disks
+  kept-works : (w : Machines Msg) (behind : ℕ → Disk) (c : ℕ) (d : Upshot (Held Msg)) (o : Option Claim) (passes : Option ℕ) → passes ≡ None → Work w.disks → Work behind
+      → Work (cond (may_keep passes) (with_disks w behind d) (stops o w c)).state.disks
   kept-works w behind c d o None q a b = behind-works d.ended w.disks behind a b
   kept-works w behind c d o (Some k) q a b = absurd (cc)
 
-  step-works : (w : Machines Msg) (c : ℕ) (event : NodeEvent) (o : Stepped Msg) → Work w.disks → Work (by_step s F R M w c event o).machines.disks
+  step-works : (w : Machines Msg) (c : ℕ) (event : NodeEvent) (o : Stepped Msg) → Work w.disks → Work (by_step s F R M w c event o).state.disks
   step-works w c event (Dropped why) a = behind-works (at_core s F R M w.held c event).ended w.disks w.disks a a
   step-works w c event (Taken t) a =
       kept-works w (set_at w.disks c (keeps (w.disks c) event)) c (at_core s F R M w.held c event)
       (first_forged s R w.held.signed (claims_at F R M (node_of s c) (w.held.net.cores c) event)) (w.disks c).passes (a c).0 a
       (keeps-works w.disks c event a)
 
-  at-works : (w : Machines Msg) (c : ℕ) (event : NodeEvent) → Work w.disks → Work (at_machine s F R M w c event).machines.disks
+  at-works : (w : Machines Msg) (c : ℕ) (event : NodeEvent) → Work w.disks → Work (at_machine s F R M w c event).state.disks
   at-works w c event a = go (w.disks c).failed
     where
       its_step : Stepped Msg
       its_step = step F R M (node_of s c) (w.held.net.cores c) event
 
-      go : (b : Bool) → Work (cond b (machines_lost w Stopped) (by_step s F R M w c event its_step)).machines.disks
+      go : (b : Bool) → Work (cond b (lost_by w Stopped) (by_step s F R M w c event its_step)).state.disks
       go true = a
       go false = step-works w c event its_step a
 
-  delivered-works : (w : Machines Msg) (k : ℕ) (o : Option Sent) → Work w.disks → Work (delivered_to s F R M w k o).machines.disks
+  delivered-works : (w : Machines Msg) (k : ℕ) (o : Option Sent) → Work w.disks → Work (delivered_to (with_crashes s F R M) w k o).state.disks
   delivered-works w k None a = a
   delivered-works w k (Some p) a = at-works (with_packets w (settled w.held.net.network k)) p.to (On_packet p.bytes) a
 
   injected-works : (w : Machines Msg) (c : ℕ) (bytes : List ℕ) (b : Bool) → Work w.disks
-      → Work (cond b (machines_done w) (at_machine s F R M w c (On_packet bytes))).machines.disks
+      → Work (cond b (done w) (at_machine s F R M w c (On_packet bytes))).state.disks
   injected-works w c bytes true a = a
   injected-works w c bytes false a = at-works w c (On_packet bytes) a
 
-  event-works : (w : Machines Msg) (e : Event) → IsOfLoop e → Work w.disks → Work (apply_event s F R M w e).machines.disks
+  event-works : (w : Machines Msg) (e : Event) → IsOfLoop e → Work w.disks → Work (apply_event (with_crashes s F R M) w e).state.disks
   event-works w (Event_request c client number payload) k a =
       at-works w c (On_packet (F.wrap (record { from = 255; epoch = 0; body = OfRequest (request_of s client number payload) }))) a
   event-works w (Propose c) k a = at-works w c On_propose a
@@ -97,8 +98,8 @@ module _ {Msg : Type 0} (s : Setup) (F : Formats Msg) (R : Rules) (M : Module Ms
   event-works w (Crash c calls) k a = absurd k
   event-works w (Bytes c bytes) k a = injected-works w c bytes M.stopping a
 
-  one-works : (p : Course Msg) (e : Event) (o : Option (ℕ × End)) → IsOfLoop e → Work p.machines.disks → Work (run_event_if_open o s F R M p e).machines.disks
-  one-works p e None k a = event-works p.machines e k a
+  one-works : (p : Course Msg) (e : Event) (o : Option (ℕ × End)) → IsOfLoop e → Work p.state.disks → Work (run_event_if_open o (with_crashes s F R M) p e).state.disks
+  one-works p e None k a = event-works p.state e k a
   one-works p e (Some at) k a = a
 
 -- ---- packets
@@ -126,9 +127,9 @@ sends-begin s w from (x ∷ xs) =
 
 module _ {Msg : Type 0} (s : Setup) (M : Module Msg) (events : List Event) (e : Event) where
   -- disks work after one more event of a loop
-  pub works-on : IsOfLoop e → Work (course_after s M events).machines.disks → Work (course_after s M (events ++ e ∷ [])).machines.disks
+  pub works-on : IsOfLoop e → Work (course_after s M events).state.disks → Work (course_after s M (events ++ e ∷ [])).state.disks
   works-on k a =
-      subst (λ (p : Course Msg). Work p.machines.disks) (sym (after-more s M events (e ∷ [])))
+      subst (λ (p : Course Msg). Work p.state.disks) (sym (after-more s M events (e ∷ [])))
       (one-works s (formats_of s M) (rules_of s) M (course_after s M events) e (course_after s M events).ended k a)
 
   abbrev sent : List Sent
@@ -136,7 +137,7 @@ module _ {Msg : Type 0} (s : Setup) (M : Module Msg) (events : List Event) (e : 
 
   sent-begins : BeginWith sent (held_after s M (events ++ e ∷ [])).net.network.packets
   sent-begins =
-      subst (λ (p : Course Msg). BeginWith sent p.machines.held.net.network.packets) (sym (after-more s M events (e ∷ [])))
+      subst (λ (p : Course Msg). BeginWith sent p.state.held.net.network.packets) (sym (after-more s M events (e ∷ [])))
       (course-holds s (formats_of s M) (rules_of s) M (λ w. BeginWith sent w.held.net.network.packets)
       (λ w net same k. subst (λ (ps : List Sent). BeginWith sent ps) (sym same) k)
       (λ w c d same k. k)

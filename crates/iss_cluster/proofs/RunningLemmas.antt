@@ -12,9 +12,8 @@ use Rattle.iss_loops.specs.Behavior.{AreNodes, HaveEnds}
 use Rattle.iss_loops.specs.Internal.PacketIndex.{IsIndexOf}
 use Rattle.iss_loops.specs.Loop.{number_from}
 use Rattle.iss_loops.specs.Traces.{IsNext, IsOfLoop, is_within_limits}
-use Rattle.iss_model.specs.Courses.{Course, Machines, run_event}
-use Rattle.iss_model.specs.CourseFrames.{run_event_in}
-use Rattle.iss_model.specs.Frames.{frame_of}
+use Rattle.iss_model.specs.Courses.{Course, Machines, begin_course, driver_of}
+use Rattle.iss_model.specs.Driver.{run_event}
 use Rattle.iss_model.proofs.Ranges.{at-cores}
 use Rattle.iss_model.specs.Run.{node_of}
 use Rattle.iss_model.specs.Runs.{AreAtCores}
@@ -39,7 +38,6 @@ use Rattle.iss_schedule.specs.declared.schedules.Event.{Event}
 use Rattle.iss_schedule.specs.declared.schedules.Schedule.{Schedule}
 use Rattle.iss_theorems.proofs.CrashRecovery.LostEventsAreNumbered.{after-one, all-counted}
 use Rattle.iss_theorems.specs.Headline.{IsWhole, course_after, held_after}
-use Rattle.iss_model.specs.Courses.{begin_course}
 use Rattle.iss_world.specs.Refines.{RefinesRun, RefinesRunUntil, WorldRefinesMachines}
 use Rattle.iss_world.specs.State.{AreBetweenCores, WorldState}
 use Rattle.iss_world.specs.declared.ends.Evidence.{Evidence}
@@ -124,9 +122,9 @@ module _ {M Msg : Type 0} (m : Module Msg) (refines : Relation M Msg) (world : W
     evidence-is = kept-some ended ∙ ap (λ (o : Option (ℕ × End)). is_some o) h.report.end_is
 
     -- while no event has shown evidence, the world refines these machines
-    pub world-is : is_some (course_after t.setup m t.events).ended ≡ false → WorldRefinesMachines m refines world (course_after t.setup m t.events).machines
+    pub world-is : is_some (course_after t.setup m t.events).ended ≡ false → WorldRefinesMachines m refines world (course_after t.setup m t.events).state
     world-is going =
-        subst (λ (o : Option (ℕ × End)). RefinesRunUntil m refines world (course_after t.setup m t.events).machines o) (goes-on (course_after t.setup m t.events).ended going) h.report.refined
+        subst (λ (o : Option (ℕ × End)). RefinesRunUntil m refines world (course_after t.setup m t.events).state o) (goes-on (course_after t.setup m t.events).ended going) h.report.refined
 
     pub counted : is_some (course_after t.setup m t.events).ended ≡ false → (course_after t.setup m t.events).event ≡ length t.events
     counted going =
@@ -142,11 +140,11 @@ module _ {M Msg : Type 0} (m : Module Msg) (refines : Relation M Msg) (world : W
   module _ (e : Event) (world2 : WorldState M Msg) (drops2 : List (ℕ × Why)) (end : Option Evidence) (index2 : List (ℕ × Vec ℕ Global)) (packets packets2 : List Sent) (number sent : ℕ)
       (same : world.simulation.setup ≡ t.setup)
       (went : (p : Course Msg) → p.event ≡ number → ReportRefinesRun m refines world drops None p →
-      ReportRefinesRun m refines world2 drops2 (numbered number end) (run_event_in (frame_of world.simulation.setup m) p e))
+      ReportRefinesRun m refines world2 drops2 (numbered number end) (run_event (driver_of world.simulation.setup m) p e))
       (number_is : number ≡ length t.events)
-      (before : (p : Course Msg) → RefinesRun m refines world p → packets ≡ p.machines.held.net.network.packets)
+      (before : (p : Course Msg) → RefinesRun m refines world p → packets ≡ p.state.held.net.network.packets)
       (sent_is : sent ≡ length packets)
-      (behind : (p : Course Msg) → RefinesRun m refines world2 p → packets2 ≡ p.machines.held.net.network.packets)
+      (behind : (p : Course Msg) → RefinesRun m refines world2 p → packets2 ≡ p.state.held.net.network.packets)
       (indexed : IsIndexOf index (take sent packets2) → IsIndexOf index2 packets2)
       (next : IsNext (behavior_of t.setup m) t.events e)
       (h : HasRun m refines world drops ended t index) where
@@ -161,12 +159,12 @@ module _ {M Msg : Type 0} (m : Module Msg) (refines : Relation M Msg) (world : W
         let now = subst (λ (o : Option (ℕ × Evidence)). ReportRefinesRun m refines world drops o (course_after t.setup m t.events)) (ended-none h next.no_evidence) h.report in
         let there = went (course_after t.setup m t.events) (counted h next.no_evidence ∙ sym number_is) now in
         subst (λ (p : Course Msg). ReportRefinesRun m refines world2 drops2 (numbered number end) p) (sym (after-one t.setup m t.events e going))
-        (subst (λ (s : Setup). ReportRefinesRun m refines world2 drops2 (numbered number end) (run_event s (formats_of s m) (rules_of s) m (course_after t.setup m t.events) e)) same there)
+        (subst (λ (s : Setup). ReportRefinesRun m refines world2 drops2 (numbered number end) (run_event (driver_of s m) (course_after t.setup m t.events) e)) same there)
 
-    index-on : IsIndexOf index2 later.machines.held.net.network.packets
+    index-on : IsIndexOf index2 later.state.held.net.network.packets
     index-on =
         let old : packets ≡ (held_after t.setup m t.events).net.network.packets = before (course_after t.setup m t.events) h.report.refined in
-        let new : packets2 ≡ later.machines.held.net.network.packets = behind later report-on.refined in
+        let new : packets2 ≡ later.state.held.net.network.packets = behind later report-on.refined in
         let first : take sent packets2 ≡ (held_after t.setup m t.events).net.network.packets =
         ap (λ (k : ℕ). take k packets2) (sent_is ∙ ap (λ (ps : List Sent). length ps) old)
         ∙ ap (λ (ps : List Sent). take (length (held_after t.setup m t.events).net.network.packets) ps) new
@@ -257,35 +255,35 @@ module _ {M Msg : Type 0} (m : Module Msg) (refines : Relation M Msg) where
     pub shows-evidence : is_some r.ended ≡ (behavior_of r.trace.setup m).has_evidence r.trace.events
     shows-evidence = evidence-is m refines r.world r.drops r.ended r.trace r.index (h.run fresh)
 
-    pub shows-packets : (packets : List Sent) → ((p : Course Msg) → RefinesRun m refines r.world p → packets ≡ p.machines.held.net.network.packets)
+    pub shows-packets : (packets : List Sent) → ((p : Course Msg) → RefinesRun m refines r.world p → packets ≡ p.state.held.net.network.packets)
         → packets ≡ (behavior_of r.trace.setup m).packets r.trace.events
     shows-packets packets are = are (course_after r.trace.setup m r.trace.events) (h.run fresh).report.refined
 
     pub shows-ends : (packets : List Sent) → AreBetweenCores (cores_of r.world.simulation.setup) packets → HaveEnds packets
     shows-ends packets between = packets-have-ends r.trace.setup r.world.simulation.setup packets h.cluster h.good.good between
 
-    pub shows-number : (core : ℕ) (bytes : List ℕ) (packets : List Sent) (number : Option ℕ) → ((p : Course Msg) → RefinesRun m refines r.world p → packets ≡ p.machines.held.net.network.packets)
+    pub shows-number : (core : ℕ) (bytes : List ℕ) (packets : List Sent) (number : Option ℕ) → ((p : Course Msg) → RefinesRun m refines r.world p → packets ≡ p.state.held.net.network.packets)
         → (IsIndexOf r.index packets → number ≡ number_from 0 core bytes packets) → number ≡ number_from 0 core bytes ((behavior_of r.trace.setup m).packets r.trace.events)
     shows-number core bytes packets number are found =
         let is = shows-packets packets are in
         found (subst (λ (ps : List Sent). IsIndexOf r.index ps) (sym is) (h.run fresh).index_is) ∙ ap (λ (ps : List Sent). number_from 0 core bytes ps) is
 
     module _ (none : (behavior_of r.trace.setup m).has_evidence r.trace.events ≡ false) where
-      stands : WorldRefinesMachines m refines r.world (course_after r.trace.setup m r.trace.events).machines
+      stands : WorldRefinesMachines m refines r.world (course_after r.trace.setup m r.trace.events).state
       stands = world-is m refines r.world r.drops r.ended r.trace r.index (h.run fresh) none
 
       pub shows-castable : (core : ℕ) (b : Bool) → ((w : Machines Msg) → WorldRefinesMachines m refines r.world w → (w.disks core).failed ≡ false →
           b ≡ is_castable_now (rules_of r.world.simulation.setup) m (node_of r.world.simulation.setup core) (w.held.net.cores core))
           → b ≡ (behavior_of r.trace.setup m).castable r.trace.events core
       shows-castable core b is =
-          is (course_after r.trace.setup m r.trace.events).machines stands ((h.run fresh).disks core).1
-          ∙ ap (λ (s : Setup). is_castable_now (rules_of s) m (node_of s core) ((course_after r.trace.setup m r.trace.events).machines.held.net.cores core)) h.cluster
+          is (course_after r.trace.setup m r.trace.events).state stands ((h.run fresh).disks core).1
+          ∙ ap (λ (s : Setup). is_castable_now (rules_of s) m (node_of s core) ((course_after r.trace.setup m r.trace.events).state.held.net.cores core)) h.cluster
 
       numbers-are : (core : ℕ) (leaders : List NodeId) → ((w : Machines Msg) → WorldRefinesMachines m refines r.world w → (w.disks core).failed ≡ false →
           map (λ (l : NodeId). l.0) leaders ≡ unfilled (rules_of r.world.simulation.setup) m r.world.simulation.setup.n (node_of r.world.simulation.setup core) (w.held.net.cores core).past)
           → map (λ (l : NodeId). l.0) leaders ≡ unfilled (rules_of r.trace.setup) m r.trace.setup.n (node_of r.trace.setup core) ((held_after r.trace.setup m r.trace.events).net.cores core).past
       numbers-are core leaders is =
-          is (course_after r.trace.setup m r.trace.events).machines stands ((h.run fresh).disks core).1
+          is (course_after r.trace.setup m r.trace.events).state stands ((h.run fresh).disks core).1
           ∙ ap (λ (s : Setup). unfilled (rules_of s) m s.n (node_of s core) ((held_after r.trace.setup m r.trace.events).net.cores core).past) h.cluster
 
       pub shows-unfilled : (core : ℕ) (leaders : List NodeId) → ((w : Machines Msg) → WorldRefinesMachines m refines r.world w → (w.disks core).failed ≡ false →

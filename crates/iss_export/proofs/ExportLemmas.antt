@@ -123,7 +123,7 @@ abbrev pub AreAllCertified : {Msg : Type 0} → Setup → Module Msg → List Ev
 AreAllCertified s M events i = (silent : Bool) → is_correct s i ≡ true → (epochs : List CertifiedEpoch) → AreExported s (shown s M (held_after s M events) i) (certs_shown ((held_after s M events).net.cores i) silent) epochs →
     EachEpoch (IsRanged s) [] epochs → AreCertifiedIfShort s epochs
 
-pub exported : {Msg : Type 0} (s : Setup) (M : Module Msg) (events : List Event) (i : ℕ) (bytes : List ℕ) → AreAllCertified s M events i → IsWritten s M (course_after s M events).machines (reader_after s M events) i bytes → IsExported s M events i bytes
+pub exported : {Msg : Type 0} (s : Setup) (M : Module Msg) (events : List Event) (i : ℕ) (bytes : List ℕ) → AreAllCertified s M events i → IsWritten s M (course_after s M events).state (reader_after s M events) i bytes → IsExported s M events i bytes
 exported s M events i bytes law w =
     let x : Export = record { setup = s; epochs = w.text.epochs } in
     record {

@@ -23,7 +23,7 @@ is_silent_in w reader i = (w.disks i).failed || is_reader reader i
 
 -- so after the run of these events
 abbrev pub is_silent : {Msg : Type 0} → Setup → Module Msg → List Event → ℕ → Bool
-is_silent s M events i = is_silent_in (course_after s M events).machines (reader_after s M events) i
+is_silent s M events i = is_silent_in (course_after s M events).state (reader_after s M events) i
 
 -- ---- the text
 

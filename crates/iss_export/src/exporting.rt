@@ -40,7 +40,7 @@ pub fn export<M: Sequenced>(
     requires core { core < schedule.now.setup.n }
     ensures { IfOk result (λ bytes. ReportRefinesRun M.spec M.refines report.now.world report.now.drops report.now.ended
         (course_after schedule.now.setup M.spec schedule.now.events) →
-        AreStale report.now.world (course_after schedule.now.setup M.spec schedule.now.events).machines
+        AreStale report.now.world (course_after schedule.now.setup M.spec schedule.now.events).state
         (reader_after schedule.now.setup M.spec schedule.now.events) →
         IsExported schedule.now.setup M.spec schedule.now.events core bytes) }
 {
@@ -59,7 +59,7 @@ fn write<M: Sequenced>(
     requires core { core < setup.now.n }
     ensures { IfOk result (λ bytes. (p : Course M.Msg) (reader : Option ℕ) →
         ReportRefinesRun M.spec M.refines report.now.world report.now.drops report.now.ended p →
-        AreStale report.now.world p.machines reader → IsWritten setup.now M.spec p.machines reader core bytes) }
+        AreStale report.now.world p.state reader → IsWritten setup.now M.spec p.state reader core bytes) }
 {
     let mut out = Vec::new(alloc);
     put_header(&mut out, setup)?;
@@ -78,7 +78,7 @@ fn put_epochs<M: Sequenced>(
     requires { core < report.now.world.simulation.setup.n }
     ensures { OnOk result ((p : Course M.Msg) (reader : Option ℕ) →
         ReportRefinesRun M.spec M.refines report.now.world report.now.drops report.now.ended p →
-        AreStale report.now.world p.machines reader → HasExported report.now.world.simulation.setup M.spec p.machines
+        AreStale report.now.world p.state reader → HasExported report.now.world.simulation.setup M.spec p.state
         reader core out.old.items out.new.items) }
 {
     let world = &report.world;

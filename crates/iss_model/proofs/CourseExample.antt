@@ -10,13 +10,14 @@ use Rattle.iss_schedule.specs.declared.schedules.Event.TheVariants.{Request as E
 use Rattle.iss_rules.specs.declared.events.Why.TheVariants.{NoPacket, NothingToCast, Stopped}
 use Rattle.iss_rules.specs.Past.{log_of}
 use Rattle.iss_model.proofs.Example.{Word, easy, plain, plain_request, short, telling}
-use Rattle.iss_model.specs.Courses.{Course, begin_course, course}
+use Rattle.iss_model.specs.Courses.{Course, begin_course, with_crashes}
+use Rattle.iss_model.specs.Driver.{run}
 
 abbrev course_of : List Event → Course Word
-course_of events = course plain short easy telling (begin_course plain) events
+course_of events = run (with_crashes plain short easy telling) (begin_course plain) events
 
 after : List Event → ℕ → List Value
-after events i = reverse (log_of easy telling i ((course_of events).machines.held.net.cores i).past)
+after events i = reverse (log_of easy telling i ((course_of events).state.held.net.cores i).past)
 
 abbrev q : Request
 q = plain_request 0 0 (170 ∷ [])
@@ -54,7 +55,7 @@ fifth_call = refl
 eighth_call : (course_of (failing_after 7)).drops ≡ (2, Stopped) ∷ []
 eighth_call = refl
 
-waits : ((course_of (failing_after 7)).machines.held.net.cores 0).waiting ≡ q ∷ []
+waits : ((course_of (failing_after 7)).state.held.net.cores 0).waiting ≡ q ∷ []
 waits = refl
 
 -- both are journaled
@@ -73,24 +74,24 @@ same_log : after twice_told 2 ≡ Value_batch (q ∷ []) ∷ []
 unfolding after
 same_log = refl
 
-no_more : length (course_of twice_told).machines.held.net.network.packets ≡ 3
+no_more : length (course_of twice_told).state.held.net.network.packets ≡ 3
 no_more = refl
 
-events_kept : length ((course_of twice_told).machines.disks 2).kept ≡ 2
+events_kept : length ((course_of twice_told).state.disks 2).kept ≡ 2
 events_kept = refl
 
-still_flies : length ((course_of twice_told).machines.held.net.cores 0).flight ≡ 1
+still_flies : length ((course_of twice_told).state.held.net.cores 0).flight ≡ 1
 still_flies = refl
 
 -- packets for a node still wait after its restart, and a hold on it stays
-waits_on : due (course_of (Propose 0 ∷ Restart 1 ∷ [])).machines.held.net.network ≡ 0 ∷ 1 ∷ 2 ∷ []
+waits_on : due (course_of (Propose 0 ∷ Restart 1 ∷ [])).state.held.net.network ≡ 0 ∷ 1 ∷ 2 ∷ []
 waits_on = refl
 
-passed_over : due (course_of (Hold 1 ∷ Propose 0 ∷ Restart 1 ∷ [])).machines.held.net.network ≡ 0 ∷ 2 ∷ []
+passed_over : due (course_of (Hold 1 ∷ Propose 0 ∷ Restart 1 ∷ [])).state.held.net.network ≡ 0 ∷ 2 ∷ []
 passed_over = refl
 
 -- a packet that is delivered to a node whose disk has failed stops waiting
-gone : due (course_of (Propose 0 ∷ Crash 1 0 ∷ Pump ∷ Restart 1 ∷ [])).machines.held.net.network ≡ []
+gone : due (course_of (Propose 0 ∷ Crash 1 0 ∷ Pump ∷ Restart 1 ∷ [])).state.held.net.network ≡ []
 gone = refl
 
 missed : after (Propose 0 ∷ Crash 1 0 ∷ Pump ∷ Restart 1 ∷ []) 1 ≡ []

@@ -29,8 +29,9 @@ use Rattle.iss_model.specs.Node.{Core, Early, Stepped, Dropped, Taken, step}
 use Rattle.iss_transfer.specs.declared.pieces.Piece.{Piece}
 use Rattle.iss_rules.specs.Rules.{Rules}
 use Rattle.iss_rules.specs.Past.{leads_in, log_of}
-use Rattle.iss_model.specs.Run.{Progress, begin_run, run}
+use Rattle.iss_model.specs.Run.{begin_run, Held, failure_free}
 use Rattle.iss_model.specs.Views.{accepted_by, is_castable_now, unfilled}
+use Rattle.iss_model.specs.Driver.{Progress, run}
 use Rattle.iss_rules.specs.declared.events.NodeEvent.TheVariants.{Packet as On_packet}
 
 abbrev pub Word : Type 0
@@ -188,11 +189,11 @@ light R n =
 abbrev pub easy : Rules
 easy = light (rules_of plain) 3
 
-abbrev run_of : List Event → Progress Word
-run_of events = run plain short easy telling (begin_run plain) events
+abbrev run_of : List Event → Progress (Held Word)
+run_of events = run (failure_free plain short easy telling) (begin_run plain) events
 
 after : List Event → ℕ → List Value
-after events i = reverse (log_of easy telling i ((run_of events).held.net.cores i).past)
+after events i = reverse (log_of easy telling i ((run_of events).state.net.cores i).past)
 
 abbrev q : Request
 q = plain_request 0 0 (170 ∷ [])
@@ -224,7 +225,7 @@ early = refl
 
 -- the core of a node after events
 core_after : List Event → ℕ → Core Word
-core_after events i = (run_of events).held.net.cores i
+core_after events i = (run_of events).state.net.cores i
 
 -- each leader proposes an empty batch, and epoch 0 ends in the middle of a pump
 abbrev whole_epoch : List Event
@@ -338,7 +339,7 @@ abbrev backing : Setup
 backing = record plain { policy = Backoff }
 
 abbrev core_backing : List Event → ℕ → Core Word
-core_backing events i = (run backing short (light (rules_of backing) 3) telling (begin_run backing) events).held.net.cores i
+core_backing events i = (run (failure_free backing short (light (rules_of backing) 3) telling) (begin_run backing) events).state.net.cores i
 
 abbrev one_failed : List Event
 one_failed = Event_timeout 0 (record { 0 = 1 }) ∷ Propose 0 ∷ Propose 2 ∷ Pump ∷ []

@@ -50,18 +50,18 @@ module _ {Msg : Type 0} (s : Setup) (F : Formats Msg) (R : Rules) (M : Module Ms
   }
 
   collided : (o : Option End) (t : Turn Msg) → step F R M (node_of s i) (h.net.cores i) event ≡ Taken t →
-      Grows s R M h.net (by_collision o h (turned_to s h i t)).held.net
+      Grows s R M h.net (by_collision o h (turned_to s h i t)).state.net
   collided (Some end) t q = same-net s R M h h refl
   collided None t q = grown t q
 
-  after : (o : Stepped Msg) → step F R M (node_of s i) (h.net.cores i) event ≡ o → Grows s R M h.net (after_step s h i o).held.net
+  after : (o : Stepped Msg) → step F R M (node_of s i) (h.net.cores i) event ≡ o → Grows s R M h.net (after_step s h i o).state.net
   after (Dropped why) q = same-net s R M h h refl
   after (Taken t) q = collided (collision_in t.strings h.hashed) t q
 
   forged : (f : Option Claim) (o : Stepped Msg) → step F R M (node_of s i) (h.net.cores i) event ≡ o →
-      Grows s R M h.net (by_forged f h (after_step s h i o)).held.net
+      Grows s R M h.net (by_forged f h (after_step s h i o)).state.net
   forged (Some claim) o q = same-net s R M h h refl
   forged None o q = after o q
 
-  pub at-grows : Grows s R M h.net (at_core s F R M h i event).held.net
+  pub at-grows : Grows s R M h.net (at_core s F R M h i event).state.net
   at-grows = forged (first_forged s R h.signed _) (step F R M (node_of s i) (h.net.cores i) event) refl

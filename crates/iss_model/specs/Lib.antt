@@ -1,4 +1,5 @@
 pub mod Node
+pub mod Driver
 pub mod Run
 pub mod Slims
 pub mod Runs
@@ -7,4 +8,3 @@ pub mod Views
 pub mod Frames
 pub mod Courses
 pub mod Disks
-pub mod CourseFrames

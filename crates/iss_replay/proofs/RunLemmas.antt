@@ -2,15 +2,13 @@
 use Rattle.std.proofs.Common.{◌≡◌, ℕ, zero, suc, ◌+◌, ◌<◌, ◌≤◌, List, [], ◌∷◌, ◌++◌, length, take, get_or, refl, sym, ap, ◌∙◌, subst, arith, add-one, Option, Some, None, reverse, append_assoc, drop, Bool, true, false, cond}
 use Rattle.std.proofs.lemmas.List.{append-nil, reverse-append, take-append-drop}
 use Rattle.iss_rules.specs.Concrete.{rules_of}
-use Rattle.iss_rules.specs.Formats.{formats_of}
 use Rattle.iss_rules.specs.Parcels.{Formats}
 use Rattle.iss_rules.specs.Past.{log_of}
 use Rattle.iss_rules.specs.Rules.{Rules}
 use Rattle.iss_rules.specs.Ends.{End}
-use Rattle.iss_model.specs.Run.{Net, ended_at, node_of}
-use Rattle.iss_model.specs.Courses.{Course, Upshot, apply_event, run_event, run_event_if_open}
-use Rattle.iss_model.specs.CourseFrames.{apply_event_in}
-use Rattle.iss_model.specs.Frames.{frame_of}
+use Rattle.iss_model.specs.Run.{Net, node_of}
+use Rattle.iss_model.specs.Courses.{Course, Machines, driver_of, with_crashes}
+use Rattle.iss_model.specs.Driver.{Upshot, apply_event, ended_at, run_event, run_event_if_open}
 use Rattle.iss_base.specs.Lists.{nth}
 use Rattle.iss_theorems.specs.Readers.{reader_after, reader_at, reader_of, reader_of_some, reader_until}
 use Rattle.iss_theorems.specs.Headline.{course_after}
@@ -87,20 +85,20 @@ why-is k (Some other) end q = q
 
 module _ {M Msg : Type 0} (m : Module Msg) (refines : Relation M Msg) where
   happened-on : (s : Setup) (F : Formats Msg) (R : Rules) (later : WorldState M Msg) (p : Course Msg) (e : Event) (r : EventResult) → end_kept None ≡ p.ended →
-      HasHappened m refines later p (run_event_if_open p.ended s F R m p e) r → HasHappened m refines later p (run_event s F R m p e) r
+      HasHappened m refines later p (run_event_if_open p.ended (with_crashes s F R m) p e) r → HasHappened m refines later p (run_event (with_crashes s F R m) p e) r
   happened-on s F R later p e r going h = subst (λ (q : Course Msg). HasHappened m refines later p q r) (further-on s F R m p e (sym going)) h
 
   -- The three cases of an event: it is applied, it is lost, or it reveals evidence.
   pub went-on : (s : Setup) (F : Formats Msg) (R : Rules) (later : WorldState M Msg) (drops : List (ℕ × Why)) (p : Course Msg) (e : Event) →
-      HasHappened m refines later p (run_event_if_open p.ended s F R m p e) Result_done → end_kept None ≡ p.ended → reverse drops ≡ p.drops →
-      ReportRefinesRun m refines later drops None (run_event s F R m p e)
+      HasHappened m refines later p (run_event_if_open p.ended (with_crashes s F R m) p e) Result_done → end_kept None ≡ p.ended → reverse drops ≡ p.drops →
+      ReportRefinesRun m refines later drops None (run_event (with_crashes s F R m) p e)
   went-on s F R later drops p e h going d =
       let r = happened-on s F R later p e Result_done going h in
       record { refined = r.0; drops_are = d ∙ sym r.2; end_is = sym r.1 }
 
   pub was-lost : (s : Setup) (F : Formats Msg) (R : Rules) (later : WorldState M Msg) (old drops : List (ℕ × Why)) (p : Course Msg) (e : Event) (k : ℕ) (why : Why) →
-      HasHappened m refines later p (run_event_if_open p.ended s F R m p e) (Result_lost why) → end_kept None ≡ p.ended → p.event ≡ k → reverse old ≡ p.drops → drops ≡ old ++ (k, why) ∷ [] →
-      ReportRefinesRun m refines later drops None (run_event s F R m p e)
+      HasHappened m refines later p (run_event_if_open p.ended (with_crashes s F R m) p e) (Result_lost why) → end_kept None ≡ p.ended → p.event ≡ k → reverse old ≡ p.drops → drops ≡ old ++ (k, why) ∷ [] →
+      ReportRefinesRun m refines later drops None (run_event (with_crashes s F R m) p e)
   was-lost s F R later old drops p e k why h going n d is =
       let r = happened-on s F R later p e (Result_lost why) going h in
       record {
@@ -114,10 +112,10 @@ module _ {M Msg : Type 0} (m : Module Msg) (refines : Relation M Msg) where
       }
 
   has-ended : (s : Setup) (F : Formats Msg) (R : Rules) (later : WorldState M Msg) (drops : List (ℕ × Why)) (p : Course Msg) (e : Event) (k : ℕ) (end : Evidence) →
-      RefinesRun m refines later (run_event s F R m p e) → why_ended (run_event s F R m p e).ended ≡ Some (end_of end) → p.event ≡ k → reverse drops ≡ p.drops →
-      ReportRefinesRun m refines later drops (numbered k (Some end)) (run_event s F R m p e)
+      RefinesRun m refines later (run_event (with_crashes s F R m) p e) → why_ended (run_event (with_crashes s F R m) p e).ended ≡ Some (end_of end) → p.event ≡ k → reverse drops ≡ p.drops →
+      ReportRefinesRun m refines later drops (numbered k (Some end)) (run_event (with_crashes s F R m) p e)
   has-ended s F R later drops p e k end st why n d =
-      let is : (apply_event s F R m p.machines e).ended ≡ Some (end_of end) = why-is p.event (apply_event s F R m p.machines e).ended (end_of end) why in
+      let is : (apply_event (with_crashes s F R m) p.state e).ended ≡ Some (end_of end) = why-is p.event (apply_event (with_crashes s F R m) p.state e).ended (end_of end) why in
       record {
         refined = st;
         drops_are = d ∙ sym (end-notes-nothing s F R m p e (end_of end) is);
@@ -125,32 +123,32 @@ module _ {M Msg : Type 0} (m : Module Msg) (refines : Relation M Msg) where
       }
 
   pub was-forged : (s : Setup) (F : Formats Msg) (R : Rules) (later : WorldState M Msg) (drops : List (ℕ × Why)) (p : Course Msg) (e : Event) (k : ℕ) (by : NodeId) (statement sig : List ℕ) →
-      HasHappened m refines later p (run_event_if_open p.ended s F R m p e) (Result_forged by statement sig) → end_kept None ≡ p.ended → p.event ≡ k → reverse drops ≡ p.drops →
-      ReportRefinesRun m refines later drops (numbered k (Some (Evidence_forged (record { by = by; statement = statement; sig = sig })))) (run_event s F R m p e)
+      HasHappened m refines later p (run_event_if_open p.ended (with_crashes s F R m) p e) (Result_forged by statement sig) → end_kept None ≡ p.ended → p.event ≡ k → reverse drops ≡ p.drops →
+      ReportRefinesRun m refines later drops (numbered k (Some (Evidence_forged (record { by = by; statement = statement; sig = sig })))) (run_event (with_crashes s F R m) p e)
   was-forged s F R later drops p e k by statement sig h going n d =
       let r = happened-on s F R later p e (Result_forged by statement sig) going h in
       has-ended s F R later drops p e k (Evidence_forged (record { by = by; statement = statement; sig = sig })) r.0 r.1 n d
 
   pub has-collided : (s : Setup) (F : Formats Msg) (R : Rules) (later : WorldState M Msg) (drops : List (ℕ × Why)) (p : Course Msg) (e : Event) (k : ℕ) (first second : List ℕ) →
-      HasHappened m refines later p (run_event_if_open p.ended s F R m p e) (Result_collision first second) → end_kept None ≡ p.ended → p.event ≡ k → reverse drops ≡ p.drops →
-      ReportRefinesRun m refines later drops (numbered k (Some (Evidence_collision first second))) (run_event s F R m p e)
+      HasHappened m refines later p (run_event_if_open p.ended (with_crashes s F R m) p e) (Result_collision first second) → end_kept None ≡ p.ended → p.event ≡ k → reverse drops ≡ p.drops →
+      ReportRefinesRun m refines later drops (numbered k (Some (Evidence_collision first second))) (run_event (with_crashes s F R m) p e)
   has-collided s F R later drops p e k first second h going n d =
       let r = happened-on s F R later p e (Result_collision first second) going h in
       has-ended s F R later drops p e k (Evidence_collision first second) r.0 r.1 n d
 
   -- One more event.
   next-run : (s : Setup) (es : List Event) (i : ℕ) (e : Event) → i < length es → e ≡ get_or es i e → end_kept None ≡ (course_after s m (take i es)).ended →
-      course_after s m (take (i + 1) es) ≡ run_event s (formats_of s m) (rules_of s) m (course_after s m (take i es)) e
+      course_after s m (take (i + 1) es) ≡ run_event (driver_of s m) (course_after s m (take i es)) e
   next-run s es i e lt is going =
       ap (λ (fs : List Event). course_after s m fs) (take-next es i e lt is)
       ∙ after-one s m (take i es) e (sym going)
 
   pub run-next : (s t : Setup) (later : WorldState M Msg) (drops : List (ℕ × Why)) (ended : Option (ℕ × Evidence)) (es : List Event) (i : ℕ) (e : Event) →
       t ≡ s → i < length es → e ≡ get_or es i e → end_kept None ≡ (course_after s m (take i es)).ended →
-      ReportRefinesRun m refines later drops ended (run_event t (formats_of t m) (rules_of t) m (course_after s m (take i es)) e) → ReportRefinesRun m refines later drops ended (course_after s m (take (i + 1) es))
+      ReportRefinesRun m refines later drops ended (run_event (driver_of t m) (course_after s m (take i es)) e) → ReportRefinesRun m refines later drops ended (course_after s m (take (i + 1) es))
   run-next s t later drops ended es i e same lt is going h =
-      let there : ReportRefinesRun m refines later drops ended (run_event s (formats_of s m) (rules_of s) m (course_after s m (take i es)) e) =
-      subst (λ (u : Setup). ReportRefinesRun m refines later drops ended (run_event u (formats_of u m) (rules_of u) m (course_after s m (take i es)) e)) same h in
+      let there : ReportRefinesRun m refines later drops ended (run_event (driver_of s m) (course_after s m (take i es)) e) =
+      subst (λ (u : Setup). ReportRefinesRun m refines later drops ended (run_event (driver_of u m) (course_after s m (take i es)) e)) same h in
       subst (λ (p : Course Msg). ReportRefinesRun m refines later drops ended p) (sym (next-run s es i e lt is going)) there
 
   pub number-next : (s : Setup) (es : List Event) (i : ℕ) (e : Event) → i < length es → e ≡ get_or es i e → end_kept None ≡ (course_after s m (take i es)).ended →
@@ -173,12 +171,12 @@ module _ {M Msg : Type 0} (m : Module Msg) (refines : Relation M Msg) where
 
   -- The run has ended with evidence.
   pub stale-over : (s t : Setup) (later : WorldState M Msg) (end : Evidence) (es : List Event) (i : ℕ) (e : Event) → t ≡ s → i < length es → e ≡ get_or es i e → end_kept None ≡ (course_after s m (take i es)).ended →
-      end_kept (Some (i, end)) ≡ (course_after s m (take (i + 1) es)).ended → AreStaleBehind (frame_of t m) (course_after s m (take i es)) e later → AreStale later (course_after s m es).machines (reader_after s m es)
+      end_kept (Some (i, end)) ≡ (course_after s m (take (i + 1) es)).ended → AreStaleBehind (driver_of t m) (course_after s m (take i es)) e later → AreStale later (course_after s m es).state (reader_after s m es)
   stale-over s t later end es i e same lt is going over behind =
-      let W = frame_of s m in
+      let W = driver_of s m in
       let p = course_after s m (take i es) in
-      let d : Upshot Msg = apply_event_in W p.machines e in
-      let there : AreStaleBehind W p e later = subst (λ (u : Setup). AreStaleBehind (frame_of u m) p e later) same behind in
+      let d : Upshot (Machines Msg) = apply_event W p.state e in
+      let there : AreStaleBehind W p e later = subst (λ (u : Setup). AreStaleBehind (driver_of u m) p e later) same behind in
       let next = next-run s es i e lt is going in
       let whole : course_after s m es ≡ course_after s m (take (i + 1) es) =
       ap (λ (fs : List Event). course_after s m fs) (sym (take-append-drop (i + 1) es))
@@ -187,24 +185,24 @@ module _ {M Msg : Type 0} (m : Module Msg) (refines : Relation M Msg) where
       let last : (course_after s m es).ended ≡ Some (i, end_of end) = ap (λ (q : Course Msg). q.ended) whole ∙ sym over in
       let at : ended_at p.event d.ended ≡ Some (i, end_of end) = sym (ap (λ (q : Course Msg). q.ended) next) ∙ sym over in
       let shown : d.ended ≡ Some (end_of end) = why-is p.event d.ended (end_of end) (ap why_ended at) in
-      let here : AreStale later d.machines (reader_of W p.machines e) =
-      subst (λ (o : Option End). AreStale later d.machines (reader_at o (reader_of W p.machines e) None)) shown there in
+      let here : AreStale later d.state (reader_of W p.state e) =
+      subst (λ (o : Option End). AreStale later d.state (reader_at o (reader_of W p.state e) None)) shown there in
       let found : nth es i ≡ Some e = nth-get es i e lt ∙ ap (λ (x : Event). Some x) (sym is) in
-      let reader : reader_after s m es ≡ reader_of W p.machines e =
-      ap (λ (o : Option (ℕ × End)). reader_until s m es o) last ∙ ap (λ (o : Option Event). reader_of_some W p.machines o) found in
-      subst (λ (o : Option ℕ). AreStale later (course_after s m es).machines o) (sym reader)
-      (subst (λ (q : Course Msg). AreStale later q.machines (reader_of W p.machines e)) (sym all) here)
+      let reader : reader_after s m es ≡ reader_of W p.state e =
+      ap (λ (o : Option (ℕ × End)). reader_until s m es o) last ∙ ap (λ (o : Option Event). reader_of_some W p.state o) found in
+      subst (λ (o : Option ℕ). AreStale later (course_after s m es).state o) (sym reader)
+      (subst (λ (q : Course Msg). AreStale later q.state (reader_of W p.state e)) (sym all) here)
 
   -- The run has not ended.
   pub stale-on : (s : Setup) (later : WorldState M Msg) (es : List Event) (i : ℕ) → length es ≤ i → RefinesRun m refines later (course_after s m (take i es)) → end_kept None ≡ (course_after s m (take i es)).ended →
-      AreStale later (course_after s m es).machines (reader_after s m es)
+      AreStale later (course_after s m es).state (reader_after s m es)
   stale-on s later es i le st going =
       let all : take i es ≡ es = take-past es i le in
       let open' : (course_after s m es).ended ≡ None = ap (λ (fs : List Event). (course_after s m fs).ended) (sym all) ∙ sym going in
       let there : RefinesRun m refines later (course_after s m es) = subst (λ (fs : List Event). RefinesRun m refines later (course_after s m fs)) all st in
-      let k = subst (λ (o : Option (ℕ × End)). RefinesRunUntil m refines later (course_after s m es).machines o) open' there in
-      subst (λ (o : Option ℕ). AreStale later (course_after s m es).machines o) (sym (ap (λ (o : Option (ℕ × End)). reader_until s m es o) open'))
-      (stale-goes m refines later.simulation None (course_after s m es).machines k.simulation)
+      let k = subst (λ (o : Option (ℕ × End)). RefinesRunUntil m refines later (course_after s m es).state o) open' there in
+      subst (λ (o : Option ℕ). AreStale later (course_after s m es).state o) (sym (ap (λ (o : Option (ℕ × End)). reader_until s m es o) open'))
+      (stale-goes m refines later.simulation None (course_after s m es).state k.simulation)
 
   -- ---- blocks
 

@@ -31,7 +31,7 @@ node_blocks s M w (suc n) = node_blocks s M w n ++ block_of s M w n
 -- The lost events, the logs of correct nodes, and how the run ended. If evidence stopped the run, the logs are from
 -- before that delivery.
 abbrev pub text_of : {Msg : Type 0} → Setup → Module Msg → Course Msg → List ℕ
-text_of s M p = drop_lines p.drops ++ node_blocks s M p.machines.held.net s.n ++ end_line p.ended
+text_of s M p = drop_lines p.drops ++ node_blocks s M p.state.held.net s.n ++ end_line p.ended
 
 -- The bytes are the text of the run of these events, up to the evidence that stopped it, if any. The headline
 -- (`IsWhole`) holds for that run.

@@ -21,4 +21,4 @@ node_lines s M w (suc n) = node_lines s M w n ++ line_of s M w n
 
 abbrev pub summary_of : {Msg : Type 0} → Setup → Module Msg → Course Msg → List ℕ
 summary_of s M p =
-    node_lines s M p.machines.held.net s.n ++ digest_line (text_of s M p) ++ end_line p.ended
+    node_lines s M p.state.held.net s.n ++ digest_line (text_of s M p) ++ end_line p.ended

@@ -1,8 +1,7 @@
 //! The run of a schedule, event by event.
 ghost use Rattle.std.specs.Prelude.{◌≡◌, IfOk, None, OnOk};
-ghost use Rattle.iss_model.specs.Frames.{frame_of};
-ghost use Rattle.iss_model.specs.Courses.{Course};
-ghost use Rattle.iss_model.specs.CourseFrames.{run_event_in};
+ghost use Rattle.iss_model.specs.Courses.{Course, driver_of};
+ghost use Rattle.iss_model.specs.Driver.{run_event};
 ghost use Rattle.iss_theorems.specs.Headline.{IsWhole, course_after};
 ghost use Rattle.iss_rules.specs.Setups.{IsSetupOf};
 ghost use Rattle.iss_replay.specs.Refines.{ReportRefinesRun, numbered};
@@ -40,7 +39,7 @@ pub fn replay<M: Sequenced>(alloc: Global, schedule: &Schedule) -> Result<Report
         (λ r. ReportRefinesRun M.spec M.refines r.world r.drops r.ended
         (course_after schedule.now.setup M.spec schedule.now.events)) }
     ensures silent { IfOk result (λ r. AreStale r.world
-        (course_after schedule.now.setup M.spec schedule.now.events).machines
+        (course_after schedule.now.setup M.spec schedule.now.events).state
         (reader_after schedule.now.setup M.spec schedule.now.events)) }
     ensures same { IfOk result (λ r. r.world.simulation.setup ≡ schedule.now.setup) }
     ensures whole { IsWhole schedule.now.setup M.spec schedule.now.events }
@@ -57,7 +56,7 @@ fn play<M: Sequenced>(alloc: Global, schedule: &Schedule) -> Result<Report<M>, N
         (λ r. ReportRefinesRun M.spec M.refines r.world r.drops r.ended
         (course_after schedule.now.setup M.spec schedule.now.events)) }
     ensures silent { IfOk result (λ r. AreStale r.world
-        (course_after schedule.now.setup M.spec schedule.now.events).machines
+        (course_after schedule.now.setup M.spec schedule.now.events).state
         (reader_after schedule.now.setup M.spec schedule.now.events)) }
     ensures same { IfOk result (λ r. r.world.simulation.setup ≡ schedule.now.setup) }
 {
@@ -96,9 +95,9 @@ pub fn run_event<M: Sequenced>(
     ensures went { IfOk result
         (λ end. (p : Course M.Msg) → p.event ≡ number → ReportRefinesRun M.spec M.refines world.old drops.old None p →
         ReportRefinesRun M.spec M.refines world.new drops.new (numbered number end)
-        (run_event_in (frame_of world.old.simulation.setup M.spec) p event.now)) }
+        (run_event (driver_of world.old.simulation.setup M.spec) p event.now)) }
     ensures silent { OnOk result ((p : Course M.Msg) → p.ended ≡ None → RefinesRun M.spec M.refines world.old p →
-        AreStaleBehind (frame_of world.old.simulation.setup M.spec) p event.now world.new) }
+        AreStaleBehind (driver_of world.old.simulation.setup M.spec) p event.now world.new) }
     ensures same { world.new.simulation.setup ≡ world.old.simulation.setup }
 {
     match world.event(alloc, event) {

@@ -37,7 +37,7 @@ pub fn summary<M: Sequenced>(alloc: Global, report: &Report<M>) -> Result<Bytes,
 fn put_node_lines<M: Sequenced>(out: &mut Vec<u8>, world: &World<M>) -> Result<(), NoMemory>
     ensures { OnOk result ((p : Course M.Msg) → RefinesRun M.spec M.refines world.now p →
         out.new.items ≡ out.old.items
-        ++ node_lines world.now.simulation.setup M.spec p.machines.held.net world.now.simulation.setup.n) }
+        ++ node_lines world.now.simulation.setup M.spec p.state.held.net world.now.simulation.setup.n) }
 {
     let nodes = world.setup().n;
     for node in 0..nodes {
@@ -50,7 +50,7 @@ fn put_node_lines<M: Sequenced>(out: &mut Vec<u8>, world: &World<M>) -> Result<(
 fn put_line<M: Sequenced>(out: &mut Vec<u8>, world: &World<M>, node: u32) -> Result<(), NoMemory>
     requires { node < world.now.simulation.setup.n }
     ensures { OnOk result ((p : Course M.Msg) → RefinesRun M.spec M.refines world.now p →
-        out.new.items ≡ out.old.items ++ line_of world.now.simulation.setup M.spec p.machines.held.net node) }
+        out.new.items ≡ out.old.items ++ line_of world.now.simulation.setup M.spec p.state.held.net node) }
 {
     if !is_correct(world.setup(), node) {
         return Ok(());

@@ -65,7 +65,7 @@ fn put_drops(out: &mut Vec<u8>, drops: &[(u64, Why)]) -> Result<(), NoMemory>
 fn put_nodes<M: Sequenced>(out: &mut Vec<u8>, world: &World<M>) -> Result<(), NoMemory>
     ensures { OnOk result ((p : Course M.Msg) → RefinesRun M.spec M.refines world.now p →
         out.new.items ≡ out.old.items
-        ++ node_blocks world.now.simulation.setup M.spec p.machines.held.net world.now.simulation.setup.n) }
+        ++ node_blocks world.now.simulation.setup M.spec p.state.held.net world.now.simulation.setup.n) }
 {
     let nodes = world.setup().n;
     for node in 0..nodes {
@@ -79,7 +79,7 @@ fn put_nodes<M: Sequenced>(out: &mut Vec<u8>, world: &World<M>) -> Result<(), No
 fn put_block<M: Sequenced>(out: &mut Vec<u8>, world: &World<M>, node: u32) -> Result<(), NoMemory>
     requires { node < world.now.simulation.setup.n }
     ensures { OnOk result ((p : Course M.Msg) → RefinesRun M.spec M.refines world.now p →
-        out.new.items ≡ out.old.items ++ block_of world.now.simulation.setup M.spec p.machines.held.net node) }
+        out.new.items ≡ out.old.items ++ block_of world.now.simulation.setup M.spec p.state.held.net node) }
 {
     if !is_correct(world.setup(), node) {
         return Ok(());

@@ -40,7 +40,7 @@ fn put_nodes<M: Sequenced>(
 ) -> Result<(), NoMemory>
     ensures { OnOk result ((p : Course M.Msg) → RefinesRun M.spec M.refines world.now p →
         out.new.items ≡ out.old.items ++ ended (map reply_line (replies_of_nodes world.now.simulation.setup
-        (shown world.now.simulation.setup M.spec p.machines.held) world.now.simulation.setup.n))) }
+        (shown world.now.simulation.setup M.spec p.state.held) world.now.simulation.setup.n))) }
 {
     let nodes = world.setup().n;
     for node in 0..nodes {
@@ -59,7 +59,7 @@ fn put_node<M: Sequenced>(
     requires { node < world.now.simulation.setup.n }
     ensures { OnOk result ((p : Course M.Msg) → RefinesRun M.spec M.refines world.now p →
         out.new.items ≡ out.old.items ++ ended (map reply_line (made_by world.now.simulation.setup
-        (shown world.now.simulation.setup M.spec p.machines.held) node))) }
+        (shown world.now.simulation.setup M.spec p.state.held) node))) }
 {
     if !is_correct(world.setup(), node) {
         return Ok(());

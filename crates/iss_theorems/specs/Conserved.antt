@@ -11,12 +11,12 @@ use Rattle.iss_sb.specs.Evidence.{Module, is_correct}
 use Rattle.iss_rules.specs.declared.events.Why.{Why}
 use Rattle.iss_rules.specs.Concrete.{rules_of}
 use Rattle.iss_rules.specs.Formats.{formats_of}
-use Rattle.iss_rules.specs.Parcels.{Formats}
 use Rattle.iss_model.specs.Node.{Core, flown}
 use Rattle.iss_rules.specs.Past.{log_of}
 use Rattle.iss_rules.specs.Rules.{Rules}
 use Rattle.iss_theorems.specs.OneLog.{run_after}
-use Rattle.iss_model.specs.Run.{Happening, Progress, apply_event, begin_run, run_event_if_open}
+use Rattle.iss_model.specs.Run.{begin_run, failure_free}
+use Rattle.iss_model.specs.Driver.{Driver, Progress, Upshot, apply_event, run_event_if_open}
 
 -- the identity of a request event at core i, if the core accepted the request
 abbrev pub asked_by : ℕ → Event → Option Why → List ReqId
@@ -43,16 +43,15 @@ unless_ended None xs = xs
 unless_ended (Some end) xs = []
 
 -- the same, given the outcome of the event
-abbrev pub asked_in : {Msg : Type 0} → ℕ → Event → Happening Msg → List ReqId
+abbrev pub asked_in : {S : Type 0} → ℕ → Event → Upshot S → List ReqId
 asked_in i e d = unless_ended d.ended (asked_by i e d.lost)
 
--- one of these events is a request with this identity that core i accepted
-abbrev pub WasAsked : {Msg : Type 0} → Setup → Formats Msg → Rules → Module Msg → Progress Msg → List Event → ℕ →
-    ReqId → Type 0
-WasAsked s F R M p [] i x = ⊥
-WasAsked s F R M p (e ∷ es) i x =
-    In x (unless_ended p.ended (asked_in i e (apply_event s F R M p.held e))) ⊎
-    WasAsked s F R M (run_event_if_open p.ended s F R M p e) es i x
+-- one of these events is a request with this identity that core i accepted; with disks, also journaled
+abbrev pub WasAsked : {S : Type 0} → Driver S → Progress S → List Event → ℕ → ReqId → Type 0
+WasAsked D p [] i x = ⊥
+WasAsked D p (e ∷ es) i x =
+    In x (unless_ended p.ended (asked_in i e (apply_event D p.state e))) ⊎
+    WasAsked D (run_event_if_open p.ended D p e) es i x
 
 -- exactly one of three
 pub data One (A B C : Type 0) : Type 0 where
@@ -69,5 +68,5 @@ IsInOnePlace R M i c x = One (In x (log_ids (log_of R M i c.past))) (In x (ids c
 abbrev pub IsConserved : {Msg : Type 0} → Setup → Module Msg → List Event → Type 0
 IsConserved s M events =
     (i : ℕ) → is_correct s i ≡ true → (x : ReqId) →
-    WasAsked s (formats_of s M) (rules_of s) M (begin_run s) events i x →
-    IsInOnePlace (rules_of s) M i ((run_after s M events).held.net.cores i) x
+    WasAsked (failure_free s (formats_of s M) (rules_of s) M) (begin_run s) events i x →
+    IsInOnePlace (rules_of s) M i ((run_after s M events).state.net.cores i) x

@@ -110,7 +110,7 @@ pub record IsShown {Msg : Type 0} (s : Setup) (M : Module Msg) (events : List Ev
 -- A run that stopped shows its evidence (`shown`), and later events change nothing (`stays`).
 pub record HasEvidence {Msg : Type 0} (s : Setup) (M : Module Msg) (events : List Event) : Type 0 where
   pub shown : (k : ℕ) (end : End) → (course_after s M events).ended ≡ Some (k, end) →
-      IsShown s M events (course_after s M events).machines k end
+      IsShown s M events (course_after s M events).state k end
   pub stays : (k : ℕ) (end : End) → (course_after s M events).ended ≡ Some (k, end) → (more : List Event) →
       course_after s M (events ++ more) ≡ course_after s M events
 

@@ -8,23 +8,22 @@ use Rattle.iss_schedule.specs.declared.schedules.Event.{Event}
 use Rattle.iss_sb.specs.Evidence.{Module, is_correct}
 use Rattle.iss_composition.specs.Ordered.{Ordered}
 use Rattle.iss_rules.specs.Concrete.{rules_of}
-use Rattle.iss_rules.specs.Formats.{formats_of}
-use Rattle.iss_model.specs.Courses.{begin_course}
+use Rattle.iss_model.specs.Courses.{begin_course, driver_of}
 use Rattle.iss_model.specs.Runs.{AreAtCores, IsPrefix, pasts_of}
 use Rattle.iss_theorems.specs.Casts.{AreCastsAccepted}
 use Rattle.iss_theorems.specs.Certified.{AreCertified}
-use Rattle.iss_theorems.specs.Conserved.{IsInOnePlace}
+use Rattle.iss_theorems.specs.Conserved.{IsInOnePlace, WasAsked}
 use Rattle.iss_theorems.specs.Ends.{AreWritten, HasEvidence}
 use Rattle.iss_theorems.specs.Leaves.{AreOfJournals}
 pub use Rattle.iss_theorems.specs.OneLog.{AreOfCluster, AreOneLog, ClaimsAreApart, shown}
-pub use Rattle.iss_theorems.specs.Recovery.{Enters, WasAsked, course_after, held_after}
+pub use Rattle.iss_theorems.specs.Recovery.{Enters, course_after, held_after}
 
 -- rule: Recovery: A run with crashes refines the run of its kept events without crashes
 pub record IsWhole {Msg : Type 0} (s : Setup) (M : Module Msg) (events : List Event) : Type 0 where
   -- Crash recovery: the run equals a failure-free run of the events that were journaled.
   pub enters : Enters s M events
   -- One-time keys: cores, packets and book are those of the journals. No leaf of a correct node signs two statements.
-  pub journals : AreOfJournals s M (course_after s M events).machines
+  pub journals : AreOfJournals s M (course_after s M events).state
   -- Composition: moves of a cluster reach this state. So each instance is a broadcast, nodes that have begun an epoch
   -- have the same log before it, and the logs are prefixes of one log of valid batches. No instance's signature is of
   -- use in another.
@@ -38,7 +37,7 @@ pub record IsWhole {Msg : Type 0} (s : Setup) (M : Module Msg) (events : List Ev
       IsPrefix (shown s M (held_after s M events) i) (shown s M (held_after s M (events ++ more)) i)
   -- No loss: each request that a correct core accepted is in its log, waiting, or in flight, and in only one of these.
   pub conserved : (i : ℕ) → is_correct s i ≡ true → (x : ReqId) →
-      WasAsked s (formats_of s M) (rules_of s) M (begin_course s) events i x →
+      WasAsked (driver_of s M) (begin_course s) events i x →
       IsInOnePlace (rules_of s) M i ((held_after s M events).net.cores i) x
   -- Acceptance: what a core proposes its own judge accepts.
   pub casts : AreCastsAccepted s M (held_after s M events)

@@ -16,18 +16,19 @@ use Rattle.iss_composition.specs.Checkpoints.{scheme_of}
 use Rattle.iss_composition.specs.Cluster.{Cluster, Reach}
 use Rattle.iss_composition.specs.Ordered.{Among, IsExact, WasAccepted}
 use Rattle.iss_rules.specs.Concrete.{rules_of}
+use Rattle.iss_rules.specs.Formats.{formats_of}
 use Rattle.iss_rules.specs.SoundRules.{IsSoundRules}
 use Rattle.iss_rules.specs.Past.{log_of}
-use Rattle.iss_model.specs.Run.{Held, Progress, begin_run}
+use Rattle.iss_model.specs.Run.{Held, begin_run, failure_free}
 use Rattle.iss_model.specs.Runs.{IsPrefix, pasts_of}
-use Rattle.iss_model.specs.Frames.{frame_of, run_in}
+use Rattle.iss_model.specs.Driver.{Progress, run}
 
 -- the failure-free run of these events, and its state
-abbrev pub run_after : {Msg : Type 0} → Setup → Module Msg → List Event → Progress Msg
-run_after s M events = run_in (frame_of s M) (begin_run s) events
+abbrev pub run_after : {Msg : Type 0} → Setup → Module Msg → List Event → Progress (Held Msg)
+run_after s M events = run (failure_free s (formats_of s M) (rules_of s) M) (begin_run s) events
 
 abbrev pub free_after : {Msg : Type 0} → Setup → Module Msg → List Event → Held Msg
-free_after s M events = (run_after s M events).held
+free_after s M events = (run_after s M events).state
 
 -- the log of node i, oldest value first
 abbrev pub shown : {Msg : Type 0} → Setup → Module Msg → Held Msg → ℕ → List Value

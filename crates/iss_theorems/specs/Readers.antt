@@ -8,9 +8,8 @@ use Rattle.iss_sb.specs.Evidence.{Module}
 use Rattle.iss_schedule.specs.declared.schedules.Event.{Event}
 use Rattle.iss_schedule.specs.declared.schedules.Event.TheVariants.{Request as Event_request, Propose, Timeout as Event_timeout, Ask, Deliver, Lose, Pump, Calm, Hold, Free, Drop as Event_drop, Restart, Crash, Bytes}
 use Rattle.iss_rules.specs.Ends.{End}
-use Rattle.iss_model.specs.Courses.{Machines}
-use Rattle.iss_model.specs.CourseFrames.{delivers_in, pumps_in}
-use Rattle.iss_model.specs.Frames.{Frame, frame_of}
+use Rattle.iss_model.specs.Courses.{Machines, driver_of}
+use Rattle.iss_model.specs.Driver.{Driver, delivers, pumps}
 use Rattle.iss_theorems.specs.Recovery.{course_after}
 
 -- whether core i is the reader
@@ -28,24 +27,24 @@ reader_at None here later = later
 reader_at (Some end) here later = here
 
 -- of the delivery that ends the run, among these: the core that its packet is for
-abbrev pub reader_of_each : {Msg : Type 0} → Frame Msg → List ℕ → Machines Msg → Option ℕ
+abbrev pub reader_of_each : {Msg : Type 0} → Driver (Machines Msg) → List ℕ → Machines Msg → Option ℕ
 reader_of_each W [] w = None
 reader_of_each W (k ∷ ks) w =
-    let d = delivers_in W w k in
-    reader_at d.ended (addressee w k) (reader_of_each W ks d.machines)
+    let d = delivers W w k in
+    reader_at d.ended (addressee w k) (reader_of_each W ks d.state)
 
 -- the same among the deliveries of a pump, and of n pumps
-abbrev pub reader_of_pump : {Msg : Type 0} → Frame Msg → Machines Msg → Option ℕ
+abbrev pub reader_of_pump : {Msg : Type 0} → Driver (Machines Msg) → Machines Msg → Option ℕ
 reader_of_pump W w = reader_of_each W (due w.held.net.network) w
 
-abbrev pub reader_of_calm : {Msg : Type 0} → Frame Msg → ℕ → Machines Msg → Option ℕ
+abbrev pub reader_of_calm : {Msg : Type 0} → Driver (Machines Msg) → ℕ → Machines Msg → Option ℕ
 reader_of_calm W zero w = None
 reader_of_calm W (suc m) w =
-    let d = pumps_in W w in
-    reader_at d.ended (reader_of_pump W w) (reader_of_calm W m d.machines)
+    let d = pumps W w in
+    reader_at d.ended (reader_of_pump W w) (reader_of_calm W m d.state)
 
 -- The core that reads the evidence, if this event ends the run: the one that the event names, or that a packet is for.
-abbrev pub reader_of : {Msg : Type 0} → Frame Msg → Machines Msg → Event → Option ℕ
+abbrev pub reader_of : {Msg : Type 0} → Driver (Machines Msg) → Machines Msg → Event → Option ℕ
 reader_of W w (Event_request core client number payload) = Some core
 reader_of W w (Propose core) = Some core
 reader_of W w (Event_timeout core l) = Some core
@@ -61,7 +60,7 @@ reader_of W w (Restart core) = None
 reader_of W w (Crash core calls) = None
 reader_of W w (Bytes core bytes) = Some core
 
-abbrev pub reader_of_some : {Msg : Type 0} → Frame Msg → Machines Msg → Option Event → Option ℕ
+abbrev pub reader_of_some : {Msg : Type 0} → Driver (Machines Msg) → Machines Msg → Option Event → Option ℕ
 reader_of_some W w None = None
 reader_of_some W w (Some e) = reader_of W w e
 
@@ -69,7 +68,7 @@ reader_of_some W w (Some e) = reader_of W w e
 abbrev pub reader_until : {Msg : Type 0} → Setup → Module Msg → List Event → Option (ℕ × End) → Option ℕ
 reader_until s M events None = None
 reader_until s M events (Some at) =
-    reader_of_some (frame_of s M) (course_after s M (take at.0 events)).machines (nth events at.0)
+    reader_of_some (driver_of s M) (course_after s M (take at.0 events)).state (nth events at.0)
 
 abbrev pub reader_after : {Msg : Type 0} → Setup → Module Msg → List Event → Option ℕ
 reader_after s M events = reader_until s M events (course_after s M events).ended

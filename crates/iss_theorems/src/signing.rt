@@ -17,7 +17,7 @@ pub fn leaves_sign_once<M: Sequenced>()
     ensures node { (s : Setup) → IsSetupOf M.spec s → (me : ℕ) (deeds : List (Deed M.Msg)) →
         IsLife (frame_of s M.spec) me deeds → SignsOnceEach (frame_of s M.spec) me deeds }
     ensures runs { (s : Setup) → IsSetupOf M.spec s → (events : List Event) →
-        AreOfJournals s M.spec (course_after s M.spec events).machines }
+        AreOfJournals s M.spec (course_after s M.spec events).state }
 {
     M::laws();
 }

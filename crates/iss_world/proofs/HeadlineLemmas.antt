@@ -11,10 +11,9 @@ use Rattle.iss_model.specs.Frames.{frame_of}
 use Rattle.iss_model.specs.Runs.{AreAtCores}
 use Rattle.iss_request.specs.declared.setups.Setup.{Setup}
 use Rattle.iss_theorems.proofs.CrashRecovery.LostEventsAreNumbered.{after-more}
-use Rattle.iss_model.specs.Courses.{Course, run_event_if_open}
+use Rattle.iss_model.specs.Courses.{Course, driver_of}
+use Rattle.iss_model.specs.Driver.{run_event_if_open}
 use Rattle.iss_theorems.specs.Headline.{IsWhole, course_after}
-use Rattle.iss_rules.specs.Concrete.{rules_of}
-use Rattle.iss_rules.specs.Formats.{formats_of}
 use Rattle.iss_schedule.specs.Events.{AreInRange, IsInRange}
 use Rattle.iss_schedule.specs.declared.schedules.Event.{Event}
 use Rattle.iss_schedule.proofs.BadLines.PrefixesAreRead.{in_range_push}
@@ -32,7 +31,7 @@ module _ {M Msg : Type 0} (m : Module Msg) (refines : Relation M Msg) (s : Setup
 
   -- The run with one more event.
   abbrev pub further : List Event → Event → Course Msg
-  further es e = run_event_if_open (course_after s m es).ended s (formats_of s m) (rules_of s) m (course_after s m es) e
+  further es e = run_event_if_open (course_after s m es).ended (driver_of s m) (course_after s m es) e
 
   refines-there : (v : WorldState M Msg) (old new : Course Msg) (x : EventResult) → HasHappened m refines v old new x → IsAnswered x → RefinesRun m refines v new
   refines-there v old new Result_done h a = h.0
@@ -51,13 +50,13 @@ module _ {M Msg : Type 0} (m : Module Msg) (refines : Relation M Msg) (s : Setup
   module _ (wholes : (events : List Event) → AreAtCores s events → IsWhole s m events)
       (once : (me : ℕ) (entries : List (List ℕ)) → SignsOnceEach (frame_of s m) me (deeds_of s m me entries)) where
     -- the journals of a world that refines a run
-    journals-then : (v : WorldState M Msg) (p : Course Msg) (o : Option (ℕ × End)) → RefinesRunUntil m refines v p.machines o → (i : ℕ) (g : KeptState M Msg MemoryDisk) →
-        slice_get v.simulation.nodes i ≡ Some g → HoldsKept g.entries (p.machines.disks i) o
+    journals-then : (v : WorldState M Msg) (p : Course Msg) (o : Option (ℕ × End)) → RefinesRunUntil m refines v p.state o → (i : ℕ) (g : KeptState M Msg MemoryDisk) →
+        slice_get v.simulation.nodes i ≡ Some g → HoldsKept g.entries (p.state.disks i) o
     journals-then v p None k i g at = (k.simulation.cores i g at).entries
     journals-then v p (Some end) k i g at = elim (eqb_tells i k.left.core) [
       | inr t ↦ inl (k.left.others i g at t.1).entries
       | inl t ↦
-          let P : ℕ → Type 0 = λ n. HoldsKept g.entries (p.machines.disks n) (Some end) in
+          let P : ℕ → Type 0 = λ n. HoldsKept g.entries (p.state.disks n) (Some end) in
           subst P (sym t.1) (k.left.there g (subst (λ (n : ℕ). slice_get v.simulation.nodes n ≡ Some g) t.1 at)).entries
     ]
 

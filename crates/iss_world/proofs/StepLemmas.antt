@@ -14,9 +14,8 @@ use Rattle.iss_rules.specs.Setups.{IsSetupOf}
 use Rattle.iss_log.specs.LogState.{GoesOn}
 use Rattle.iss_model.specs.Node.{Core, Dropped, Stepped, Taken, Turn, step}
 use Rattle.iss_rules.specs.Past.{log_of}
-use Rattle.iss_rules.specs.Rules.{Rules}
 use Rattle.iss_rules.specs.Ends.{End, Forged}
-use Rattle.iss_model.specs.Run.{Happening, Held, after_step, at_core, booked, by_collision, by_forged, claims_at, collision_in, done, early_of, ended_by, first_forged, node_of, posted_all, turned_to}
+use Rattle.iss_model.specs.Run.{Held, after_step, at_core, booked, by_collision, by_forged, claims_at, collision_in, early_of, first_forged, node_of, posted_all, turned_to}
 use Rattle.iss_rules.specs.declared.events.NodeEvent.{NodeEvent}
 use Rattle.iss_rules.specs.declared.events.Why.{Why}
 use Rattle.iss_rules.specs.declared.events.Why.TheVariants.{Stopped}
@@ -31,8 +30,9 @@ use Rattle.iss_node.specs.declared.answers.Outcome.{Outcome}
 use Rattle.iss_request.specs.declared.ids.NodeId.{NodeId}
 use Rattle.iss_request.specs.declared.requests.Value.{Value}
 use Rattle.iss_request.specs.declared.setups.Setup.{Setup}
-use Rattle.iss_model.specs.Courses.{Machines, Upshot, at_machine, by_step, core_of as core_of_kept, machines_done, machines_lost, recover, stops, with_disk, with_disks}
+use Rattle.iss_model.specs.Courses.{Machines, at_machine, by_step, core_of as core_of_kept, recover, stops, with_disk, with_disks}
 use Rattle.iss_model.specs.Disks.{Disk, fails, fused, keeps, may_keep, works_again}
+use Rattle.iss_model.specs.Driver.{Upshot, done, ended_by, lost_by}
 use Rattle.iss_sb.specs.declared.effects.Claim.{Claim}
 use Rattle.iss_sb.specs.declared.effects.To.{To}
 use Rattle.iss_sb.specs.Calls.{AreToNodes, Relation}
@@ -154,15 +154,15 @@ module _ {Msg : Type 0} (m : Module Msg) (s : Setup) (F : Formats Msg) (w : Mach
   abbrev its_step : Stepped Msg
   its_step = step F (rules_of s) m (node_of s c) (w.held.net.cores c) event
 
-  abbrev ended_with : Claim → Upshot Msg
-  ended_with claim = record { machines = w; lost = None; ended = Some (Forged claim) }
+  abbrev ended_with : Claim → Upshot (Machines Msg)
+  ended_with claim = record { state = w; lost = None; ended = Some (Forged claim) }
 
   -- A core whose disk has failed takes no event.
-  pub machine-stopped : (w.disks c).failed ≡ true → at_machine s F (rules_of s) m w c event ≡ machines_lost w Stopped
-  machine-stopped e = ap (λ (b : Bool). cond b (machines_lost w Stopped) (by_step s F (rules_of s) m w c event its_step)) e
+  pub machine-stopped : (w.disks c).failed ≡ true → at_machine s F (rules_of s) m w c event ≡ lost_by w Stopped
+  machine-stopped e = ap (λ (b : Bool). cond b (lost_by w Stopped) (by_step s F (rules_of s) m w c event its_step)) e
 
   machine-goes : (w.disks c).failed ≡ false → at_machine s F (rules_of s) m w c event ≡ by_step s F (rules_of s) m w c event its_step
-  machine-goes e = ap (λ (b : Bool). cond b (machines_lost w Stopped) (by_step s F (rules_of s) m w c event its_step)) e
+  machine-goes e = ap (λ (b : Bool). cond b (lost_by w Stopped) (by_step s F (rules_of s) m w c event its_step)) e
 
   module _ (claims : List Claim) (are : claims ≡ claims_at F (rules_of s) m (node_of s c) (w.held.net.cores c) event) (working : (w.disks c).failed ≡ false) where
     abbrev room : Bool
@@ -174,11 +174,11 @@ module _ {Msg : Type 0} (m : Module Msg) (s : Setup) (F : Formats Msg) (w : Mach
 
     forged-step : (claim : Claim) → Some claim ≡ first_forged s (rules_of s) w.held.signed claims → (o : Stepped Msg) →
         by_step s F (rules_of s) m w c event o ≡ ended_with claim
-    forged-step claim is (Dropped why) = ap (λ (d : Happening Msg). with_disks w w.disks d) (at-forged m s F w.held c event claims are claim is)
+    forged-step claim is (Dropped why) = ap (λ (d : Upshot (Held Msg)). with_disks w w.disks d) (at-forged m s F w.held c event claims are claim is)
     forged-step claim is (Taken turn) =
         either room (with_disks w (kept_at w c event) (at_core s F (rules_of s) m w.held c event))
         (stops (first_forged s (rules_of s) w.held.signed (claims_at F (rules_of s) m (node_of s c) (w.held.net.cores c) event)) w c) (ended_with claim)
-        (ap (λ (d : Happening Msg). with_disks w (kept_at w c event) d) (at-forged m s F w.held c event claims are claim is))
+        (ap (λ (d : Upshot (Held Msg)). with_disks w (kept_at w c event) d) (at-forged m s F w.held c event claims are claim is))
         (ap (λ (o : Option Claim). stops o w c) (first-is (Some claim) (sym is)))
 
     -- The event claims a forged signature.
@@ -188,9 +188,9 @@ module _ {Msg : Type 0} (m : Module Msg) (s : Setup) (F : Formats Msg) (w : Mach
     kept-step : first_forged s (rules_of s) w.held.signed claims ≡ None → (o : Stepped Msg) → its_step ≡ o →
         by_step s F (rules_of s) m w c event o ≡ kept_to s w c event o
     kept-step none (Dropped why) q =
-        ap (λ (d : Happening Msg). with_disks w w.disks d) (at-stepped m s F w.held c event claims are none ∙ ap (λ (o : Stepped Msg). stepped_to s w.held c o) q)
+        ap (λ (d : Upshot (Held Msg)). with_disks w w.disks d) (at-stepped m s F w.held c event claims are none ∙ ap (λ (o : Stepped Msg). stepped_to s w.held c o) q)
     kept-step none (Taken turn) q =
-        ap (λ (d : Happening Msg). cond room (with_disks w (kept_at w c event) d)
+        ap (λ (d : Upshot (Held Msg)). cond room (with_disks w (kept_at w c event) d)
         (stops (first_forged s (rules_of s) w.held.signed (claims_at F (rules_of s) m (node_of s c) (w.held.net.cores c) event)) w c))
         (at-stepped m s F w.held c event claims are none ∙ ap (λ (o : Stepped Msg). stepped_to s w.held c o) q)
         ∙ ap (λ (o : Option Claim). cond room (with_disks w (kept_at w c event) (stepped_to s w.held c (Taken turn))) (stops o w c)) (first-is None none)
@@ -321,12 +321,12 @@ module _ {M Msg : Type 0} (m : Module Msg) (refines : Relation M Msg) where
 
     -- A disk that is going to fail.
     pub crashed : (w : Machines Msg) (calls : ℕ) → RefinesMachines m refines v w → RefinesMachine m refines later (w.held.net.cores i) (fused (w.disks i) calls) →
-        HasChanged m refines None v_later (machines_done (with_disk w i (fused (w.disks i) calls))) Done
+        HasChanged m refines None v_later (done (with_disk w i (fused (w.disks i) calls))) Done
     crashed w calls st here = (runs-disk w (fused (w.disks i) calls) st here, refl, refl)
 
     -- A core that is recovered.
     pub remade-runs : (w : Machines Msg) → RefinesMachines m refines v w → RefinesMachine m refines later (w.held.net.cores i) (works_again (w.disks i)) →
-        HasChanged m refines None v_later (machines_done (recover v.setup (formats_of v.setup m) (rules_of v.setup) m w i)) Done
+        HasChanged m refines None v_later (done (recover v.setup (formats_of v.setup m) (rules_of v.setup) m w i)) Done
     remade-runs w st here =
         let kept : List NodeEvent = (w.disks i).kept in
         let c : Core Msg = core_of_kept (formats_of v.setup m) (rules_of v.setup) m (node_of v.setup i) kept in
@@ -394,9 +394,9 @@ module _ {M Msg : Type 0} (m : Module Msg) (refines : Relation M Msg) where
       step-stopped is w st working =
           let t = answer-is w st working Failed is in
           let taken : step_here w ≡ Taken t.turn = same-step w ∙ t.step_is in
-          let stopped : kept_to v.setup w i event (Taken t.turn) ≡ machines_lost (with_disk w i (fails (w.disks i))) Stopped =
-          ap (λ (b : Bool). cond b (with_disks w (kept_at w i event) (stepped_to v.setup w.held i (Taken t.turn))) (machines_lost (with_disk w i (fails (w.disks i))) Stopped)) t.no_room in
-          subst (λ (u : Upshot Msg). HasChanged m refines (Some i) (v_later v i g later r lt at) u (Lost Stopped)) (sym (ap (λ (s : Stepped Msg). kept_to v.setup w i event s) taken ∙ stopped))
+          let stopped : kept_to v.setup w i event (Taken t.turn) ≡ lost_by (with_disk w i (fails (w.disks i))) Stopped =
+          ap (λ (b : Bool). cond b (with_disks w (kept_at w i event) (stepped_to v.setup w.held i (Taken t.turn))) (lost_by (with_disk w i (fails (w.disks i))) Stopped)) t.no_room in
+          subst (λ (u : Upshot (Machines Msg)). HasChanged m refines (Some i) (v_later v i g later r lt at) u (Lost Stopped)) (sym (ap (λ (s : Stepped Msg). kept_to v.setup w i event s) taken ∙ stopped))
           (runs-disk v i g later r lt at w (fails (w.disks i)) st t.over, refl, refl)
 
       -- The event was accepted and journaled.
@@ -458,8 +458,8 @@ module _ {M Msg : Type 0} (m : Module Msg) (refines : Relation M Msg) where
             let t = turn-kept in
             let taken : step_here w ≡ Taken t.turn = same-step w ∙ t.step_is in
             let kept : kept_to v.setup w i event (Taken t.turn) ≡ with_disks w (kept_at w i event) (stepped_to v.setup w.held i (Taken t.turn)) =
-            ap (λ (b : Bool). cond b (with_disks w (kept_at w i event) (stepped_to v.setup w.held i (Taken t.turn))) (machines_lost (with_disk w i (fails (w.disks i))) Stopped)) t.room in
-            subst (λ (u : Upshot Msg). HasChanged m refines (Some i) new u x) (sym (ap (λ (s : Stepped Msg). kept_to v.setup w i event s) taken ∙ kept)) k
+            ap (λ (b : Bool). cond b (with_disks w (kept_at w i event) (stepped_to v.setup w.held i (Taken t.turn))) (lost_by (with_disk w i (fails (w.disks i))) Stopped)) t.room in
+            subst (λ (u : Upshot (Machines Msg)). HasChanged m refines (Some i) new u x) (sym (ap (λ (s : Stepped Msg). kept_to v.setup w i event s) taken ∙ kept)) k
 
   -- ---- the effect of a turn
 
@@ -510,7 +510,7 @@ module _ {M Msg : Type 0} (m : Module Msg) (refines : Relation M Msg) where
           HasChanged m refines (Some i) (record { setup = v.setup; nodes = set v.nodes i later; network = net; signed = signed; hashed = hashed })
           (with_disks w behind-it (stepped_to v.setup w.held i (Taken t))) (Ended end)
       turn-ended outcome end made is =
-          subst (λ (d : Happening Msg). HasChanged m refines (Some i) (record { setup = v.setup; nodes = set v.nodes i later; network = net; signed = signed; hashed = hashed })
+          subst (λ (d : Upshot (Held Msg)). HasChanged m refines (Some i) (record { setup = v.setup; nodes = set v.nodes i later; network = net; signed = signed; hashed = hashed })
           (with_disks w behind-it d) (Ended end))
           (sym (turn-ends v.setup w.held i t (end_of end) (sym (is ∙ made-ends v.setup w.held t outcome made))))
           (left-so, refl, refl)
@@ -521,7 +521,7 @@ module _ {M Msg : Type 0} (m : Module Msg) (refines : Relation M Msg) where
         HasChanged m refines (Some i) (record { setup = v.setup; nodes = v.nodes; network = net; signed = signed; hashed = hashed })
         (with_disks w behind-it (stepped_to v.setup w.held i (Taken t))) Done
     turn-refines outcome net signed hashed made none en es eh =
-        subst (λ (d : Happening Msg). HasChanged m refines (Some i) (record { setup = v.setup; nodes = v.nodes; network = net; signed = signed; hashed = hashed }) (with_disks w behind-it d) Done)
+        subst (λ (d : Upshot (Held Msg)). HasChanged m refines (Some i) (record { setup = v.setup; nodes = v.nodes; network = net; signed = signed; hashed = hashed }) (with_disks w behind-it d) Done)
         (sym (turn-done v.setup w.held i t (sym (made-ends v.setup w.held t outcome made) ∙ none))) (
           record {
             cores = b.cores;

@@ -62,7 +62,7 @@ HoldsKept entries d (Some at) = (entries ≡ spelled d.kept)
 -- by `IsWhole`.
 abbrev pub HoldKept : {M Msg : Type 0} → WorldState M Msg → Course Msg → Type 0
 HoldKept {M = M} {Msg = Msg} v p = (i : ℕ) (g : KeptState M Msg MemoryDisk) → slice_get v.simulation.nodes i ≡ Some g →
-    HoldsKept g.entries (p.machines.disks i) p.ended
+    HoldsKept g.entries (p.state.disks i) p.ended
 
 -- The headline. The world refines the run of these events, up to the evidence that stopped it, if any (`run`). The
 -- theorems of composition and recovery hold for that run (`whole`). Correct nodes number requests alike (`numbers`).

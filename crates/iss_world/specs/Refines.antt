@@ -16,12 +16,11 @@ use Rattle.iss_model.specs.Node.{Core, initial_core}
 use Rattle.iss_model.specs.Run.{Held, node_of}
 use Rattle.iss_request.specs.declared.requests.Value.{Value}
 use Rattle.iss_request.specs.declared.setups.Setup.{Setup}
-use Rattle.iss_model.specs.CourseFrames.{apply_event_in}
-use Rattle.iss_model.specs.Frames.{Frame}
 use Rattle.iss_schedule.specs.declared.schedules.Event.{Event}
 use Rattle.iss_theorems.specs.Readers.{is_reader, reader_at, reader_of}
-use Rattle.iss_model.specs.Courses.{Course, Machines, Upshot, core_of as core_of_kept}
+use Rattle.iss_model.specs.Courses.{Course, Machines, core_of as core_of_kept}
 use Rattle.iss_model.specs.Disks.{Disk, new_disk}
+use Rattle.iss_model.specs.Driver.{Driver, Upshot, apply_event}
 use Rattle.iss_rules.specs.Concrete.{rules_of}
 use Rattle.iss_rules.specs.Formats.{formats_of}
 use Rattle.iss_rules.specs.Past.{log_of}
@@ -140,11 +139,11 @@ end_of (Evidence_collision first second) = Collision first second
 -- The simulation refines the state after the event, with its reason of loss if it was lost. If the event revealed
 -- evidence, all of the simulation but the core that read it still refines the state from before that delivery.
 abbrev pub HasChanged : {M Msg : Type 0} → Module Msg → Relation M Msg → Option ℕ → SimulationState M Msg →
-    Upshot Msg → EventOutcome → Type 0
-HasChanged m refines reader v d Done = RefinesMachines m refines v d.machines × (d.lost ≡ None) × (d.ended ≡ None)
-HasChanged m refines reader v d (Lost why) = RefinesMachines m refines v d.machines × (d.lost ≡ Some why)
+    Upshot (Machines Msg) → EventOutcome → Type 0
+HasChanged m refines reader v d Done = RefinesMachines m refines v d.state × (d.lost ≡ None) × (d.ended ≡ None)
+HasChanged m refines reader v d (Lost why) = RefinesMachines m refines v d.state × (d.lost ≡ Some why)
     × (d.ended ≡ None)
-HasChanged m refines reader v d (Ended end) = IsLeftBy m refines reader v d.machines × (d.lost ≡ None)
+HasChanged m refines reader v d (Ended end) = IsLeftBy m refines reader v d.state × (d.lost ≡ None)
     × (d.ended ≡ Some (end_of end))
 
 -- The simulation refines some state of the model.
@@ -186,7 +185,7 @@ RefinesRunUntil m refines v w (Some at) = HasEnded m refines v w at.1
 
 -- The world refines this run, stopped or not.
 abbrev pub RefinesRun : {M Msg : Type 0} → Module Msg → Relation M Msg → WorldState M Msg → Course Msg → Type 0
-RefinesRun m refines v p = RefinesRunUntil m refines v p.machines p.ended
+RefinesRun m refines v p = RefinesRunUntil m refines v p.state p.ended
 
 -- A core's kept node is stale exactly where its disk has failed, or where it read the evidence that ended the run.
 -- rule: Evidence: Of all cores the one that read the evidence is stale, and those whose disk has failed
@@ -195,10 +194,10 @@ AreStale {M = M} {Msg = Msg} v w reader = (i : ℕ) (g : KeptState M Msg MemoryD
     slice_get v.simulation.nodes i ≡ Some g → g.stale ≡ ((w.disks i).failed || is_reader reader i)
 
 -- So after one more event of a run that had not ended.
-abbrev pub AreStaleBehind : {M Msg : Type 0} → Frame Msg → Course Msg → Event → WorldState M Msg → Type 0
+abbrev pub AreStaleBehind : {M Msg : Type 0} → Driver (Machines Msg) → Course Msg → Event → WorldState M Msg → Type 0
 AreStaleBehind W p e v =
-    let d = apply_event_in W p.machines e in
-    AreStale v d.machines (reader_at d.ended (reader_of W p.machines e) None)
+    let d = apply_event W p.state e in
+    AreStale v d.state (reader_at d.ended (reader_of W p.state e) None)
 
 -- A world that has not run out of memory.
 abbrev pub awake : {M Msg : Type 0} → SimulationState M Msg → Option Evidence → WorldState M Msg

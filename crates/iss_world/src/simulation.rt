@@ -2,10 +2,9 @@
 ghost use Rattle.std.specs.Prelude.{◌≡◌, ◌<◌, IfOk, None, Some, reverse, slice_get, true, false};
 ghost use Rattle.iss_base.specs.Lists.{nth};
 ghost use Rattle.iss_model.specs.Run.{cores_of, node_of};
-ghost use Rattle.iss_model.specs.Frames.{frame_of};
-ghost use Rattle.iss_model.specs.Courses.{Machines, begin_machines, loses, machines_done, with_disk, with_packets};
+ghost use Rattle.iss_model.specs.Courses.{Machines, begin_machines, with_disk, with_packets, driver_of};
 ghost use Rattle.iss_model.specs.Disks.{fused};
-ghost use Rattle.iss_model.specs.CourseFrames.{apply_event_in, calms_in, delivers_each_in, delivers_in, injects_in, pumps_in, recover_in};
+ghost use Rattle.iss_model.specs.Driver.{apply_event, calms, delivers, delivers_each, done, injects, loses, pumps};
 ghost use Rattle.iss_rules.specs.Setups.{IsSetupOf};
 ghost use Rattle.iss_network.specs.Network.{cleared, due, held_to};
 ghost use Rattle.iss_schedule.specs.Events.{IsInRange};
@@ -90,8 +89,8 @@ impl<M: Sequenced> Simulation<M> {
         requires range { IsInRange self.old.setup event.now }
         requires standing { RefinesSome M.spec M.refines self.old }
         ensures happened { IfOk result (λ r. (w : Machines M.Msg) → RefinesMachines M.spec M.refines self.old w →
-            HasChanged M.spec M.refines (reader_of (frame_of self.old.setup M.spec) w event.now) self.new
-            (apply_event_in (frame_of self.old.setup M.spec) w event.now) r) }
+            HasChanged M.spec M.refines (reader_of (driver_of self.old.setup M.spec) w event.now) self.new
+            (apply_event (driver_of self.old.setup M.spec) w event.now) r) }
         ensures same { self.new.setup ≡ self.old.setup }
     {
         match event {
@@ -137,7 +136,7 @@ impl<M: Sequenced> Simulation<M> {
         requires standing { RefinesSome M.spec M.refines self.old }
         ensures happened { IfOk result (λ r. (w : Machines M.Msg) → RefinesMachines M.spec M.refines self.old w →
             HasChanged M.spec M.refines (Some core) self.new
-            (apply_event_in (frame_of self.old.setup M.spec) w (Event.Request core id.client id.number payload.now))
+            (apply_event (driver_of self.old.setup M.spec) w (Event.Request core id.client id.number payload.now))
             r) }
         ensures same { self.new.setup ≡ self.old.setup }
     {
@@ -153,7 +152,7 @@ impl<M: Sequenced> Simulation<M> {
         requires { RefinesSome M.spec M.refines self.old }
         ensures happened { IfOk result (λ r. (w : Machines M.Msg) → RefinesMachines M.spec M.refines self.old w →
             HasChanged M.spec M.refines (addressee w packet) self.new
-            (delivers_in (frame_of self.old.setup M.spec) w packet) r) }
+            (delivers (driver_of self.old.setup M.spec) w packet) r) }
         ensures same { self.new.setup ≡ self.old.setup }
     {
         let Some(sent) = self.network.packet(packet) else {
@@ -170,7 +169,7 @@ impl<M: Sequenced> Simulation<M> {
     fn lose(&mut self, packet: u64) -> EventOutcome
         ensures happened { (w : Machines M.Msg) → RefinesMachines M.spec M.refines self.old w →
             HasChanged M.spec M.refines None self.new
-            (loses w packet (nth w.held.net.network.packets packet)) result }
+            (loses (driver_of self.old.setup M.spec) w packet (nth w.held.net.network.packets packet)) result }
         ensures same { self.new.setup ≡ self.old.setup }
     {
         match self.network.packet(packet) {
@@ -194,8 +193,8 @@ impl<M: Sequenced> Simulation<M> {
     fn pump(&mut self, alloc: Global) -> Result<EventOutcome, NoMemory>
         requires { RefinesSome M.spec M.refines self.old }
         ensures happened { IfOk result (λ r. (w : Machines M.Msg) → RefinesMachines M.spec M.refines self.old w →
-            HasChanged M.spec M.refines (reader_of_pump (frame_of self.old.setup M.spec) w) self.new
-            (pumps_in (frame_of self.old.setup M.spec) w) r) }
+            HasChanged M.spec M.refines (reader_of_pump (driver_of self.old.setup M.spec) w) self.new
+            (pumps (driver_of self.old.setup M.spec) w) r) }
         ensures same { self.new.setup ≡ self.old.setup }
     {
         let packets = self.due(alloc)?;
@@ -206,8 +205,8 @@ impl<M: Sequenced> Simulation<M> {
     fn deliver_each(&mut self, alloc: Global, packets: &[u64]) -> Result<EventOutcome, NoMemory>
         requires { RefinesSome M.spec M.refines self.old }
         ensures happened { IfOk result (λ r. (w : Machines M.Msg) → RefinesMachines M.spec M.refines self.old w →
-            HasChanged M.spec M.refines (reader_of_each (frame_of self.old.setup M.spec) packets.now w) self.new
-            (delivers_each_in (frame_of self.old.setup M.spec) packets.now w) r) }
+            HasChanged M.spec M.refines (reader_of_each (driver_of self.old.setup M.spec) packets.now w) self.new
+            (delivers_each (driver_of self.old.setup M.spec) packets.now w) r) }
         ensures same { self.new.setup ≡ self.old.setup }
     {
         for packet in packets {
@@ -223,8 +222,8 @@ impl<M: Sequenced> Simulation<M> {
     fn calm(&mut self, alloc: Global, most: u32) -> Result<EventOutcome, NoMemory>
         requires { RefinesSome M.spec M.refines self.old }
         ensures happened { IfOk result (λ r. (w : Machines M.Msg) → RefinesMachines M.spec M.refines self.old w →
-            HasChanged M.spec M.refines (reader_of_calm (frame_of self.old.setup M.spec) most w) self.new
-            (calms_in (frame_of self.old.setup M.spec) most w) r) }
+            HasChanged M.spec M.refines (reader_of_calm (driver_of self.old.setup M.spec) most w) self.new
+            (calms (driver_of self.old.setup M.spec) most w) r) }
         ensures same { self.new.setup ≡ self.old.setup }
     {
         for done in 0..most {
@@ -244,7 +243,7 @@ impl<M: Sequenced> Simulation<M> {
         requires { core < cores_of self.old.setup }
         ensures happened { (w : Machines M.Msg) → RefinesMachines M.spec M.refines self.old w →
             HasChanged M.spec M.refines None self.new
-            (machines_done (with_packets w (held_to w.held.net.network core true))) result }
+            (done (with_packets w (held_to w.held.net.network core true))) result }
         ensures same { self.new.setup ≡ self.old.setup }
     {
         self.network.hold(core);
@@ -256,7 +255,7 @@ impl<M: Sequenced> Simulation<M> {
         requires { core < cores_of self.old.setup }
         ensures happened { (w : Machines M.Msg) → RefinesMachines M.spec M.refines self.old w →
             HasChanged M.spec M.refines None self.new
-            (machines_done (with_packets w (held_to w.held.net.network core false))) result }
+            (done (with_packets w (held_to w.held.net.network core false))) result }
         ensures same { self.new.setup ≡ self.old.setup }
     {
         self.network.free(core);
@@ -268,7 +267,7 @@ impl<M: Sequenced> Simulation<M> {
         requires { core < cores_of self.old.setup }
         ensures happened { (w : Machines M.Msg) → RefinesMachines M.spec M.refines self.old w →
             HasChanged M.spec M.refines None self.new
-            (machines_done (with_packets w (cleared w.held.net.network core))) result }
+            (done (with_packets w (cleared w.held.net.network core))) result }
         ensures same { self.new.setup ≡ self.old.setup }
     {
         self.network.drop_for(core);
@@ -283,7 +282,7 @@ impl<M: Sequenced> Simulation<M> {
         requires standing { RefinesSome M.spec M.refines self.old }
         ensures happened { IfOk result (λ r. (w : Machines M.Msg) → RefinesMachines M.spec M.refines self.old w →
             HasChanged M.spec M.refines None self.new
-            (machines_done (recover_in (frame_of self.old.setup M.spec) w core)) r) }
+            ((driver_of self.old.setup M.spec).restart w core) r) }
         ensures same { self.new.setup ≡ self.old.setup }
     {
         let node = &mut self.nodes[core as usize];
@@ -298,7 +297,7 @@ impl<M: Sequenced> Simulation<M> {
         requires { core < cores_of self.old.setup }
         ensures happened { (w : Machines M.Msg) → RefinesMachines M.spec M.refines self.old w →
             HasChanged M.spec M.refines None self.new
-            (machines_done (with_disk w core (fused (w.disks core) calls))) result }
+            (done (with_disk w core (fused (w.disks core) calls))) result }
         ensures same { self.new.setup ≡ self.old.setup }
     {
         self.nodes[core as usize].fuse(calls as u64);
@@ -312,7 +311,7 @@ impl<M: Sequenced> Simulation<M> {
         requires standing { RefinesSome M.spec M.refines self.old }
         ensures happened { IfOk result (λ r. (w : Machines M.Msg) → RefinesMachines M.spec M.refines self.old w →
             HasChanged M.spec M.refines (Some core) self.new
-            (injects_in (frame_of self.old.setup M.spec) w core bytes.now) r) }
+            (injects (driver_of self.old.setup M.spec) w core bytes.now) r) }
         ensures same { self.new.setup ≡ self.old.setup }
     {
         let _ = &self.setup;

@@ -12,9 +12,8 @@ ghost use Rattle.iss_disk.specs.declared.memory.MemoryDisk.{MemoryDisk};
 ghost use Rattle.iss_keep.specs.State.{KeptRefinesCore, KeptState};
 ghost use Rattle.iss_keep.specs.Steps.{IsSame};
 ghost use Rattle.iss_node.specs.Steps.{IsMade, IsOfNodes};
-ghost use Rattle.iss_model.specs.Courses.{Machines, with_disks};
+ghost use Rattle.iss_model.specs.Courses.{Machines, with_disks, driver_of};
 ghost use Rattle.iss_model.specs.Disks.{Disk};
-ghost use Rattle.iss_model.specs.CourseFrames.{at_machine_in};
 ghost use Rattle.iss_sb.specs.Calls.{AreToNodes};
 ghost use Rattle.iss_world.specs.Books.{AreHashed, AreSigned};
 ghost use Rattle.iss_world.specs.Refines.{HasChanged, IsLeftBy, RefinesMachine, RefinesMachines, RefinesSome, end_of};
@@ -115,7 +114,7 @@ impl<M: Sequenced> Simulation<M> {
         requires standing { RefinesSome M.spec M.refines self.old }
         ensures happened { IfOk result (λ r. (w : Machines M.Msg) → RefinesMachines M.spec M.refines self.old w →
             HasChanged M.spec M.refines (Some core) self.new
-            (at_machine_in (frame_of self.old.setup M.spec) w core event) r) }
+            ((driver_of self.old.setup M.spec).takes w core event) r) }
         ensures same { self.new.setup ≡ self.old.setup }
     {
         let node = &self.nodes[core as usize];

@@ -1,9 +1,8 @@
 //! The world of a cluster, with the evidence that stopped its run and whether memory ran out.
 ghost use Rattle.std.specs.Prelude.{◌≡◌, ◌<◌, ◌++◌, ◌∷◌, [], IfOk, List, None, OnOk, Some, reverse, slice_get};
 ghost use Rattle.iss_model.specs.Run.{cores_of, node_of};
-ghost use Rattle.iss_model.specs.Frames.{frame_of};
-ghost use Rattle.iss_model.specs.Courses.{Course, Machines, begin_machines};
-ghost use Rattle.iss_model.specs.CourseFrames.{run_event_if_open_in};
+ghost use Rattle.iss_model.specs.Courses.{Course, Machines, begin_machines, driver_of};
+ghost use Rattle.iss_model.specs.Driver.{run_event, run_event_if_open};
 ghost use Rattle.iss_rules.specs.Setups.{IsSetupOf};
 ghost use Rattle.iss_schedule.specs.Events.{AreInRange, IsInRange};
 ghost use Rattle.iss_schedule.specs.declared.schedules.Event.{Event as ScheduleEvent};
@@ -103,9 +102,9 @@ impl<M: Sequenced> World<M> {
         requires { IsInRange self.old.simulation.setup event.now }
         ensures happened { (p : Course M.Msg) → RefinesRun M.spec M.refines self.old p →
             HasHappened M.spec M.refines self.new p
-            (run_event_if_open_in (frame_of self.old.simulation.setup M.spec) p event.now) result }
+            (run_event_if_open p.ended (driver_of self.old.simulation.setup M.spec) p event.now) result }
         ensures silent { (p : Course M.Msg) → RefinesRun M.spec M.refines self.old p → p.ended ≡ None →
-            IsAnswered result → AreStaleBehind (frame_of self.old.simulation.setup M.spec) p event.now self.new }
+            IsAnswered result → AreStaleBehind (driver_of self.old.simulation.setup M.spec) p event.now self.new }
         ensures headline { (events : List ScheduleEvent) → AreInRange self.old.simulation.setup events →
             RefinesEvents self.old.simulation.setup M.spec M.refines self.old events → IsAnswered result →
             IsHeadline self.old.simulation.setup M.spec M.refines self.new (events ++ event.now ∷ []) }
@@ -146,7 +145,7 @@ impl<M: Sequenced> World<M> {
             RefinesMachine M.spec M.refines result.now (w.held.net.cores core) (w.disks core) }
         ensures left { (p : Course M.Msg) → RefinesRun M.spec M.refines self.now p →
             RefinesOrRetreated M.spec M.refines self.now.simulation.setup (node_of self.now.simulation.setup core)
-            result.now (p.machines.held.net.cores core) (p.machines.disks core) }
+            result.now (p.state.held.net.cores core) (p.state.disks core) }
         ensures same { (result.now.setup ≡ self.now.simulation.setup)
             × (result.now.me.0 ≡ node_of self.now.simulation.setup core) }
     {
@@ -157,7 +156,7 @@ impl<M: Sequenced> World<M> {
     /// Evidence leaves those from before its event.
     pub fn packets(&self) -> &[Sent]
         ensures refines { (p : Course M.Msg) → RefinesRun M.spec M.refines self.now p →
-            result.now ≡ p.machines.held.net.network.packets }
+            result.now ≡ p.state.held.net.network.packets }
         ensures between { AreBetweenCores (cores_of self.now.simulation.setup) result.now }
     {
         self.simulation.packets()
@@ -167,7 +166,7 @@ impl<M: Sequenced> World<M> {
     pub fn log(&self, core: u32) -> &Log
         requires { core < cores_of self.now.simulation.setup }
         ensures { (p : Course M.Msg) → RefinesRun M.spec M.refines self.now p →
-            log_at self.now.simulation.setup M.spec p.machines.held core ≡ reverse result.now.entries }
+            log_at self.now.simulation.setup M.spec p.state.held core ≡ reverse result.now.entries }
     {
         self.simulation.log(core)
     }
@@ -176,7 +175,7 @@ impl<M: Sequenced> World<M> {
     pub fn entries(&self, core: u32) -> &[Value]
         requires { core < cores_of self.now.simulation.setup }
         ensures { (p : Course M.Msg) → RefinesRun M.spec M.refines self.now p →
-            log_at self.now.simulation.setup M.spec p.machines.held core ≡ reverse result.now }
+            log_at self.now.simulation.setup M.spec p.state.held core ≡ reverse result.now }
     {
         self.simulation.entries(core)
     }
@@ -185,7 +184,7 @@ impl<M: Sequenced> World<M> {
     pub fn epoch(&self, core: u32) -> Epoch
         requires { core < cores_of self.now.simulation.setup }
         ensures { (p : Course M.Msg) → RefinesRun M.spec M.refines self.now p →
-            result.0 ≡ (p.machines.held.net.cores core).past.epoch }
+            result.0 ≡ (p.state.held.net.cores core).past.epoch }
     {
         self.simulation.epoch(core)
     }
@@ -203,9 +202,9 @@ fn run_event<M: Sequenced>(
     ensures happened { IfOk result
         (λ r. (p : Course M.Msg) → RefinesRun M.spec M.refines (awake simulation.old ended.old) p →
         HasHappened M.spec M.refines (awake simulation.new ended.new) p
-        (run_event_if_open_in (frame_of simulation.old.setup M.spec) p event.now) r) }
+        (run_event_if_open p.ended (driver_of simulation.old.setup M.spec) p event.now) r) }
     ensures silent { OnOk result ((p : Course M.Msg) → RefinesRun M.spec M.refines (awake simulation.old ended.old) p →
-        p.ended ≡ None → AreStaleBehind (frame_of simulation.old.setup M.spec) p event.now
+        p.ended ≡ None → AreStaleBehind (driver_of simulation.old.setup M.spec) p event.now
         (awake simulation.new ended.new)) }
     ensures answered { IfOk result (λ r. IsAnswered r) }
     ensures world { OnOk result (IsWorld M.spec M.refines (awake simulation.new ended.new)) }

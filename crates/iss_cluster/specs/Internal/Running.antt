@@ -37,7 +37,7 @@ pub record HasRun {M Msg : Type 0} (m : Module Msg) (refines : Relation M Msg) (
   pub report : ReportRefinesRun m refines world drops ended (course_after trace.setup m trace.events)
   pub index_is : IsIndexOf index (held_after trace.setup m trace.events).net.network.packets
   pub trace_is : IsTrace (behavior_of trace.setup m) trace.events
-  pub disks : Work (course_after trace.setup m trace.events).machines.disks
+  pub disks : Work (course_after trace.setup m trace.events).state.disks
 
 -- The cluster has the trace's set-up. Unless memory ran out, it has run the trace's events.
 pub record IsRunning {M Msg : Type 0} (m : Module Msg) (refines : Relation M Msg) (r : RunningState M Msg)

@@ -7,19 +7,20 @@ use Rattle.iss_sb.specs.Evidence.{Module, is_correct}
 use Rattle.iss_rules.specs.Ends.{End}
 use Rattle.iss_rules.specs.Concrete.{rules_of}
 use Rattle.iss_rules.specs.Formats.{formats_of}
-use Rattle.iss_model.specs.Run.{Held, Progress, begin_held, begin_run}
+use Rattle.iss_model.specs.Run.{Held, begin_held, begin_run}
 use Rattle.iss_model.specs.Runs.{AreAtCores, IsPrefix, pasts_of}
 use Rattle.iss_composition.specs.Ordered.{Ordered}
 use Rattle.iss_theorems.specs.Casts.{AreCastsAccepted}
 use Rattle.iss_theorems.specs.Certified.{AreCertified}
-use Rattle.iss_theorems.specs.Conserved.{IsConserved, IsInOnePlace}
+use Rattle.iss_theorems.specs.Conserved.{IsConserved, IsInOnePlace, WasAsked}
 use Rattle.iss_theorems.specs.Ends.{AreWritten, HasEvidence}
 use Rattle.iss_theorems.specs.Leaves.{AreOfJournals}
 use Rattle.iss_theorems.specs.OneLog.{AreOfCluster, AreOneLog, ClaimsAreApart, free_after, run_after, shown}
 use Rattle.iss_theorems.proofs.Refinement.RunKeepsInvariant.{run-append}
-use Rattle.iss_model.specs.Courses.{Course, begin_course, begin_machines, course}
+use Rattle.iss_model.specs.Courses.{Course, begin_course, begin_machines, with_crashes}
+use Rattle.iss_model.specs.Driver.{Progress, run}
 use Rattle.iss_theorems.specs.Headline.{IsWhole}
-use Rattle.iss_theorems.specs.Recovery.{WasAsked, course_after, held_after, why_ended}
+use Rattle.iss_theorems.specs.Recovery.{course_after, held_after, why_ended}
 use Rattle.iss_theorems.proofs.CrashRecovery.RunsInSequence.{Leads, course-append, course-over, going, going-is, leads-behind, over-is}
 use Rattle.iss_theorems.proofs.CrashRecovery.JournaledEventsEnter.{Follows, begin-own, follows}
 
@@ -36,14 +37,14 @@ module _ {Msg : Type 0} (s : Setup) (M : Module Msg)
     (casts : (es : List Event) → AreAtCores s es → AreCastsAccepted s M (free_after s M es))
     (certified : (es : List Event) → AreAtCores s es → AreCertified s M (free_after s M es))
     (written : (es : List Event) → AreAtCores s es → AreWritten s M (free_after s M es))
-    (journals : (es : List Event) → AreOfJournals s M (course_after s M es).machines)
+    (journals : (es : List Event) → AreOfJournals s M (course_after s M es).state)
     (evidence : (es : List Event) → HasEvidence s M es)
     (conserved : (es : List Event) → AreAtCores s es → IsConserved s M es)
     (events : List Event) (low : AreAtCores s events) where
-  abbrev all : Follows s (formats_of s M) (rules_of s) M (WasAsked s (formats_of s M) (rules_of s) M (begin_course s) events) (begin_held s) (course_after s M events)
+  abbrev all : Follows s (formats_of s M) (rules_of s) M (WasAsked (with_crashes s (formats_of s M) (rules_of s) M) (begin_course s) events) (begin_held s) (course_after s M events)
   all = follows s (formats_of s M) (rules_of s) M events (begin_machines s) 0 [] (begin-own s (formats_of s M) (rules_of s) M) low
 
-  abbrev entering : Leads s (formats_of s M) (rules_of s) M (WasAsked s (formats_of s M) (rules_of s) M (begin_course s) events) (begin_run s)
+  abbrev entering : Leads s (formats_of s M) (rules_of s) M (WasAsked (with_crashes s (formats_of s M) (rules_of s) M) (begin_course s) events) (begin_run s)
       (held_after s M events) (why_ended (course_after s M events).ended)
   entering = all.leads 0 []
 
@@ -54,7 +55,7 @@ module _ {Msg : Type 0} (s : Setup) (M : Module Msg)
   abbrev so_far : Course Msg
   so_far = course_after s M events
 
-  longer : (more : List Event) → course_after s M (events ++ more) ≡ course s (formats_of s M) (rules_of s) M so_far more
+  longer : (more : List Event) → course_after s M (events ++ more) ≡ run (with_crashes s (formats_of s M) (rules_of s) M) so_far more
   longer more = course-append s (formats_of s M) (rules_of s) M events more (begin_course s)
 
   -- a run that has stopped stays as it is
@@ -63,7 +64,7 @@ module _ {Msg : Type 0} (s : Setup) (M : Module Msg)
       let F = formats_of s M in
       let R = rules_of s in
       let is = over-is s F R M so_far at q in
-      longer more ∙ ap (λ (p : Course Msg). course s F R M p more) is ∙ course-over s F R M more so_far.machines so_far.event so_far.drops at ∙ sym is
+      longer more ∙ ap (λ (p : Course Msg). run (with_crashes s F R M) p more) is ∙ course-over s F R M more so_far.state so_far.event so_far.drops at ∙ sym is
 
   -- the events that enter of a longer run extend those of this one
   module _ (more : List Event) (low_more : AreAtCores s more) (i : ℕ) (ok : is_correct s i ≡ true) where
@@ -71,15 +72,15 @@ module _ {Msg : Type 0} (s : Setup) (M : Module Msg)
     grows-on q =
         let F = formats_of s M in
         let R = rules_of s in
-        let p : Course Msg = going s F R M so_far.machines so_far.event so_far.drops in
-        let next = follows s F R M more so_far.machines so_far.event so_far.drops all.own low_more in
-        let before = subst (λ (o : Option End). Leads s F R M (WasAsked s F R M (begin_course s) events) (begin_run s) (held_after s M events) o)
+        let p : Course Msg = going s F R M so_far.state so_far.event so_far.drops in
+        let next = follows s F R M more so_far.state so_far.event so_far.drops all.own low_more in
+        let before = subst (λ (o : Option End). Leads s F R M (WasAsked (with_crashes s F R M) (begin_course s) events) (begin_run s) (held_after s M events) o)
         (ap (λ (o : Option (ℕ × End)). why_ended o) q) entering in
-        let behind = leads-behind s F R M (WasAsked s F R M (begin_course s) events) (WasAsked s F R M p more) (begin_run s) (held_after s M events)
-        (course s F R M p more).machines.held (why_ended (course s F R M p more).ended) before next.leads in
-        let there : (run_after s M (before.events ++ behind.events)).held ≡ held_after s M (events ++ more) =
-        ap (λ (z : Progress Msg). z.held) (run-append s F R M before.events behind.events (begin_run s)) ∙ behind.held
-        ∙ ap (λ (c : Course Msg). c.machines.held) (sym (longer more ∙ ap (λ (z : Course Msg). course s F R M z more) (going-is s F R M so_far q))) in
+        let behind = leads-behind s F R M (WasAsked (with_crashes s F R M) (begin_course s) events) (WasAsked (with_crashes s F R M) p more) (begin_run s) (held_after s M events)
+        (run (with_crashes s F R M) p more).state.held (why_ended (run (with_crashes s F R M) p more).ended) before next.leads in
+        let there : (run_after s M (before.events ++ behind.events)).state ≡ held_after s M (events ++ more) =
+        ap (λ (z : Progress (Held Msg)). z.state) (run-append s F R M before.events behind.events (begin_run s)) ∙ behind.held
+        ∙ ap (λ (c : Course Msg). c.state.held) (sym (longer more ∙ ap (λ (z : Course Msg). run (with_crashes s F R M) z more) (going-is s F R M so_far q))) in
         subst (λ (h : Held Msg). IsPrefix (shown s M (held_after s M events) i) (shown s M h i)) there
         (subst (λ (h : Held Msg). IsPrefix (shown s M h i) (shown s M (free_after s M (before.events ++ behind.events)) i)) before.held
         (longer_logs before.events behind.events before.at_cores behind.at_cores i ok))
@@ -88,7 +89,7 @@ module _ {Msg : Type 0} (s : Setup) (M : Module Msg)
     grows-by None q = grows-on q
     grows-by (Some at) q =
         prefix-same (shown s M (held_after s M events) i) (shown s M (held_after s M (events ++ more)) i)
-        (ap (λ (c : Course Msg). shown s M c.machines.held i) (stays at q more))
+        (ap (λ (c : Course Msg). shown s M c.state.held i) (stays at q more))
 
   pub whole : IsWhole s M events
   whole = record {

@@ -13,7 +13,7 @@ use Rattle.iss_schedule.specs.declared.schedules.Event.TheVariants.{Request as E
 use Rattle.iss_sb.specs.declared.effects.Claim.{Claim}
 use Rattle.iss_sb.specs.Evidence.{Module}
 use Rattle.iss_rules.specs.Books.{Signed}
-use Rattle.iss_theorems.specs.Conserved.{asked_by, unless_ended, asked_in as free_asked}
+use Rattle.iss_theorems.specs.Conserved.{asked_by, unless_ended, asked_in, WasAsked}
 use Rattle.iss_rules.specs.declared.events.NodeEvent.{NodeEvent}
 use Rattle.iss_rules.specs.declared.events.NodeEvent.TheVariants.{Packet as On_packet, Propose as On_propose, Timeout as On_timeout, AskFrom as On_ask}
 use Rattle.iss_rules.specs.declared.events.Why.{Why}
@@ -22,13 +22,14 @@ use Rattle.iss_model.specs.Node.{Core, Dropped, Stepped, Taken, Turn, step}
 use Rattle.iss_rules.specs.Parcels.{Formats, OfRequest}
 use Rattle.iss_rules.specs.Rules.{Rules}
 use Rattle.iss_rules.specs.Ends.{End, Forged}
-use Rattle.iss_model.specs.Run.{Happening, Held, Progress, at_core, by_collision, by_forged, claims_at, collision_in, done, early_of, ended_at, ended_by, first_forged, is_forged, lost_by, node_of, noted, turned_to, with_network, after_step as free_step, delivered_to as free_delivered, apply_event as free_apply_event, loses as free_loses}
+use Rattle.iss_model.specs.Run.{Held, at_core, by_collision, by_forged, claims_at, collision_in, early_of, first_forged, is_forged, node_of, turned_to, with_network, after_step as free_step, failure_free}
 use Rattle.iss_rules.specs.Concrete.{request_of}
 use Rattle.iss_model.specs.Runs.{AreAtCores, IsAtCore}
 use Rattle.iss_theorems.proofs.CrashRecovery.RunsInSequence.{Leads, course-over, going, leads-less, leads-none, leads-on, leads-one, leads-same, nobody, nobody-asked, over, standing}
-use Rattle.iss_model.specs.Courses.{Course, Machines, Upshot, after_step, apply_event, at_machine, begin_machines, by_step, calms, core_of, course, delivered_to, delivers, delivers_each, loses, machines_done, machines_lost, pumps, recover, stops, unless, with_disk, with_disks, with_packets}
+use Rattle.iss_model.specs.Courses.{Course, Machines, after_step, at_machine, begin_machines, by_step, core_of, recover, stops, with_disk, with_disks, with_packets, with_crashes}
 use Rattle.iss_model.specs.Disks.{Disk, fails, fused, keeps, may_keep, works_again}
-use Rattle.iss_theorems.specs.Recovery.{IsUndisturbed, WasAsked, asked_in, why_ended}
+use Rattle.iss_model.specs.Driver.{Progress, Upshot, apply_event, calms, delivered_to, delivers, delivers_each, done, ended_at, ended_by, loses, lost_by, noted, pumps, run, unless}
+use Rattle.iss_theorems.specs.Recovery.{IsUndisturbed, why_ended}
 
 -- each core is the one that its journaled events lead to
 abbrev AreOfTheirDisks : {Msg : Type 0} → Setup → Formats Msg → Rules → Module Msg → Machines Msg → Type 0
@@ -70,10 +71,10 @@ module _ {Msg : Type 0} (s : Setup) (F : Formats Msg) (R : Rules) (M : Module Ms
   abbrev Own : Machines Msg → Type 0
   Own w = AreOfTheirDisks s F R M w
 
-  abbrev By : (ℕ → ReqId → Type 0) → Progress Msg → Held Msg → Option End → Type 0
+  abbrev By : (ℕ → ReqId → Type 0) → Progress (Held Msg) → Held Msg → Option End → Type 0
   By asks q g o = Leads s F R M asks q g o
 
-  abbrev at_start : Held Msg → ℕ → List (ℕ × Why) → Progress Msg
+  abbrev at_start : Held Msg → ℕ → List (ℕ × Why) → Progress (Held Msg)
   at_start h n drops = standing s F R M h n drops
 
   abbrev none : ℕ → ReqId → Type 0
@@ -101,20 +102,20 @@ module _ {Msg : Type 0} (s : Setup) (F : Formats Msg) (R : Rules) (M : Module Ms
 
   -- ---- what an event leads to, from the state before it
 
-  pub record Goes (asks : ℕ → ReqId → Type 0) (h : Held Msg) (d : Upshot Msg) : Type 0 where
-    pub leads : (n : ℕ) (drops : List (ℕ × Why)) → By asks (at_start h n drops) d.machines.held d.ended
-    pub own : Own d.machines
+  pub record Goes (asks : ℕ → ReqId → Type 0) (h : Held Msg) (d : Upshot (Machines Msg)) : Type 0 where
+    pub leads : (n : ℕ) (drops : List (ℕ × Why)) → By asks (at_start h n drops) d.state.held d.ended
+    pub own : Own d.state
 
-  goes-less : (asks fewer : ℕ → ReqId → Type 0) (h : Held Msg) (d : Upshot Msg) → ((i : ℕ) (x : ReqId) → fewer i x → asks i x) → Goes asks h d → Goes fewer h d
+  goes-less : (asks fewer : ℕ → ReqId → Type 0) (h : Held Msg) (d : Upshot (Machines Msg)) → ((i : ℕ) (x : ReqId) → fewer i x → asks i x) → Goes asks h d → Goes fewer h d
   goes-less asks fewer h d sub g = record {
-    leads = λ n drops. leads-less s F R M asks fewer (at_start h n drops) d.machines.held d.ended sub (g.leads n drops);
+    leads = λ n drops. leads-less s F R M asks fewer (at_start h n drops) d.state.held d.ended sub (g.leads n drops);
     own = g.own;
   }
 
-  goes-none : (w : Machines Msg) → Own w → (d : Upshot Msg) → d.machines ≡ w → d.ended ≡ None → Goes none w.held d
+  goes-none : (w : Machines Msg) → Own w → (d : Upshot (Machines Msg)) → d.state ≡ w → d.ended ≡ None → Goes none w.held d
   goes-none w own d same going = record {
-    leads = λ n drops. subst (λ (o : Option End). By none (at_start w.held n drops) d.machines.held o) (sym going)
-        (leads-same s F R M w.held d.machines.held n drops (ap (λ (v : Machines Msg). v.held) (sym same)));
+    leads = λ n drops. subst (λ (o : Option End). By none (at_start w.held n drops) d.state.held o) (sym going)
+        (leads-same s F R M w.held d.state.held n drops (ap (λ (v : Machines Msg). v.held) (sym same)));
     own = subst (λ (v : Machines Msg). Own v) (sym same) own;
   }
 
@@ -123,21 +124,21 @@ module _ {Msg : Type 0} (s : Setup) (F : Formats Msg) (R : Rules) (M : Module Ms
   -- Core c takes an event. The failure-free run goes from h to the same state by e, or by nothing if the event does not
   -- enter.
   module _ (h : Held Msg) (w : Machines Msg) (own : Own w) (c : ℕ) (event : NodeEvent) (e : Event) (low : IsAtCore s e) (calm : IsUndisturbed e)
-      (same : free_apply_event s F R M h e ≡ at_core s F R M w.held c event)
+      (same : apply_event (failure_free s F R M) h e ≡ at_core s F R M w.held c event)
       (skip : (n : ℕ) (drops : List (ℕ × Why)) → By none (at_start h n drops) w.held None) where
-    abbrev asks_of : Upshot Msg → ℕ → ReqId → Type 0
+    abbrev asks_of : Upshot (Machines Msg) → ℕ → ReqId → Type 0
     asks_of d i x = In x (asked_in i e d)
 
     -- the event enters
-    carries : (behind : ℕ → Disk) (g : Happening Msg) → free_apply_event s F R M h e ≡ g → Own (with_disks w behind g).machines →
+    carries : (behind : ℕ → Disk) (g : Upshot (Held Msg)) → apply_event (failure_free s F R M) h e ≡ g → Own (with_disks w behind g).state →
         Goes (asks_of (with_disks w behind g)) h (with_disks w behind g)
     carries behind g q k = record { leads = λ n drops. leads-one s F R M e low calm h n drops g q; own = k }
 
     -- the event does not enter
     skips : (disks : ℕ → Disk) → Own (record { held = w.held; disks = disks }) →
-        Goes (asks_of (machines_lost (record { held = w.held; disks = disks }) Stopped)) h (machines_lost (record { held = w.held; disks = disks }) Stopped)
+        Goes (asks_of (lost_by (record { held = w.held; disks = disks }) Stopped)) h (lost_by (record { held = w.held; disks = disks }) Stopped)
     skips disks k = record {
-      leads = λ n drops. leads-less s F R M none (asks_of (machines_lost (record { held = w.held; disks = disks }) Stopped)) (at_start h n drops) w.held None
+      leads = λ n drops. leads-less s F R M none (asks_of (lost_by (record { held = w.held; disks = disks }) Stopped)) (at_start h n drops) w.held None
           (λ i x m. lost-asks-nothing i e Stopped x m) (skip n drops);
       own = k;
     }
@@ -149,7 +150,7 @@ module _ {Msg : Type 0} (s : Setup) (F : Formats Msg) (R : Rules) (M : Module Ms
     claims = claims_at F R M node (w.held.net.cores c) event
 
     -- what happens at the core, by the result of its step
-    abbrev at_step : Stepped Msg → Happening Msg
+    abbrev at_step : Stepped Msg → Upshot (Held Msg)
     at_step o = by_forged (first_forged s R w.held.signed (claims ++ early_of o)) w.held (free_step s w.held c o)
 
     abbrev its_step : Stepped Msg
@@ -158,12 +159,12 @@ module _ {Msg : Type 0} (s : Setup) (F : Formats Msg) (R : Rules) (M : Module Ms
     abbrev more : ℕ → Disk
     more = set_at w.disks c (keeps (w.disks c) event)
 
-    dropped-own : (why : Why) (f : Option Claim) → Own (with_disks w w.disks (by_forged f w.held (lost_by w.held why))).machines
+    dropped-own : (why : Why) (f : Option Claim) → Own (with_disks w w.disks (by_forged f w.held (lost_by w.held why))).state
     dropped-own why None = own
     dropped-own why (Some claim) = own
 
     taken-own : (t : Turn Msg) → its_step ≡ Taken t → (f : Option Claim) (o : Option End) →
-        Own (with_disks w more (by_forged f w.held (by_collision o w.held (turned_to s w.held c t)))).machines
+        Own (with_disks w more (by_forged f w.held (by_collision o w.held (turned_to s w.held c t)))).state
     taken-own t q None None = turned-kept w own c event t q
     taken-own t q None (Some end) = own
     taken-own t q (Some claim) o = own
@@ -177,7 +178,7 @@ module _ {Msg : Type 0} (s : Setup) (F : Formats Msg) (R : Rules) (M : Module Ms
         Goes (asks_of (cond b (with_disks w more (at_step its_step)) (stops f w c))) h (cond b (with_disks w more (at_step its_step)) (stops f w c))
     goes-kept t q true f z =
         carries more (at_step its_step) same
-        (subst (λ (o : Stepped Msg). Own (with_disks w more (at_step o)).machines) (sym q)
+        (subst (λ (o : Stepped Msg). Own (with_disks w more (at_step o)).state) (sym q)
         (taken-own t q (first_forged s R w.held.signed (claims ++ t.early)) (collision_in t.strings w.held.hashed)))
     goes-kept t q false None z = skips (set_at w.disks c (fails (w.disks c))) (disk-kept w own c (fails (w.disks c)) refl)
     goes-kept t q false (Some claim) z = carries w.disks (ended_by w.held (Forged claim)) (same ∙ forged-here claim z) own
@@ -185,10 +186,10 @@ module _ {Msg : Type 0} (s : Setup) (F : Formats Msg) (R : Rules) (M : Module Ms
     goes-step : (o : Stepped Msg) → its_step ≡ o → Goes (asks_of (by_step s F R M w c event o)) h (by_step s F R M w c event o)
     goes-step (Dropped why) q =
         carries w.disks (at_step its_step) same
-        (subst (λ (o : Stepped Msg). Own (with_disks w w.disks (at_step o)).machines) (sym q) (dropped-own why (first_forged s R w.held.signed (claims ++ []))))
+        (subst (λ (o : Stepped Msg). Own (with_disks w w.disks (at_step o)).state) (sym q) (dropped-own why (first_forged s R w.held.signed (claims ++ []))))
     goes-step (Taken t) q = goes-kept t q (may_keep (w.disks c).passes) (first_forged s R w.held.signed claims) refl
 
-    goes-failed : (b : Bool) → Goes (asks_of (cond b (machines_lost w Stopped) (by_step s F R M w c event its_step))) h (cond b (machines_lost w Stopped) (by_step s F R M w c event its_step))
+    goes-failed : (b : Bool) → Goes (asks_of (cond b (lost_by w Stopped) (by_step s F R M w c event its_step))) h (cond b (lost_by w Stopped) (by_step s F R M w c event its_step))
     goes-failed true = skips w.disks own
     goes-failed false = goes-step its_step refl
 
@@ -198,55 +199,55 @@ module _ {Msg : Type 0} (s : Setup) (F : Formats Msg) (R : Rules) (M : Module Ms
   -- ---- packets
 
   -- a delivery accepts no request
-  unasked : (e : Event) → ((i : ℕ) (o : Option Why) → asked_by i e o ≡ []) → (d : Upshot Msg) (i : ℕ) (x : ReqId) → In x (asked_in i e d) → none i x
+  unasked : (e : Event) → ((i : ℕ) (o : Option Why) → asked_by i e o ≡ []) → (d : Upshot (Machines Msg)) (i : ℕ) (x : ReqId) → In x (asked_in i e d) → none i x
   unasked e nothing d i x m = ends-ask-nothing d.ended x (subst (λ (xs : List ReqId). In x (unless_ended d.ended xs)) (nothing i d.lost) m)
 
-  goes-network : (w : Machines Msg) → Own w → (net : Network) (e : Event) → IsAtCore s e → IsUndisturbed e → free_apply_event s F R M w.held e ≡ done (with_network w.held net) →
-      Goes none w.held (machines_done (with_packets w net))
+  goes-network : (w : Machines Msg) → Own w → (net : Network) (e : Event) → IsAtCore s e → IsUndisturbed e → apply_event (failure_free s F R M) w.held e ≡ done (with_network w.held net) →
+      Goes none w.held (done (with_packets w net))
   goes-network w own net e low calm same = record {
-    leads = λ n drops. leads-less s F R M (λ i x. In x (free_asked i e (done (with_network w.held net)))) none (at_start w.held n drops) (with_network w.held net) None
+    leads = λ n drops. leads-less s F R M (λ i x. In x (asked_in i e (done (with_network w.held net)))) none (at_start w.held n drops) (with_network w.held net) None
         (λ i x m. absurd m) (leads-one s F R M e low calm w.held n drops (done (with_network w.held net)) same);
     own = own;
   }
 
-  deliver-goes : (w : Machines Msg) → Own w → (k : ℕ) (o : Option Sent) → nth w.held.net.network.packets k ≡ o → Goes none w.held (delivered_to s F R M w k o)
-  deliver-goes w own k None q = goes-none w own (machines_lost w NoPacket) refl refl
+  deliver-goes : (w : Machines Msg) → Own w → (k : ℕ) (o : Option Sent) → nth w.held.net.network.packets k ≡ o → Goes none w.held (delivered_to (with_crashes s F R M) w k o)
+  deliver-goes w own k None q = goes-none w own (lost_by w NoPacket) refl refl
   deliver-goes w own k (Some p) q =
       let net : Network = settled w.held.net.network k in
       let v : Machines Msg = with_packets w net in
-      let d : Upshot Msg = at_machine s F R M v p.to (On_packet p.bytes) in
-      let lose = goes-network w own net (Lose k) tt tt (ap (λ (x : Option Sent). free_loses w.held k x) q) in
+      let d : Upshot (Machines Msg) = at_machine s F R M v p.to (On_packet p.bytes) in
+      let lose = goes-network w own net (Lose k) tt tt (ap (λ (x : Option Sent). loses (failure_free s F R M) w.held k x) q) in
       goes-less (λ i x. In x (asked_in i (Deliver k) d)) none w.held d (λ i x m. absurd m)
-      (at-goes w.held v own p.to (On_packet p.bytes) (Deliver k) tt tt (ap (λ (x : Option Sent). free_delivered s F R M w.held k x) q) lose.leads)
+      (at-goes w.held v own p.to (On_packet p.bytes) (Deliver k) tt tt (ap (λ (x : Option Sent). delivered_to (failure_free s F R M) w.held k x) q) lose.leads)
 
-  unless-goes : (asks : ℕ → ReqId → Type 0) (h : Held Msg) (d : Upshot Msg) (later : Machines Msg → Upshot Msg) (o : Option End) → d.ended ≡ o → Goes asks h d →
+  unless-goes : (asks : ℕ → ReqId → Type 0) (h : Held Msg) (d : Upshot (Machines Msg)) (later : Machines Msg → Upshot (Machines Msg)) (o : Option End) → d.ended ≡ o → Goes asks h d →
       ((v : Machines Msg) → Own v → Goes none v.held (later v)) → Goes asks h (unless o d later)
   unless-goes asks h d later None q g f =
-      let next = f d.machines g.own in
+      let next = f d.state g.own in
       record {
         leads = λ n drops.
-            let a = subst (λ (o : Option End). By asks (at_start h n drops) d.machines.held o) q (g.leads n drops) in
-            leads-less s F R M (λ i x. asks i x ⊎ none i x) asks (at_start h n drops) (later d.machines).machines.held (later d.machines).ended (λ i x m. inl m)
-            (leads-on s F R M asks none (at_start h n drops) d.machines.held (later d.machines).machines.held (later d.machines).ended a next.leads);
+            let a = subst (λ (o : Option End). By asks (at_start h n drops) d.state.held o) q (g.leads n drops) in
+            leads-less s F R M (λ i x. asks i x ⊎ none i x) asks (at_start h n drops) (later d.state).state.held (later d.state).ended (λ i x m. inl m)
+            (leads-on s F R M asks none (at_start h n drops) d.state.held (later d.state).state.held (later d.state).ended a next.leads);
         own = next.own;
       }
   unless-goes asks h d later (Some end) q g f = g
 
-  each-goes : (ks : List ℕ) (w : Machines Msg) → Own w → Goes none w.held (delivers_each s F R M ks w)
-  each-goes [] w own = goes-none w own (machines_done w) refl refl
+  each-goes : (ks : List ℕ) (w : Machines Msg) → Own w → Goes none w.held (delivers_each (with_crashes s F R M) ks w)
+  each-goes [] w own = goes-none w own (done w) refl refl
   each-goes (k ∷ ks) w own =
-      let d = delivers s F R M w k in
-      unless-goes none w.held d (delivers_each s F R M ks) d.ended refl (deliver-goes w own k (nth w.held.net.network.packets k) refl) (λ v o. each-goes ks v o)
+      let d = delivers (with_crashes s F R M) w k in
+      unless-goes none w.held d (delivers_each (with_crashes s F R M) ks) d.ended refl (deliver-goes w own k (nth w.held.net.network.packets k) refl) (λ v o. each-goes ks v o)
 
-  calms-goes : (m : ℕ) (w : Machines Msg) → Own w → Goes none w.held (calms s F R M m w)
-  calms-goes zero w own = goes-none w own (machines_done w) refl refl
+  calms-goes : (m : ℕ) (w : Machines Msg) → Own w → Goes none w.held (calms (with_crashes s F R M) m w)
+  calms-goes zero w own = goes-none w own (done w) refl refl
   calms-goes (suc m) w own =
-      let d = pumps s F R M w in
-      unless-goes none w.held d (calms s F R M m) d.ended refl (each-goes (due w.held.net.network) w own) (λ v o. calms-goes m v o)
+      let d = pumps (with_crashes s F R M) w in
+      unless-goes none w.held d (calms (with_crashes s F R M) m) d.ended refl (each-goes (due w.held.net.network) w own) (λ v o. calms-goes m v o)
 
-  lose-goes : (w : Machines Msg) → Own w → (k : ℕ) (o : Option Sent) → nth w.held.net.network.packets k ≡ o → Goes none w.held (loses w k o)
-  lose-goes w own k None q = goes-none w own (machines_lost w NoPacket) refl refl
-  lose-goes w own k (Some p) q = goes-network w own (settled w.held.net.network k) (Lose k) tt tt (ap (λ (x : Option Sent). free_loses w.held k x) q)
+  lose-goes : (w : Machines Msg) → Own w → (k : ℕ) (o : Option Sent) → nth w.held.net.network.packets k ≡ o → Goes none w.held (loses (with_crashes s F R M) w k o)
+  lose-goes w own k None q = goes-none w own (lost_by w NoPacket) refl refl
+  lose-goes w own k (Some p) q = goes-network w own (settled w.held.net.network k) (Lose k) tt tt (ap (λ (x : Option Sent). loses (failure_free s F R M) w.held k x) q)
 
   -- ---- restarts
 
@@ -262,14 +263,14 @@ module _ {Msg : Type 0} (s : Setup) (F : Formats Msg) (R : Rules) (M : Module Ms
         | inr ne ↦ set_at-other w.held.net.cores c (core_of F R M (node_of s c) (w.disks c).kept) j ne
       ]
 
-  restart-goes : (w : Machines Msg) → Own w → (c : ℕ) → Goes none w.held (machines_done (recover s F R M w c))
+  restart-goes : (w : Machines Msg) → Own w → (c : ℕ) → Goes none w.held (done (recover s F R M w c))
   restart-goes w own c = record {
     leads = λ n drops. leads-same s F R M w.held (recover s F R M w c).held n drops (sym (remade-same w own c));
     own = subst (λ (g : Held Msg). Own (record { held = g; disks = set_at w.disks c (works_again (w.disks c)) })) (sym (remade-same w own c))
         (disk-kept w own c (works_again (w.disks c)) refl);
   }
 
-  crash-goes : (w : Machines Msg) → Own w → (c calls : ℕ) → Goes none w.held (machines_done (with_disk w c (fused (w.disks c) calls)))
+  crash-goes : (w : Machines Msg) → Own w → (c calls : ℕ) → Goes none w.held (done (with_disk w c (fused (w.disks c) calls)))
   crash-goes w own c calls = record {
     leads = λ n drops. leads-none s F R M w.held n drops;
     own = disk-kept w own c (fused (w.disks c) calls) refl;
@@ -278,18 +279,18 @@ module _ {Msg : Type 0} (s : Setup) (F : Formats Msg) (R : Rules) (M : Module Ms
   -- ---- events
 
   inject-goes : (w : Machines Msg) → Own w → (c : ℕ) (bytes : List ℕ) (b : Bool) → M.stopping ≡ b →
-      Goes none w.held (cond b (machines_done w) (at_machine s F R M w c (On_packet bytes)))
-  inject-goes w own c bytes true q = goes-none w own (machines_done w) refl refl
+      Goes none w.held (cond b (done w) (at_machine s F R M w c (On_packet bytes)))
+  inject-goes w own c bytes true q = goes-none w own (done w) refl refl
   inject-goes w own c bytes false q =
       let d = at_machine s F R M w c (On_packet bytes) in
       goes-less (λ i x. In x (asked_in i (Bytes c bytes) d)) none w.held d (λ i x m. absurd m)
       (at-goes w.held w own c (On_packet bytes) (Bytes c bytes) tt tt
       (ap (λ (b : Bool). cond b (done w.held) (at_core s F R M w.held c (On_packet bytes))) q) (λ n drops. leads-none s F R M w.held n drops))
 
-  quiet : {h : Held Msg} {d : Upshot Msg} (e : Event) → ((i : ℕ) (o : Option Why) → asked_by i e o ≡ []) → Goes none h d → Goes (λ i x. In x (asked_in i e d)) h d
+  quiet : {h : Held Msg} {d : Upshot (Machines Msg)} (e : Event) → ((i : ℕ) (o : Option Why) → asked_by i e o ≡ []) → Goes none h d → Goes (λ i x. In x (asked_in i e d)) h d
   quiet {h} {d} e nothing g = goes-less none (λ i x. In x (asked_in i e d)) h d (λ i x m. unasked e nothing d i x m) g
 
-  pub happens-goes : (w : Machines Msg) → Own w → (e : Event) → IsAtCore s e → Goes (λ i x. In x (asked_in i e (apply_event s F R M w e))) w.held (apply_event s F R M w e)
+  pub happens-goes : (w : Machines Msg) → Own w → (e : Event) → IsAtCore s e → Goes (λ i x. In x (asked_in i e (apply_event (with_crashes s F R M) w e))) w.held (apply_event (with_crashes s F R M) w e)
   happens-goes w own (Event_request c client number payload) low =
       at-goes w.held w own c (On_packet (F.wrap (record { from = 255; epoch = 0; body = OfRequest (request_of s client number payload) })))
       (Event_request c client number payload) low tt refl (λ n drops. leads-none s F R M w.held n drops)
@@ -310,43 +311,43 @@ module _ {Msg : Type 0} (s : Setup) (F : Formats Msg) (R : Rules) (M : Module Ms
   -- ---- runs with disk failures
 
   pub record Follows (asks : ℕ → ReqId → Type 0) (h : Held Msg) (p : Course Msg) : Type 0 where
-    pub leads : (n : ℕ) (drops : List (ℕ × Why)) → By asks (at_start h n drops) p.machines.held (why_ended p.ended)
-    pub own : Own p.machines
+    pub leads : (n : ℕ) (drops : List (ℕ × Why)) → By asks (at_start h n drops) p.state.held (why_ended p.ended)
+    pub own : Own p.state
 
   -- an event, and the events after it
-  behind-follows : (es : List Event) (w : Machines Msg) (d : Upshot Msg) (asks : ℕ → ReqId → Type 0) (k : ℕ) (lost : List (ℕ × Why)) (o : Option End) → d.ended ≡ o →
-      Goes asks w.held d → Follows (WasAsked s F R M (going s F R M d.machines (suc k) lost) es) d.machines.held (course s F R M (going s F R M d.machines (suc k) lost) es) →
-      Follows (λ i x. asks i x ⊎ WasAsked s F R M (record { machines = d.machines; event = suc k; drops = lost; ended = ended_at k o }) es i x) w.held
-      (course s F R M (record { machines = d.machines; event = suc k; drops = lost; ended = ended_at k o }) es)
+  behind-follows : (es : List Event) (w : Machines Msg) (d : Upshot (Machines Msg)) (asks : ℕ → ReqId → Type 0) (k : ℕ) (lost : List (ℕ × Why)) (o : Option End) → d.ended ≡ o →
+      Goes asks w.held d → Follows (WasAsked (with_crashes s F R M) (going s F R M d.state (suc k) lost) es) d.state.held (run (with_crashes s F R M) (going s F R M d.state (suc k) lost) es) →
+      Follows (λ i x. asks i x ⊎ WasAsked (with_crashes s F R M) (record { state = d.state; event = suc k; drops = lost; ended = ended_at k o }) es i x) w.held
+      (run (with_crashes s F R M) (record { state = d.state; event = suc k; drops = lost; ended = ended_at k o }) es)
   behind-follows es w d asks k lost None q g rest =
-      let p : Course Msg = going s F R M d.machines (suc k) lost in
-      let later : Course Msg = course s F R M p es in
+      let p : Course Msg = going s F R M d.state (suc k) lost in
+      let later : Course Msg = run (with_crashes s F R M) p es in
       record {
         leads = λ n drops.
-            leads-on s F R M asks (WasAsked s F R M p es) (at_start w.held n drops) d.machines.held later.machines.held (why_ended later.ended)
-            (subst (λ (o : Option End). By asks (at_start w.held n drops) d.machines.held o) q (g.leads n drops)) rest.leads;
+            leads-on s F R M asks (WasAsked (with_crashes s F R M) p es) (at_start w.held n drops) d.state.held later.state.held (why_ended later.ended)
+            (subst (λ (o : Option End). By asks (at_start w.held n drops) d.state.held o) q (g.leads n drops)) rest.leads;
         own = rest.own;
       }
   behind-follows es w d asks k lost (Some end) q g rest =
-      let p : Course Msg = over s F R M d.machines (suc k) lost (k, end) in
-      let all : ℕ → ReqId → Type 0 = λ i x. asks i x ⊎ WasAsked s F R M p es i x in
-      let same : p ≡ course s F R M p es = sym (course-over s F R M es d.machines (suc k) lost (k, end)) in
+      let p : Course Msg = over s F R M d.state (suc k) lost (k, end) in
+      let all : ℕ → ReqId → Type 0 = λ i x. asks i x ⊎ WasAsked (with_crashes s F R M) p es i x in
+      let same : p ≡ run (with_crashes s F R M) p es = sym (course-over s F R M es d.state (suc k) lost (k, end)) in
       record {
         leads = λ n drops.
-            subst (λ (c : Course Msg). By all (at_start w.held n drops) c.machines.held (why_ended c.ended)) same
-            (leads-less s F R M asks all (at_start w.held n drops) d.machines.held (Some end)
-            (λ i x m. elim m [ inl a ↦ a | inr b ↦ absurd (nobody-asked s F R M es d.machines (suc k) lost (k, end) i x b) ])
-            (subst (λ (o : Option End). By asks (at_start w.held n drops) d.machines.held o) q (g.leads n drops)));
-        own = subst (λ (c : Course Msg). Own c.machines) same g.own;
+            subst (λ (c : Course Msg). By all (at_start w.held n drops) c.state.held (why_ended c.ended)) same
+            (leads-less s F R M asks all (at_start w.held n drops) d.state.held (Some end)
+            (λ i x m. elim m [ inl a ↦ a | inr b ↦ absurd (nobody-asked s F R M es d.state (suc k) lost (k, end) i x b) ])
+            (subst (λ (o : Option End). By asks (at_start w.held n drops) d.state.held o) q (g.leads n drops)));
+        own = subst (λ (c : Course Msg). Own c.state) same g.own;
       }
 
   pub follows : (es : List Event) (w : Machines Msg) (k : ℕ) (lost : List (ℕ × Why)) → Own w → AreAtCores s es →
-      Follows (WasAsked s F R M (going s F R M w k lost) es) w.held (course s F R M (going s F R M w k lost) es)
+      Follows (WasAsked (with_crashes s F R M) (going s F R M w k lost) es) w.held (run (with_crashes s F R M) (going s F R M w k lost) es)
   follows [] w k lost own low = record { leads = λ n drops. leads-none s F R M w.held n drops; own = own }
   follows (e ∷ es) w k lost own low =
-      let d : Upshot Msg = apply_event s F R M w e in
+      let d : Upshot (Machines Msg) = apply_event (with_crashes s F R M) w e in
       let g = happens-goes w own e low.0 in
-      behind-follows es w d (λ i x. In x (asked_in i e d)) k (noted k d.lost lost) d.ended refl g (follows es d.machines (suc k) (noted k d.lost lost) g.own low.1)
+      behind-follows es w d (λ i x. In x (asked_in i e d)) k (noted k d.lost lost) d.ended refl g (follows es d.state (suc k) (noted k d.lost lost) g.own low.1)
 
   pub begin-own : Own (begin_machines s)
   begin-own c = refl

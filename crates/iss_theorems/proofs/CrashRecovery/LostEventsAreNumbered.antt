@@ -20,9 +20,10 @@ use Rattle.iss_rules.specs.Formats.{formats_of}
 use Rattle.iss_rules.specs.Parcels.{Formats, OfRequest}
 use Rattle.iss_rules.specs.Rules.{Rules}
 use Rattle.iss_model.specs.Node.{Dropped, Stepped, Taken, step}
-use Rattle.iss_model.specs.Run.{Held, at_core, by_collision, by_forged, claims_at, collision_in, early_of, ended_at, first_forged, node_of, noted, turned_to, after_step as free_step}
-use Rattle.iss_model.specs.Courses.{Course, Machines, Upshot, apply_event, at_machine, begin_course, by_step, calms, course, delivered_to, delivers, delivers_each, loses, machines_done, machines_lost, pumps, run_event, run_event_if_open, stops, unless, with_disks, with_packets}
+use Rattle.iss_model.specs.Run.{Held, at_core, by_collision, by_forged, claims_at, collision_in, early_of, first_forged, node_of, turned_to, after_step as free_step}
+use Rattle.iss_model.specs.Courses.{Course, Machines, at_machine, begin_course, by_step, stops, with_disks, with_packets, with_crashes}
 use Rattle.iss_model.specs.Disks.{Disk, keeps, may_keep}
+use Rattle.iss_model.specs.Driver.{Upshot, apply_event, calms, delivered_to, delivers, delivers_each, done, ended_at, loses, lost_by, noted, pumps, run, run_event, run_event_if_open, unless}
 use Rattle.iss_theorems.specs.Recovery.{course_after}
 use Rattle.iss_theorems.proofs.CrashRecovery.RunsInSequence.{course-append}
 
@@ -56,10 +57,10 @@ ended-then n (Some other) k end q =
 module _ {Msg : Type 0} (s : Setup) (F : Formats Msg) (R : Rules) (M : Module Msg) where
   -- ---- an event that stops a run is not lost
 
-  abbrev pub IsToldOnce : Upshot Msg → Type 0
+  abbrev pub IsToldOnce : Upshot (Machines Msg) → Type 0
   IsToldOnce d = (end : End) → d.ended ≡ Some end → d.lost ≡ None
 
-  untold : (d : Upshot Msg) → d.ended ≡ None → IsToldOnce d
+  untold : (d : Upshot (Machines Msg)) → d.ended ≡ None → IsToldOnce d
   untold d going end q = absurd (cc)
 
   -- so at a core that journals all that it takes
@@ -102,40 +103,40 @@ module _ {Msg : Type 0} (s : Setup) (F : Formats Msg) (R : Rules) (M : Module Ms
       stepped : Stepped Msg
       stepped = step F R M (node_of s c) (w.held.net.cores c) event
 
-      go : (b : Bool) → IsToldOnce (cond b (machines_lost w Stopped) (by_step s F R M w c event stepped))
-      go true = untold (machines_lost w Stopped) refl
+      go : (b : Bool) → IsToldOnce (cond b (lost_by w Stopped) (by_step s F R M w c event stepped))
+      go true = untold (lost_by w Stopped) refl
       go false = step-once w c event stepped
 
-  delivered-once : (w : Machines Msg) (k : ℕ) (o : Option Sent) → IsToldOnce (delivered_to s F R M w k o)
-  delivered-once w k None = untold (delivered_to s F R M w k None) refl
+  delivered-once : (w : Machines Msg) (k : ℕ) (o : Option Sent) → IsToldOnce (delivered_to (with_crashes s F R M) w k o)
+  delivered-once w k None = untold (delivered_to (with_crashes s F R M) w k None) refl
   delivered-once w k (Some p) = at-once (with_packets w (settled w.held.net.network k)) p.to (On_packet p.bytes)
 
-  unless-once : (d : Upshot Msg) (more : Machines Msg → Upshot Msg) → IsToldOnce d → ((v : Machines Msg) → IsToldOnce (more v)) → (o : Option End) →
+  unless-once : (d : Upshot (Machines Msg)) (more : Machines Msg → Upshot (Machines Msg)) → IsToldOnce d → ((v : Machines Msg) → IsToldOnce (more v)) → (o : Option End) →
       IsToldOnce (unless o d more)
-  unless-once d more a b None = b d.machines
+  unless-once d more a b None = b d.state
   unless-once d more a b (Some end) = a
 
-  each-once : (ks : List ℕ) (w : Machines Msg) → IsToldOnce (delivers_each s F R M ks w)
-  each-once [] w = untold (machines_done w) refl
+  each-once : (ks : List ℕ) (w : Machines Msg) → IsToldOnce (delivers_each (with_crashes s F R M) ks w)
+  each-once [] w = untold (done w) refl
   each-once (k ∷ ks) w =
-      let d = delivers s F R M w k in
-      unless-once d (delivers_each s F R M ks) (delivered-once w k (nth w.held.net.network.packets k)) (λ v. each-once ks v) d.ended
+      let d = delivers (with_crashes s F R M) w k in
+      unless-once d (delivers_each (with_crashes s F R M) ks) (delivered-once w k (nth w.held.net.network.packets k)) (λ v. each-once ks v) d.ended
 
-  calms-once : (k : ℕ) (w : Machines Msg) → IsToldOnce (calms s F R M k w)
-  calms-once zero w = untold (machines_done w) refl
+  calms-once : (k : ℕ) (w : Machines Msg) → IsToldOnce (calms (with_crashes s F R M) k w)
+  calms-once zero w = untold (done w) refl
   calms-once (suc k) w =
-      let d = pumps s F R M w in
-      unless-once d (calms s F R M k) (each-once (due w.held.net.network) w) (λ v. calms-once k v) d.ended
+      let d = pumps (with_crashes s F R M) w in
+      unless-once d (calms (with_crashes s F R M) k) (each-once (due w.held.net.network) w) (λ v. calms-once k v) d.ended
 
-  loses-once : (w : Machines Msg) (k : ℕ) (o : Option Sent) → IsToldOnce (loses w k o)
-  loses-once w k None = untold (loses w k None) refl
-  loses-once w k (Some p) = untold (loses w k (Some p)) refl
+  loses-once : (w : Machines Msg) (k : ℕ) (o : Option Sent) → IsToldOnce (loses (with_crashes s F R M) w k o)
+  loses-once w k None = untold (loses (with_crashes s F R M) w k None) refl
+  loses-once w k (Some p) = untold (loses (with_crashes s F R M) w k (Some p)) refl
 
-  injects-once : (w : Machines Msg) (c : ℕ) (bytes : List ℕ) (b : Bool) → IsToldOnce (cond b (machines_done w) (at_machine s F R M w c (On_packet bytes)))
-  injects-once w c bytes true = untold (machines_done w) refl
+  injects-once : (w : Machines Msg) (c : ℕ) (bytes : List ℕ) (b : Bool) → IsToldOnce (cond b (done w) (at_machine s F R M w c (On_packet bytes)))
+  injects-once w c bytes true = untold (done w) refl
   injects-once w c bytes false = at-once w c (On_packet bytes)
 
-  pub told-once : (w : Machines Msg) (e : Event) → IsToldOnce (apply_event s F R M w e)
+  pub told-once : (w : Machines Msg) (e : Event) → IsToldOnce (apply_event (with_crashes s F R M) w e)
   told-once w (Event_request c client number payload) =
       at-once w c (On_packet (F.wrap (record { from = 255; epoch = 0; body = OfRequest (request_of s client number payload) })))
   told-once w (Propose c) = at-once w c On_propose
@@ -145,28 +146,28 @@ module _ {Msg : Type 0} (s : Setup) (F : Formats Msg) (R : Rules) (M : Module Ms
   told-once w (Lose k) = loses-once w k (nth w.held.net.network.packets k)
   told-once w Pump = each-once (due w.held.net.network) w
   told-once w (Calm k) = calms-once k w
-  told-once w (Hold c) = untold (apply_event s F R M w (Hold c)) refl
-  told-once w (Free c) = untold (apply_event s F R M w (Free c)) refl
-  told-once w (Event_drop c) = untold (apply_event s F R M w (Event_drop c)) refl
-  told-once w (Restart c) = untold (apply_event s F R M w (Restart c)) refl
-  told-once w (Crash c calls) = untold (apply_event s F R M w (Crash c calls)) refl
+  told-once w (Hold c) = untold (apply_event (with_crashes s F R M) w (Hold c)) refl
+  told-once w (Free c) = untold (apply_event (with_crashes s F R M) w (Free c)) refl
+  told-once w (Event_drop c) = untold (apply_event (with_crashes s F R M) w (Event_drop c)) refl
+  told-once w (Restart c) = untold (apply_event (with_crashes s F R M) w (Restart c)) refl
+  told-once w (Crash c calls) = untold (apply_event (with_crashes s F R M) w (Crash c calls)) refl
   told-once w (Bytes c bytes) = injects-once w c bytes M.stopping
 
   -- the event that stops the run is not noted as lost
-  pub end-notes-nothing : (p : Course Msg) (e : Event) (end : End) → (apply_event s F R M p.machines e).ended ≡ Some end → (run_event s F R M p e).drops ≡ p.drops
-  end-notes-nothing p e end q = ap (λ (o : Option Why). noted p.event o p.drops) (told-once p.machines e end q)
+  pub end-notes-nothing : (p : Course Msg) (e : Event) (end : End) → (apply_event (with_crashes s F R M) p.state e).ended ≡ Some end → (run_event (with_crashes s F R M) p e).drops ≡ p.drops
+  end-notes-nothing p e end q = ap (λ (o : Option Why). noted p.event o p.drops) (told-once p.state e end q)
 
   -- ---- one more event, and events after the stop
 
-  pub further-on : (p : Course Msg) (e : Event) → p.ended ≡ None → run_event_if_open p.ended s F R M p e ≡ run_event s F R M p e
-  further-on p e going = ap (λ (o : Option (ℕ × End)). run_event_if_open o s F R M p e) going
+  pub further-on : (p : Course Msg) (e : Event) → p.ended ≡ None → run_event_if_open p.ended (with_crashes s F R M) p e ≡ run_event (with_crashes s F R M) p e
+  further-on p e going = ap (λ (o : Option (ℕ × End)). run_event_if_open o (with_crashes s F R M) p e) going
 
-  pub further-stays : (p : Course Msg) (e : Event) (at : ℕ × End) → p.ended ≡ Some at → run_event_if_open p.ended s F R M p e ≡ p
-  further-stays p e at q = ap (λ (o : Option (ℕ × End)). run_event_if_open o s F R M p e) q
+  pub further-stays : (p : Course Msg) (e : Event) (at : ℕ × End) → p.ended ≡ Some at → run_event_if_open p.ended (with_crashes s F R M) p e ≡ p
+  further-stays p e at q = ap (λ (o : Option (ℕ × End)). run_event_if_open o (with_crashes s F R M) p e) q
 
-  pub course-stays : (es : List Event) (p : Course Msg) (at : ℕ × End) → p.ended ≡ Some at → course s F R M p es ≡ p
+  pub course-stays : (es : List Event) (p : Course Msg) (at : ℕ × End) → p.ended ≡ Some at → run (with_crashes s F R M) p es ≡ p
   course-stays [] p at q = refl
-  course-stays (e ∷ es) p at q = ap (λ (z : Course Msg). course s F R M z es) (further-stays p e at q) ∙ course-stays es p at q
+  course-stays (e ∷ es) p at q = ap (λ (z : Course Msg). run (with_crashes s F R M) z es) (further-stays p e at q) ∙ course-stays es p at q
 
   -- ---- numbers of a run with disk failures
 
@@ -175,25 +176,25 @@ module _ {Msg : Type 0} (s : Setup) (F : Formats Msg) (R : Rules) (M : Module Ms
     pub drops : AreNumbered p.event p.drops
     pub end : (k : ℕ) (end : End) → p.ended ≡ Some (k, end) → k < p.event
 
-  on-counted : (p : Course Msg) (e : Event) → IsCounted p → IsCounted (run_event s F R M p e)
+  on-counted : (p : Course Msg) (e : Event) → IsCounted p → IsCounted (run_event (with_crashes s F R M) p e)
   on-counted p e a = record {
-    drops = numbered-noted p.event (apply_event s F R M p.machines e).lost p.drops a.drops;
-    end = λ k end q. let there = ended-then p.event (apply_event s F R M p.machines e).ended k end q in let same : k ≡ p.event = there.0 in omega (arith, same);
+    drops = numbered-noted p.event (apply_event (with_crashes s F R M) p.state e).lost p.drops a.drops;
+    end = λ k end q. let there = ended-then p.event (apply_event (with_crashes s F R M) p.state e).ended k end q in let same : k ≡ p.event = there.0 in omega (arith, same);
   }
 
-  further-counted : (p : Course Msg) (e : Event) → IsCounted p → (o : Option (ℕ × End)) → IsCounted (run_event_if_open o s F R M p e)
+  further-counted : (p : Course Msg) (e : Event) → IsCounted p → (o : Option (ℕ × End)) → IsCounted (run_event_if_open o (with_crashes s F R M) p e)
   further-counted p e a None = on-counted p e a
   further-counted p e a (Some at) = a
 
-  pub course-counted : (es : List Event) (p : Course Msg) → IsCounted p → IsCounted (course s F R M p es)
+  pub course-counted : (es : List Event) (p : Course Msg) → IsCounted p → IsCounted (run (with_crashes s F R M) p es)
   course-counted [] p a = a
-  course-counted (e ∷ es) p a = course-counted es (run_event_if_open p.ended s F R M p e) (further-counted p e a p.ended)
+  course-counted (e ∷ es) p a = course-counted es (run_event_if_open p.ended (with_crashes s F R M) p e) (further-counted p e a p.ended)
 
   pub begin-counted : IsCounted (begin_course s)
   begin-counted = record { drops = tt; end = λ k end q. absurd (cc) }
 
   -- a run that has not stopped has counted all events
-  counted-on : (p : Course Msg) (e : Event) (more : ℕ) (o : Option (ℕ × End)) → p.ended ≡ o → (n : Course Msg) → n ≡ run_event_if_open p.ended s F R M p e →
+  counted-on : (p : Course Msg) (e : Event) (more : ℕ) (o : Option (ℕ × End)) → p.ended ≡ o → (n : Course Msg) → n ≡ run_event_if_open p.ended (with_crashes s F R M) p e →
       (later : Course Msg) → ((at : ℕ × End) → p.ended ≡ Some at → later ≡ p) → later.ended ≡ None → later.event ≡ n.event + more → later.event ≡ p.event + suc more
   counted-on p e more None z n is later over q rest =
       let one : n.event ≡ suc p.event = ap (λ (c : Course Msg). c.event) (is ∙ further-on p e z) in
@@ -202,20 +203,20 @@ module _ {Msg : Type 0} (s : Setup) (F : Formats Msg) (R : Rules) (M : Module Ms
       let ended : later.ended ≡ Some at = ap (λ (c : Course Msg). c.ended) (over at z) ∙ z in
       absurd (cc)
 
-  pub all-counted : (es : List Event) (p : Course Msg) → (course s F R M p es).ended ≡ None → (course s F R M p es).event ≡ p.event + length es
+  pub all-counted : (es : List Event) (p : Course Msg) → (run (with_crashes s F R M) p es).ended ≡ None → (run (with_crashes s F R M) p es).event ≡ p.event + length es
   all-counted [] p q = omega arith
   all-counted (e ∷ es) p q =
-      let n : Course Msg = run_event_if_open p.ended s F R M p e in
-      counted-on p e (length es) p.ended refl n refl (course s F R M p (e ∷ es)) (λ at z. course-stays (e ∷ es) p at z) q (all-counted es n q)
+      let n : Course Msg = run_event_if_open p.ended (with_crashes s F R M) p e in
+      counted-on p e (length es) p.ended refl n refl (run (with_crashes s F R M) p (e ∷ es)) (λ at z. course-stays (e ∷ es) p at z) q (all-counted es n q)
 
 -- ---- the same from the start
 
 module _ {Msg : Type 0} (s : Setup) (M : Module Msg) where
-  pub after-more : (es more : List Event) → course_after s M (es ++ more) ≡ course s (formats_of s M) (rules_of s) M (course_after s M es) more
+  pub after-more : (es more : List Event) → course_after s M (es ++ more) ≡ run (with_crashes s (formats_of s M) (rules_of s) M) (course_after s M es) more
   after-more es more = course-append s (formats_of s M) (rules_of s) M es more (begin_course s)
 
   pub after-one : (es : List Event) (e : Event) → (course_after s M es).ended ≡ None →
-      course_after s M (es ++ e ∷ []) ≡ run_event s (formats_of s M) (rules_of s) M (course_after s M es) e
+      course_after s M (es ++ e ∷ []) ≡ run_event (with_crashes s (formats_of s M) (rules_of s) M) (course_after s M es) e
   after-one es e going = after-more es (e ∷ []) ∙ further-on s (formats_of s M) (rules_of s) M (course_after s M es) e going
 
   pub after-stays : (es more : List Event) (at : ℕ × End) → (course_after s M es).ended ≡ Some at → course_after s M (es ++ more) ≡ course_after s M es

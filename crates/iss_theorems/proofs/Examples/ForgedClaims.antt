@@ -15,7 +15,8 @@ use Rattle.iss_rules.specs.Books.{Signed}
 use Rattle.iss_rules.specs.Concrete.{rules_of}
 use Rattle.iss_rules.specs.Rules.{Rules}
 use Rattle.iss_rules.specs.Ends.{Forged}
-use Rattle.iss_model.specs.Run.{Progress, begin_run, run}
+use Rattle.iss_model.specs.Run.{begin_run, Held, failure_free}
+use Rattle.iss_model.specs.Driver.{Progress, run}
 use Rattle.iss_model.proofs.Example.{first_told, light, plain_request, short}
 use Rattle.iss_composition.proofs.Signing.{Word, claim_of, signing}
 
@@ -46,8 +47,8 @@ easy = light (rules_of four) 4
 abbrev batch : Batch
 batch = plain_request 0 0 (170 ∷ []) ∷ []
 
-abbrev pub after : List Event → Progress Word
-after events = run four short easy signing (begin_run four) events
+abbrev pub after : List Event → Progress (Held Word)
+after events = run (failure_free four short easy signing) (begin_run four) events
 
 -- a message in the instance of a leader, from the leader: slot and batch
 abbrev told : ℕ → List ℕ
@@ -61,7 +62,7 @@ honest : (after (Event_request 0 0 0 (170 ∷ []) ∷ Propose 0 ∷ Calm 5 ∷ [
 unfolding wide_bytes spell_value spell_batch spell_count spell_request digests_of_height
 honest = refl
 
-booked : (after (Event_request 0 0 0 (170 ∷ []) ∷ Propose 0 ∷ Calm 5 ∷ [])).held.signed ≡ claim 0 ∷ []
+booked : (after (Event_request 0 0 0 (170 ∷ []) ∷ Propose 0 ∷ Calm 5 ∷ [])).state.signed ≡ claim 0 ∷ []
 unfolding wide_bytes spell_value spell_batch spell_count spell_request digests_of_height
 booked = refl
 
@@ -89,8 +90,8 @@ faulty = refl
 abbrev hearing : Module Word
 hearing = record signing { decided = λ p me xs s. first_told p.leader.0 s xs }
 
-abbrev pub heard : List Event → Progress Word
-heard events = run four short easy hearing (begin_run four) events
+abbrev pub heard : List Event → Progress (Held Word)
+heard events = run (failure_free four short easy hearing) (begin_run four) events
 
 -- a message for the next epoch, from a node, in the instance of a leader at its slot
 abbrev early : ℕ → ℕ → List ℕ
@@ -109,15 +110,15 @@ unfolding wide_bytes spell_value spell_batch spell_count spell_request digests_o
 early_forged = refl
 
 -- the faulty node's is taken
-early_taken : length (((heard (Bytes 1 (early 3 3) ∷ whole_epoch)).held.net.cores 1).past.evidence 1 3) ≡ 1
+early_taken : length (((heard (Bytes 1 (early 3 3) ∷ whole_epoch)).state.net.cores 1).past.evidence 1 3) ≡ 1
 unfolding wide_bytes spell_value spell_batch spell_count spell_request digests_of_height
 early_taken = refl
 
 -- one with an invalid claim is dropped
-early_gone : length (((heard (Bytes 1 (early 5 3) ∷ whole_epoch)).held.net.cores 1).past.evidence 1 3) ≡ 0
+early_gone : length (((heard (Bytes 1 (early 5 3) ∷ whole_epoch)).state.net.cores 1).past.evidence 1 3) ≡ 0
 unfolding wide_bytes spell_value spell_batch spell_count spell_request digests_of_height
 early_gone = refl
 
-early_next : (((heard (Bytes 1 (early 5 3) ∷ whole_epoch)).held.net.cores 1).past.epoch) ≡ 1
+early_next : (((heard (Bytes 1 (early 5 3) ∷ whole_epoch)).state.net.cores 1).past.epoch) ≡ 1
 unfolding wide_bytes spell_value spell_batch spell_count spell_request digests_of_height
 early_next = refl

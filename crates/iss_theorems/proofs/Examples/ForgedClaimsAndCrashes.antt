@@ -15,7 +15,8 @@ use Rattle.iss_rules.specs.declared.events.Why.TheVariants.{Stopped}
 use Rattle.iss_model.proofs.Example.{first_told, light, plain_request, short}
 use Rattle.iss_composition.proofs.Signing.{Word, claim_of, signing}
 use Rattle.iss_theorems.proofs.Examples.ForgedClaims.{four}
-use Rattle.iss_model.specs.Courses.{Course, begin_course, course}
+use Rattle.iss_model.specs.Courses.{Course, begin_course, with_crashes}
+use Rattle.iss_model.specs.Driver.{run}
 
 abbrev easy : Rules
 easy = light (rules_of four) 4
@@ -24,7 +25,7 @@ abbrev batch : Batch
 batch = plain_request 0 0 (170 ∷ []) ∷ []
 
 abbrev course_of : List Event → Course Word
-course_of events = course four short easy signing (begin_course four) events
+course_of events = run (with_crashes four short easy signing) (begin_course four) events
 
 -- a message in the instance of node 0, from node 0, with a claim
 abbrev told : List ℕ
@@ -51,7 +52,7 @@ lost_both = refl
 abbrev unkept : List Event
 unkept = Event_request 0 0 0 (170 ∷ []) ∷ Crash 0 3 ∷ Propose 0 ∷ []
 
-not_booked : (course_of unkept).machines.held.signed ≡ []
+not_booked : (course_of unkept).state.held.signed ≡ []
 unfolding wide_bytes spell_value spell_batch spell_count spell_request digests_of_height
 not_booked = refl
 
@@ -70,7 +71,7 @@ abbrev hearing : Module Word
 hearing = record signing { decided = λ p me xs s. first_told p.leader.0 s xs }
 
 abbrev heard : List Event → Course Word
-heard events = course four short easy hearing (begin_course four) events
+heard events = run (with_crashes four short easy hearing) (begin_course four) events
 
 abbrev early : List ℕ
 early = 0 ∷ 0 ∷ 1 ∷ 0 ∷ 4 ∷ 0 ∷ 0 ∷ 170 ∷ []

@@ -5,24 +5,25 @@ use Rattle.iss_schedule.specs.declared.schedules.Event.{Event}
 use Rattle.iss_schedule.specs.declared.schedules.Event.TheVariants.{Request as Event_request, Propose, Timeout as Event_timeout, Calm}
 use Rattle.iss_theorems.specs.Conserved.{IsInOnePlace, WasAsked, first, second, third}
 use Rattle.iss_model.specs.Node.{Core}
-use Rattle.iss_model.specs.Run.{begin_run, run}
+use Rattle.iss_model.specs.Run.{begin_run, failure_free}
+use Rattle.iss_model.specs.Driver.{run}
 use Rattle.iss_model.proofs.Example.{Word, easy, plain, short, telling}
 
 abbrev x : ReqId
 x = record { client = 0; number = 0 }
 
 core : List Event → ℕ → Core Word
-core events i = (run plain short easy telling (begin_run plain) events).held.net.cores i
+core events i = (run (failure_free plain short easy telling) (begin_run plain) events).state.net.cores i
 
 abbrev asks : Event
 asks = Event_request 0 0 0 (170 ∷ [])
 
 -- it was accepted, also if it is asked for again later
-taken : WasAsked plain short easy telling (begin_run plain) (asks ∷ Propose 0 ∷ asks ∷ []) 0 x
+taken : WasAsked (failure_free plain short easy telling) (begin_run plain) (asks ∷ Propose 0 ∷ asks ∷ []) 0 x
 taken = inl (inl refl)
 
 -- by node 0 alone
-not_taken : WasAsked plain short easy telling (begin_run plain) (asks ∷ Propose 0 ∷ asks ∷ []) 1 x → ⊥
+not_taken : WasAsked (failure_free plain short easy telling) (begin_run plain) (asks ∷ Propose 0 ∷ asks ∷ []) 1 x → ⊥
 not_taken (inl h) = h
 not_taken (inr (inl h)) = h
 not_taken (inr (inr (inl h))) = h

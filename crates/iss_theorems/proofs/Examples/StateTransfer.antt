@@ -30,19 +30,20 @@ use Rattle.iss_model.specs.Node.{Core, Dropped, Stepped, Taken, initial_core, st
 use Rattle.iss_rules.specs.Past.{log_of}
 use Rattle.iss_rules.specs.Rules.{Rules}
 use Rattle.iss_rules.specs.Ends.{Forged}
-use Rattle.iss_model.specs.Run.{Progress, begin_run, run}
+use Rattle.iss_model.specs.Run.{begin_run, Held, failure_free}
 use Rattle.iss_model.specs.Views.{claims_of_bytes}
+use Rattle.iss_model.specs.Driver.{Progress, run}
 use Rattle.iss_model.proofs.Example.{Word, easy, light, plain, short, spell, telling}
 use Rattle.iss_theorems.proofs.Examples.ForgedClaims.{after as forging}
 
-abbrev run_of : List Event → Progress Word
-run_of events = run plain short easy telling (begin_run plain) events
+abbrev run_of : List Event → Progress (Held Word)
+run_of events = run (failure_free plain short easy telling) (begin_run plain) events
 
 core : List Event → ℕ → Core Word
-core events i = (run_of events).held.net.cores i
+core events i = (run_of events).state.net.cores i
 
 after : List Event → ℕ → List Value
-after events i = reverse (log_of easy telling i ((run_of events).held.net.cores i).past)
+after events i = reverse (log_of easy telling i ((run_of events).state.net.cores i).past)
 
 -- node 2 lags, and asks node 0
 abbrev behind : List Event
@@ -78,7 +79,7 @@ caught_up = refl
 all_taken : (run_of behind).drops ≡ []
 all_taken = refl
 
-sent : routes (run_of behind).held.net.network.packets ≡
+sent : routes (run_of behind).state.net.network.packets ≡
     (0, 0, 0 ∷ []) ∷ (0, 1, 0 ∷ []) ∷ (0, 2, 0 ∷ []) ∷ (1, 0, 0 ∷ []) ∷ (1, 1, 0 ∷ []) ∷ (1, 2, 0 ∷ []) ∷
     (2, 0, 0 ∷ []) ∷ (2, 1, 0 ∷ []) ∷ (2, 2, 0 ∷ []) ∷ (0, 0, 2 ∷ []) ∷ (0, 1, 2 ∷ []) ∷ (0, 2, 2 ∷ []) ∷
     (1, 0, 2 ∷ []) ∷ (1, 1, 2 ∷ []) ∷ (1, 2, 2 ∷ []) ∷ (2, 0, 3 ∷ []) ∷ (0, 2, 4 ∷ []) ∷ []
@@ -254,7 +255,7 @@ abbrev prompt : Module Word
 prompt = record telling { decided = λ p me xs s. casts_now s xs }
 
 abbrev last : Stepped Word
-last = step short easy prompt 0 ((run plain short easy prompt (begin_run plain) (Propose 1 ∷ Propose 2 ∷ Deliver 0 ∷ Deliver 3 ∷ [])).held.net.cores 0) On_propose
+last = step short easy prompt 0 ((run (failure_free plain short easy prompt) (begin_run plain) (Propose 1 ∷ Propose 2 ∷ Deliver 0 ∷ Deliver 3 ∷ [])).state.net.cores 0) On_propose
 
 abbrev sends_of : Stepped Word → List (To × List ℕ)
 sends_of (Dropped why) = []
@@ -302,12 +303,12 @@ tiny = record plain { epoch = 1 }
 abbrev digesting : Rules
 digesting = record (light (rules_of tiny) 3) { end = (rules_of tiny).end; hashes = (rules_of tiny).hashes }
 
-abbrev digested : Progress Word
-digested = run tiny short digesting telling (begin_run tiny)
+abbrev digested : Progress (Held Word)
+digested = run (failure_free tiny short digesting telling) (begin_run tiny)
     (Hold 2 ∷ Propose 0 ∷ Calm 3 ∷ Event_drop 2 ∷ Free 2 ∷ Ask 2 (record { 0 = 0 }) ∷ Calm 3 ∷ [])
 
-abbrev outcome : Progress Word → ℕ × ℕ × ℕ
-outcome p = (length p.held.hashed, (p.held.net.cores 2).past.epoch, length p.drops)
+abbrev outcome : Progress (Held Word) → ℕ × ℕ × ℕ
+outcome p = (length p.state.hashed, (p.state.net.cores 2).past.epoch, length p.drops)
 
 collision_free : outcome digested ≡ (9, 1, 0)
 unfolding spell_value spell_batch spell_count spell_request sha256 digest_bytes hash_after compress rounds schedule first_words digests_of_height

@@ -36,7 +36,7 @@ abbrev both_cast : List Event
 both_cast = Event_request 3 0 3 (170 ∷ []) ∷ Propose 3 ∷ Propose 4 ∷ []
 
 core : List Event → ℕ → Core Word
-core events c = (heard events).held.net.cores c
+core events c = (heard events).state.net.cores c
 
 one : (core both_cast 3).flight ≡ (record { 0 = 3 }, asked) ∷ []
 unfolding core wide_bytes spell_value spell_batch spell_count spell_request digests_of_height
@@ -47,7 +47,7 @@ unfolding core wide_bytes spell_value spell_batch spell_count spell_request dige
 other = refl
 
 -- nothing of it enters the book, and a core that receives either continues
-unbooked : (heard (both_cast ++ Calm 1 ∷ [])).held.signed ≡ []
+unbooked : (heard (both_cast ++ Calm 1 ∷ [])).state.signed ≡ []
 unfolding wide_bytes spell_value spell_batch spell_count spell_request digests_of_height
 unbooked = refl
 

@@ -25,7 +25,8 @@ use Rattle.iss_theorems.specs.OneLog.{AreOfCluster, free_after, run_after}
 use Rattle.iss_rules.specs.Past.{Past, log_of}
 use Rattle.iss_rules.specs.Rules.{Rules}
 use Rattle.iss_rules.specs.Ends.{End}
-use Rattle.iss_model.specs.Run.{Happening, Held, Net, Progress, after_step, apply_event, at_core, begin_net, begin_run, by_collision, by_forged, calms, collision_in, delivered_to, delivers, delivers_each, done, first_forged, loses, node_of, posted_all, pumps, run, run_event_if_open, turned_to, unless, with_network}
+use Rattle.iss_model.specs.Run.{Held, Net, after_step, at_core, begin_net, begin_run, by_collision, by_forged, collision_in, first_forged, node_of, posted_all, turned_to, with_network, failure_free}
+use Rattle.iss_model.specs.Driver.{Progress, Upshot, apply_event, calms, delivered_to, delivers, delivers_each, done, loses, pumps, run, run_event_if_open, unless}
 use Rattle.iss_rules.specs.Setups.{IsSetupOf}
 use Rattle.iss_rules.proofs.Faithful.{IsFaithful, IsReadBack}
 use Rattle.iss_composition.proofs.Good.{Good}
@@ -104,51 +105,51 @@ module _ {Msg : Type 0} (s : Setup) (F : Formats Msg) (R : Rules) (M : Module Ms
   stays h f = kept-refl s R M h.net f
 
   after-kept : (h : Held Msg) → AllFiled s R M h.net → (c : ℕ) (event : NodeEvent) (o : Stepped Msg) → step F R M (node_of s c) (h.net.cores c) event ≡ o →
-      kept h (after_step s h c o).held
+      kept h (after_step s h c o).state
   after-kept h f c event (Dropped why) q = stays h f
   after-kept h f c event (Taken t) q = go (collision_in t.strings h.hashed)
     where
-      go : (o : Option End) → kept h (by_collision o h (turned_to s h c t)).held
+      go : (o : Option End) → kept h (by_collision o h (turned_to s h c t)).state
       go None = set-kept s R M h.net f c t.core (posted_all s h.net.network c t.sends) (step-keeps R M (node_of s c) F seg law (h.net.cores c) event t (f c) q)
       go (Some end) = stays h f
 
-  at-kept : (h : Held Msg) → AllFiled s R M h.net → (c : ℕ) (event : NodeEvent) → kept h (at_core s F R M h c event).held
+  at-kept : (h : Held Msg) → AllFiled s R M h.net → (c : ℕ) (event : NodeEvent) → kept h (at_core s F R M h c event).state
   at-kept h f c event = go (first_forged s R h.signed _) (step F R M (node_of s c) (h.net.cores c) event) refl
     where
-      go : (k : Option Claim) (o : Stepped Msg) → step F R M (node_of s c) (h.net.cores c) event ≡ o → kept h (by_forged k h (after_step s h c o)).held
+      go : (k : Option Claim) (o : Stepped Msg) → step F R M (node_of s c) (h.net.cores c) event ≡ o → kept h (by_forged k h (after_step s h c o)).state
       go None o q = after-kept h f c event o q
       go (Some claim) o q = stays h f
 
-  deliver-kept : (h : Held Msg) → AllFiled s R M h.net → (k : ℕ) (o : Option Sent) → kept h (delivered_to s F R M h k o).held
+  deliver-kept : (h : Held Msg) → AllFiled s R M h.net → (k : ℕ) (o : Option Sent) → kept h (delivered_to (failure_free s F R M) h k o).state
   deliver-kept h f k None = stays h f
   deliver-kept h f k (Some p) = at-kept (with_network h (settled h.net.network k)) f p.to (On_packet p.bytes)
 
-  unless-kept : (h : Held Msg) (d : Happening Msg) (more : Held Msg → Happening Msg) → kept h d.held →
-      (AllFiled s R M d.held.net → kept d.held (more d.held).held) → (o : Option End) → kept h (unless o d more).held
-  unless-kept h d more a b None = kept-trans s R M h.net d.held.net (more d.held).held.net a b
+  unless-kept : (h : Held Msg) (d : Upshot (Held Msg)) (more : Held Msg → Upshot (Held Msg)) → kept h d.state →
+      (AllFiled s R M d.state.net → kept d.state (more d.state).state) → (o : Option End) → kept h (unless o d more).state
+  unless-kept h d more a b None = kept-trans s R M h.net d.state.net (more d.state).state.net a b
   unless-kept h d more a b (Some end) = a
 
-  each-kept : (ks : List ℕ) (h : Held Msg) → AllFiled s R M h.net → kept h (delivers_each s F R M ks h).held
+  each-kept : (ks : List ℕ) (h : Held Msg) → AllFiled s R M h.net → kept h (delivers_each (failure_free s F R M) ks h).state
   each-kept [] h f = stays h f
   each-kept (k ∷ ks) h f =
-      let d = delivers s F R M h k in
-      unless-kept h d (delivers_each s F R M ks) (deliver-kept h f k (nth h.net.network.packets k)) (λ g. each-kept ks d.held g) d.ended
+      let d = delivers (failure_free s F R M) h k in
+      unless-kept h d (delivers_each (failure_free s F R M) ks) (deliver-kept h f k (nth h.net.network.packets k)) (λ g. each-kept ks d.state g) d.ended
 
-  calm-kept : (m : ℕ) (h : Held Msg) → AllFiled s R M h.net → kept h (calms s F R M m h).held
+  calm-kept : (m : ℕ) (h : Held Msg) → AllFiled s R M h.net → kept h (calms (failure_free s F R M) m h).state
   calm-kept zero h f = stays h f
   calm-kept (suc m) h f =
-      let d = pumps s F R M h in
-      unless-kept h d (calms s F R M m) (each-kept (due h.net.network) h f) (λ g. calm-kept m d.held g) d.ended
+      let d = pumps (failure_free s F R M) h in
+      unless-kept h d (calms (failure_free s F R M) m) (each-kept (due h.net.network) h f) (λ g. calm-kept m d.state g) d.ended
 
-  lose-kept : (h : Held Msg) → AllFiled s R M h.net → (k : ℕ) (o : Option Sent) → kept h (loses h k o).held
+  lose-kept : (h : Held Msg) → AllFiled s R M h.net → (k : ℕ) (o : Option Sent) → kept h (loses (failure_free s F R M) h k o).state
   lose-kept h f k None = stays h f
   lose-kept h f k (Some p) = stays h f
 
-  inject-kept : (h : Held Msg) → AllFiled s R M h.net → (c : ℕ) (bytes : List ℕ) (b : Bool) → kept h (cond b (done h) (at_core s F R M h c (On_packet bytes))).held
+  inject-kept : (h : Held Msg) → AllFiled s R M h.net → (c : ℕ) (bytes : List ℕ) (b : Bool) → kept h (cond b (done h) (at_core s F R M h c (On_packet bytes))).state
   inject-kept h f c bytes true = stays h f
   inject-kept h f c bytes false = at-kept h f c (On_packet bytes)
 
-  happens-kept : (h : Held Msg) → AllFiled s R M h.net → (e : Event) → kept h (apply_event s F R M h e).held
+  happens-kept : (h : Held Msg) → AllFiled s R M h.net → (e : Event) → kept h (apply_event (failure_free s F R M) h e).state
   happens-kept h f (Event_request c client number payload) =
       at-kept h f c (On_packet (F.wrap (record { from = 255; epoch = 0; body = OfRequest (request_of s client number payload) })))
   happens-kept h f (Propose c) = at-kept h f c On_propose
@@ -165,18 +166,18 @@ module _ {Msg : Type 0} (s : Setup) (F : Formats Msg) (R : Rules) (M : Module Ms
   happens-kept h f (Crash c calls) = stays h f
   happens-kept h f (Bytes c bytes) = inject-kept h f c bytes M.stopping
 
-  goes-kept : (p : Progress Msg) → AllFiled s R M p.held.net → (e : Event) (o : Option (ℕ × End)) → kept p.held (run_event_if_open o s F R M p e).held
-  goes-kept p f e None = happens-kept p.held f e
-  goes-kept p f e (Some end) = stays p.held f
+  goes-kept : (p : Progress (Held Msg)) → AllFiled s R M p.state.net → (e : Event) (o : Option (ℕ × End)) → kept p.state (run_event_if_open o (failure_free s F R M) p e).state
+  goes-kept p f e None = happens-kept p.state f e
+  goes-kept p f e (Some end) = stays p.state f
 
-  pub run-kept : (es : List Event) (p : Progress Msg) → AllFiled s R M p.held.net → kept p.held (run s F R M p es).held
-  run-kept [] p f = stays p.held f
+  pub run-kept : (es : List Event) (p : Progress (Held Msg)) → AllFiled s R M p.state.net → kept p.state (run (failure_free s F R M) p es).state
+  run-kept [] p f = stays p.state f
   run-kept (e ∷ es) p f =
-      let g = run_event_if_open p.ended s F R M p e in
-      kept-trans s R M p.held.net g.held.net (run s F R M g es).held.net (goes-kept p f e p.ended) (λ z. run-kept es g z)
+      let g = run_event_if_open p.ended (failure_free s F R M) p e in
+      kept-trans s R M p.state.net g.state.net (run (failure_free s F R M) g es).state.net (goes-kept p f e p.ended) (λ z. run-kept es g z)
 
-  asked-now : (h : Held Msg) (e : Event) (i : ℕ) (x : ReqId) → In x (asked_in i e (apply_event s F R M h e)) →
-      PlacedCore R M (node_of s i) ((apply_event s F R M h e).held.net.cores i) x
+  asked-now : (h : Held Msg) (e : Event) (i : ℕ) (x : ReqId) → In x (asked_in i e (apply_event (failure_free s F R M) h e)) →
+      PlacedCore R M (node_of s i) ((apply_event (failure_free s F R M) h e).state.net.cores i) x
   asked-now h (Event_request c client number payload) i x m = honest (first_forged s R h.signed _) (step F R M (node_of s c) (h.net.cores c) event) refl m
     where
       q : Request
@@ -189,7 +190,7 @@ module _ {Msg : Type 0} (s : Setup) (F : Formats Msg) (R : Rules) (M : Module Ms
       e = Event_request c client number payload
 
       turned : (t : Turn Msg) → step F R M (node_of s c) (h.net.cores c) event ≡ Taken t → (o : Option End) →
-          In x (asked_in i e (by_collision o h (turned_to s h c t))) → PlacedCore R M (node_of s i) ((by_collision o h (turned_to s h c t)).held.net.cores i) x
+          In x (asked_in i e (by_collision o h (turned_to s h c t))) → PlacedCore R M (node_of s i) ((by_collision o h (turned_to s h c t)).state.net.cores i) x
       turned t k None z =
           waits-at s F R M seg h.net c q.id t.core
           (waits-now s F R M seg (h.net.cores c) (node_of s c) q t (F.unwrap (F.wrap (record { from = 255; epoch = 0; body = OfRequest q }))) (requests q) k)
@@ -197,44 +198,44 @@ module _ {Msg : Type 0} (s : Setup) (F : Formats Msg) (R : Rules) (M : Module Ms
       turned t k (Some end) z = absurd z
 
       taken : (o : Stepped Msg) → step F R M (node_of s c) (h.net.cores c) event ≡ o → In x (asked_in i e (after_step s h c o)) →
-          PlacedCore R M (node_of s i) ((after_step s h c o).held.net.cores i) x
+          PlacedCore R M (node_of s i) ((after_step s h c o).state.net.cores i) x
       taken (Dropped why) k z = absurd z
       taken (Taken t) k z = turned t k (collision_in t.strings h.hashed) z
 
       honest : (f : Option Claim) (o : Stepped Msg) → step F R M (node_of s c) (h.net.cores c) event ≡ o →
           In x (asked_in i e (by_forged f h (after_step s h c o))) →
-          PlacedCore R M (node_of s i) ((by_forged f h (after_step s h c o)).held.net.cores i) x
+          PlacedCore R M (node_of s i) ((by_forged f h (after_step s h c o)).state.net.cores i) x
       honest None o k z = taken o k z
       honest (Some claim) o k z = absurd z
-  asked-now h (Propose c) i x m = absurd (none x (apply_event s F R M h (Propose c)).ended m)
-  asked-now h (Event_timeout c l) i x m = absurd (none x (apply_event s F R M h (Event_timeout c l)).ended m)
-  asked-now h (Ask c peer) i x m = absurd (none x (apply_event s F R M h (Ask c peer)).ended m)
-  asked-now h (Deliver k) i x m = absurd (none x (apply_event s F R M h (Deliver k)).ended m)
-  asked-now h (Lose k) i x m = absurd (none x (apply_event s F R M h (Lose k)).ended m)
-  asked-now h Pump i x m = absurd (none x (apply_event s F R M h Pump).ended m)
-  asked-now h (Calm n) i x m = absurd (none x (apply_event s F R M h (Calm n)).ended m)
+  asked-now h (Propose c) i x m = absurd (none x (apply_event (failure_free s F R M) h (Propose c)).ended m)
+  asked-now h (Event_timeout c l) i x m = absurd (none x (apply_event (failure_free s F R M) h (Event_timeout c l)).ended m)
+  asked-now h (Ask c peer) i x m = absurd (none x (apply_event (failure_free s F R M) h (Ask c peer)).ended m)
+  asked-now h (Deliver k) i x m = absurd (none x (apply_event (failure_free s F R M) h (Deliver k)).ended m)
+  asked-now h (Lose k) i x m = absurd (none x (apply_event (failure_free s F R M) h (Lose k)).ended m)
+  asked-now h Pump i x m = absurd (none x (apply_event (failure_free s F R M) h Pump).ended m)
+  asked-now h (Calm n) i x m = absurd (none x (apply_event (failure_free s F R M) h (Calm n)).ended m)
   asked-now h (Hold c) i x m = absurd m
   asked-now h (Free c) i x m = absurd m
   asked-now h (Event_drop c) i x m = absurd m
   asked-now h (Restart c) i x m = absurd m
   asked-now h (Crash c calls) i x m = absurd m
-  asked-now h (Bytes c bytes) i x m = absurd (none x (apply_event s F R M h (Bytes c bytes)).ended m)
+  asked-now h (Bytes c bytes) i x m = absurd (none x (apply_event (failure_free s F R M) h (Bytes c bytes)).ended m)
 
-  pub asked-placed : (es : List Event) (p : Progress Msg) → AllFiled s R M p.held.net → (i : ℕ) (x : ReqId) → WasAsked s F R M p es i x →
-      PlacedCore R M (node_of s i) ((run s F R M p es).held.net.cores i) x
+  pub asked-placed : (es : List Event) (p : Progress (Held Msg)) → AllFiled s R M p.state.net → (i : ℕ) (x : ReqId) → WasAsked (failure_free s F R M) p es i x →
+      PlacedCore R M (node_of s i) ((run (failure_free s F R M) p es).state.net.cores i) x
   asked-placed [] p f i x k = absurd k
   asked-placed (e ∷ es) p f i x (inl k) =
-      let g = run_event_if_open p.ended s F R M p e in
-      let f2 : AllFiled s R M g.held.net = all-filed s R M p.held.net g.held.net (goes-kept p f e p.ended) in
+      let g = run_event_if_open p.ended (failure_free s F R M) p e in
+      let f2 : AllFiled s R M g.state.net = all-filed s R M p.state.net g.state.net (goes-kept p f e p.ended) in
       (run-kept es g f2 i).kept x (now p.ended k)
     where
-      now : (o : Option (ℕ × End)) → In x (unless_ended o (asked_in i e (apply_event s F R M p.held e))) →
-          PlacedCore R M (node_of s i) ((run_event_if_open o s F R M p e).held.net.cores i) x
-      now None z = asked-now p.held e i x z
+      now : (o : Option (ℕ × End)) → In x (unless_ended o (asked_in i e (apply_event (failure_free s F R M) p.state e))) →
+          PlacedCore R M (node_of s i) ((run_event_if_open o (failure_free s F R M) p e).state.net.cores i) x
+      now None z = asked-now p.state e i x z
       now (Some end) z = absurd z
   asked-placed (e ∷ es) p f i x (inr k) =
-      let g = run_event_if_open p.ended s F R M p e in
-      asked-placed es g (all-filed s R M p.held.net g.held.net (goes-kept p f e p.ended)) i x k
+      let g = run_event_if_open p.ended (failure_free s F R M) p e in
+      asked-placed es g (all-filed s R M p.state.net g.state.net (goes-kept p f e p.ended)) i x k
 
 -- in every run
 pub conserved : {Msg : Type 0} (s : Setup) (M : Module Msg) → IsSetupOf M s → IsFaithful s (formats_of s M) M → IsLawful M → IsSafe M → AcceptsOnce M →
@@ -244,7 +245,7 @@ conserved {Msg} s M h faithful law safe once events c i ok x asked =
     let R = rules_of s in
     let seg = segments s M h in
     let w = c.cluster in
-    let core = (run_after s M events).held.net.cores i in
+    let core = (run_after s M events).state.net.cores i in
     let is : node_of s i ≡ i = correct-is s i ok in
     let filed : FiledCore R M i core = subst (λ (n : ℕ). FiledCore R M n core) is
     (run-kept s F R M law seg faithful.requests events (begin_run s) (begin-filed s R M) i).filed in

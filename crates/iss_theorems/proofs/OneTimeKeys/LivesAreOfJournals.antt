@@ -1,13 +1,13 @@
 -- In each run with disk failures and restarts, cores, packets and book are those of the lives that the journals give. A
 -- correct node reads no claim of its own with a valid signature that it did not send before. So each of its statements
 -- in the book is that of one of its leaves.
-use Rattle.std.proofs.Common.{◌≡◌, ◌⊎◌, ◌∙◌, ◌++◌, ◌∷◌, ℕ, Bool, true, false, cond, eqb, List, [], Some, None, refl, sym, ap, subst, inl, inr, append-nil, append_assoc}
+use Rattle.std.proofs.Common.{◌≡◌, ◌∙◌, ◌++◌, ◌∷◌, ℕ, Bool, true, false, cond, eqb, List, [], Some, None, refl, sym, ap, subst, inl, inr, append-nil, append_assoc}
 use Rattle.std.specs.Prelude.{slice_get}
 use Rattle.std.specs.List.{filter}
 use Rattle.std.proofs.Math.Path.{fun_ext}
 use Rattle.std.proofs.lemmas.List.Elements.{filter-append}
 use Rattle.iss_base.specs.Lists.{In, set_at}
-use Rattle.iss_base.proofs.Lists.{eqb-other, eqb-same, in_append, in_left, in_right, is-eq, same_or_not, set_at-other, set_at-same}
+use Rattle.iss_base.proofs.Lists.{eqb-other, eqb-same, in_append, in_right, same_or_not, set_at-other, set_at-same}
 use Rattle.iss_layout.proofs.FairLemmas.{in_filter}
 use Rattle.iss_network.specs.Network.{Network}
 use Rattle.iss_network.specs.declared.packets.Sent.{Sent}
@@ -26,14 +26,15 @@ use Rattle.iss_rules.specs.Setups.{IsSetupOf}
 use Rattle.iss_rules.specs.declared.events.NodeEvent.{NodeEvent}
 use Rattle.iss_model.specs.Frames.{Frame, claims_at_in, frame_of, step_in}
 use Rattle.iss_model.specs.Node.{Core, Dropped, Stepped, Taken, Turn, step}
-use Rattle.iss_model.specs.Run.{Held, addressees, as_signed, booked, first_forged, node_of, posted_all, posted_to, turned_to, with_network}
-use Rattle.iss_model.specs.Courses.{Machines, after_step, begin_course, core_of, course, recover, with_disk, with_packets}
+use Rattle.iss_model.specs.Run.{Held, addressees, as_signed, booked, first_forged, node_of, posted_all, posted_to}
+use Rattle.iss_model.specs.Courses.{Machines, after_step, begin_course, core_of, recover, with_disk, with_packets, with_crashes}
 use Rattle.iss_model.specs.Disks.{Disk, keeps, works_again}
+use Rattle.iss_model.specs.Driver.{run}
 use Rattle.iss_model.proofs.Twins.{correct-is}
 use Rattle.iss_theorems.specs.Leaves.{AreOfJournals, AreOfRow, Deed, IsLife, UsesLeavesOnce, and_deed, core_behind, life_at, life_of, packets_in, packets_of, packets_to, sent, sent_by, signed_by, told, verified}
 use Rattle.iss_theorems.specs.Recovery.{course_after}
 use Rattle.iss_theorems.proofs.CrashRecovery.CourseKeepsWhatStepsKeep.{course-holds, read_at, turned}
-use Rattle.iss_theorems.proofs.OneTimeKeys.LeafSignsOnce.{in_verified, of_verified, signs-once-each}
+use Rattle.iss_theorems.proofs.OneTimeKeys.LeafSignsOnce.{of_verified, signs-once-each}
 use Rattle.iss_theorems.proofs.OneTimeKeys.OwnClaims.{step-own}
 use Rattle.iss_theorems.proofs.Refinement.DeliveryChecks.{as_signed-append, in-signed, unforged}
 
@@ -350,7 +351,7 @@ module _ {Msg : Type 0} (s : Setup) (F : Formats Msg) (R : Rules) (M : Module Ms
     turned-of : P (turned s F R M w c event t)
     turned-of = record { cores = cores-now; packets = packets-now; book = book-now; correct = correct-now; heard = heard-now }
 
-  begin-of : P (begin_course s).machines
+  begin-of : P (begin_course s).state
   begin-of = record {
     cores = λ c. refl;
     packets = λ c. refl;
@@ -359,14 +360,14 @@ module _ {Msg : Type 0} (s : Setup) (F : Formats Msg) (R : Rules) (M : Module Ms
     heard = λ i ok. tt;
   }
 
-  course-of : (events : List Event) → P (course s F R M (begin_course s) events).machines
+  course-of : (events : List Event) → P (run (with_crashes s F R M) (begin_course s) events).state
   course-of events = course-holds s F R M P network-of disk-of turned-of recover-of events (begin_course s) begin-of
 
 -- ---- the lives of a run
 
 module _ {Msg : Type 0} (s : Setup) (M : Module Msg) (h : IsSetupOf M s) (once : SignsOnce M) (events : List Event) where
   abbrev w : Machines Msg
-  w = (course_after s M events).machines
+  w = (course_after s M events).state
 
   k : IsOf s (formats_of s M) (rules_of s) M w.held (journals s (formats_of s M) (rules_of s) M w)
   k = course-of s (formats_of s M) (rules_of s) M events

@@ -1,5 +1,5 @@
 -- Each own claim of a step names the node itself.
-use Rattle.std.proofs.Common.{◌≡◌, inl, inr, ℕ, suc, true, ◌++◌, ◌∷◌, [], List, ap}
+use Rattle.std.proofs.Common.{◌≡◌, inl, inr, ℕ, suc, ◌++◌, ◌∷◌, [], List, ap}
 use Rattle.iss_base.specs.Lists.{In}
 use Rattle.iss_base.proofs.Lists.{in_append}
 use Rattle.iss_sb.specs.declared.effects.Claim.{Claim}
@@ -11,7 +11,7 @@ use Rattle.iss_rules.specs.Parcels.{Formats}
 use Rattle.iss_rules.specs.Past.{made_in, params_of}
 use Rattle.iss_rules.specs.Rules.{Rules}
 use Rattle.iss_rules.specs.Votes.{claim_of_vote, claims_of_cert}
-use Rattle.iss_model.specs.Node.{Core, Early, Taken, Turn, adopts_piece, advance_epochs, own_claims, step, step_unjudged, takes_each, then_turn, unchanged, vote_on}
+use Rattle.iss_model.specs.Node.{Core, Early, Taken, Turn, adopts_piece, advance_epochs, own_claims, step, step_unjudged, takes_each, then_turn, vote_on}
 use Rattle.iss_model.proofs.Rows.{each-holds, settles-holds}
 use Rattle.iss_model.proofs.Steps.{Took, adopted, asked, cast, casting, fired, handed, kept, next_batch, received, sought, took, voted}
 use Rattle.iss_theorems.proofs.Refinement.DeliveryChecks.{only-by, own-claim}

@@ -277,25 +277,25 @@ module _ {Msg : Type 0} (s : Setup) (F : Formats Msg) (R : Rules) (M : Module Ms
           turned.turned-fits s F R M o h ok i good t (as_node good (node_of s i) (correct-is s i good) (ok.cores i) core did unf) told sep
       go false bad = turned.faulty-fits s F R M o h ok i t comes.low bad core told sep
 
-  pub at-fits : (event : NodeEvent) → Comes-here event → Fits (at_core s F R M h i event).held
+  pub at-fits : (event : NodeEvent) → Comes-here event → Fits (at_core s F R M h i event).state
   at-fits event comes = stepped (step F R M (node_of s i) c event) refl
     where
       reads : Stepped Msg → List Claim
       reads o = claims_at F R M (node_of s i) c event ++ early_of o
 
       collided : (e : Option End) (t : Turn Msg) → collision_in t.strings h.hashed ≡ e → first_forged s R h.signed (reads (Taken t)) ≡ None →
-          step F R M (node_of s i) c event ≡ Taken t → Fits (by_collision e h (turned_to s h i t)).held
+          step F R M (node_of s i) c event ≡ Taken t → Fits (by_collision e h (turned_to s h i t)).state
       collided (Some end) t q unf st = ok
       collided None t q unf st = turn-fits event t comes unf st (separate-more t.strings h.hashed q ok.separate)
 
-      after : (x : Stepped Msg) → step F R M (node_of s i) c event ≡ x → first_forged s R h.signed (reads x) ≡ None → Fits (after_step s h i x).held
+      after : (x : Stepped Msg) → step F R M (node_of s i) c event ≡ x → first_forged s R h.signed (reads x) ≡ None → Fits (after_step s h i x).state
       after (Dropped why) q unf = ok
       after (Taken t) q unf = collided (collision_in t.strings h.hashed) t refl unf q
 
       forged : (f : Option Claim) (x : Stepped Msg) → step F R M (node_of s i) c event ≡ x → first_forged s R h.signed (reads x) ≡ f →
-          Fits (by_forged f h (after_step s h i x)).held
+          Fits (by_forged f h (after_step s h i x)).state
       forged (Some claim) x st q = ok
       forged None x st q = after x st q
 
-      stepped : (x : Stepped Msg) → step F R M (node_of s i) c event ≡ x → Fits (by_forged (first_forged s R h.signed (reads x)) h (after_step s h i x)).held
+      stepped : (x : Stepped Msg) → step F R M (node_of s i) c event ≡ x → Fits (by_forged (first_forged s R h.signed (reads x)) h (after_step s h i x)).state
       stepped x st = forged (first_forged s R h.signed (reads x)) x st refl

@@ -15,27 +15,25 @@ use Rattle.iss_rules.specs.declared.events.NodeEvent.TheVariants.{Packet as On_p
 use Rattle.iss_composition.specs.Checkpoints.{scheme_of}
 use Rattle.iss_composition.specs.Cluster.{Cluster, Message, begin, chain_strings}
 use Rattle.iss_rules.specs.Parcels.{Body, Formats, OfRequest}
-use Rattle.iss_composition.specs.Ordered.{Ordered}
 use Rattle.iss_rules.specs.Rules.{Rules}
 use Rattle.iss_rules.specs.Ends.{End}
 use Rattle.iss_rules.specs.Concrete.{request_of}
-use Rattle.iss_model.specs.Run.{Happening, Held, Progress, at_core, begin_run, calms, cores_of, delivered_to, delivers, delivers_each, done, run_event_if_open, apply_event, loses, pumps, node_of, run, unless, with_network}
+use Rattle.iss_model.specs.Run.{Held, at_core, begin_run, cores_of, node_of, with_network, failure_free}
 use Rattle.iss_rules.proofs.Faithful.{is_message}
-use Rattle.iss_model.specs.Runs.{AreAtCores, IsAtCore, pasts_of}
+use Rattle.iss_model.specs.Runs.{AreAtCores, IsAtCore}
+use Rattle.iss_model.specs.Driver.{Progress, Upshot, apply_event, calms, delivered_to, delivers, delivers_each, done, loses, pumps, run, run_event_if_open, unless}
 use Rattle.iss_theorems.proofs.Refinement.EventKeepsInvariant.{at-fits}
 use Rattle.iss_rules.proofs.Logs.{newborn-log}
 use Rattle.iss_model.proofs.Casts.{idle-ready}
-use Rattle.iss_composition.proofs.Checkpoints.{exact-of}
-use Rattle.iss_composition.proofs.Reached.{composition}
 use Rattle.iss_model.proofs.Grown.{Grows, at-grows, grows-trans, same-net}
 use Rattle.iss_theorems.proofs.Refinement.Invariant.{Fits as FitsBy, IsPosted, Premises, view}
 use Rattle.iss_theorems.proofs.Refinement.ClusterDuringStep.{Comes-in}
 use Rattle.iss_model.proofs.Twins.{core-low, faultless}
 
-pub run-append : {Msg : Type 0} (s : Setup) (F : Formats Msg) (R : Rules) (M : Module Msg) (es fs : List Event) (p : Progress Msg) →
-    run s F R M p (es ++ fs) ≡ run s F R M (run s F R M p es) fs
+pub run-append : {Msg : Type 0} (s : Setup) (F : Formats Msg) (R : Rules) (M : Module Msg) (es fs : List Event) (p : Progress (Held Msg)) →
+    run (failure_free s F R M) p (es ++ fs) ≡ run (failure_free s F R M) (run (failure_free s F R M) p es) fs
 run-append s F R M [] fs p = refl
-run-append s F R M (e ∷ es) fs p = run-append s F R M es fs (run_event_if_open p.ended s F R M p e)
+run-append s F R M (e ∷ es) fs p = run-append s F R M es fs (run_event_if_open p.ended (failure_free s F R M) p e)
 
 module _ {Msg : Type 0} (s : Setup) (F : Formats Msg) (R : Rules) (M : Module Msg) (o : Premises s F R M) where
   abbrev pub Fits : Held Msg → Type 0
@@ -83,7 +81,7 @@ module _ {Msg : Type 0} (s : Setup) (F : Formats Msg) (R : Rules) (M : Module Ms
   leads-trans : (h g k : Held Msg) → Leads h g → (Fits g → Leads g k) → Leads h k
   leads-trans h g k a f = let b = f a.fits in record { fits = b.fits; grows = grows-trans s R M h.net g.net k.net a.grows b.grows }
 
-  leads-at : (h : Held Msg) (ok : Fits h) (i : ℕ) (event : NodeEvent) → Arrives h ok i event → Leads h (at_core s F R M h i event).held
+  leads-at : (h : Held Msg) (ok : Fits h) (i : ℕ) (event : NodeEvent) → Arrives h ok i event → Leads h (at_core s F R M h i event).state
   leads-at h ok i event comes =
       record {
         fits = at-fits s F R M o h ok i event comes;
@@ -94,9 +92,9 @@ module _ {Msg : Type 0} (s : Setup) (F : Formats Msg) (R : Rules) (M : Module Ms
   leads-network : (h : Held Msg) (net : Network) → net.packets ≡ h.net.network.packets → Fits h → Leads h (with_network h net)
   leads-network h net q ok = record { fits = network-fits h net q ok; grows = same h (with_network h net) refl }
 
-  leads-unless : (h : Held Msg) (o : Option End) (d : Happening Msg) (more : Held Msg → Happening Msg) → Leads h d.held →
-      ((g : Held Msg) → Fits g → Leads g (more g).held) → Leads h (unless o d more).held
-  leads-unless h None d more ok f = leads-trans h d.held (more d.held).held ok (f d.held)
+  leads-unless : (h : Held Msg) (o : Option End) (d : Upshot (Held Msg)) (more : Held Msg → Upshot (Held Msg)) → Leads h d.state →
+      ((g : Held Msg) → Fits g → Leads g (more g).state) → Leads h (unless o d more).state
+  leads-unless h None d more ok f = leads-trans h d.state (more d.state).state ok (f d.state)
   leads-unless h (Some end) d more ok f = ok
 
   -- a packet that holds a message that was sent
@@ -116,36 +114,36 @@ module _ {Msg : Type 0} (s : Setup) (F : Formats Msg) (R : Rules) (M : Module Ms
         o.faithful.others (record { from = 255; epoch = 0; body = OfRequest q }) k refl u));
   }
 
-  leads-delivers : (h : Held Msg) → Fits h → (k : ℕ) (o : Option Sent) → nth h.net.network.packets k ≡ o → Leads h (delivered_to s F R M h k o).held
+  leads-delivers : (h : Held Msg) → Fits h → (k : ℕ) (o : Option Sent) → nth h.net.network.packets k ≡ o → Leads h (delivered_to (failure_free s F R M) h k o).state
   leads-delivers h ok k None q = leads-same h ok
   leads-delivers h ok k (Some p) q =
       let g : Held Msg = with_network h (settled h.net.network k) in
-      leads-trans h g (at_core s F R M g p.to (On_packet p.bytes)).held (leads-network h (settled h.net.network k) refl ok)
+      leads-trans h g (at_core s F R M g p.to (On_packet p.bytes)).state (leads-network h (settled h.net.network k) refl ok)
       (λ okg. leads-at g okg p.to (On_packet p.bytes) (packet-comes g okg p (λ st. okg.posted st p (nth-in h.net.network.packets k p q))))
 
-  leads-each : (ks : List ℕ) (h : Held Msg) → Fits h → Leads h (delivers_each s F R M ks h).held
+  leads-each : (ks : List ℕ) (h : Held Msg) → Fits h → Leads h (delivers_each (failure_free s F R M) ks h).state
   leads-each [] h ok = leads-same h ok
   leads-each (k ∷ ks) h ok =
-      let d = delivers s F R M h k in
-      leads-unless h d.ended d (delivers_each s F R M ks) (leads-delivers h ok k (nth h.net.network.packets k) refl) (λ g okg. leads-each ks g okg)
+      let d = delivers (failure_free s F R M) h k in
+      leads-unless h d.ended d (delivers_each (failure_free s F R M) ks) (leads-delivers h ok k (nth h.net.network.packets k) refl) (λ g okg. leads-each ks g okg)
 
-  leads-calms : (m : ℕ) (h : Held Msg) → Fits h → Leads h (calms s F R M m h).held
+  leads-calms : (m : ℕ) (h : Held Msg) → Fits h → Leads h (calms (failure_free s F R M) m h).state
   leads-calms zero h ok = leads-same h ok
   leads-calms (suc m) h ok =
-      let d = pumps s F R M h in
-      leads-unless h d.ended d (calms s F R M m) (leads-each (due h.net.network) h ok) (λ g okg. leads-calms m g okg)
+      let d = pumps (failure_free s F R M) h in
+      leads-unless h d.ended d (calms (failure_free s F R M) m) (leads-each (due h.net.network) h ok) (λ g okg. leads-calms m g okg)
 
-  leads-loses : (h : Held Msg) → Fits h → (k : ℕ) (o : Option Sent) → Leads h (loses h k o).held
+  leads-loses : (h : Held Msg) → Fits h → (k : ℕ) (o : Option Sent) → Leads h (loses (failure_free s F R M) h k o).state
   leads-loses h ok k None = leads-same h ok
   leads-loses h ok k (Some p) = leads-network h (settled h.net.network k) refl ok
 
   leads-injects : (h : Held Msg) → Fits h → (i : ℕ) (bytes : List ℕ) (b : Bool) → M.stopping ≡ b →
-      Leads h (cond b (done h) (at_core s F R M h i (On_packet bytes))).held
+      Leads h (cond b (done h) (at_core s F R M h i (On_packet bytes))).state
   leads-injects h ok i bytes true q = leads-same h ok
   leads-injects h ok i bytes false q =
       leads-at h ok i (On_packet bytes) (record { low = λ st. absurd (true≢false (sym st ∙ q)); legit = λ st. absurd (true≢false (sym st ∙ q)) })
 
-  pub leads-happens : (h : Held Msg) → Fits h → (e : Event) → IsAtCore s e → Leads h (apply_event s F R M h e).held
+  pub leads-happens : (h : Held Msg) → Fits h → (e : Event) → IsAtCore s e → Leads h (apply_event (failure_free s F R M) h e).state
   leads-happens h ok (Event_request i client number payload) low =
       leads-at h ok i (On_packet (F.wrap (record { from = 255; epoch = 0; body = OfRequest (request_of s client number payload) })))
       (request-comes h ok i low (request_of s client number payload))
@@ -163,17 +161,17 @@ module _ {Msg : Type 0} (s : Setup) (F : Formats Msg) (R : Rules) (M : Module Ms
   leads-happens h ok (Crash i calls) low = leads-same h ok
   leads-happens h ok (Bytes i bytes) low = leads-injects h ok i bytes M.stopping refl
 
-  leads-further : (o : Option (ℕ × End)) (p : Progress Msg) → Fits p.held → (e : Event) → IsAtCore s e → Leads p.held (run_event_if_open o s F R M p e).held
-  leads-further None p ok e low = leads-happens p.held ok e low
-  leads-further (Some end) p ok e low = leads-same p.held ok
+  leads-further : (o : Option (ℕ × End)) (p : Progress (Held Msg)) → Fits p.state → (e : Event) → IsAtCore s e → Leads p.state (run_event_if_open o (failure_free s F R M) p e).state
+  leads-further None p ok e low = leads-happens p.state ok e low
+  leads-further (Some end) p ok e low = leads-same p.state ok
 
-  leads-run : (es : List Event) (p : Progress Msg) → Fits p.held → AreAtCores s es → Leads p.held (run s F R M p es).held
-  leads-run [] p ok low = leads-same p.held ok
+  leads-run : (es : List Event) (p : Progress (Held Msg)) → Fits p.state → AreAtCores s es → Leads p.state (run (failure_free s F R M) p es).state
+  leads-run [] p ok low = leads-same p.state ok
   leads-run (e ∷ es) p ok low =
-      let g = run_event_if_open p.ended s F R M p e in
-      leads-trans p.held g.held (run s F R M g es).held (leads-further p.ended p ok e low.0) (λ okg. leads-run es g okg low.1)
+      let g = run_event_if_open p.ended (failure_free s F R M) p e in
+      leads-trans p.state g.state (run (failure_free s F R M) g es).state (leads-further p.ended p ok e low.0) (λ okg. leads-run es g okg low.1)
 
-  start-fits : Fits (begin_run s).held
+  start-fits : Fits (begin_run s).state
   start-fits = record {
     messages = [];
     posted = λ st p m. absurd m;
@@ -192,13 +190,13 @@ module _ {Msg : Type 0} (s : Setup) (F : Formats Msg) (R : Rules) (M : Module Ms
   }
 
   -- the invariant holds after any events, until the run stops
-  pub run-fits : (events : List Event) → AreAtCores s events → Fits (run s F R M (begin_run s) events).held
+  pub run-fits : (events : List Event) → AreAtCores s events → Fits (run (failure_free s F R M) (begin_run s) events).state
   run-fits events low = (leads-run events (begin_run s) start-fits low).fits
 
   -- more events extend logs
   pub run-grows : (events more : List Event) → AreAtCores s events → AreAtCores s more →
-      Grows s R M (run s F R M (begin_run s) events).held.net (run s F R M (begin_run s) (events ++ more)).held.net
+      Grows s R M (run (failure_free s F R M) (begin_run s) events).state.net (run (failure_free s F R M) (begin_run s) (events ++ more)).state.net
   run-grows events more low low_more =
-      let p : Progress Msg = run s F R M (begin_run s) events in
-      subst (λ (q : Progress Msg). Grows s R M p.held.net q.held.net) (sym (run-append s F R M events more (begin_run s)))
+      let p : Progress (Held Msg) = run (failure_free s F R M) (begin_run s) events in
+      subst (λ (q : Progress (Held Msg)). Grows s R M p.state.net q.state.net) (sym (run-append s F R M events more (begin_run s)))
       (leads-run more p (run-fits events low) low_more).grows

@@ -15,59 +15,60 @@ use Rattle.iss_rules.specs.Concrete.{request_of}
 use Rattle.iss_rules.specs.Parcels.{Formats, OfRequest}
 use Rattle.iss_rules.specs.Rules.{Rules}
 use Rattle.iss_model.specs.Node.{Dropped, Stepped, Taken, Turn, step}
-use Rattle.iss_model.specs.Run.{Happening, Held, Progress, after_step, apply_event, at_core, by_collision, by_forged, calms, collision_in, delivered_to, delivers, delivers_each, done, first_forged, loses, node_of, pumps, run, run_event_if_open, turned_to, unless, with_network}
+use Rattle.iss_model.specs.Run.{Held, after_step, at_core, by_collision, by_forged, collision_in, first_forged, node_of, turned_to, with_network, failure_free}
+use Rattle.iss_model.specs.Driver.{Progress, Upshot, apply_event, calms, delivered_to, delivers, delivers_each, done, loses, pumps, run, run_event_if_open, unless}
 
 module _ {Msg : Type 0} (s : Setup) (F : Formats Msg) (R : Rules) (M : Module Msg) (P : Held Msg → Type 0)
     (network : (h : Held Msg) (net : Network) → P h → P (with_network h net))
     (turns : (h : Held Msg) (c : ℕ) (event : NodeEvent) (t : Turn Msg) → step F R M (node_of s c) (h.net.cores c) event ≡ Taken t → P h → P (turned_to s h c t)) where
   collided-holds : (h : Held Msg) (c : ℕ) (event : NodeEvent) (t : Turn Msg) → step F R M (node_of s c) (h.net.cores c) event ≡ Taken t → P h → (o : Option End) →
-      P (by_collision o h (turned_to s h c t)).held
+      P (by_collision o h (turned_to s h c t)).state
   collided-holds h c event t q k None = turns h c event t q k
   collided-holds h c event t q k (Some end) = k
 
-  after-holds : (h : Held Msg) (c : ℕ) (event : NodeEvent) → P h → (o : Stepped Msg) → step F R M (node_of s c) (h.net.cores c) event ≡ o → P (after_step s h c o).held
+  after-holds : (h : Held Msg) (c : ℕ) (event : NodeEvent) → P h → (o : Stepped Msg) → step F R M (node_of s c) (h.net.cores c) event ≡ o → P (after_step s h c o).state
   after-holds h c event k (Dropped why) q = k
   after-holds h c event k (Taken t) q = collided-holds h c event t q k (collision_in t.strings h.hashed)
 
-  forged-holds : (h : Held Msg) (d : Happening Msg) → P h → P d.held → (f : Option Claim) → P (by_forged f h d).held
+  forged-holds : (h : Held Msg) (d : Upshot (Held Msg)) → P h → P d.state → (f : Option Claim) → P (by_forged f h d).state
   forged-holds h d k m None = m
   forged-holds h d k m (Some claim) = k
 
-  at-holds : (h : Held Msg) → P h → (c : ℕ) (event : NodeEvent) → P (at_core s F R M h c event).held
+  at-holds : (h : Held Msg) → P h → (c : ℕ) (event : NodeEvent) → P (at_core s F R M h c event).state
   at-holds h k c event =
       let o = step F R M (node_of s c) (h.net.cores c) event in
       forged-holds h (after_step s h c o) k (after-holds h c event k o refl) (first_forged s R h.signed _)
 
-  unless-holds : (d : Happening Msg) (more : Held Msg → Happening Msg) → P d.held → ((g : Held Msg) → P g → P (more g).held) → (o : Option End) → P (unless o d more).held
-  unless-holds d more k f None = f d.held k
+  unless-holds : (d : Upshot (Held Msg)) (more : Held Msg → Upshot (Held Msg)) → P d.state → ((g : Held Msg) → P g → P (more g).state) → (o : Option End) → P (unless o d more).state
+  unless-holds d more k f None = f d.state k
   unless-holds d more k f (Some end) = k
 
-  delivered-holds : (h : Held Msg) → P h → (k : ℕ) (o : Option Sent) → P (delivered_to s F R M h k o).held
+  delivered-holds : (h : Held Msg) → P h → (k : ℕ) (o : Option Sent) → P (delivered_to (failure_free s F R M) h k o).state
   delivered-holds h m k None = m
   delivered-holds h m k (Some p) =
       at-holds (with_network h (settled h.net.network k)) (network h (settled h.net.network k) m) p.to (On_packet p.bytes)
 
-  each-holds : (ks : List ℕ) (h : Held Msg) → P h → P (delivers_each s F R M ks h).held
+  each-holds : (ks : List ℕ) (h : Held Msg) → P h → P (delivers_each (failure_free s F R M) ks h).state
   each-holds [] h m = m
   each-holds (k ∷ ks) h m =
-      let d = delivers s F R M h k in
-      unless-holds d (delivers_each s F R M ks) (delivered-holds h m k (nth h.net.network.packets k)) (λ g z. each-holds ks g z) d.ended
+      let d = delivers (failure_free s F R M) h k in
+      unless-holds d (delivers_each (failure_free s F R M) ks) (delivered-holds h m k (nth h.net.network.packets k)) (λ g z. each-holds ks g z) d.ended
 
-  calms-holds : (n : ℕ) (h : Held Msg) → P h → P (calms s F R M n h).held
+  calms-holds : (n : ℕ) (h : Held Msg) → P h → P (calms (failure_free s F R M) n h).state
   calms-holds zero h m = m
   calms-holds (suc n) h m =
-      let d = pumps s F R M h in
-      unless-holds d (calms s F R M n) (each-holds (due h.net.network) h m) (λ g z. calms-holds n g z) d.ended
+      let d = pumps (failure_free s F R M) h in
+      unless-holds d (calms (failure_free s F R M) n) (each-holds (due h.net.network) h m) (λ g z. calms-holds n g z) d.ended
 
-  loses-holds : (h : Held Msg) → P h → (k : ℕ) (o : Option Sent) → P (loses h k o).held
+  loses-holds : (h : Held Msg) → P h → (k : ℕ) (o : Option Sent) → P (loses (failure_free s F R M) h k o).state
   loses-holds h m k None = m
   loses-holds h m k (Some p) = network h (settled h.net.network k) m
 
-  injects-holds : (h : Held Msg) → P h → (c : ℕ) (bytes : List ℕ) (b : Bool) → P (cond b (done h) (at_core s F R M h c (On_packet bytes))).held
+  injects-holds : (h : Held Msg) → P h → (c : ℕ) (bytes : List ℕ) (b : Bool) → P (cond b (done h) (at_core s F R M h c (On_packet bytes))).state
   injects-holds h m c bytes true = m
   injects-holds h m c bytes false = at-holds h m c (On_packet bytes)
 
-  happens-holds : (h : Held Msg) → P h → (e : Event) → P (apply_event s F R M h e).held
+  happens-holds : (h : Held Msg) → P h → (e : Event) → P (apply_event (failure_free s F R M) h e).state
   happens-holds h m (Event_request c client number payload) =
       at-holds h m c (On_packet (F.wrap (record { from = 255; epoch = 0; body = OfRequest (request_of s client number payload) })))
   happens-holds h m (Propose c) = at-holds h m c On_propose
@@ -84,10 +85,10 @@ module _ {Msg : Type 0} (s : Setup) (F : Formats Msg) (R : Rules) (M : Module Ms
   happens-holds h m (Crash c calls) = m
   happens-holds h m (Bytes c bytes) = injects-holds h m c bytes M.stopping
 
-  further-holds : (p : Progress Msg) → P p.held → (e : Event) (o : Option (ℕ × End)) → P (run_event_if_open o s F R M p e).held
-  further-holds p m e None = happens-holds p.held m e
+  further-holds : (p : Progress (Held Msg)) → P p.state → (e : Event) (o : Option (ℕ × End)) → P (run_event_if_open o (failure_free s F R M) p e).state
+  further-holds p m e None = happens-holds p.state m e
   further-holds p m e (Some end) = m
 
-  pub run-holds : (es : List Event) (p : Progress Msg) → P p.held → P (run s F R M p es).held
+  pub run-holds : (es : List Event) (p : Progress (Held Msg)) → P p.state → P (run (failure_free s F R M) p es).state
   run-holds [] p m = m
-  run-holds (e ∷ es) p m = run-holds es (run_event_if_open p.ended s F R M p e) (further-holds p m e p.ended)
+  run-holds (e ∷ es) p m = run-holds es (run_event_if_open p.ended (failure_free s F R M) p e) (further-holds p m e p.ended)

@@ -10,12 +10,13 @@ use Rattle.iss_keep.specs.State.{KeptState}
 use Rattle.iss_keep.specs.declared.answers.Answer.{Answer}
 use Rattle.iss_keep.specs.declared.answers.Answer.TheVariants.{Dropped as Kept_dropped, Failed, NoMemory, Stale, Taken as Kept_taken}
 use Rattle.iss_model.specs.Node.{Core, Dropped, Stepped, Taken, Turn}
-use Rattle.iss_model.specs.Run.{Happening, Held, after_step, by_forged, collision_in, early_of, first_forged, node_of}
+use Rattle.iss_model.specs.Run.{Held, after_step, by_forged, collision_in, early_of, first_forged, node_of}
 use Rattle.iss_node.specs.Steps.{IsMade}
 use Rattle.iss_node.specs.declared.answers.Outcome.{Outcome}
 use Rattle.iss_request.specs.declared.setups.Setup.{Setup}
-use Rattle.iss_model.specs.Courses.{Machines, Upshot, machines_lost, with_disk, with_disks}
+use Rattle.iss_model.specs.Courses.{Machines, with_disk, with_disks}
 use Rattle.iss_model.specs.Disks.{Disk, fails, keeps, may_keep}
+use Rattle.iss_model.specs.Driver.{Upshot, lost_by}
 use Rattle.iss_rules.specs.Books.{Signed}
 use Rattle.iss_rules.specs.Concrete.{rules_of}
 use Rattle.iss_rules.specs.Past.{log_of}
@@ -28,7 +29,7 @@ use Rattle.iss_world.specs.State.{SimulationState}
 
 -- The effect of a step of core c whose own claims were tested. The claims in messages that arrived early are tested
 -- next, then the strings that were hashed.
-abbrev pub stepped_to : {Msg : Type 0} → Setup → Held Msg → ℕ → Stepped Msg → Happening Msg
+abbrev pub stepped_to : {Msg : Type 0} → Setup → Held Msg → ℕ → Stepped Msg → Upshot (Held Msg)
 stepped_to s h c stepped = by_forged (first_forged s (rules_of s) h.signed (early_of stepped)) h
     (after_step s h c stepped)
 
@@ -42,12 +43,12 @@ kept_at w c event = set_at w.disks c (keeps (w.disks c) event)
 
 -- The effect of a step at a core with a working disk. A dropped event does not use the disk. An accepted event is
 -- journaled, or the disk fails and the step has no effect.
-abbrev pub kept_to : {Msg : Type 0} → Setup → Machines Msg → ℕ → NodeEvent → Stepped Msg → Upshot Msg
+abbrev pub kept_to : {Msg : Type 0} → Setup → Machines Msg → ℕ → NodeEvent → Stepped Msg → Upshot (Machines Msg)
 kept_to s w c event (Dropped why) = with_disks w w.disks (stepped_to s w.held c (Dropped why))
 kept_to s w c event (Taken turn) =
     cond (may_keep (w.disks c).passes)
     (with_disks w (kept_at w c event) (stepped_to s w.held c (Taken turn)))
-    (machines_lost (with_disk w c (fails (w.disks c))) Stopped)
+    (lost_by (with_disk w c (fails (w.disks c))) Stopped)
 
 -- The event was accepted and journaled. The node refines the core after it and releases the outcome.
 pub record IsKeptTurn {M Msg : Type 0} (m : Module Msg) (refines : Relation M Msg) (d : Disk) (event : NodeEvent)

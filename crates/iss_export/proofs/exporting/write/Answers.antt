@@ -15,5 +15,5 @@ returns g c = λ p reader r stale.
     let done = c.put_epochs.new.out.items in
     let head : begun ≡ ended (header_lines s) =
     c.in_ok-put_header.ensures ∙ ap (λ (l : List ℕ). l ++ ended (header_lines s)) c.new-out.ensures.items in
-    let put = subst (λ (t : Setup). HasExported t m p.machines reader i begun done) c.requires.same (c.in_ok-put_epochs.ensures p reader r stale) in
-    written s m p.machines reader i begun done _ head put (c.of.ensures ∙ c.in_ok-put_last.ensures)
+    let put = subst (λ (t : Setup). HasExported t m p.state reader i begun done) c.requires.same (c.in_ok-put_epochs.ensures p reader r stale) in
+    written s m p.state reader i begun done _ head put (c.of.ensures ∙ c.in_ok-put_last.ensures)

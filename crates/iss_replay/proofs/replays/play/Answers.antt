@@ -1,8 +1,7 @@
 use Rattle.std.proofs.Common.{◌<◌, ◌≤◌, ◌≡◌, ◌∙◌, sym, length, arith, List, subst, ap, get_or, take, None, Some, Option, ◌+◌}
-use Rattle.iss_model.specs.Courses.{run_event}
 use Rattle.iss_theorems.specs.Headline.{course_after}
-use Rattle.iss_rules.specs.Concrete.{rules_of}
-use Rattle.iss_rules.specs.Formats.{formats_of}
+use Rattle.iss_model.specs.Driver.{run_event}
+use Rattle.iss_model.specs.Courses.{driver_of}
 use Rattle.iss_schedule.specs.declared.schedules.Event.{Event}
 use Rattle.iss_replay.specs.Refines.{ReportRefinesRun, numbered}
 use Rattle.iss_replay.proofs.RunLemmas.{in-range-at, number-next, run-next, run-over, stale-on, stale-over}
@@ -28,7 +27,7 @@ returns-in-Some-clause-run g c =
     let is : e ≡ get_or es i e = subst (λ (fs : List Event). e ≡ get_or fs i e) c.as_slice-events.ensures c.index-events-place.is in
     let before = c.loop-place.invariant in
     let after = subst (λ (o : Option Evidence). ReportRefinesRun m refines c.run_event.new.world c.run_event.new.drops (numbered i o)
-    (run_event c.loop-place.world.simulation.setup (formats_of c.loop-place.world.simulation.setup m) (rules_of c.loop-place.world.simulation.setup) m (course_after s m (take i es)) e))
+    (run_event (driver_of c.loop-place.world.simulation.setup m) (course_after s m (take i es)) e))
     c.in-Some.is (c.in_ok-end.ensures.went (course_after s m (take i es)) before.number before.run) in
     run-over m refines s c.run_event.new.world c.run_event.new.drops (i, c.in-Some.end) es (i + 1)
     (run-next m refines s c.loop-place.world.simulation.setup c.run_event.new.world c.run_event.new.drops (Some (i, c.in-Some.end)) es i e before.same lt is before.run.end_is after)
@@ -47,7 +46,7 @@ returns-in-Some-clause-silent g c =
     let before = c.loop-place.invariant in
     let p = course_after s m (take i es) in
     let after = subst (λ (o : Option Evidence). ReportRefinesRun m refines c.run_event.new.world c.run_event.new.drops (numbered i o)
-    (run_event t (formats_of t m) (rules_of t) m p e)) c.in-Some.is (c.in_ok-end.ensures.went p before.number before.run) in
+    (run_event (driver_of t m) p e)) c.in-Some.is (c.in_ok-end.ensures.went p before.number before.run) in
     let there = run-next m refines s t c.run_event.new.world c.run_event.new.drops (Some (i, c.in-Some.end)) es i e before.same lt is before.run.end_is after in
     stale-over m refines s t c.run_event.new.world c.in-Some.end es i e before.same lt is before.run.end_is there.end_is
     (c.in_ok-end.ensures.silent p (sym before.run.end_is) before.run.refined)
@@ -64,7 +63,7 @@ loop-place-preserved g c =
     let is : e ≡ get_or es i e = subst (λ (fs : List Event). e ≡ get_or fs i e) c.as_slice-events.ensures c.index-events-place.is in
     let before = c.loop-place.invariant in
     let after = subst (λ (o : Option Evidence). ReportRefinesRun m refines c.run_event.new.world c.run_event.new.drops (numbered i o)
-    (run_event c.loop-place.world.simulation.setup (formats_of c.loop-place.world.simulation.setup m) (rules_of c.loop-place.world.simulation.setup) m (course_after s m (take i es)) e))
+    (run_event (driver_of c.loop-place.world.simulation.setup m) (course_after s m (take i es)) e))
     c.in_default.is (c.in_ok-end.ensures.went (course_after s m (take i es)) before.number before.run) in
     record {
       run = run-next m refines s c.loop-place.world.simulation.setup c.run_event.new.world c.run_event.new.drops None es i e before.same lt is before.run.end_is after;

@@ -6,4 +6,4 @@ use Rattle.iss_replay.proofs.texts.put_nodes.Given as goal
 
 abbrev pub invariant-loop-node : goal.invariant-loop-node
 invariant-loop-node g l = (p : Course g.row.M-Msg.Denot) → RefinesRun g.M.Sequenced.spec g.M.Sequenced.refines l.world p →
-    l.out.items ≡ l.fn.out.items ++ node_blocks l.world.simulation.setup g.M.Sequenced.spec p.machines.held.net l.node
+    l.out.items ≡ l.fn.out.items ++ node_blocks l.world.simulation.setup g.M.Sequenced.spec p.state.held.net l.node

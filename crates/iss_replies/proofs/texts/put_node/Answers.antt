@@ -17,6 +17,6 @@ returns g c =
     let log = c.log.result.now.entries in
     let right = ap (λ (t : Setup). is_correct t node) (sym c.setup.ensures.same) ∙ sym c.if-not-is_correct.ensures in
     where-written c.put_replies.result _ _ c.put_replies.ensures
-    (λ is p st. all-made s (shown s m p.machines.held) node log out c.put_replies.new.out.items right
-    (same-log s m p.machines.held node log c.requires (c.log.ensures p st))
+    (λ is p st. all-made s (shown s m p.state.held) node log out c.put_replies.new.out.items right
+    (same-log s m p.state.held node log c.requires (c.log.ensures p st))
     (is ∙ ap (λ (t : Setup). out ++ ended (map reply_line (replies_to (replying t node) log))) c.setup-2.ensures.same))

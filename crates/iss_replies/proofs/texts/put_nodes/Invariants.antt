@@ -7,4 +7,4 @@ use Rattle.iss_replies.proofs.texts.put_nodes.Given as goal
 
 abbrev pub invariant-loop-node : goal.invariant-loop-node
 invariant-loop-node g l = (p : Course g.row.M-Msg.Denot) → RefinesRun g.M.Sequenced.spec g.M.Sequenced.refines l.world p →
-    l.out.items ≡ l.fn.out.items ++ lines_of_nodes l.world.simulation.setup (shown l.world.simulation.setup g.M.Sequenced.spec p.machines.held) l.node
+    l.out.items ≡ l.fn.out.items ++ lines_of_nodes l.world.simulation.setup (shown l.world.simulation.setup g.M.Sequenced.spec p.state.held) l.node

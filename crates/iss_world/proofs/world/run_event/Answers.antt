@@ -2,7 +2,7 @@ use Rattle.std.proofs.Common.{None}
 use Rattle.std.proofs.lemmas.Result.{IfOk-weaker}
 use Rattle.iss_rules.specs.Concrete.{rules_of}
 use Rattle.iss_rules.specs.Formats.{formats_of}
-use Rattle.iss_model.specs.Frames.{frame_of}
+use Rattle.iss_model.specs.Courses.{driver_of}
 use Rattle.iss_world.proofs.WorldLemmas.{goes-ended, not-ended, stale-then}
 use Rattle.iss_world.proofs.world.run_event.Goals as goal
 
@@ -22,17 +22,17 @@ returns-in-Some-clause-silent g c =
 pub returns-in-Done-clause-silent : goal.returns-in-Done-clause-silent
 returns-in-Done-clause-silent g c = λ p st going.
     let m = g.M.Sequenced.spec in
-    stale-then m g.M.Sequenced.refines (frame_of c.args.simulation.now.setup m) c.args.simulation.now c.event.new.self c.args.ended.now None p c.args.event.now c.in_ok-event.field-0
+    stale-then m g.M.Sequenced.refines (driver_of c.args.simulation.now.setup m) c.args.simulation.now c.event.new.self c.args.ended.now None p c.args.event.now c.in_ok-event.field-0
     c.in_ok-event.ensures.happened st going
 
 pub returns-in-Lost-clause-silent : goal.returns-in-Lost-clause-silent
 returns-in-Lost-clause-silent g c = λ p st going.
     let m = g.M.Sequenced.spec in
-    stale-then m g.M.Sequenced.refines (frame_of c.args.simulation.now.setup m) c.args.simulation.now c.event.new.self c.args.ended.now None p c.args.event.now c.in_ok-event.field-0
+    stale-then m g.M.Sequenced.refines (driver_of c.args.simulation.now.setup m) c.args.simulation.now c.event.new.self c.args.ended.now None p c.args.event.now c.in_ok-event.field-0
     c.in_ok-event.ensures.happened st going
 
 pub returns-in_ok-happened-in-Ended-clause-silent : goal.returns-in_ok-happened-in-Ended-clause-silent
 returns-in_ok-happened-in-Ended-clause-silent g c = λ p st going.
     let m = g.M.Sequenced.spec in
-    stale-then m g.M.Sequenced.refines (frame_of c.args.simulation.now.setup m) c.args.simulation.now c.event.new.self c.args.ended.now None p c.args.event.now c.in_ok-event.field-0
+    stale-then m g.M.Sequenced.refines (driver_of c.args.simulation.now.setup m) c.args.simulation.now c.event.new.self c.args.ended.now None p c.args.event.now c.in_ok-event.field-0
     c.in_ok-event.ensures.happened st going

@@ -1,8 +1,7 @@
 use Rattle.std.proofs.Common.{◌∙◌, ◌<◌, ◌≤◌, ℕ, List, length, arith, subst, None}
 use Rattle.iss_network.proofs.Keeping.{any_default}
-use Rattle.iss_rules.specs.Concrete.{rules_of}
-use Rattle.iss_rules.specs.Formats.{formats_of}
-use Rattle.iss_model.specs.Courses.{delivers_each}
+use Rattle.iss_model.specs.Driver.{delivers_each}
+use Rattle.iss_model.specs.Courses.{driver_of}
 use Rattle.iss_world.specs.Refines.{HasChanged}
 use Rattle.iss_world.specs.declared.ends.EventOutcome.TheVariants.{Done}
 use Rattle.iss_world.proofs.CourseLemmas.{each-ended, each-next, take-past}
@@ -34,5 +33,5 @@ returns-clause-happened g c = λ w st.
     let m = g.M.Sequenced.spec in
     let s = c.args.self.now.setup in
     let end : length c.args.packets.now ≤ c.loop-packet.packet-index = omega (arith, c.loop-packet-test.false) in
-    subst (λ (ks : List ℕ). HasChanged m g.M.Sequenced.refines None c.loop-packet.self (delivers_each s (formats_of s m) (rules_of s) m ks w) Done)
+    subst (λ (ks : List ℕ). HasChanged m g.M.Sequenced.refines None c.loop-packet.self (delivers_each (driver_of s m) ks w) Done)
     (take-past c.args.packets.now c.loop-packet.packet-index end) (c.loop-packet.invariant.taken w st)

@@ -5,7 +5,8 @@ use Rattle.iss_rules.specs.Formats.{formats_of}
 use Rattle.iss_rules.specs.declared.events.Why.TheVariants.{Stopped}
 use Rattle.iss_model.specs.Node.{step}
 use Rattle.iss_model.specs.Run.{cores_of, first_forged, node_of}
-use Rattle.iss_model.specs.Courses.{Machines, Upshot}
+use Rattle.iss_model.specs.Courses.{Machines}
+use Rattle.iss_model.specs.Driver.{Upshot}
 use Rattle.iss_sb.specs.declared.effects.Claim.{Claim}
 use Rattle.iss_world.specs.Refines.{HasChanged, IsLeftBy, RefinesMachines}
 use Rattle.iss_world.specs.State.{SimulationState}
@@ -26,7 +27,7 @@ returns-then-stale-clause-happened g c =
     let s = c.self.inside.setup in
     let failed : (w.disks c.args.core).failed ≡ true =
     sym (stale-here g.M.Sequenced.spec g.M.Sequenced.refines v c.args.core c.index-node.result.now c.args.event c.self.invariant.0 at w st) ∙ (sym c.stale.ensures ∙ c.if-stale.true) in
-    subst (λ (u : Upshot g.row.M-Msg.Denot). HasChanged m g.M.Sequenced.refines (Some c.args.core) v u (Lost Stopped)) (sym (machine-stopped m s (formats_of s m) w c.args.core c.args.event failed))
+    subst (λ (u : Upshot (Machines g.row.M-Msg.Denot)). HasChanged m g.M.Sequenced.refines (Some c.args.core) v u (Lost Stopped)) (sym (machine-stopped m s (formats_of s m) w c.args.core c.args.event failed))
     (st, refl, refl))
 
 pub step-requires-clause-working : goal.step-requires-clause-working
@@ -52,7 +53,7 @@ returns-in-Some-clause-happened g c =
     let there = subst (λ (z : SimulationState g.row.M.Denot g.row.M-Msg.Denot). (w : Machines g.row.M-Msg.Denot) → RefinesMachines m g.M.Sequenced.refines z w →
     IsLeftBy m g.M.Sequenced.refines (Some c.args.core) c.stop_at.new.self w) (sym c.self.view_is) c.stop_at.ensures.left in
     let first = sym c.in-Some.is ∙ c.in_ok-forged.ensures w.held.signed st.signed ∙ ap (λ (cs : List Claim). first_forged s (rules_of s) w.held.signed cs) c.as_slice.ensures in
-    subst (λ (u : Upshot g.row.M-Msg.Denot). HasChanged m g.M.Sequenced.refines (Some c.args.core) c.stop_at.new.self u (Ended (Evidence_forged c.in-Some.claim)))
+    subst (λ (u : Upshot (Machines g.row.M-Msg.Denot)). HasChanged m g.M.Sequenced.refines (Some c.args.core) c.stop_at.new.self u (Ended (Evidence_forged c.in-Some.claim)))
     (sym (machine-forged m s (formats_of s m) w c.args.core c.args.event c.in_ok-claims.claims are working c.in-Some.claim first))
     (there w st, refl, refl))
 
@@ -72,5 +73,5 @@ returns-in-None-clause-happened g c =
     HasChanged m g.M.Sequenced.refines (Some c.args.core) c.step.new.self
     (kept_to z.setup w c.args.core c.args.event (step (formats_of z.setup m) (rules_of z.setup) m (node_of z.setup c.args.core) (w.held.net.cores c.args.core) c.args.event)) r) (sym c.self.view_is) f in
     let none = ap (λ (cs : List Claim). first_forged s (rules_of s) w.held.signed cs) (sym c.as_slice.ensures) ∙ sym (c.in_ok-forged.ensures w.held.signed st.signed) ∙ c.in-None.is in
-    subst (λ (u : Upshot g.row.M-Msg.Denot). HasChanged m g.M.Sequenced.refines (Some c.args.core) c.step.new.self u r)
+    subst (λ (u : Upshot (Machines g.row.M-Msg.Denot)). HasChanged m g.M.Sequenced.refines (Some c.args.core) c.step.new.self u r)
     (sym (machine-kept m s (formats_of s m) w c.args.core c.args.event c.in_ok-claims.claims are working none)) (there w st working)))

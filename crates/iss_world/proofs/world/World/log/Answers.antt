@@ -4,4 +4,4 @@ use Rattle.iss_world.proofs.world.World.log.Goals as goal
 pub returns : goal.returns
 returns g c =
     rw (← c.self.view_is)
-    (λ p k. c.log.ensures p.machines (shown-at g.M.Sequenced.spec g.M.Sequenced.refines (record { simulation = c.self.inside.simulation; ended = c.self.inside.ended; stale = c.self.inside.stale }) p k))
+    (λ p k. c.log.ensures p.state (shown-at g.M.Sequenced.spec g.M.Sequenced.refines (record { simulation = c.self.inside.simulation; ended = c.self.inside.ended; stale = c.self.inside.stale }) p k))

@@ -4,4 +4,4 @@ use Rattle.iss_world.proofs.world.World.packets.Goals as goal
 pub returns-clause-refines : goal.returns-clause-refines
 returns-clause-refines g c =
     rw (← c.self.view_is)
-    (λ p k. c.packets.ensures.shown p.machines (shown-at g.M.Sequenced.spec g.M.Sequenced.refines (record { simulation = c.self.inside.simulation; ended = c.self.inside.ended; stale = c.self.inside.stale }) p k))
+    (λ p k. c.packets.ensures.shown p.state (shown-at g.M.Sequenced.spec g.M.Sequenced.refines (record { simulation = c.self.inside.simulation; ended = c.self.inside.ended; stale = c.self.inside.stale }) p k))
