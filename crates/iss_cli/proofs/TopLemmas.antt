@@ -1,6 +1,5 @@
 -- The answer to an order and its input, of which a bounded front was read.
 use Rattle.std.proofs.Common.{◌≡◌, ◌∙◌, ◌⊎◌, inl, inr, ℕ, ◌<◌, ◌≤◌, Bool, true, false, Option, None, Some, Result, Ok, Err, IsErrOf, List, [], length, take, refl, sym, ap, subst, arith}
-use Rattle.std.specs.Prelude.{IfErr}
 use Rattle.std.specs.Bool.{IsTrue}
 use Rattle.std.proofs.lemmas.Bool.Decides.{leb_tells}
 use Rattle.std.proofs.lemmas.List.{take_all, length-take}
@@ -21,7 +20,6 @@ use Rattle.iss_cli.specs.Views.{IsShown, Under}
 use Rattle.iss_cli.specs.declared.errors.AnswerError.{AnswerError}
 use Rattle.iss_cli.specs.declared.errors.AnswerError.TheVariants.{SourceFailed as Source_failed, LinksFailed as Links_failed, DiskFailed as Disk_failed, NoMemory as No_memory}
 use Rattle.iss_config.specs.declared.configs.Config.{Config}
-use Rattle.iss_disk.specs.Calls.{HasCause as DiskCause}
 use Rattle.iss_links.specs.Calls.{HasCause as LinksCause}
 use Rattle.iss_loops.specs.declared.errors.NodeError.{NodeError}
 use Rattle.iss_loops.specs.declared.errors.NodeError.TheVariants.{LinksFault, DiskFault, NoMemory as Node_no_memory}
@@ -245,11 +243,6 @@ unanswered words left left_now order Links_failed asks h = (order, (asks, h))
 unanswered words left left_now order Disk_failed asks h = (order, (asks, h))
 unanswered words left left_now order No_memory asks h = tt
 
-pub err_unanswered : (words : List (List ℕ)) (left left_now : Option (List ℕ)) (order : Order) (r : Result Answer AnswerError) → Asks words order → IfErr r (HasNone order left left_now) →
-    IfErr r (IsUnanswered words left left_now)
-err_unanswered words left left_now order (Ok a) asks h = tt
-err_unanswered words left left_now order (Err e) asks h = unanswered words left left_now order e asks h
-
 abbrev outcome_in : Status → Outcome
 outcome_in (Answered outcome) = outcome
 outcome_in status = Done
@@ -282,16 +275,3 @@ links_said old new Links_failed h = record { never_falls = h.never_falls; rose =
 links_said old new Source_failed h = record { never_falls = h.never_falls; rose = λ q. absurd (cc); still = λ none. h.still (λ q. absurd (cc)) }
 links_said old new Disk_failed h = record { never_falls = h.never_falls; rose = λ q. absurd (cc); still = λ none. h.still (λ q. absurd (cc)) }
 links_said old new No_memory h = record { never_falls = h.never_falls; rose = λ q. absurd (cc); still = λ none. h.still (λ q. absurd (cc)) }
-
-pub disk_said : (old new : ℕ) (e : AnswerError) → DiskCause old new (IsErrOf {T = Answer} (Err e) Disk_failed) → DiskCause old new (status_without e ≡ DiskFailed)
-disk_said old new Disk_failed h = record { never_falls = h.never_falls; rose = λ q. h.rose refl }
-disk_said old new Source_failed h = record { never_falls = h.never_falls; rose = λ q. absurd (cc) }
-disk_said old new Links_failed h = record { never_falls = h.never_falls; rose = λ q. absurd (cc) }
-disk_said old new No_memory h = record { never_falls = h.never_falls; rose = λ q. absurd (cc) }
-
--- nothing was put into the sink
-pub sink_said : (n : ℕ) (e : AnswerError) → HasCause n n (status_without e ≡ SinkFailed)
-sink_said n Source_failed = record { never_falls = omega arith; rose = λ q. absurd (cc); still = λ none. refl }
-sink_said n Links_failed = record { never_falls = omega arith; rose = λ q. absurd (cc); still = λ none. refl }
-sink_said n Disk_failed = record { never_falls = omega arith; rose = λ q. absurd (cc); still = λ none. refl }
-sink_said n No_memory = record { never_falls = omega arith; rose = λ q. absurd (cc); still = λ none. refl }

@@ -3,7 +3,7 @@ use Rattle.std.proofs.lemmas.Result.{err_from_is_err_and}
 use Rattle.iss_cli.specs.Answers.{IsAnswer}
 use Rattle.iss_cli.specs.Running.{IsStarted, UsesDisk, UsesLinks, devices}
 use Rattle.iss_loops.specs.declared.errors.NodeError.{NodeError}
-use Rattle.iss_cli.proofs.TopLemmas.{answer_read, answer_unread, drains_nothing, failed_read, failed_unread, not_true}
+use Rattle.iss_cli.proofs.TopLemmas.{answer_read, answer_unread, drains_nothing, failed_read, not_true}
 use Rattle.iss_cli.proofs.top.answer_order.Goals as goal
 
 pub returns-then-not-reads-clause-ok : goal.returns-then-not-reads-clause-ok
@@ -30,10 +30,3 @@ returns-in_err-respond-2-clause-err g c =
     (failed_read order (g.I.Source.left c.args.input.now) (g.I.Source.left c.read_up_to.new.input) c.in_ok-bytes.bytes.items _ c.in_ok-bytes.ensures.bytes c.in_ok-bytes.ensures.end
     (λ q. subst (λ (bytes : List ℕ). UsesLinks order × IsStarted order bytes) c.deref.ensures.value (c.respond-2.ensures.links_fail (c.in_err-respond-2.was ∙ ap (λ (x : NodeError). Err x) q)))
     (λ q. subst (λ (bytes : List ℕ). UsesDisk order × IsStarted order bytes) c.deref.ensures.value (c.respond-2.ensures.disk_fails (c.in_err-respond-2.was ∙ ap (λ (x : NodeError). Err x) q))))
-
-pub returns-in_err-respond-clause-err : goal.returns-in_err-respond-clause-err
-returns-in_err-respond-clause-err g c =
-    let p = err_from_is_err_and c.from_residual-in_err-respond.result c.from_residual-in_err-respond.ensures.1 in
-    rw (p.1, p.2)
-    (failed_unread c.args.order (g.I.Source.left c.args.input.now) _ (λ reads. not_true c.reads.result c.if-not-reads.true (c.reads.ensures.1 reads))
-    (λ q. (c.respond.ensures.links_fail (c.in_err-respond.was ∙ ap (λ (x : NodeError). Err x) q)).0) (λ q. (c.respond.ensures.disk_fails (c.in_err-respond.was ∙ ap (λ (x : NodeError). Err x) q)).0))
