@@ -20,7 +20,6 @@ use Rattle.iss_cli.specs.Views.{IsShown, Under}
 use Rattle.iss_cli.specs.declared.errors.AnswerError.{AnswerError}
 use Rattle.iss_cli.specs.declared.errors.AnswerError.TheVariants.{SourceFailed as Source_failed, LinksFailed as Links_failed, DiskFailed as Disk_failed, NoMemory as No_memory}
 use Rattle.iss_config.specs.declared.configs.Config.{Config}
-use Rattle.iss_links.specs.Calls.{HasCause as LinksCause}
 use Rattle.iss_loops.specs.declared.errors.NodeError.{NodeError}
 use Rattle.iss_loops.specs.declared.errors.NodeError.TheVariants.{LinksFault, DiskFault, NoMemory as Node_no_memory}
 use Rattle.iss_cli.specs.declared.status.Outcome.{Outcome}
@@ -270,7 +269,7 @@ source_said old new Links_failed h = record { never_falls = h.never_falls; rose 
 source_said old new Disk_failed h = record { never_falls = h.never_falls; rose = λ q. absurd (cc); still = λ none. h.still (λ q. absurd (cc)) }
 source_said old new No_memory h = record { never_falls = h.never_falls; rose = λ q. absurd (cc); still = λ none. h.still (λ q. absurd (cc)) }
 
-pub links_said : (old new : ℕ) (e : AnswerError) → LinksCause old new (IsErrOf {T = Answer} (Err e) Links_failed) → LinksCause old new (status_without e ≡ LinksFailed)
+pub links_said : (old new : ℕ) (e : AnswerError) → HasCause old new (IsErrOf {T = Answer} (Err e) Links_failed) → HasCause old new (status_without e ≡ LinksFailed)
 links_said old new Links_failed h = record { never_falls = h.never_falls; rose = λ q. h.rose refl; still = λ none. absurd (none refl) }
 links_said old new Source_failed h = record { never_falls = h.never_falls; rose = λ q. absurd (cc); still = λ none. h.still (λ q. absurd (cc)) }
 links_said old new Disk_failed h = record { never_falls = h.never_falls; rose = λ q. absurd (cc); still = λ none. h.still (λ q. absurd (cc)) }
