@@ -1,24 +1,21 @@
 -- The answers to an exported log, and what a core exports under the module that a schedule names.
-use Rattle.std.proofs.Common.{◌≡◌, ◌⊎◌, inl, inr, ℕ, List, [], Ok, Err}
+use Rattle.std.proofs.Common.{◌≡◌, inl, inr, ℕ, List, [], Ok, Err}
 use Rattle.std.specs.Prelude.{Result, IfOk}
 use Rattle.iss_audit.specs.Exports.{EachEpoch, IsCertifiedText, IsSignedByQuorum, keys_of}
 use Rattle.iss_audit.specs.Refusals.{IsBadEpoch, IsBadText}
 use Rattle.iss_audit.specs.declared.errors.EpochFault.{EpochFault}
 use Rattle.iss_audit.specs.declared.exports.Export.{Export}
 use Rattle.iss_cli.specs.Answers.{IsAudited, refused_line}
-use Rattle.iss_cli.specs.Auditing.{AreOfRuns, IsExportedUnder, certified_answer, refused_epoch}
+use Rattle.iss_cli.specs.Auditing.{AreOfRuns, certified_answer, refused_epoch}
 use Rattle.iss_cli.specs.Views.{Under}
 use Rattle.iss_cli.specs.declared.answers.Answer.{Answer}
-use Rattle.iss_cli.proofs.ViewLemmas.{HasOutcome, setup_of_chained, setup_of_hotstuff, setup_of_pbft, setup_of_raft, setup_of_relay}
-use Rattle.iss_export.specs.Exporting.{IsExported}
+use Rattle.iss_cli.proofs.ViewLemmas.{setup_of_chained, setup_of_hotstuff, setup_of_pbft, setup_of_raft, setup_of_relay}
 use Rattle.iss_request.specs.declared.errors.NoMemory.{NoMemory}
 use Rattle.iss_request.specs.declared.setups.Setup.{Setup}
 use Rattle.iss_rules.specs.Setups.{IsSetupOf}
 use Rattle.iss_schedule.specs.Schedules.{IsKnown}
 use Rattle.iss_schedule.specs.declared.errors.LineFault.{LineFault}
-use Rattle.iss_schedule.specs.declared.schedules.Schedule.{Schedule}
 use Rattle.iss_sb.specs.Evidence.{Module}
-use Rattle.iss_theorems.specs.Headline.{IsWhole}
 use Rattle.sb_chained.specs.Chained.{chained}
 use Rattle.sb_hotstuff.specs.HotStuff.{hotstuff}
 use Rattle.sb_pbft.specs.Pbft.{pbft}
@@ -42,43 +39,6 @@ under_known s Holds known a b c d e = elim known.known [
     ]
   ]
 ]
-
--- ---- an export
-
-abbrev pub IsExportOfCore : {Msg : Type 0} → ℕ → Schedule → Module Msg → Answer → Type 0
-IsExportOfCore core s M a = IsExported s.setup M s.events core a.printed
-
-exported_under : {Msg : Type 0} (core : ℕ) (s : Schedule) (M : Module Msg) (r : Result Answer NoMemory) → IfOk r (IsExportOfCore core s M) → IfOk r (HasOutcome s M) →
-    IsWhole s.setup M s.events → IfOk r (λ a. IsExportedUnder core s a Msg M)
-exported_under core s M (Ok a) printed outcome whole = record { printed = printed; outcome = outcome; whole = whole }
-exported_under core s M (Err e) printed outcome whole = tt
-
-in_exports : {P Q : Answer → Type 0} (r : Result Answer NoMemory) → ((a : Answer) → P a → Q a) → IfOk r P → IfOk r Q
-in_exports (Ok a) f h = f a h
-in_exports (Err e) f h = tt
-
-abbrev pub IsOfModule : ℕ → Schedule → Answer → Type 0
-IsOfModule core s a = Under s.setup.module (IsExportedUnder core s a)
-
-pub export_by_relay : (core : ℕ) (s : Schedule) (r : Result Answer NoMemory) → s.setup.module ≡ 1 → IfOk r (IsExportOfCore core s relay) → IfOk r (HasOutcome s relay) →
-    IsWhole s.setup relay s.events → IfOk r (IsOfModule core s)
-export_by_relay core s r is printed outcome whole = in_exports r (λ a h. inl (is, h)) (exported_under core s relay r printed outcome whole)
-
-pub export_by_raft : (core : ℕ) (s : Schedule) (r : Result Answer NoMemory) → s.setup.module ≡ 2 → IfOk r (IsExportOfCore core s raft) → IfOk r (HasOutcome s raft) →
-    IsWhole s.setup raft s.events → IfOk r (IsOfModule core s)
-export_by_raft core s r is printed outcome whole = in_exports r (λ a h. inr (inl (is, h))) (exported_under core s raft r printed outcome whole)
-
-pub export_by_pbft : (core : ℕ) (s : Schedule) (r : Result Answer NoMemory) → s.setup.module ≡ 3 → IfOk r (IsExportOfCore core s pbft) → IfOk r (HasOutcome s pbft) →
-    IsWhole s.setup pbft s.events → IfOk r (IsOfModule core s)
-export_by_pbft core s r is printed outcome whole = in_exports r (λ a h. inr (inr (inl (is, h)))) (exported_under core s pbft r printed outcome whole)
-
-pub export_by_hotstuff : (core : ℕ) (s : Schedule) (r : Result Answer NoMemory) → s.setup.module ≡ 4 → IfOk r (IsExportOfCore core s hotstuff) → IfOk r (HasOutcome s hotstuff) →
-    IsWhole s.setup hotstuff s.events → IfOk r (IsOfModule core s)
-export_by_hotstuff core s r is printed outcome whole = in_exports r (λ a h. inr (inr (inr (inl (is, h))))) (exported_under core s hotstuff r printed outcome whole)
-
-pub export_by_chained : (core : ℕ) (s : Schedule) (r : Result Answer NoMemory) → s.setup.module ≡ 5 → IfOk r (IsExportOfCore core s chained) → IfOk r (HasOutcome s chained) →
-    IsWhole s.setup chained s.events → IfOk r (IsOfModule core s)
-export_by_chained core s r is printed outcome whole = in_exports r (λ a h. inr (inr (inr (inr (is, h))))) (exported_under core s chained r printed outcome whole)
 
 -- ---- an audit
 

@@ -1,9 +1,8 @@
 -- The answers to a text of replies, and what is promised of the replies of a run.
-use Rattle.std.proofs.Common.{◌≡◌, ◌⊎◌, inl, inr, ℕ, List, Ok, Err}
+use Rattle.std.proofs.Common.{◌≡◌, inl, inr, ℕ, List, Ok, Err}
 use Rattle.std.specs.Prelude.{Result, IfOk}
 use Rattle.iss_request.specs.declared.errors.NoMemory.{NoMemory}
-use Rattle.iss_request.specs.declared.setups.Setup.{Setup}
-use Rattle.iss_schedule.specs.Schedules.{IsFine, IsKnown}
+use Rattle.iss_schedule.specs.Schedules.{IsFine}
 use Rattle.iss_schedule.specs.declared.errors.LineFault.{LineFault}
 use Rattle.iss_schedule.specs.declared.schedules.Schedule.{Schedule}
 use Rattle.iss_rules.specs.Setups.{IsSetupOf}

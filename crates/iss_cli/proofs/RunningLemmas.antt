@@ -1,17 +1,15 @@
 -- The answers to a configuration, and what a cluster or a node answers under the module that a configuration names.
-use Rattle.std.proofs.Common.{◌≡◌, ◌∙◌, ◌⊎◌, inl, inr, ℕ, ◌<◌, ◌≤◌, List, [], ◌∷◌, ◌++◌, Option, Some, None, Result, Ok, Err, IsErrOf, length, codes, refl, sym, ap, subst, arith}
+use Rattle.std.proofs.Common.{◌≡◌, ◌∙◌, inl, inr, ℕ, ◌<◌, List, [], ◌∷◌, ◌++◌, Option, Some, Result, Ok, Err, IsErrOf, codes, refl, sym, ap, subst}
 use Rattle.std.proofs.lemmas.Result.{IfOk-at_ok}
 use Rattle.std.specs.Prelude.{IfOk}
 use Rattle.iss_cluster.specs.Clusters.{IsTracedRun, behavior_of, loop_plan_of}
 use Rattle.iss_cluster.specs.Nodes.{IsNodeRun, IsRefused}
 use Rattle.iss_cluster.specs.declared.errors.NodeFailure.{NodeFailure}
-use Rattle.iss_cluster.specs.declared.errors.NodeFailure.TheVariants.{Damaged, LinksFault as Node_links_fault, DiskFault as Node_disk_fault}
+use Rattle.iss_cluster.specs.declared.errors.NodeFailure.TheVariants.{Damaged, DiskFault as Node_disk_fault}
 use Rattle.iss_config.specs.Configs.{IsInRange, setup_of}
 use Rattle.iss_config.specs.declared.configs.Config.{Config}
 use Rattle.iss_disk.specs.File.{File}
-use Rattle.iss_base.specs.Counts.{Rose}
 use Rattle.iss_disk.specs.Calls.{HasCause as DiskCause, Place, lent}
-use Rattle.iss_links.specs.Calls.{HasCause as LinksCause}
 use Rattle.iss_links.specs.Ends.{End}
 use Rattle.iss_loops.specs.Loop.{loop_of}
 use Rattle.iss_loops.specs.Plans.{HasRun}
@@ -21,7 +19,7 @@ use Rattle.iss_model.specs.Courses.{Course}
 use Rattle.iss_replay.specs.Refines.{ReportRefinesRun, end_kept}
 use Rattle.iss_replay.specs.Report.{text_of as text_of_run}
 use Rattle.iss_request.specs.declared.setups.Setup.{Setup}
-use Rattle.iss_rules.specs.Ends.{End as RunEnd, Forged, Collision}
+use Rattle.iss_rules.specs.Ends.{End as RunEnd}
 use Rattle.iss_rules.specs.declared.events.Why.{Why}
 use Rattle.iss_sb.specs.Calls.{Relation}
 use Rattle.iss_sb.specs.Evidence.{Module}
@@ -31,62 +29,17 @@ use Rattle.iss_theorems.specs.Headline.{IsWhole, course_after}
 use Rattle.iss_world.specs.State.{WorldState}
 use Rattle.iss_world.specs.declared.ends.Evidence.{Evidence}
 use Rattle.iss_words.specs.declared.orders.NodeOrder.{NodeOrder}
-use Rattle.sb_chained.specs.Chained.{chained}
-use Rattle.sb_hotstuff.specs.HotStuff.{hotstuff}
-use Rattle.sb_pbft.specs.Pbft.{pbft}
-use Rattle.sb_raft.specs.Raft.{raft}
-use Rattle.sb_relay.specs.Relay.{relay}
 use Rattle.iss_cli.proofs.TraceLemmas.{trace-is-schedule}
-use Rattle.iss_cli.specs.Running.{IsConfigOf, IsOfCluster, Devices, IsOfConfig, IsOfNode, IsOfNodeOrder, IsPrintedRun, damaged_answer, log_answer, refused_configuration}
+use Rattle.iss_cli.specs.Running.{IsOfCluster, Devices, IsOfNode, IsOfNodeOrder, IsPrintedRun}
 use Rattle.iss_cli.specs.Views.{Under, outcome_of}
 use Rattle.iss_cli.specs.declared.answers.Answer.{Answer}
-use Rattle.iss_cli.specs.declared.status.Outcome.{Outcome}
-use Rattle.iss_cli.specs.declared.status.Outcome.TheVariants.{Done, RefusedConfiguration}
-
--- ---- configurations
-
-pub of-config : {E : Type 0} (P : Config → Answer → Type 0) (input : List ℕ) (c : Config) (r : Result Answer E) → IsConfigOf input c → IfOk r (P c) → IfOk r (IsOfConfig P input)
-of-config P input c (Ok a) is h = inl (c, (is, h))
-of-config P input c (Err e) is h = tt
-
-pub of-no-config : {E : Type 0} (P : Config → Answer → Type 0) (input : List ℕ) (r : Result Answer E) → ((c : Config) → IsConfigOf input c → ⊥) → IfOk r (λ a. a ≡ refused_configuration) → IfOk r (IsOfConfig P input)
-of-no-config P input (Ok a) none h = inr (none, h)
-of-no-config P input (Err e) none h = tt
 
 -- ---- what failed
-
--- a call that follows one without a fault
-pub links-behind : {T E : Type 0} (F : Type 0) (old mid new : ℕ) (r : Result T E) (x : T) (e : E) → r ≡ Ok x → LinksCause old mid (IsErrOf r e) → LinksCause mid new F → LinksCause old new F
-links-behind F old mid new r x e is first next =
-    let same : mid ≡ old = first.still (λ q. absurd (cc)) in
-    subst (λ (n : ℕ). LinksCause n new F) same next
-
-pub disk-behind : (F G : Type 0) (old mid new : ℕ) → DiskCause old mid F → DiskCause mid new G → DiskCause old new G
-disk-behind F G old mid new first next =
-    let a = first.never_falls in let b = next.never_falls in
-    record {
-      never_falls = omega (arith, a, b);
-      rose = λ f. rises (next.rose f);
-    }
-  where
-    rises : Rose mid new → Rose old new
-    rises (inl h) = let a = first.never_falls in inl (omega (arith, a, h))
-    rises (inr h) = inr h
-
--- a fault that is passed on under another name
-pub links-failed : {T E : Type 0} (F : Type 0) (old new : ℕ) (r : Result T E) (e : E) → (IsErrOf r e → F) → (F → IsErrOf r e) → LinksCause old new (IsErrOf r e) → LinksCause old new F
-links-failed F old new r e there back h = record { never_falls = h.never_falls; rose = λ f. h.rose (back f); still = λ none. h.still (λ q. none (there q)) }
 
 pub disk-failed : {T E : Type 0} (F : Type 0) (old new : ℕ) (r : Result T E) (e : E) → (F → IsErrOf r e) → DiskCause old new (IsErrOf r e) → DiskCause old new F
 disk-failed F old new r e back h = record { never_falls = h.never_falls; rose = λ f. h.rose (back f) }
 
 -- ---- what is printed of a node's run
-
-pub printed-links : (ran : Result (List ℕ) NodeFailure) (r : Result Answer NodeError) → IsPrintedRun ran r → IsErrOf r LinksFault → IsErrOf ran Node_links_fault
-printed-links ran (Ok a) is q = absurd (cc)
-printed-links ran (Err LinksFault) is q = is
-printed-links ran (Err DiskFault) is q = absurd (cc)
-printed-links ran (Err NoMemory) is q = absurd (cc)
 
 pub printed-disk : (ran : Result (List ℕ) NodeFailure) (r : Result Answer NodeError) → IsPrintedRun ran r → IsErrOf r DiskFault → IsErrOf ran Node_disk_fault
 printed-disk ran (Ok a) is q = absurd (cc)
@@ -126,63 +79,6 @@ pub of-existing : {E : Type 0} (order : NodeOrder) (before now : Devices) (c : C
     → IfOk r (λ a. Under c.module (IsOfNode c order.node before.ends now.ends (before.files order.file.now) now.current a)) → IfOk r (IsOfNodeOrder order before now c)
 of-existing order before now c (Ok a) low h = inr (low, h)
 of-existing order before now c (Err e) low h = tt
-
--- ---- what is no refusal
-
-no-refusal : (ended : Option (ℕ × RunEnd)) → outcome_of ended ≡ RefusedConfiguration → ⊥
-no-refusal None e = absurd (cc)
-no-refusal (Some (event, Forged claim)) e = absurd (cc)
-no-refusal (Some (event, Collision first second)) e = absurd (cc)
-
-each-module : {P : Type 0} (number : ℕ) (Holds : (Msg : Type 0) → Module Msg → Type 0) → ((Msg : Type 0) (M : Module Msg) → Holds Msg M → P) → Under number Holds → P
-each-module number Holds f under = elim under [
-  | inl is ↦ f _ relay is.1
-  | inr others ↦ elim others [
-    | inl is ↦ f _ raft is.1
-    | inr more ↦ elim more [
-      | inl is ↦ f _ pbft is.1
-      | inr two ↦ elim two [ inl is ↦ f _ hotstuff is.1 | inr is ↦ f _ chained is.1 ]
-    ]
-  ]
-]
-
-pub cluster-no-refusal : (c : Config) (ends ends_now : Option (List End)) (a : Answer) → Under c.module (IsOfCluster c ends ends_now a) → a.outcome ≡ RefusedConfiguration → ⊥
-cluster-no-refusal c ends ends_now a under e =
-    each-module c.module (IsOfCluster c ends ends_now a)
-    (λ Msg M h. no-refusal (course_after h.trace.setup M h.trace.events).ended (sym h.replayed.outcome ∙ sym h.outcome ∙ e)) under
-
-done-no-refusal : (block : List ℕ) (a : Answer) → a ≡ log_answer block → a.outcome ≡ RefusedConfiguration → ⊥
-done-no-refusal block a is e = let outcome = ap (λ (x : Answer). x.outcome) is in absurd (cc)
-
-damaged-no-refusal : (at : ℕ) (a : Answer) → a ≡ damaged_answer at → a.outcome ≡ RefusedConfiguration → ⊥
-damaged-no-refusal at a is e = let outcome = ap (λ (x : Answer). x.outcome) is in absurd (cc)
-
-pub node-no-refusal : (c : Config) (me : ℕ) (ends ends_now : Option (List End)) (before now : List File) (a : Answer) → Under c.module (IsOfNode c me ends ends_now before now a) → a.outcome ≡ RefusedConfiguration → ⊥
-node-no-refusal c me ends ends_now before now a under e =
-    each-module c.module (IsOfNode c me ends ends_now before now a)
-    (λ Msg M h. elim h [ inl ran ↦ done-no-refusal ran.0 a ran.1.1 e | inr bad ↦ damaged-no-refusal bad.0 a bad.1.1 e ]) under
-
--- ---- by module
-
-pub by-relay : {E : Type 0} (number : ℕ) (P : Answer → (Msg : Type 0) → Module Msg → Type 0) (r : Result Answer E) → number ≡ relay.tag → IfOk r (λ a. P a _ relay) → IfOk r (λ a. Under number (P a))
-by-relay number P (Ok a) is h = inl (is, h)
-by-relay number P (Err e) is h = tt
-
-pub by-raft : {E : Type 0} (number : ℕ) (P : Answer → (Msg : Type 0) → Module Msg → Type 0) (r : Result Answer E) → number ≡ raft.tag → IfOk r (λ a. P a _ raft) → IfOk r (λ a. Under number (P a))
-by-raft number P (Ok a) is h = inr (inl (is, h))
-by-raft number P (Err e) is h = tt
-
-pub by-pbft : {E : Type 0} (number : ℕ) (P : Answer → (Msg : Type 0) → Module Msg → Type 0) (r : Result Answer E) → number ≡ pbft.tag → IfOk r (λ a. P a _ pbft) → IfOk r (λ a. Under number (P a))
-by-pbft number P (Ok a) is h = inr (inr (inl (is, h)))
-by-pbft number P (Err e) is h = tt
-
-pub by-hotstuff : {E : Type 0} (number : ℕ) (P : Answer → (Msg : Type 0) → Module Msg → Type 0) (r : Result Answer E) → number ≡ hotstuff.tag → IfOk r (λ a. P a _ hotstuff) → IfOk r (λ a. Under number (P a))
-by-hotstuff number P (Ok a) is h = inr (inr (inr (inl (is, h))))
-by-hotstuff number P (Err e) is h = tt
-
-pub by-chained : {E : Type 0} (number : ℕ) (P : Answer → (Msg : Type 0) → Module Msg → Type 0) (r : Result Answer E) → number ≡ chained.tag → IfOk r (λ a. P a _ chained) → IfOk r (λ a. Under number (P a))
-by-chained number P (Ok a) is h = inr (inr (inr (inr (is, h))))
-by-chained number P (Err e) is h = tt
 
 -- ---- a trace and its report
 

@@ -1,5 +1,5 @@
 -- The answer to an order and its input, of which a bounded front was read.
-use Rattle.std.proofs.Common.{◌≡◌, ◌∙◌, ◌⊎◌, inl, inr, ℕ, ◌<◌, ◌≤◌, Bool, true, false, Option, None, Some, Result, Ok, Err, IsErrOf, List, [], length, take, refl, sym, ap, subst, arith}
+use Rattle.std.proofs.Common.{◌≡◌, ◌∙◌, ◌⊎◌, inl, inr, ℕ, ◌<◌, ◌≤◌, Bool, true, false, Option, None, Some, Result, Err, IsErrOf, List, [], length, take, refl, sym, ap, subst, arith}
 use Rattle.std.specs.Bool.{IsTrue}
 use Rattle.std.proofs.lemmas.Bool.Decides.{leb_tells}
 use Rattle.std.proofs.lemmas.List.{take_all, length-take}
@@ -12,18 +12,16 @@ use Rattle.iss_cli.specs.declared.answers.Answer.{Answer}
 use Rattle.iss_schedule.specs.BadLines.{IsBadLine}
 use Rattle.iss_schedule.specs.declared.errors.LineFault.{LineFault}
 use Rattle.iss_cli.specs.Answers.{IsAnswer, IsAudited, IsOfReplies, IsOfSchedule, Reads, refused_words}
-use Rattle.iss_cli.specs.Calls.{Ends, HasNone, IsAnswerTo, IsAnswered, IsStartedOn, IsUnanswered, Prints}
+use Rattle.iss_cli.specs.Calls.{Ends, HasNone, IsAnswerTo, IsAnswered, IsStartedOn, Prints}
 use Rattle.iss_cli.specs.Ends.{Drains, HasCause, IfTold, IsDrained}
 use Rattle.iss_cli.specs.Errors.{of_node, status_without}
-use Rattle.iss_cli.specs.Running.{Devices, HasPorts, IsConfigOf, IsOfCluster, IsOfConfig, IsOfNodeOrder, IsStarted, UsesDisk, UsesLinks}
+use Rattle.iss_cli.specs.Running.{Devices, IsConfigOf, IsOfCluster, IsOfConfig, IsOfNodeOrder, IsStarted, UsesDisk, UsesLinks}
 use Rattle.iss_cli.specs.Views.{IsShown, Under}
 use Rattle.iss_cli.specs.declared.errors.AnswerError.{AnswerError}
 use Rattle.iss_cli.specs.declared.errors.AnswerError.TheVariants.{SourceFailed as Source_failed, LinksFailed as Links_failed, DiskFailed as Disk_failed, NoMemory as No_memory}
 use Rattle.iss_config.specs.declared.configs.Config.{Config}
 use Rattle.iss_loops.specs.declared.errors.NodeError.{NodeError}
 use Rattle.iss_loops.specs.declared.errors.NodeError.TheVariants.{LinksFault, DiskFault, NoMemory as Node_no_memory}
-use Rattle.iss_cli.specs.declared.status.Outcome.{Outcome}
-use Rattle.iss_cli.specs.declared.status.Outcome.TheVariants.{Done, RefusedConfiguration}
 use Rattle.iss_cli.specs.declared.status.Status.{Status}
 use Rattle.iss_cli.specs.declared.status.Status.TheVariants.{Answered, NoMemory, SourceFailed, SinkFailed, LinksFailed, DiskFailed}
 use Rattle.iss_cli.specs.declared.views.View.TheVariants.{Full, Replied}
@@ -171,32 +169,6 @@ failed_read order left left_now bytes LinksFault is drained links disk = let h =
 failed_read order left left_now bytes DiskFault is drained links disk = let h = disk refl in (h.0, started_read order left left_now bytes is drained h.1)
 failed_read order left left_now bytes Node_no_memory is drained links disk = tt
 
--- an order that reads nothing runs no nodes
-pub failed_unread : (order : Order) (left : Option (List ℕ)) (e : NodeError) → (Reads order → ⊥) → (e ≡ LinksFault → UsesLinks order) → (e ≡ DiskFault → UsesDisk order) → HasNone order left left (of_node e)
-failed_unread order left LinksFault unread links disk = absurd (unread (links_read order (links refl)))
-  where
-    links_read : (order : Order) → UsesLinks order → Reads order
-    links_read (Cluster port) uses = tt
-    links_read (Node node) uses = tt
-    links_read Replay uses = absurd uses
-    links_read (Lab number events) uses = absurd uses
-    links_read Replies uses = absurd uses
-    links_read Answers uses = absurd uses
-    links_read (Export core) uses = absurd uses
-    links_read Audit uses = absurd uses
-failed_unread order left DiskFault unread links disk = absurd (unread (disk_read order (disk refl)))
-  where
-    disk_read : (order : Order) → UsesDisk order → Reads order
-    disk_read (Node node) uses = tt
-    disk_read (Cluster port) uses = absurd uses
-    disk_read Replay uses = absurd uses
-    disk_read (Lab number events) uses = absurd uses
-    disk_read Replies uses = absurd uses
-    disk_read Answers uses = absurd uses
-    disk_read (Export core) uses = absurd uses
-    disk_read Audit uses = absurd uses
-failed_unread order left Node_no_memory unread links disk = tt
-
 -- ---- words
 
 pub not_true : (b : Bool) → b ≡ false → IsTrue b → ⊥
@@ -205,17 +177,6 @@ not_true b e t = let wrong : false ≡ true = sym e ∙ t in absurd (cc)
 pub answer_refused : (words : List (List ℕ)) (left left_now : Option (List ℕ)) (before now : Devices) (a : Answer) (r : Result Order WordsError) (e : WordsError) → r ≡ Err e → e ≡ Refused →
     (r ≡ Err Refused → (order : Order) → Asks words order → ⊥) → a ≡ refused_words → IsAnswered words left left_now before now a
 answer_refused words left left_now before now a r e is refused none same = inr (none (is ∙ ap (λ (x : WordsError). Err x) refused), same)
-
--- the ports of an order that words ask for exist
-pub ports_of : (words : List (List ℕ)) (order : Order) → Asks words order → HasPorts order
-ports_of words (Cluster port) asks = asks.is.1.most
-ports_of words (Node node) asks = asks.is.2.most
-ports_of words Replay asks = tt
-ports_of words (Lab number events) asks = tt
-ports_of words Replies asks = tt
-ports_of words Answers asks = tt
-ports_of words (Export core) asks = tt
-ports_of words Audit asks = tt
 
 -- ---- the end of a call
 
@@ -227,39 +188,6 @@ ends words left left_now before now held held_now a NoMemory is prints = inr (a,
 ends words left left_now before now held held_now a SourceFailed is prints = absurd prints
 ends words left left_now before now held held_now a LinksFailed is prints = absurd prints
 ends words left left_now before now held held_now a DiskFailed is prints = absurd prints
-
-pub ends_without : (words : List (List ℕ)) (left left_now : Option (List ℕ)) (before now : Devices) (held held_now : Option (List ℕ)) (e : AnswerError) →
-    IsUnanswered words left left_now e → held_now ≡ held → Ends words left left_now before now held held_now (status_without e)
-ends_without words left left_now before now held held_now Source_failed h same = (h, same)
-ends_without words left left_now before now held held_now Links_failed h same = (h, same)
-ends_without words left left_now before now held held_now Disk_failed h same = (h, same)
-ends_without words left left_now before now held held_now No_memory h same = inl same
-
--- the lack of an answer to an order is that to the words that ask for it
-pub unanswered : (words : List (List ℕ)) (left left_now : Option (List ℕ)) (order : Order) (e : AnswerError) → Asks words order → HasNone order left left_now e → IsUnanswered words left left_now e
-unanswered words left left_now order Source_failed asks h = (order, (asks, h))
-unanswered words left left_now order Links_failed asks h = (order, (asks, h))
-unanswered words left left_now order Disk_failed asks h = (order, (asks, h))
-unanswered words left left_now order No_memory asks h = tt
-
-abbrev outcome_in : Status → Outcome
-outcome_in (Answered outcome) = outcome
-outcome_in status = Done
-
--- what holds if the configuration is refused
-pub refused_is_said : (P : Type 0) (held held_now : Option (List ℕ)) (a : Answer) (status : Status) → Prints a held held_now status → (a.outcome ≡ RefusedConfiguration → P) → status ≡ Answered RefusedConfiguration → P
-refused_is_said P held held_now a (Answered outcome) prints h e = h (sym prints.0 ∙ ap (λ (s : Status). outcome_in s) e)
-refused_is_said P held held_now a SinkFailed prints h e = absurd (cc)
-refused_is_said P held held_now a NoMemory prints h e = absurd (cc)
-refused_is_said P held held_now a SourceFailed prints h e = absurd (cc)
-refused_is_said P held held_now a LinksFailed prints h e = absurd (cc)
-refused_is_said P held held_now a DiskFailed prints h e = absurd (cc)
-
-pub no_outcome : (P : Type 0) (outcome : Outcome) (e : AnswerError) → status_without e ≡ Answered outcome → P
-no_outcome P outcome Source_failed is = absurd (cc)
-no_outcome P outcome Links_failed is = absurd (cc)
-no_outcome P outcome Disk_failed is = absurd (cc)
-no_outcome P outcome No_memory is = absurd (cc)
 
 -- ---- whose fault it is
 

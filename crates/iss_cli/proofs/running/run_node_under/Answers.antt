@@ -1,4 +1,4 @@
-use Rattle.std.proofs.Common.{◌≡◌, ◌∙◌, ℕ, Bor, MutBor, IsErrOf, rules, sym, ap, subst}
+use Rattle.std.proofs.Common.{◌≡◌, ◌∙◌, ℕ, MutBor, IsErrOf, rules, sym, ap, subst}
 use Rattle.iss_disk.specs.Calls.{HasCause as DiskCause}
 use Rattle.iss_loops.specs.declared.errors.NodeError.TheVariants.{DiskFault}
 use Rattle.iss_request.specs.declared.ids.NodeId.{NodeId}

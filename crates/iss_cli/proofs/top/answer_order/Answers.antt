@@ -1,4 +1,4 @@
-use Rattle.std.proofs.Common.{◌≡◌, ◌∙◌, ℕ, List, Err, subst, ap}
+use Rattle.std.proofs.Common.{◌∙◌, ℕ, List, Err, subst, ap}
 use Rattle.std.proofs.lemmas.Result.{err_from_is_err_and}
 use Rattle.iss_cli.specs.Answers.{IsAnswer}
 use Rattle.iss_cli.specs.Running.{IsStarted, UsesDisk, UsesLinks, devices}
