@@ -27,24 +27,19 @@ const REFUSED: &[u8] = b"refused configuration\n";
 
 const MOST_BYTES: usize = 16_777_216;
 
-// Where a line of its own begins in the text.
-fn place_of(text: &[u8], line: &[u8]) -> Option<usize> {
-    text.windows(line.len()).position(|part| part == line)
-}
-
 #[test]
 fn a_replay_of_a_clusters_trace_prints_its_report(rt: HostRuntime) -> Result<(), Fail> {
     let (status, text) = answer(rt.alloc(), "cluster 20000", FOUR_NODES.as_bytes())?;
     assert_eq!(rt; status, 0);
-    let Some(end) = place_of(&text, b"\nreport\n") else {
-        panic!(&rt; "the output has a line `report`");
-    };
-    let (status, report) = answer(rt.alloc(), "replay", &text[..end + 1])?;
+    let text = str::from_utf8(&text)?;
+    let (trace, printed) = text
+        .split_once("report\n")
+        .ok_or("the output has no line `report`")?;
+    let (status, report) = answer(rt.alloc(), "replay", trace.as_bytes())?;
     assert_eq!(rt; status, 0);
-    assert_eq!(rt; report.as_slice(), &text[end + 8..]);
-    let full = b" requests 8\n".as_slice();
+    assert_eq!(rt; report.as_slice(), printed.as_bytes());
     assert!(rt;
-        place_of(&report, full).is_some(),
+        printed.split_once(" requests 8\n").is_some(),
         "the nodes order all requests"
     );
     Ok(())
