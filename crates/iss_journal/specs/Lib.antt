@@ -2,5 +2,8 @@ pub mod Frames
 pub mod Internal
 pub mod Views
 pub mod EntryViews
+pub mod Parts
+pub mod Tails
+pub mod SharedViews
 pub mod Promises
 pub mod Sound

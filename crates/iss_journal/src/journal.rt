@@ -5,7 +5,9 @@ use crate::entries::Entries;
 use crate::errors::AttachError;
 use crate::keep::keep_entry;
 use crate::load::load;
+use crate::part::Part;
 use crate::reserved::{Reserved, left_behind};
+use crate::shared::SharedEntries;
 use iss_disk::{Disk, EndError, Fused, NoMemory};
 use std::alloc::Global;
 
@@ -19,7 +21,7 @@ const SOME_BYTES: u64 = 4096;
 pub struct Journal<D: Disk> {
     alloc: Global,
     disk: D,
-    entries: Entries,
+    entries: SharedEntries,
     attached: bool,
     // The entries for which there is room.
     reserved: Reserved,
@@ -31,7 +33,8 @@ impl<D: Disk> Journal<D> {
     ghost use Rattle.iss_disk.specs.Calls.{IfTold, Stays, StaysHere, HasCause, Runs};
     ghost use Rattle.iss_journal.specs.Frames.{frames, max_entry, Reads, holds, damaged};
     ghost use Rattle.iss_journal.specs.Promises.{OnlyLeaves, LeavesOnly, HoldsWithOrWithout, LosesNothing, ComesToRest, EndsClosed, Works};
-    ghost use Rattle.iss_journal.specs.EntryViews.{entries_in};
+    ghost use Rattle.iss_journal.specs.Parts.{part_bytes};
+    ghost use Rattle.iss_journal.specs.SharedViews.{shared_in};
     ghost use Rattle.iss_journal.specs.Sound.{disk_of, entries_of, is_attached, reserved_of, IsSound, NothingChanged};
 
     /// A journal over the current file of a disk. It is not attached yet.
@@ -44,7 +47,7 @@ impl<D: Disk> Journal<D> {
         Journal {
             alloc,
             disk,
-            entries: Entries::new(alloc),
+            entries: SharedEntries::of(alloc, Entries::new(alloc)),
             attached: false,
             reserved: Reserved {
                 entries: 0,
@@ -90,7 +93,8 @@ impl<D: Disk> Journal<D> {
         // A sync, a cut, a write and a sync.
         self.disk.reserve(4, 1)?;
         self.disk.sync()?;
-        self.entries = load(self.alloc, &mut self.disk)?;
+        let found = load(self.alloc, &mut self.disk)?;
+        self.entries = SharedEntries::of(self.alloc, found);
         self.attached = true;
         Ok(())
     }
@@ -110,8 +114,8 @@ impl<D: Disk> Journal<D> {
     }
 
     /// The entries.
-    pub fn entries(&self) -> &Entries
-        ensures { entries_in result.now ≡ entries_of self.now }
+    pub fn entries(&self) -> &SharedEntries
+        ensures { shared_in result.now ≡ entries_of self.now }
     {
         &self.entries
     }
@@ -228,23 +232,24 @@ impl<D: Disk> Journal<D> {
             (IsErrOf result EndError.Failed) }
         ensures sound { IsSound D.history D.room self.new }
     {
-        self.append_parts(&[], entry)
+        self.append_parts(&[], Part::Copied(entry))
     }
 
-    /// Appends an entry that is given in two parts, `head` and `body`. Otherwise the same as `append`.
+    /// Appends an entry that is given in two parts, `head` and `body`. A body that is shared takes no memory of the
+    /// journal until it is attached again. Otherwise the same as `append`.
     #[inline(always)]
-    pub fn append_parts(&mut self, head: &[u8], body: &[u8]) -> Result<(), EndError>
+    pub fn append_parts(&mut self, head: &[u8], body: Part) -> Result<(), EndError>
         requires sound { IsSound D.history D.room self.old }
         requires attached { is_attached self.old ≡ true }
-        requires short { length (head.now ++ body.now) ≤ max_entry }
-        ensures entries { OnOk result (entries_of self.new ≡ entries_of self.old ++ (head.now ++ body.now) ∷ []) }
+        requires short { length (head.now ++ part_bytes body) ≤ max_entry }
+        ensures entries { OnOk result (entries_of self.new ≡ entries_of self.old ++ (head.now ++ part_bytes body) ∷ []) }
         ensures err { OnErr result (entries_of self.new ≡ entries_of self.old) }
         ensures file { OnOk result (IfTold (D.history (disk_of self.new)) (EndsClosed (entries_of self.new))) }
         ensures attached { OnOk result (is_attached self.new ≡ true) }
         ensures failed { IsErrOf result EndError.Failed → is_attached self.new ≡ false }
 
         // A crash at any moment of the call leaves the entries with or without the new one; after Ok, with it.
-        ensures any_moment { LeavesOnly (HoldsWithOrWithout (entries_of self.old) (head.now ++ body.now))
+        ensures any_moment { LeavesOnly (HoldsWithOrWithout (entries_of self.old) (head.now ++ part_bytes body))
             (D.history (disk_of self.old)) (D.history (disk_of self.new)) }
         ensures durable { OnOk result
             (IfTold (D.history (disk_of self.new)) (OnlyLeaves (λ bytes. Reads bytes (holds (entries_of self.new))))) }
@@ -257,7 +262,7 @@ impl<D: Disk> Journal<D> {
         ensures device { (IsErrOf result EndError.NoMemory → ⊥) →
             Runs 4 (D.passes (disk_of self.old)) (D.passes (disk_of self.new)) (is_ok result) }
         ensures no_memory { IsErrOf result EndError.NoMemory → NothingChanged D.history D.passes self.old self.new }
-        ensures ready { (most : ℕ) → reserved_of self.old ≡ Some most → length (head.now ++ body.now) ≤ most →
+        ensures ready { (most : ℕ) → reserved_of self.old ≡ Some most → length (head.now ++ part_bytes body) ≤ most →
             IsErrOf result EndError.NoMemory → ⊥ }
         ensures others { StaysHere (D.current (disk_of self.old)) (D.current (disk_of self.new))
             (D.files (disk_of self.old)) (D.files (disk_of self.new)) }
@@ -270,8 +275,8 @@ impl<D: Disk> Journal<D> {
         let left = left_behind(self.reserved, bytes);
         self.reserved.limit = 0;
         self.attached = false;
-        self.entries.stage(head, body);
-        keep_entry(&mut self.disk, &self.entries, head, body)?;
+        self.entries.stage(head, &body);
+        keep_entry(&mut self.disk, &self.entries, head, &body)?;
         self.entries.commit(head, body);
         self.attached = true;
         self.reserved = left;

@@ -8,11 +8,16 @@ mod journal;
 mod keep;
 mod laws;
 mod load;
+mod part;
 mod reserved;
 mod scan;
 mod settle;
+mod shared;
+mod tails;
 
-pub use entries::{Entries, MAX_ENTRY};
+pub use entries::MAX_ENTRY;
 pub use errors::AttachError;
 pub use journal::Journal;
 pub use laws::a_file_has_one_reading;
+pub use part::Part;
+pub use shared::SharedEntries;
