@@ -86,6 +86,7 @@ fn values_from<M: Sequenced>(node: &Kept<M, MemoryDisk>, slots: usize) -> &[Valu
 }
 
 // What a step made: its outcome, and the values that joined the log.
+#[derive(Clone, Copy, Drop)]
 struct Made<'a> {
     outcome: &'a Outcome,
     values: &'a [Value],

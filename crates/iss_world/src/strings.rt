@@ -93,8 +93,8 @@ impl Strings {
     {
         let mut values = values;
         for string in strings {
-            let (text, left) = kept(self.alloc, self.version, string, values)?;
-            values = left;
+            let text = kept(self.alloc, self.version, string, values)?;
+            values = text.left_of(values);
             let end = self.add(directory, string, text)?;
             if end.is_some() {
                 return Ok(end);

@@ -53,6 +53,14 @@ impl Text {
         })
     }
 
+    /// The values that are left to be kept: without the first of these if this text is that one.
+    pub fn left_of<'a>(&self, values: &'a [Value]) -> &'a [Value] {
+        match (&self.held, values) {
+            (Held::Value { .. }, [_, rest @ ..]) => rest,
+            _ => values,
+        }
+    }
+
     /// The bytes of the string.
     pub fn bytes(&self, alloc: Global) -> Result<Bytes, NoMemory>
         ensures { IfOk result (λ b. b ≡ self.now) }
@@ -78,19 +86,20 @@ fn is_string_of(
 }
 
 /// The string as the book keeps it: as the first of these values if it is the string of that one, and otherwise as its
-/// bytes. Also the values that are left.
-pub fn kept<'a>(
+/// bytes.
+pub fn kept(
     alloc: Global,
     version: u8,
     string: &Bytes,
-    values: &'a [Value],
-) -> Result<(Text, &'a [Value]), NoMemory>
-    ensures { IfOk result (λ both. both.0 ≡ string.now) }
+    values: &[Value],
+) -> Result<Text, NoMemory>
+    ensures { IfOk result (λ t. t ≡ string.now) }
 {
-    if let [value, rest @ ..] = values
-        && is_string_of(alloc, version, string, value)?
-    {
-        return Ok((Text::of_value(version, value)?, rest));
+    let [value, ..] = values else {
+        return Text::of_bytes(string);
+    };
+    if is_string_of(alloc, version, string, value)? {
+        return Text::of_value(version, value);
     }
-    Ok((Text::of_bytes(string)?, values))
+    Text::of_bytes(string)
 }
