@@ -242,14 +242,14 @@ impl<D: Disk> Journal<D> {
         requires sound { IsSound D.history D.room self.old }
         requires attached { is_attached self.old ≡ true }
         requires short { length (head.now ++ part_bytes body) ≤ max_entry }
-        ensures entries { OnOk result (entries_of self.new ≡ entries_of self.old ++ (head.now ++ part_bytes body) ∷ []) }
+        ensures entries { OnOk result (entries_of self.new ≡ entries_of self.old ++ (head.now ++ part_bytes body.entry) ∷ []) }
         ensures err { OnErr result (entries_of self.new ≡ entries_of self.old) }
         ensures file { OnOk result (IfTold (D.history (disk_of self.new)) (EndsClosed (entries_of self.new))) }
         ensures attached { OnOk result (is_attached self.new ≡ true) }
         ensures failed { IsErrOf result EndError.Failed → is_attached self.new ≡ false }
 
         // A crash at any moment of the call leaves the entries with or without the new one; after Ok, with it.
-        ensures any_moment { LeavesOnly (HoldsWithOrWithout (entries_of self.old) (head.now ++ part_bytes body))
+        ensures any_moment { LeavesOnly (HoldsWithOrWithout (entries_of self.old) (head.now ++ part_bytes body.entry))
             (D.history (disk_of self.old)) (D.history (disk_of self.new)) }
         ensures durable { OnOk result
             (IfTold (D.history (disk_of self.new)) (OnlyLeaves (λ bytes. Reads bytes (holds (entries_of self.new))))) }
@@ -262,7 +262,7 @@ impl<D: Disk> Journal<D> {
         ensures device { (IsErrOf result EndError.NoMemory → ⊥) →
             Runs 4 (D.passes (disk_of self.old)) (D.passes (disk_of self.new)) (is_ok result) }
         ensures no_memory { IsErrOf result EndError.NoMemory → NothingChanged D.history D.passes self.old self.new }
-        ensures ready { (most : ℕ) → reserved_of self.old ≡ Some most → length (head.now ++ part_bytes body) ≤ most →
+        ensures ready { (most : ℕ) → reserved_of self.old ≡ Some most → length (head.now ++ part_bytes body.entry) ≤ most →
             IsErrOf result EndError.NoMemory → ⊥ }
         ensures others { StaysHere (D.current (disk_of self.old)) (D.current (disk_of self.new))
             (D.files (disk_of self.old)) (D.files (disk_of self.new)) }

@@ -63,6 +63,7 @@ impl SharedEntries {
         requires { k < length (shared_in self.now) }
         ensures { result ≡ length (frames (take k (shared_in self.now))) }
     {
+        let _end = self.end;
         let mut gate = 0;
         for i in 0..k {
             let (head, tail) = self.get(i);
@@ -117,8 +118,8 @@ impl SharedEntries {
         requires space { HasSpace 1 (length (head.now ++ part_bytes body)) self.old }
         requires bytes { self.old.own.bytes.items ≡ frames (entries_in self.old.own)
             ++ (frame (head.now ++ part_bytes body) ++ 0 ∷ []) }
-        ensures entries { shared_in self.new ≡ shared_in self.old ++ (head.now ++ part_bytes body) ∷ [] }
-        ensures longer { IsLonger (5 + length (head.now ++ part_bytes body)) self.old self.new }
+        ensures entries { shared_in self.new ≡ shared_in self.old ++ (head.now ++ part_bytes body.entry) ∷ [] }
+        ensures longer { IsLonger (5 + length (head.now ++ part_bytes body.entry)) self.old self.new }
     {
         match body {
             Part::Copied(bytes) => self.commit_copied(head, bytes),
