@@ -1,4 +1,4 @@
-use Rattle.std.proofs.Common.{rules, ◌≡◌, ◌∙◌, ◌<◌, ◌≤◌, Bool, true, false, Ok, ap, sym, length, [], ◌++◌, get_or}
+use Rattle.std.proofs.Common.{rules, ◌≡◌, ◌∙◌, ◌<◌, ◌≤◌, Bool, true, false, Ok, ap, sym, length, ℕ, List, [], ◌++◌, get_or}
 use Rattle.iss_journal.specs.Sound.{entries_of}
 use Rattle.iss_model.specs.Node.{Core}
 use Rattle.iss_node.specs.State.{RefinesCore}
@@ -19,7 +19,8 @@ replay_parts-requires g c = sym (ap (λ (s : Setup). s.n) c.loop-k.invariant.1.c
 pub loop-k-preserved : goal.loop-k-preserved
 loop-k-preserved g c =
     let lt : c.loop-k.k < length (entries_of c.args.journal.now) = search rules in
-    let entry : (c.get.result.0.now ++ c.get.result.1.now) ≡ get_or (entries_of c.args.journal.now) c.loop-k.k [] = search rules in
+    let entry : (c.get.result.0.now ++ c.get.result.1.now) ≡ get_or (entries_of c.args.journal.now) c.loop-k.k [] =
+    c.get.ensures ∙ ap (λ (es : List (List ℕ)). get_or es c.loop-k.k []) c.entries-entries.ensures in
     let took : c.replay_parts.result ≡ Ok true = search rules in
     let old = c.loop-k.node in (
       replay-on c.args.setup.now g.M.Sequenced.spec g.M.Sequenced.refines c.args.me (entries_of c.args.journal.now) c.loop-k.k lt old c.replay_parts.new.node (c.get.result.0.now ++ c.get.result.1.now) entry
@@ -34,7 +35,8 @@ loop-k-preserved g c =
 pub returns-then-not-taken-clause-damaged : goal.returns-then-not-taken-clause-damaged
 returns-then-not-taken-clause-damaged g c = λ at is.
     let lt : c.loop-k.k < length (entries_of c.args.journal.now) = search rules in
-    let entry : (c.get.result.0.now ++ c.get.result.1.now) ≡ get_or (entries_of c.args.journal.now) c.loop-k.k [] = search rules in
+    let entry : (c.get.result.0.now ++ c.get.result.1.now) ≡ get_or (entries_of c.args.journal.now) c.loop-k.k [] =
+    c.get.ensures ∙ ap (λ (es : List (List ℕ)). get_or es c.loop-k.k []) c.entries-entries.ensures in
     let took : c.replay_parts.result ≡ Ok false = search rules in
     let old = c.loop-k.node in
     replay-stops c.args.setup.now g.M.Sequenced.spec g.M.Sequenced.refines c.args.me (entries_of c.args.journal.now) c.loop-k.k lt old c.replay_parts.new.node (c.get.result.0.now ++ c.get.result.1.now) entry
