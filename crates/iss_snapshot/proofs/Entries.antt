@@ -62,7 +62,7 @@ exact-cert = record {
 
 -- ---- votes
 
-vote-own : (by e : ℕ) (bytes rest : List ℕ) (v : Vote) → parse_vote by e bytes ≡ Good v rest → (v.by.0 ≡ by) × (v.epoch.0 ≡ e)
+pub vote-own : (by e : ℕ) (bytes rest : List ℕ) (v : Vote) → parse_vote by e bytes ≡ Good v rest → (v.by.0 ≡ by) × (v.epoch.0 ≡ e)
 unfolding parse_vote
 vote-own by e bytes rest v h =
     let a = then_parts _ _ bytes rest v h in
@@ -71,7 +71,7 @@ vote-own by e bytes rest v h =
     let d = done_parts _ v c.mid rest c.second in
     (sym (ap (λ (z : Vote). z.by.0) d.0), sym (ap (λ (z : Vote). z.epoch.0) d.0))
 
-vote-again : (by e : ℕ) (bytes rest : List ℕ) (v : Vote) → parse_vote by e bytes ≡ Good v rest → IsReadAgain spell_vote (parse_vote v.by.0 v.epoch.0) v
+pub vote-again : (by e : ℕ) (bytes rest : List ℕ) (v : Vote) → parse_vote by e bytes ≡ Good v rest → IsReadAgain spell_vote (parse_vote v.by.0 v.epoch.0) v
 vote-again by e bytes rest v h = elim (vote-whole v) [
   | inl good ↦ good
   | inr bad ↦

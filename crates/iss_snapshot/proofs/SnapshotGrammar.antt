@@ -263,7 +263,7 @@ module _ (version : ℕ) (slots : List Value → ℕ → ℕ) (log : List Value)
         early = record { few = f.early; all = all-short s.early f.short };
       })))
 
-  spelled-row : (s : Snapshot) → fits s ≡ true → spell_snapshot version s ≡ snapshot_row version s
+  pub spelled-row : (s : Snapshot) → fits s ≡ true → spell_snapshot version s ≡ snapshot_row version s
   unfolding spell_snapshot
   spelled-row s h = rw h refl
 

@@ -1,0 +1,4 @@
+pub mod Pieced
+pub mod Refilling
+pub mod Rebuilding
+pub mod Entries
