@@ -29,7 +29,8 @@ use Rattle.iss_rules.specs.Rules.{Rules}
 use Rattle.iss_rules.specs.Verdicts.{verdict_in}
 use Rattle.iss_rules.specs.Votes.{all_verify, is_true_cert}
 use Rattle.iss_model.specs.Node.{Core, Dropped, Early, Stepped, Taken, Turn, adopts_piece, advance_epochs, by_verdict, casts_at, claims_of_input, ends, finish_step, has_leaves, has_shape, is_mine, leads_to, next_slot, step, step_unjudged, takes_bytes, takes_each, takes_parcel, takes_piece, then_turn, try_step}
-use Rattle.iss_model.proofs.Steps.{IsAdopted, IsInput}
+use Rattle.iss_model.proofs.Rows.{each-holds, settles-holds}
+use Rattle.iss_model.proofs.Steps.{IsAdopted, IsInput, Took, adopted, asked, cast, fired, handed, kept, received, sought, took, voted}
 
 -- a core without its early messages
 abbrev pub quiet : {Msg : Type 0} → Core Msg → Core Msg
@@ -110,32 +111,52 @@ module _ {Msg : Type 0} (F : Formats Msg) (R : Rules) (M : Module Msg) (me : ℕ
   quiet-adopted c x t a =
       record { epoch = a.epoch; of_epoch = a.of_epoch; whole = a.whole; certified = a.certified; leads = a.leads; is = refl }
 
-  -- ---- what an event does first
+  -- ---- the end of an epoch
 
-  -- The core stays in its epoch, or, without early messages, enters the next one, and with them takes these then.
-  pub data Ends (c : Core Msg) (event : NodeEvent) (t : Turn Msg) : Type 0 where
-    stays : t.core.past.epoch ≡ c.past.epoch → Ends c event t
-    enters : (u : Turn Msg) → step F R M me (quiet c) event ≡ Taken u → t.core ≡ (then_turn u (takes_each F R M me (suc c.past.epoch) c.early)).core → Ends c event t
+  abbrev row : Bool → Turn Msg → Turn Msg
+  row b w = cond b (then_turn (then_turn w (ends F R M me)) (takes_each F R M me (suc w.core.past.epoch) w.core.early)) w
 
-  -- the end of an epoch, if it is over, where an input was taken with and without early messages
-  pub input-ends : (c : Core Msg) (event : NodeEvent) (t u v : Turn Msg) → u.core.past.epoch ≡ c.past.epoch → u.core.early ≡ c.early → v.core ≡ quiet u.core →
-      t ≡ advance_epochs F R M me u → step F R M me (quiet c) event ≡ Taken (advance_epochs F R M me v) → Ends c event t
-  input-ends c event t u v epoch early same q step_is = go (is_complete R M me u.core.past) refl
-    where
-      row : Bool → Turn Msg → Turn Msg
-      row b w = cond b (then_turn (then_turn w (ends F R M me)) (takes_each F R M me (suc w.core.past.epoch) w.core.early)) w
+  pub advance-stays : (u : Turn Msg) → is_complete R M me u.core.past ≡ false → advance_epochs F R M me u ≡ u
+  advance-stays u q = ap (λ (b : Bool). row b u) q
 
-      go : (b : Bool) → is_complete R M me u.core.past ≡ b → Ends c event t
-      go false z =
-          let is : advance_epochs F R M me u ≡ u = ap (λ (b : Bool). row b u) z in
-          stays (ap (λ (w : Turn Msg). w.core.past.epoch) (q ∙ is) ∙ epoch)
-      go true z =
-          let is : advance_epochs F R M me u ≡ row true u = ap (λ (b : Bool). row b u) z in
-          let zv : is_complete R M me v.core.past ≡ true = ap (λ (d : Core Msg). is_complete R M me d.past) same ∙ z in
-          let isv : advance_epochs F R M me v ≡ row true v = ap (λ (b : Bool). row b v) zv in
-          let begun : (advance_epochs F R M me v).core ≡ (ends F R M me u.core).core =
-          ap (λ (w : Turn Msg). w.core) isv ∙ ap (λ (d : Core Msg). (then_turn (ends F R M me d) (takes_each F R M me (suc d.past.epoch) d.early)).core) same in
-          enters (advance_epochs F R M me v) step_is
-          (ap (λ (w : Turn Msg). w.core) (q ∙ is)
-          ∙ (ap₂ (λ (e : ℕ) (xs : List (Early Msg)). (takes_each F R M me (suc e) xs (ends F R M me u.core).core).core) epoch early
-          ∙ ap (λ (d : Core Msg). (takes_each F R M me (suc c.past.epoch) c.early d).core) (sym begun)))
+  -- an epoch that is over ends, and what came early is taken
+  pub advance-ends : (u : Turn Msg) → is_complete R M me u.core.past ≡ true →
+      (advance_epochs F R M me u).core ≡ (takes_each F R M me (suc u.core.past.epoch) u.core.early (ends F R M me u.core).core).core
+  advance-ends u q = ap (λ (b : Bool). (row b u).core) q
+
+  -- without early messages it only ends
+  pub quiet-ends : (u v : Turn Msg) → v.core ≡ quiet u.core → is_complete R M me u.core.past ≡ true → (advance_epochs F R M me v).core ≡ (ends F R M me u.core).core
+  quiet-ends u v same q =
+      advance-ends v (ap (λ (d : Core Msg). is_complete R M me d.past) same ∙ q)
+      ∙ ap (λ (d : Core Msg). (takes_each F R M me (suc d.past.epoch) d.early (ends F R M me d).core).core) same
+
+  -- ---- epochs never fall
+
+  rising : (n : ℕ) (t : Turn Msg) → n ≤ t.core.past.epoch → n ≤ (advance_epochs F R M me t).core.past.epoch
+  rising n t h = settles-holds F R M me (λ (w : Turn Msg). n ≤ w.core.past.epoch) (λ w l input. Unit {0}) (λ w l input z fit come. z)
+      (λ w z complete. omega (arith, z)) (λ w claims z. z) t h (λ done u x i z q r. tt)
+
+  each-rising : (n e : ℕ) (xs : List (Early Msg)) (t : Turn Msg) → n ≤ t.core.past.epoch → n ≤ (then_turn t (takes_each F R M me e xs)).core.past.epoch
+  each-rising n e xs t h = each-holds F R M me (λ (w : Turn Msg). n ≤ w.core.past.epoch) (λ w l input. Unit {0}) (λ w l input z fit come. z)
+      (λ w z complete. omega (arith, z)) (λ w claims z. z) e xs t h (λ u x i z q r. tt)
+
+  same-rises : (c : Core Msg) (t u : Turn Msg) → t ≡ u → c.past.epoch ≤ u.core.past.epoch → c.past.epoch ≤ t.core.past.epoch
+  same-rises c t u q h = subst (λ (w : Turn Msg). c.past.epoch ≤ w.core.past.epoch) (sym q) h
+
+  took-rises : (c : Core Msg) (event : NodeEvent) (t : Turn Msg) → Took F R M me c event t → c.past.epoch ≤ t.core.past.epoch
+  took-rises c event t (received k l msg u un b e i q) =
+      same-rises c t (advance_epochs F R M me u) q (rising c.past.epoch u (same-rises c u _ i.is (omega arith)))
+  took-rises c event t (kept k l msg un b e i) = same-rises c t _ i.is (omega arith)
+  took-rises c event t (asked k r un b i) = same-rises c t _ i.is (omega arith)
+  took-rises c event t (cast slot u i q) =
+      same-rises c t (advance_epochs F R M me u) q (rising c.past.epoch u (same-rises c u _ i.is (omega arith)))
+  took-rises c event t (voted k v un b i) = same-rises c t _ i.is (omega arith)
+  took-rises c event t (handed k x un b i) = same-rises c t _ i.is (omega arith)
+  took-rises c event t (adopted k x un b a) =
+      same-rises c t _ a.is (each-rising c.past.epoch (suc c.past.epoch) c.early (adopts_piece R M me c x) (omega arith))
+  took-rises c event t (sought peer q) = same-rises c t _ q (omega arith)
+  took-rises c event t (fired l u i q) =
+      same-rises c t (advance_epochs F R M me u) q (rising c.past.epoch u (same-rises c u _ i.is (omega arith)))
+
+  pub step-rises : (c : Core Msg) (event : NodeEvent) (t : Turn Msg) → step F R M me c event ≡ Taken t → c.past.epoch ≤ t.core.past.epoch
+  step-rises c event t q = took-rises c event t (took F R M me c event t q)

@@ -46,6 +46,7 @@ pub record IsGoodFrame {Msg : Type 0} (s : Setup) (F : Formats Msg) (R : Rules) 
   pub decides : DecidesReadable M
   pub faithful : IsFaithful s F M
   pub few : R.quorum < 256
+  pub keys : 2 ^ s.keys < 2 ^ 32
   pub again : (bytes : List ℕ) (k : Parcel Msg) (l : ℕ) (msg : Msg) → F.unwrap bytes ≡ Some k → k.body ≡ OfModule l msg → F.unwrap (F.wrap k) ≡ Some k
   pub voted : (bytes : List ℕ) (k : Parcel Msg) (v : Vote) → F.unwrap bytes ≡ Some k → k.body ≡ OfVote v → IsVoteEntry v
   pub pieced : (bytes : List ℕ) (k : Parcel Msg) (x : Sent_piece) → F.unwrap bytes ≡ Some k → k.body ≡ OfPiece x → IsCertEntry x.cert

@@ -1,8 +1,9 @@
-//! That snapshots lead back to the core that wrote them, as calls without a body.
+//! That snapshots lead back to the core that wrote them. Each theorem is a call without a body: calling one makes its
+//! contract available.
 ghost use Rattle.std.specs.Prelude.{ℕ};
 ghost use Rattle.iss_request.specs.declared.setups.Setup.{Setup};
 ghost use Rattle.iss_rules.specs.Setups.{IsSetupOf};
-ghost use Rattle.iss_rebuilt.specs.Laws.{SnapshotsRebuild};
+ghost use Rattle.iss_rebuilt.specs.Laws.{JournalsRecover, SnapshotsRebuild};
 
 use iss_sb::Sequenced;
 
@@ -11,3 +12,11 @@ use iss_sb::Sequenced;
 pub fn snapshots_rebuild<M: Sequenced>()
     ensures { (s : Setup) → IsSetupOf M.spec s → SnapshotsRebuild s M.spec }
 {}
+
+/// A replica may keep, of all that it stored, its snapshots and the events after the last of them: they lead to a core
+/// with the slim part of its own, Byzantine or not.
+pub fn journals_recover<M: Sequenced>()
+    ensures { (s : Setup) → IsSetupOf M.spec s → JournalsRecover s M.spec }
+{
+    M::laws();
+}

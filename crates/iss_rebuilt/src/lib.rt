@@ -4,4 +4,4 @@
 
 pub mod laws;
 
-pub use laws::snapshots_rebuild;
+pub use laws::{journals_recover, snapshots_rebuild};

@@ -76,7 +76,7 @@ fitting-is s h =
       short = y.1;
     }
 
-is-fitting : (s : Snapshot) → Fitting s → fits s ≡ true
+pub is-fitting : (s : Snapshot) → Fitting s → fits s ≡ true
 is-fitting s h =
     both ((nat_lt s.from.0 s.to.0 && (length s.epochs == s.to.0 - s.from.0)) && nat_lt (length s.waiting) (2 ^ 32)) _
     (both (nat_lt s.from.0 s.to.0 && (length s.epochs == s.to.0 - s.from.0)) (nat_lt (length s.waiting) (2 ^ 32))

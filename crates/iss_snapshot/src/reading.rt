@@ -1,5 +1,5 @@
 //! Snapshots from bytes.
-ghost use Rattle.std.specs.Prelude.{◌≡◌, ◌≤◌, ℕ, [], IfOk, Err, List};
+ghost use Rattle.std.specs.Prelude.{◌≡◌, ◌≤◌, ◌-◌, ℕ, [], IfOk, Err, List};
 ghost use Rattle.std.specs.Int.{w16, w32};
 ghost use Rattle.iss_request.specs.declared.requests.Value.{Value};
 ghost use Rattle.iss_request.specs.Fields.{Bad, Good, IsRead, IsUnreadable};
