@@ -7,6 +7,7 @@ use Rattle.iss_base.specs.Lists.{Extends, In}
 use Rattle.iss_base.proofs.Lists.{in_append, in_right, is-eq, length-over, none-some, oldest-part, some-injective}
 use Rattle.iss_checkpoint.specs.declared.votes.Cert.{Cert}
 use Rattle.iss_checkpoint.specs.declared.votes.Vote.{Vote}
+use Rattle.iss_journal.specs.Frames.{max_entry}
 use Rattle.iss_request.specs.Fields.{IsReadAgain}
 use Rattle.iss_request.specs.Formats.{HasSpelling, parse_request, parse_value, request_bytes, spell_request, spell_value}
 use Rattle.iss_request.specs.declared.requests.Request.{Request}
@@ -24,7 +25,7 @@ use Rattle.iss_snapshot.specs.declared.snapshots.Snapshot.{Snapshot}
 use Rattle.iss_snapshot.specs.Snapshots.{AreEpochs, IsCertEntry, IsEncodable, IsVoteEntry, snapshot_row}
 use Rattle.iss_rebuilt.specs.Reading.{Rebuilt}
 use Rattle.iss_rebuilt.specs.Storable.{IsBehind, IsStorable}
-use Rattle.iss_rebuilt.specs.Stored.{entry_most, epochs_of, new_cert, new_certs, packets_of, snapshot_of}
+use Rattle.iss_rebuilt.specs.Stored.{epochs_of, new_cert, new_certs, packets_of, snapshot_of}
 use Rattle.iss_rebuilt.proofs.Pieced.{epoch-over, log-is}
 use Rattle.iss_rebuilt.proofs.Sizes.{short-fits}
 
@@ -124,21 +125,21 @@ module _ {Msg : Type 0} (W : Frame Msg) (slots : HasSlots W.rules) (me : ℕ) (r
   log = log_of W.rules W.spec me d.past
 
   abbrev from : ℕ
-  from = r.mark.from
+  from = r.saved.from
 
   abbrev snap : Snapshot
-  snap = snapshot_of W me r.mark d
+  snap = snapshot_of W me r.saved d
 
   -- what the core holds can be encoded, and its snapshot is not too long
   pub record IsWritable : Type 0 where
-    pub onward : r.mark.from < d.past.epoch
+    pub onward : r.saved.from < d.past.epoch
     pub epoch : d.past.epoch < 2 ^ 64
     pub values : (v : Value) → In v log → IsReadAgain (spell_value W.setup.version) (parse_value W.setup.version) v
     pub leaf : d.leaf < 2 ^ 32
     pub requests : (q : Request) → In q d.waiting → HasSpelling q
     pub certs : (x : Cert) → In x d.certs → IsCertEntry x
     pub votes : (v : Vote) → In v d.votes → IsVoteEntry v
-    pub short : length (snapshot_row W.setup.version snap) ≤ entry_most
+    pub short : length (snapshot_row W.setup.version snap) ≤ max_entry
 
   before-is : log_of W.rules W.spec me r.core.past ≡ cut_at W.rules log from
   before-is =
@@ -156,6 +157,6 @@ module _ {Msg : Type 0} (W : Frame Msg) (slots : HasSlots W.rules) (me : ℕ) (r
       epochs = subst (λ (t : List Value). AreEpochs W.setup.version W.rules.slots from t snap.epochs) (sym before-is)
           (epochs-are W slots me log d.past.epoch h.placed.reached p.values (d.past.epoch - from) from (let l = b.low in omega (arith, l)));
       waiting = all-in (λ q. IsReadAgain spell_request parse_request q) d.waiting (λ q i. request-read q (p.requests q i));
-      certs = all-in IsCertEntry snap.certs (λ x i. p.certs x (new-in r.mark.held d.certs _ x i));
+      certs = all-in IsCertEntry snap.certs (λ x i. p.certs x (new-in r.saved.held d.certs _ x i));
       votes = all-in IsVoteEntry snap.votes (λ v i. p.votes v (filter-in (is_open d.certs) d.votes v (in-turned v (filter (is_open d.certs) d.votes) i)));
     }

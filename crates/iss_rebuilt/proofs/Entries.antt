@@ -62,7 +62,7 @@ module _ {Msg : Type 0} (W : Frame Msg) (slots : HasSlots W.rules) (me : ℕ) (r
   log = log_of W.rules W.spec me r.core.past
 
   abbrev snap : Snapshot
-  snap = snapshot_of W me r.mark d
+  snap = snapshot_of W me r.saved d
 
   abbrev bytes : List ℕ
   bytes = spell_snapshot W.setup.version snap

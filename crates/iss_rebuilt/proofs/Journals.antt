@@ -4,6 +4,7 @@ use Rattle.std.specs.List.{filter}
 use Rattle.std.proofs.lemmas.Bool.{leb-true}
 use Rattle.iss_base.specs.Lists.{In}
 use Rattle.iss_base.proofs.Lists.{in_left}
+use Rattle.iss_journal.specs.Frames.{max_entry}
 use Rattle.iss_request.specs.declared.setups.Setup.{Setup}
 use Rattle.iss_sb.specs.Evidence.{Module}
 use Rattle.iss_rules.specs.declared.events.NodeEvent.{NodeEvent}
@@ -24,7 +25,7 @@ use Rattle.iss_snapshot.proofs.SnapshotGrammar.{spelled-row}
 use Rattle.iss_rebuilt.specs.Laws.{AreEntries, IsRecovered}
 use Rattle.iss_rebuilt.specs.Reading.{Rebuilt, core_of_step, reads_entry, rebuilt, recovered, replayed, replays, woken, woken_of}
 use Rattle.iss_rebuilt.specs.Storable.{IsBehind, IsReadBack}
-use Rattle.iss_rebuilt.specs.Stored.{Kept, Mark, Stored, entered_at, entry_most, is_snapshot, kept_as, mark_after, no_mark, retained, snapshot_of, stored, stored_by}
+use Rattle.iss_rebuilt.specs.Stored.{Kept, Saved, Stored, entered_at, is_snapshot, kept_as, saved_after, nothing_saved, retained, snapshot_of, stored, stored_by}
 use Rattle.iss_rebuilt.proofs.Ballots.{no-ballots}
 use Rattle.iss_rebuilt.proofs.Encodable.{IsWritable, snapshot-fits}
 use Rattle.iss_rebuilt.proofs.Entering.{quiet, step-rises}
@@ -97,7 +98,7 @@ module _ {Msg : Type 0} (W : Frame Msg) (P : IsGoodFrame W.setup W.formats W.rul
   -- what snapshots led to stays behind a core that goes on
   behind-goes : (r : Rebuilt Msg) (c d : Core Msg) → IsBehind W me r c → IsPlaced R M me c → IsPlaced R M me d → GoesOn c d → IsBehind W me r d
   behind-goes r c d b pc pd g =
-      let from : ℕ = r.mark.from in
+      let from : ℕ = r.saved.from in
       let a = log_of R M me c.past in
       let z = log_of R M me d.past in
       let far : start_of R a from ≤ length a = le_trans (start-mono R a from c.past.epoch b.low) pc.reached in
@@ -106,7 +107,7 @@ module _ {Msg : Type 0} (W : Frame Msg) (P : IsGoodFrame W.setup W.formats W.rul
       record {
         low = le;
         past = b.past ∙ past-same W a z from from far far_too (sym (cut-extends R a z from g.logs far)) (omega arith);
-        marks = b.marks;
+        holds = b.holds;
         certs = λ e x q. g.certs e x (b.certs e x q);
       }
 
@@ -170,11 +171,11 @@ module _ {Msg : Type 0} (W : Frame Msg) (P : IsGoodFrame W.setup W.formats W.rul
       resting : IsResting s F R M P me st.core
       front : Rebuilt Msg
       front_is : rebuilt W me (filter is_snapshot st.entries) ≡ Some front
-      front_mark : front.mark ≡ st.mark
+      front_saved : front.saved ≡ st.saved
       behind : IsBehind W me front st.core
       found : Rebuilt Msg
       found_is : recovered W event_in me st.entries ≡ Some found
-      found_mark : found.mark ≡ st.mark
+      found_saved : found.saved ≡ st.saved
       slims : IsSlim found.core st.core
 
     initial-past-fresh : (k l : ℕ) → 0 ≤ k → (initial_core {Msg = Msg}).past.evidence k l ≡ []
@@ -209,13 +210,13 @@ module _ {Msg : Type 0} (W : Frame Msg) (P : IsGoodFrame W.setup W.formats W.rul
         unfinished = regular-open s F R M P me initial_core initial-regular initial-past-fresh;
         early = no-early s F R M P me initial_core refl;
       };
-      front = record { core = initial_core; mark = no_mark };
+      front = record { core = initial_core; saved = nothing_saved };
       front_is = refl;
-      front_mark = refl;
-      behind = record { low = omega arith; past = refl; marks = λ e. refl; certs = λ e c q. absurd (cc) };
-      found = record { core = initial_core; mark = no_mark };
+      front_saved = refl;
+      behind = record { low = omega arith; past = refl; holds = λ e. refl; certs = λ e c q. absurd (cc) };
+      found = record { core = initial_core; saved = nothing_saved };
       found_is = refl;
-      found_mark = refl;
+      found_saved = refl;
       slims = record { placed = regular-placed initial_core initial-regular; other = regular-placed initial_core initial-regular; slims = refl };
     }
 
@@ -224,7 +225,7 @@ module _ {Msg : Type 0} (W : Frame Msg) (P : IsGoodFrame W.setup W.formats W.rul
       rests = step-rests s F R M P me low st.core h.resting event t q
 
       -- the event itself is kept
-      event-stored : IsStored (record { entries = spell event ∷ st.entries; mark = st.mark; core = t.core })
+      event-stored : IsStored (record { entries = spell event ∷ st.entries; saved = st.saved; core = t.core })
       event-stored =
           let too = takes-too h.found.core st.core event t h.slims q in
           let apart = fmt.apart event in
@@ -239,12 +240,12 @@ module _ {Msg : Type 0} (W : Frame Msg) (P : IsGoodFrame W.setup W.formats W.rul
             resting = rests;
             front = h.front;
             front_is = ap (λ (xs : List (List ℕ)). rebuilt W me xs) front ∙ h.front_is;
-            front_mark = h.front_mark;
+            front_saved = h.front_saved;
             behind = behind-goes h.front st.core t.core h.behind (regular-placed st.core h.resting.regular) (regular-placed t.core rests.regular)
                 (step-goes s F R M P me low st.core h.resting event t q);
-            found = record { core = too.turn.core; mark = h.found.mark };
-            found_is = first ∙ (second ∙ ap (λ (o : Stepped Msg). replayed h.found.mark (core_of_step o)) too.is);
-            found_mark = h.found_mark;
+            found = record { core = too.turn.core; saved = h.found.saved };
+            found_is = first ∙ (second ∙ ap (λ (o : Stepped Msg). replayed h.found.saved (core_of_step o)) too.is);
+            found_saved = h.found_saved;
             slims = too.slims;
           }
 
@@ -253,12 +254,12 @@ module _ {Msg : Type 0} (W : Frame Msg) (P : IsGoodFrame W.setup W.formats W.rul
         d = e.core
 
         abbrev snap : Snapshot
-        snap = snapshot_of W me h.front.mark d
+        snap = snapshot_of W me h.front.saved d
 
         behind_d : IsBehind W me h.front d
         behind_d = behind-goes h.front st.core d h.behind (regular-placed st.core h.resting.regular) e.storable.placed e.to
 
-        writable : length (snapshot_row s.version snap) ≤ entry_most → IsWritable W (slots-in s F R M P me) me h.front d e.storable behind_d
+        writable : length (snapshot_row s.version snap) ≤ max_entry → IsWritable W (slots-in s F R M P me) me h.front d e.storable behind_d
         writable short = record {
           onward = let a = h.behind.low in let b = e.onward in omega (arith, a, b);
           epoch = let a = e.on.epoch in omega (arith, a, last);
@@ -271,8 +272,8 @@ module _ {Msg : Type 0} (W : Frame Msg) (P : IsGoodFrame W.setup W.formats W.rul
         }
 
         -- the snapshot is kept in the event's place
-        snapshot-stored : length (snapshot_row s.version snap) ≤ entry_most →
-            IsStored (record { entries = spell_snapshot s.version snap ∷ st.entries; mark = mark_after h.front.mark snap; core = t.core })
+        snapshot-stored : length (snapshot_row s.version snap) ≤ max_entry →
+            IsStored (record { entries = spell_snapshot s.version snap ∷ st.entries; saved = saved_after h.front.saved snap; core = t.core })
         snapshot-stored short =
             let slots = slots-in s F R M P me in
             let fits = snapshot-fits W slots me h.front d e.storable behind_d (writable short) in
@@ -292,33 +293,33 @@ module _ {Msg : Type 0} (W : Frame Msg) (P : IsGoodFrame W.setup W.formats W.rul
               resting = rests;
               front = next;
               front_is = ap (λ (xs : List (List ℕ)). rebuilt W me xs) front ∙ front_read;
-              front_mark = read.0.mark;
+              front_saved = read.0.saved;
               behind = behind-goes next d t.core read.0.behind e.storable.placed (regular-placed t.core rests.regular) e.on;
               found = record next { core = (woken W me next.core).core };
               found_is = first ∙ ap (λ (o : Option (Rebuilt Msg)). woken_of W me o) front_read;
-              found_mark = read.0.mark;
+              found_saved = read.0.saved;
               slims = woken-slim st.core event t e next.core (record { placed = read.0.placed; other = e.storable.placed; slims = read.0.slims });
             }
 
         entered-stored : IsStored (stored_by W spell me st event (Taken t))
         entered-stored =
-            subst (λ (o : Option (Core Msg)). IsStored (put (kept_as W me st.mark (spell event) o))) (sym e.entered)
-            (subst (λ (m : Mark). IsStored (put (kept_as W me m (spell event) (Some d)))) h.front_mark
-            (go (nat_le (length (snapshot_row s.version snap)) entry_most) refl))
+            subst (λ (o : Option (Core Msg)). IsStored (put (kept_as W me st.saved (spell event) o))) (sym e.entered)
+            (subst (λ (m : Saved). IsStored (put (kept_as W me m (spell event) (Some d)))) h.front_saved
+            (go (nat_le (length (snapshot_row s.version snap)) max_entry) refl))
           where
             put : Kept → Stored Msg
-            put k = record { entries = k.entry ∷ st.entries; mark = k.mark; core = t.core }
+            put k = record { entries = k.entry ∷ st.entries; saved = k.saved; core = t.core }
 
-            go : (b : Bool) → nat_le (length (snapshot_row s.version snap)) entry_most ≡ b →
-                IsStored (put (cond b (record { entry = spell_snapshot s.version snap; mark = mark_after h.front.mark snap }) (record { entry = spell event; mark = h.front.mark })))
-            go true k = snapshot-stored (leb-true (length (snapshot_row s.version snap)) entry_most k)
-            go false k = subst (λ (m : Mark). IsStored (record { entries = spell event ∷ st.entries; mark = m; core = t.core })) (sym h.front_mark) event-stored
+            go : (b : Bool) → nat_le (length (snapshot_row s.version snap)) max_entry ≡ b →
+                IsStored (put (cond b (record { entry = spell_snapshot s.version snap; saved = saved_after h.front.saved snap }) (record { entry = spell event; saved = h.front.saved })))
+            go true k = snapshot-stored (leb-true (length (snapshot_row s.version snap)) max_entry k)
+            go false k = subst (λ (m : Saved). IsStored (record { entries = spell event ∷ st.entries; saved = m; core = t.core })) (sym h.front_saved) event-stored
 
       stayed-stored : entered_at W me st.core event ≡ None → IsStored (stored_by W spell me st event (Taken t))
-      stayed-stored none = subst (λ (o : Option (Core Msg)). IsStored (put (kept_as W me st.mark (spell event) o))) (sym none) event-stored
+      stayed-stored none = subst (λ (o : Option (Core Msg)). IsStored (put (kept_as W me st.saved (spell event) o))) (sym none) event-stored
         where
           put : Kept → Stored Msg
-          put k = record { entries = k.entry ∷ st.entries; mark = k.mark; core = t.core }
+          put k = record { entries = k.entry ∷ st.entries; saved = k.saved; core = t.core }
 
       pub taken-stored : t.core.past.epoch < 2 ^ 64 → IsStored (stored_by W spell me st event (Taken t))
       taken-stored last = elim (entering W P me low st.core h.resting event t q) [
@@ -351,7 +352,7 @@ module _ {Msg : Type 0} (W : Frame Msg) (P : IsGoodFrame W.setup W.formats W.rul
         record {
           found = h.found;
           is = retained-recovers W event_in me st.entries ∙ h.found_is;
-          mark = h.found_mark;
+          saved = h.found_saved;
           placed = h.slims.placed;
           slims = h.slims.slims;
         }

@@ -19,7 +19,7 @@ use Rattle.iss_model.proofs.AlikeSlims.{alike-slims}
 use Rattle.iss_snapshot.specs.declared.snapshots.Snapshot.{Snapshot}
 use Rattle.iss_rebuilt.specs.Storable.{IsBehind, IsReadBack, IsStorable, adopted_of, past_of}
 use Rattle.iss_rebuilt.specs.Reading.{Rebuilt, adopts_epochs, are_new, continued, early_each, keeps_packets, reads_snapshot, takes_requests, takes_votes}
-use Rattle.iss_rebuilt.specs.Stored.{epochs_of, mark_after, new_certs, packets_of, snapshot_of}
+use Rattle.iss_rebuilt.specs.Stored.{epochs_of, saved_after, new_certs, packets_of, snapshot_of}
 use Rattle.iss_rebuilt.proofs.Pieced.{adopting, log-is, pieces-none, reached}
 use Rattle.iss_rebuilt.proofs.Refilling.{are-new, certs-far, certs-held, certs-new, packets, votes, waiting_in, waits}
 
@@ -57,26 +57,26 @@ module _ {Msg : Type 0} (W : Frame Msg) (slots : HasSlots W.rules) (me : ℕ) (r
   n = d.past.epoch
 
   abbrev snap : Snapshot
-  snap = snapshot_of W me r.mark d
+  snap = snapshot_of W me r.saved d
 
   -- ---- certificates
 
   abbrev certs : List Cert
-  certs = reverse (new_certs r.mark.held d.certs (below (suc (suc n)))) ++ r.core.certs
+  certs = reverse (new_certs r.saved.held d.certs (below (suc (suc n)))) ++ r.core.certs
 
   certs-are : (e : ℕ) → cert_on certs e ≡ cert_on d.certs e
-  certs-are e = go (r.mark.held e) refl
+  certs-are e = go (r.saved.held e) refl
     where
-      go : (t : Bool) → r.mark.held e ≡ t → cert_on certs e ≡ cert_on d.certs e
+      go : (t : Bool) → r.saved.held e ≡ t → cert_on certs e ≡ cert_on d.certs e
       go true q =
-          let c = some-there (cert_on r.core.certs e) (sym (b.marks e) ∙ q) in
-          certs-held r.mark.held d.certs r.core.certs (suc (suc n)) e q ∙ (c.1 ∙ sym (b.certs e c.0 c.1))
+          let c = some-there (cert_on r.core.certs e) (sym (b.holds e) ∙ q) in
+          certs-held r.saved.held d.certs r.core.certs (suc (suc n)) e q ∙ (c.1 ∙ sym (b.certs e c.0 c.1))
       go false q =
-          let none : cert_on r.core.certs e ≡ None = none-there (cert_on r.core.certs e) (sym (b.marks e) ∙ q) in
+          let none : cert_on r.core.certs e ≡ None = none-there (cert_on r.core.certs e) (sym (b.holds e) ∙ q) in
           elim (leb_tells (suc e) (suc (suc n))) [
-            | inl t ↦ certs-new r.mark.held d.certs r.core.certs (suc (suc n)) e t.1 q none
+            | inl t ↦ certs-new r.saved.held d.certs r.core.certs (suc (suc n)) e t.1 q none
             | inr t ↦
-                certs-far r.mark.held d.certs r.core.certs (suc (suc n)) e (let le = t.1 in omega (arith, le))
+                certs-far r.saved.held d.certs r.core.certs (suc (suc n)) e (let le = t.1 in omega (arith, le))
                 ∙ (none ∙ sym (h.near e (let le = t.1 in omega (arith, le))))
           ]
 
@@ -91,11 +91,11 @@ module _ {Msg : Type 0} (W : Frame Msg) (slots : HasSlots W.rules) (me : ℕ) (r
   abbrev begun : Core Msg
   begun = record { past = past; waiting = []; flight = []; early = []; votes = []; certs = certs; leaf = d.leaf }
 
-  past-is : adopts_epochs r.core.past (epochs_of W log r.mark.from (n - r.mark.from)) ≡ past
+  past-is : adopts_epochs r.core.past (epochs_of W log r.saved.from (n - r.saved.from)) ≡ past
   past-is =
-      ap (λ (p : Past Msg). adopts_epochs p (epochs_of W log r.mark.from (n - r.mark.from))) b.past
-      ∙ (adopting W slots me log r.mark.from (n - r.mark.from)
-      ∙ ap (λ (k : ℕ). past_of W log k) (let low = b.low in let q : r.mark.from + (n - r.mark.from) ≡ n = omega (arith, low) in q))
+      ap (λ (p : Past Msg). adopts_epochs p (epochs_of W log r.saved.from (n - r.saved.from))) b.past
+      ∙ (adopting W slots me log r.saved.from (n - r.saved.from)
+      ∙ ap (λ (k : ℕ). past_of W log k) (let low = b.low in let q : r.saved.from + (n - r.saved.from) ≡ n = omega (arith, low) in q))
 
   resumed-is : continued r snap ≡ begun
   resumed-is = ap (λ (p : Past Msg). record { past = p; waiting = []; flight = []; early = []; votes = []; certs = certs; leaf = d.leaf }) past-is
@@ -124,26 +124,26 @@ module _ {Msg : Type 0} (W : Frame Msg) (slots : HasSlots W.rules) (me : ℕ) (r
   made = record { past = past; waiting = d.waiting; flight = []; early = d.early; votes = votes_open; certs = certs; leaf = d.leaf }
 
   abbrev next : Rebuilt Msg
-  next = record { core = made; mark = mark_after r.mark snap }
+  next = record { core = made; saved = saved_after r.saved snap }
 
   core-read : takes_votes W (reverse votes_open) (takes_requests W me d.waiting (Some (continued r snap))) ≡ Some filled
   core-read =
       ap (λ (c : Core Msg). takes_votes W (reverse votes_open) (takes_requests W me d.waiting (Some c))) resumed-is
       ∙ (ap (λ (o : Option (Core Msg)). takes_votes W (reverse votes_open) o) waiting-is ∙ votes-are)
 
-  tests : (eqb snap.from.0 r.mark.from && (nat_le snap.leaf (2 ^ W.setup.keys) && are_new W r.mark.held 0 snap.certs)) ≡ true
+  tests : (eqb snap.from.0 r.saved.from && (nat_le snap.leaf (2 ^ W.setup.keys) && are_new W r.saved.held 0 snap.certs)) ≡ true
   tests =
-      both (eqb snap.from.0 r.mark.from) _ (eqb-same r.mark.from)
+      both (eqb snap.from.0 r.saved.from) _ (eqb-same r.saved.from)
       (both (nat_le snap.leaf (2 ^ W.setup.keys)) _ (le-leb d.leaf (2 ^ W.setup.keys) h.leaves)
-      (are-new W r.mark.held d.certs h.certified (suc (suc n))).0)
+      (are-new W r.saved.held d.certs h.certified (suc (suc n))).0)
 
   abbrev body : Option (Rebuilt Msg)
-  body = keeps_packets (mark_after r.mark snap) (early_each W n (packets_of W n d.early)) (takes_votes W (reverse votes_open) (takes_requests W me d.waiting (Some (continued r snap))))
+  body = keeps_packets (saved_after r.saved snap) (early_each W n (packets_of W n d.early)) (takes_votes W (reverse votes_open) (takes_requests W me d.waiting (Some (continued r snap))))
 
   read-is : reads_snapshot W me r snap ≡ Some next
   read-is =
       ap (λ (t : Bool). cond t body None) tests
-      ∙ (ap₂ (λ (x : Option (List (Early Msg))) (o : Option (Core Msg)). keeps_packets (mark_after r.mark snap) x o) (packets W me n d.early h.read) core-read
+      ∙ (ap₂ (λ (x : Option (List (Early Msg))) (o : Option (Core Msg)). keeps_packets (saved_after r.saved snap) x o) (packets W me n d.early h.read) core-read
       ∙ ap (λ (t : Bool). cond t (Some next) None) (le-leb (length d.early) early_most h.few))
 
   -- ---- it has the slim part of the core that was entered
@@ -178,22 +178,22 @@ module _ {Msg : Type 0} (W : Frame Msg) (slots : HasSlots W.rules) (me : ℕ) (r
   })
 
   -- the certificates that the snapshot itself holds
-  alone : (e : ℕ) → r.mark.held e ≡ false → cert_on (reverse snap.certs) e ≡ cert_on d.certs e
+  alone : (e : ℕ) → r.saved.held e ≡ false → cert_on (reverse snap.certs) e ≡ cert_on d.certs e
   alone e q =
       ap (λ (t : List Cert). cert_on t e) (sym (append-nil (reverse snap.certs)))
       ∙ elim (leb_tells (suc e) (suc (suc n))) [
-        | inl t ↦ certs-new r.mark.held d.certs [] (suc (suc n)) e t.1 q refl
+        | inl t ↦ certs-new r.saved.held d.certs [] (suc (suc n)) e t.1 q refl
         | inr t ↦
-            certs-far r.mark.held d.certs [] (suc (suc n)) e (let le = t.1 in omega (arith, le))
+            certs-far r.saved.held d.certs [] (suc (suc n)) e (let le = t.1 in omega (arith, le))
             ∙ sym (h.near e (let le = t.1 in omega (arith, le)))
       ]
 
-  marks-are : (e : ℕ) → (r.mark.held e || is_some (cert_on (reverse snap.certs) e)) ≡ is_some (cert_on certs e)
-  marks-are e = go (r.mark.held e) refl
+  holds-are : (e : ℕ) → (r.saved.held e || is_some (cert_on (reverse snap.certs) e)) ≡ is_some (cert_on certs e)
+  holds-are e = go (r.saved.held e) refl
     where
-      go : (t : Bool) → r.mark.held e ≡ t → (t || is_some (cert_on (reverse snap.certs) e)) ≡ is_some (cert_on certs e)
+      go : (t : Bool) → r.saved.held e ≡ t → (t || is_some (cert_on (reverse snap.certs) e)) ≡ is_some (cert_on certs e)
       go true q =
-          let c = some-there (cert_on r.core.certs e) (sym (b.marks e) ∙ q) in
+          let c = some-there (cert_on r.core.certs e) (sym (b.holds e) ∙ q) in
           sym (ap (λ (o : Option Cert). is_some o) (certs-are e ∙ b.certs e c.0 c.1))
       go false q = ap (λ (o : Option Cert). is_some o) (alone e q ∙ sym (certs-are e))
 
@@ -201,13 +201,13 @@ module _ {Msg : Type 0} (W : Frame Msg) (slots : HasSlots W.rules) (me : ℕ) (r
   snapshot-read = record {
     next = next;
     is = read-is;
-    mark = refl;
+    saved = refl;
     slims = slims-are;
     placed = made-placed;
     behind = record {
       low = omega arith;
       past = refl;
-      marks = marks-are;
+      holds = holds-are;
       certs = λ e c q. sym (certs-are e) ∙ q;
     };
   }

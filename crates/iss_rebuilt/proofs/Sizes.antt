@@ -9,13 +9,14 @@ use Rattle.iss_checkpoint.specs.Bodies.{spell_vote}
 use Rattle.iss_checkpoint.specs.Certificates.{spell_cert}
 use Rattle.iss_checkpoint.specs.declared.votes.Cert.{Cert}
 use Rattle.iss_checkpoint.specs.declared.votes.Vote.{Vote}
+use Rattle.iss_journal.specs.Frames.{max_entry}
 use Rattle.iss_request.specs.Formats.{HasSpelling, request_bytes, spell_request}
 use Rattle.iss_request.specs.declared.requests.Request.{Request}
 use Rattle.iss_request.proofs.ParserLemmas.{wide32, wide64}
 use Rattle.iss_snapshot.specs.declared.snapshots.Snapshot.{Snapshot}
 use Rattle.iss_snapshot.specs.Snapshots.{body_bytes, cert_entry, counted, fits, head_bytes, is_short, packet_entry, snapshot_row, spell_values, vote_entry}
 use Rattle.iss_snapshot.proofs.SnapshotGrammar.{Fitting, is-fitting}
-use Rattle.iss_rebuilt.specs.Stored.{entry_most}
+
 
 -- ---- parts of a list of bytes
 
@@ -57,7 +58,7 @@ packet-long x = right-shorter (to_be_bytes w32 (length x)) x
 
 -- ---- a snapshot
 
-module _ (version : ℕ) (s : Snapshot) (short : length (snapshot_row version s) ≤ entry_most) where
+module _ (version : ℕ) (s : Snapshot) (short : length (snapshot_row version s) ≤ max_entry) where
   abbrev requests : List ℕ
   requests = counted w32 spell_request s.waiting
 
@@ -70,35 +71,35 @@ module _ (version : ℕ) (s : Snapshot) (short : length (snapshot_row version s)
   abbrev packets : List ℕ
   packets = counted w16 packet_entry s.early
 
-  body-short : length (body_bytes s) ≤ entry_most
+  body-short : length (body_bytes s) ≤ max_entry
   body-short =
       le_trans (right-shorter (flat_map (spell_values version) s.epochs) (body_bytes s))
       (le_trans (right-shorter (head_bytes s) (flat_map (spell_values version) s.epochs ++ body_bytes s)) short)
 
-  rest-short : length (requests ++ (certs ++ (votes ++ packets))) ≤ entry_most
+  rest-short : length (requests ++ (certs ++ (votes ++ packets))) ≤ max_entry
   rest-short = le_trans (right-shorter (to_be_bytes w32 s.leaf) (requests ++ (certs ++ (votes ++ packets)))) body-short
 
-  requests-short : length (flat_map spell_request s.waiting) ≤ entry_most
+  requests-short : length (flat_map spell_request s.waiting) ≤ max_entry
   requests-short =
       le_trans (right-shorter (to_be_bytes w32 (length s.waiting)) (flat_map spell_request s.waiting)) (le_trans (left-shorter requests (certs ++ (votes ++ packets))) rest-short)
 
-  behind-requests : length (certs ++ (votes ++ packets)) ≤ entry_most
+  behind-requests : length (certs ++ (votes ++ packets)) ≤ max_entry
   behind-requests = le_trans (right-shorter requests (certs ++ (votes ++ packets))) rest-short
 
-  certs-short : length (flat_map cert_entry s.certs) ≤ entry_most
+  certs-short : length (flat_map cert_entry s.certs) ≤ max_entry
   certs-short = le_trans (right-shorter (to_be_bytes w32 (length s.certs)) (flat_map cert_entry s.certs)) (le_trans (left-shorter certs (votes ++ packets)) behind-requests)
 
-  behind-certs : length (votes ++ packets) ≤ entry_most
+  behind-certs : length (votes ++ packets) ≤ max_entry
   behind-certs = le_trans (right-shorter certs (votes ++ packets)) behind-requests
 
-  votes-short : length (flat_map vote_entry s.votes) ≤ entry_most
+  votes-short : length (flat_map vote_entry s.votes) ≤ max_entry
   votes-short = le_trans (right-shorter (to_be_bytes w32 (length s.votes)) (flat_map vote_entry s.votes)) (le_trans (left-shorter votes packets) behind-certs)
 
-  packets-short : length (flat_map packet_entry s.early) ≤ entry_most
+  packets-short : length (flat_map packet_entry s.early) ≤ max_entry
   packets-short =
       le_trans (right-shorter (to_be_bytes w16 (length s.early)) (flat_map packet_entry s.early)) (le_trans (right-shorter votes packets) behind-certs)
 
-  all-short : (xs : List (List ℕ)) → ((x : List ℕ) → In x xs → length x ≤ entry_most) → list_all is_short xs ≡ true
+  all-short : (xs : List (List ℕ)) → ((x : List ℕ) → In x xs → length x ≤ max_entry) → list_all is_short xs ≡ true
   all-short [] h = refl
   all-short (x ∷ xs) h =
       let n = h x (inl refl) in

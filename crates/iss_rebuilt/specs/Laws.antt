@@ -19,9 +19,9 @@ abbrev pub SnapshotsRebuild : {Msg : Type 0} → Setup → Module Msg → Type 0
 SnapshotsRebuild {Msg} s M =
     let W = frame_of s M in
     (me : ℕ) (r : Rebuilt Msg) (d : Core Msg) → IsStorable W me d → IsBehind W me r d →
-    IsEncodable s.version W.rules.slots (log_of W.rules M me r.core.past) (snapshot_of W me r.mark d) →
+    IsEncodable s.version W.rules.slots (log_of W.rules M me r.core.past) (snapshot_of W me r.saved d) →
     (read : IsReadBack W me r d)
-    × (reads_entry W me (Some r) (spell_snapshot s.version (snapshot_of W me r.mark d)) ≡ Some read.next)
+    × (reads_entry W me (Some r) (spell_snapshot s.version (snapshot_of W me r.saved d)) ≡ Some read.next)
 
 -- How events are encoded as entries of a journal: each entry decodes to its event, and none is a snapshot. Only events
 -- that name nodes of the cluster have to decode.
@@ -30,13 +30,13 @@ pub record AreEntries (spell : NodeEvent → List ℕ) (event_in : List ℕ → 
   pub again : (event : NodeEvent) → IsNamed event → event_in (spell event) ≡ Some event
   pub apart : (event : NodeEvent) → is_snapshot (spell event) ≡ false
 
--- Entries lead to a core with the slim part of the one that wrote them, and to its mark. So each step is the same from
--- there on, and so is each later entry.
+-- Entries lead to a core with the slim part of the one that wrote them, and tell what snapshots saved. So each step is
+-- the same from there on, and so is each later entry.
 pub record IsRecovered {Msg : Type 0} (W : Frame Msg) (event_in : List ℕ → Option NodeEvent) (me : ℕ)
     (entries : List (List ℕ)) (st : Stored Msg) : Type 0 where
   pub found : Rebuilt Msg
   pub is : recovered W event_in me entries ≡ Some found
-  pub mark : found.mark ≡ st.mark
+  pub saved : found.saved ≡ st.saved
   pub placed : IsPlaced W.rules W.spec me found.core
   pub slims : slim W.rules W.spec me found.core ≡ slim W.rules W.spec me st.core
 

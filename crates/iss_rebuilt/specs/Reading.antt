@@ -16,12 +16,12 @@ use Rattle.iss_model.specs.Frames.{Frame, step_in}
 use Rattle.iss_model.specs.Node.{Core, Dropped, Early, Stepped, Taken, Turn, early_most, initial_core, takes_each, takes_request, takes_vote}
 use Rattle.iss_snapshot.specs.Snapshots.{parse_snapshot}
 use Rattle.iss_snapshot.specs.declared.snapshots.Snapshot.{Snapshot}
-use Rattle.iss_rebuilt.specs.Stored.{Mark, is_snapshot, mark_after, no_mark}
+use Rattle.iss_rebuilt.specs.Stored.{Saved, is_snapshot, nothing_saved, saved_after}
 
--- a core, and the mark of the snapshots that led to it
+-- a core, and what the snapshots that led to it saved
 pub record Rebuilt (Msg : Type 0) : Type 0 where
   pub core : Core Msg
-  pub mark : Mark
+  pub saved : Saved
 
 -- ---- a snapshot, part by part
 
@@ -74,11 +74,11 @@ abbrev pub early_each : {Msg : Type 0} → Frame Msg → ℕ → List (List ℕ)
 early_each W e [] = Some []
 early_each W e (b ∷ bs) = with_early (early_in e (W.formats.unwrap b)) (early_each W e bs)
 
-abbrev pub keeps_packets : {Msg : Type 0} → Mark → Option (List (Early Msg)) → Option (Core Msg) → Option (Rebuilt Msg)
-keeps_packets mark None c = None
-keeps_packets mark (Some xs) None = None
-keeps_packets mark (Some xs) (Some c) =
-    cond (nat_le (length xs) early_most) (Some (record { core = record c { early = xs }; mark = mark })) None
+abbrev pub keeps_packets : {Msg : Type 0} → Saved → Option (List (Early Msg)) → Option (Core Msg) → Option (Rebuilt Msg)
+keeps_packets saved None c = None
+keeps_packets saved (Some xs) None = None
+keeps_packets saved (Some xs) (Some c) =
+    cond (nat_le (length xs) early_most) (Some (record { core = record c { early = xs }; saved = saved })) None
 
 -- The log and the certificates are those of all snapshots; requests, votes and early packets are of the newest alone.
 abbrev pub continued : {Msg : Type 0} → Rebuilt Msg → Snapshot → Core Msg
@@ -97,8 +97,8 @@ continued r s = record {
 -- A snapshot goes on where the one before it ended, and its next leaf is within the key.
 abbrev pub reads_snapshot : {Msg : Type 0} → Frame Msg → ℕ → Rebuilt Msg → Snapshot → Option (Rebuilt Msg)
 reads_snapshot W me r s =
-    cond ((s.from.0 == r.mark.from) && (nat_le s.leaf (2 ^ W.setup.keys) && are_new W r.mark.held 0 s.certs))
-    (keeps_packets (mark_after r.mark s) (early_each W s.to.0 s.early)
+    cond ((s.from.0 == r.saved.from) && (nat_le s.leaf (2 ^ W.setup.keys) && are_new W r.saved.held 0 s.certs))
+    (keeps_packets (saved_after r.saved s) (early_each W s.to.0 s.early)
     (takes_votes W s.votes (takes_requests W me s.waiting (Some (continued r s)))))
     None
 
@@ -114,7 +114,7 @@ reads_entry W me (Some r) bytes =
 
 -- snapshot entries, newest first
 abbrev pub rebuilt : {Msg : Type 0} → Frame Msg → ℕ → List (List ℕ) → Option (Rebuilt Msg)
-rebuilt W me [] = Some (record { core = initial_core; mark = no_mark })
+rebuilt W me [] = Some (record { core = initial_core; saved = nothing_saved })
 rebuilt W me (x ∷ xs) = reads_entry W me (rebuilt W me xs) x
 
 -- ---- a journal
@@ -128,20 +128,20 @@ woken_of W me None = None
 woken_of W me (Some r) = Some (record r { core = (woken W me r.core).core })
 
 -- an event of a journal notes nothing for the next snapshot
-abbrev pub replayed : {Msg : Type 0} → Mark → Option (Core Msg) → Option (Rebuilt Msg)
-replayed mark None = None
-replayed mark (Some c) = Some (record { core = c; mark = mark })
+abbrev pub replayed : {Msg : Type 0} → Saved → Option (Core Msg) → Option (Rebuilt Msg)
+replayed saved None = None
+replayed saved (Some c) = Some (record { core = c; saved = saved })
 
 abbrev pub replays : {Msg : Type 0} → Frame Msg → ℕ → Option NodeEvent → Option (Rebuilt Msg) → Option (Rebuilt Msg)
 replays W me None r = None
 replays W me (Some event) None = None
-replays W me (Some event) (Some r) = replayed r.mark (core_of_step (step_in W me r.core event))
+replays W me (Some event) (Some r) = replayed r.saved (core_of_step (step_in W me r.core event))
 
 -- The entries of a journal, newest first: the snapshots, and the events after the last of them. What stands between
 -- two snapshots is never read. `event_in` decodes an entry as an event.
 abbrev pub recovered : {Msg : Type 0} → Frame Msg → (List ℕ → Option NodeEvent) → ℕ → List (List ℕ) →
     Option (Rebuilt Msg)
-recovered W event_in me [] = Some (record { core = initial_core; mark = no_mark })
+recovered W event_in me [] = Some (record { core = initial_core; saved = nothing_saved })
 recovered W event_in me (x ∷ xs) =
     cond (is_snapshot x)
     (woken_of W me (reads_entry W me (rebuilt W me (filter is_snapshot xs)) x))

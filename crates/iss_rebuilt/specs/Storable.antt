@@ -14,7 +14,7 @@ use Rattle.iss_model.specs.Frames.{Frame}
 use Rattle.iss_model.specs.Node.{Core, Early, early_most, values_of}
 use Rattle.iss_model.specs.Slims.{IsPlaced, is_open, slim}
 use Rattle.iss_rebuilt.specs.Reading.{Rebuilt, reads_snapshot}
-use Rattle.iss_rebuilt.specs.Stored.{early_parcel, mark_after, snapshot_of}
+use Rattle.iss_rebuilt.specs.Stored.{early_parcel, saved_after, snapshot_of}
 
 -- Votes, newest first, each of which is counted over the older ones and completes no certificate.
 abbrev pub AreCounted : Rules → ℕ → List Vote → Type 0
@@ -31,12 +31,12 @@ adopted_of W log (suc n) = record { epoch = n; values = values_of W.rules log n 
 abbrev pub past_of : {Msg : Type 0} → Frame Msg → List Value → ℕ → Past Msg
 past_of W log n = record { epoch = n; evidence = λ e l. []; adopted = adopted_of W log n }
 
--- What snapshots led to, seen from a later core of the replica that wrote them: the front of its log, and those of its
--- certificates that the mark tells.
+-- What snapshots led to, seen from a later core of the replica that wrote them: the front of its log, and the
+-- certificates that they saved.
 pub record IsBehind {Msg : Type 0} (W : Frame Msg) (me : ℕ) (r : Rebuilt Msg) (d : Core Msg) : Type 0 where
-  pub low : r.mark.from ≤ d.past.epoch
-  pub past : r.core.past ≡ past_of W (log_of W.rules W.spec me d.past) r.mark.from
-  pub marks : (e : ℕ) → r.mark.held e ≡ is_some (cert_on r.core.certs e)
+  pub low : r.saved.from ≤ d.past.epoch
+  pub past : r.core.past ≡ past_of W (log_of W.rules W.spec me d.past) r.saved.from
+  pub holds : (e : ℕ) → r.saved.held e ≡ is_some (cert_on r.core.certs e)
   pub certs : (e : ℕ) (c : Cert) → cert_on r.core.certs e ≡ Some c → cert_on d.certs e ≡ Some c
 
 -- A core that has just entered its epoch, with the messages that it takes next. A snapshot of it is read again.
@@ -62,11 +62,11 @@ pub record IsStorable {Msg : Type 0} (W : Frame Msg) (me : ℕ) (d : Core Msg) :
       W.formats.unwrap (W.formats.wrap (early_parcel d.past.epoch x)) ≡ Some (early_parcel d.past.epoch x)
   pub leaves : d.leaf ≤ 2 ^ W.setup.keys
 
--- What is read of the snapshot of a core: the mark behind it, and a core with the slim part of that one.
+-- What is read of the snapshot of a core: what is saved with it, and a core with the slim part of that one.
 pub record IsReadBack {Msg : Type 0} (W : Frame Msg) (me : ℕ) (r : Rebuilt Msg) (d : Core Msg) : Type 0 where
   pub next : Rebuilt Msg
-  pub is : reads_snapshot W me r (snapshot_of W me r.mark d) ≡ Some next
-  pub mark : next.mark ≡ mark_after r.mark (snapshot_of W me r.mark d)
+  pub is : reads_snapshot W me r (snapshot_of W me r.saved d) ≡ Some next
+  pub saved : next.saved ≡ saved_after r.saved (snapshot_of W me r.saved d)
   pub slims : slim W.rules W.spec me next.core ≡ slim W.rules W.spec me d
   pub placed : IsPlaced W.rules W.spec me next.core
   pub behind : IsBehind W me next d

@@ -5,6 +5,7 @@ use Rattle.std.specs.Prelude.{ℕ, zero, suc, ◌-◌, ◌==◌, ◌||◌, nat_l
 use Rattle.std.specs.List.{filter}
 use Rattle.iss_base.specs.Lists.{below}
 use Rattle.iss_checkpoint.specs.declared.votes.Cert.{Cert}
+use Rattle.iss_journal.specs.Frames.{max_entry}
 use Rattle.iss_request.specs.declared.requests.Value.{Value}
 use Rattle.iss_rules.specs.declared.events.NodeEvent.{NodeEvent}
 use Rattle.iss_rules.specs.Parcels.{OfModule, Parcel}
@@ -17,12 +18,12 @@ use Rattle.iss_snapshot.specs.Snapshots.{snapshot_row, spell_snapshot}
 use Rattle.iss_snapshot.specs.declared.snapshots.Snapshot.{Snapshot}
 
 -- Where the last snapshot ended, and of which epochs snapshots hold the certificates. It is no part of a core.
-pub record Mark : Type 0 where
+pub record Saved : Type 0 where
   pub from : ℕ
   pub held : ℕ → Bool
 
-abbrev pub no_mark : Mark
-no_mark = record { from = 0; held = λ e. false }
+abbrev pub nothing_saved : Saved
+nothing_saved = record { from = 0; held = λ e. false }
 
 -- ---- a core that has entered an epoch, as a snapshot
 
@@ -49,24 +50,24 @@ packets_of W e [] = []
 packets_of W e (x ∷ xs) = W.formats.wrap (early_parcel e x) ∷ packets_of W e xs
 
 -- Votes, and so certificates, are of epochs at most one ahead. Nothing is in flight.
-abbrev pub snapshot_of : {Msg : Type 0} → Frame Msg → ℕ → Mark → Core Msg → Snapshot
-snapshot_of W me mark d =
+abbrev pub snapshot_of : {Msg : Type 0} → Frame Msg → ℕ → Saved → Core Msg → Snapshot
+snapshot_of W me saved d =
     let to = d.past.epoch in
     record {
-      from = record { 0 = mark.from };
+      from = record { 0 = saved.from };
       to = record { 0 = to };
-      epochs = epochs_of W (log_of W.rules W.spec me d.past) mark.from (to - mark.from);
+      epochs = epochs_of W (log_of W.rules W.spec me d.past) saved.from (to - saved.from);
       leaf = d.leaf;
       waiting = d.waiting;
-      certs = new_certs mark.held d.certs (below (suc (suc to)));
+      certs = new_certs saved.held d.certs (below (suc (suc to)));
       votes = reverse (filter (is_open d.certs) d.votes);
       early = packets_of W to d.early;
     }
 
 -- By what the snapshot holds, and not by what the core does: of votes that are read again may come a certificate that
 -- no snapshot holds.
-abbrev pub mark_after : Mark → Snapshot → Mark
-mark_after mark s = record { from = s.to.0; held = λ e. mark.held e || is_some (cert_on (reverse s.certs) e) }
+abbrev pub saved_after : Saved → Snapshot → Saved
+saved_after saved s = record { from = s.to.0; held = λ e. saved.held e || is_some (cert_on (reverse s.certs) e) }
 
 -- ---- the core that an event lets enter an epoch
 
@@ -88,40 +89,36 @@ entered_at W me c event = entered_of c (step_in W me c event) (step_in W me (rec
 
 -- ---- what is kept of an event
 
--- the longest entry of a journal
-abbrev pub entry_most : ℕ
-entry_most = 200000100
-
--- an entry, and the mark after it
+-- an entry, and what is saved with it
 pub record Kept : Type 0 where
   pub entry : List ℕ
-  pub mark : Mark
+  pub saved : Saved
 
 -- the snapshot where an epoch was entered, unless it is too long; else the event
-abbrev pub kept_as : {Msg : Type 0} → Frame Msg → ℕ → Mark → List ℕ → Option (Core Msg) → Kept
-kept_as W me mark event None = record { entry = event; mark = mark }
-kept_as W me mark event (Some d) =
-    let s = snapshot_of W me mark d in
-    cond (nat_le (length (snapshot_row W.setup.version s)) entry_most)
-    (record { entry = spell_snapshot W.setup.version s; mark = mark_after mark s })
-    (record { entry = event; mark = mark })
+abbrev pub kept_as : {Msg : Type 0} → Frame Msg → ℕ → Saved → List ℕ → Option (Core Msg) → Kept
+kept_as W me saved event None = record { entry = event; saved = saved }
+kept_as W me saved event (Some d) =
+    let s = snapshot_of W me saved d in
+    cond (nat_le (length (snapshot_row W.setup.version s)) max_entry)
+    (record { entry = spell_snapshot W.setup.version s; saved = saved_after saved s })
+    (record { entry = event; saved = saved })
 
--- entries, newest first, with the mark after them and the core that wrote them
+-- entries, newest first, with what snapshots saved and the core that wrote them
 pub record Stored (Msg : Type 0) : Type 0 where
   pub entries : List (List ℕ)
-  pub mark : Mark
+  pub saved : Saved
   pub core : Core Msg
 
 abbrev pub stored_by : {Msg : Type 0} → Frame Msg → (NodeEvent → List ℕ) → ℕ → Stored Msg → NodeEvent → Stepped Msg →
     Stored Msg
 stored_by W spell me s event (Dropped why) = s
 stored_by W spell me s event (Taken t) =
-    let k = kept_as W me s.mark (spell event) (entered_at W me s.core event) in
-    record { entries = k.entry ∷ s.entries; mark = k.mark; core = t.core }
+    let k = kept_as W me s.saved (spell event) (entered_at W me s.core event) in
+    record { entries = k.entry ∷ s.entries; saved = k.saved; core = t.core }
 
 -- What is stored of events, newest first, with the core that they lead to. `spell` encodes an event as an entry.
 abbrev pub stored : {Msg : Type 0} → Frame Msg → (NodeEvent → List ℕ) → ℕ → List NodeEvent → Stored Msg
-stored W spell me [] = record { entries = []; mark = no_mark; core = initial_core }
+stored W spell me [] = record { entries = []; saved = nothing_saved; core = initial_core }
 stored W spell me (x ∷ xs) =
     let s = stored W spell me xs in
     stored_by W spell me s x (step_in W me s.core x)
