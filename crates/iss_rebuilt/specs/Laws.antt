@@ -25,8 +25,8 @@ SnapshotsRebuild {Msg} s M =
 
 -- How events are encoded as entries of a journal: each entry decodes to its event, and none is a snapshot. Only events
 -- that name nodes of the cluster have to decode.
-pub record AreEntries (spell : NodeEvent → List ℕ) (event_in : List ℕ → Option NodeEvent) (IsNamed : NodeEvent → Type 0) :
-    Type 0 where
+pub record AreEntries (spell : NodeEvent → List ℕ) (event_in : List ℕ → Option NodeEvent)
+    (IsNamed : NodeEvent → Type 0) : Type 0 where
   pub again : (event : NodeEvent) → IsNamed event → event_in (spell event) ≡ Some event
   pub apart : (event : NodeEvent) → is_snapshot (spell event) ≡ false
 
@@ -48,4 +48,5 @@ JournalsRecover {Msg} s M =
     (me : ℕ) → me < s.n → (spell : NodeEvent → List ℕ) (event_in : List ℕ → Option NodeEvent)
     (IsNamed : NodeEvent → Type 0) → AreEntries spell event_in IsNamed → (events : List NodeEvent) →
     ((event : NodeEvent) → In event events → IsNamed event) →
-    let st = stored W spell me events in st.core.past.epoch < 2 ^ 64 → IsRecovered W event_in me (retained st.entries) st
+    let st = stored W spell me events in st.core.past.epoch < 2 ^ 64 →
+    IsRecovered W event_in me (retained st.entries) st

@@ -2,9 +2,9 @@
 -- journal in the place of all events before it. It continues the snapshot before: it has the values of the epochs since
 -- that one, and the certificates that no earlier one has. Nothing is in flight at that moment.
 --
---   snapshot      kind (1 byte: 5), from (8), to (8, above from), the values of the epochs from `from` on and below `to`
---                 in the order of their slots, next leaf (4), requests, certificates, votes, early packets; each of
---                 these four after its number (4, of packets 2)
+--   snapshot      kind (1 byte: 5), from (8), to (8, above from), the values of the epochs from `from` on and below
+--                 `to` in the order of their slots, next leaf (4), requests, certificates, votes, early packets; each
+--                 of these four after its number (4, of packets 2)
 --   certificate   epoch (8), then as at the end of a piece
 --   vote          epoch (8), node (1), then as in the body of its packet
 --   early packet  length (4), bytes

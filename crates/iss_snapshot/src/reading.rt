@@ -8,15 +8,12 @@ ghost use Rattle.iss_request.specs.Parsing.{all_of, times};
 ghost use Rattle.iss_snapshot.specs.Snapshots.{parse_body, parse_cert_entry, parse_counted, parse_kind, parse_packet_entry};
 ghost use Rattle.iss_snapshot.specs.Snapshots.{equal_epochs, parse_snapshot, parse_span, parse_to, parse_vote_entry};
 
-use crate::snapshots::{Snapshot, Span};
+use crate::snapshots::{KIND, Snapshot, Span};
 use iss_checkpoint::{Cert, Vote, read_cert, read_vote};
 use iss_request::{
     Bytes, DecodeError, Epoch, Fields, NodeId, Request, Seq, Value, read_request, read_value,
 };
 use std::alloc::Global;
-
-// The kind of a snapshot among a journal's entries.
-const KIND: u8 = 5;
 
 fn read_kind(f: &mut Fields) -> Result<u8, DecodeError>
     ensures ok { IfOk result (λ k. IsRead parse_kind f.old f.new k) }
@@ -258,8 +255,8 @@ fn read_snapshot(alloc: Global, slots: u64, f: &mut Fields) -> Result<Snapshot, 
     Ok(snapshot)
 }
 
-/// Decodes a snapshot, which must take up all of the bytes. Each epoch has `slots` slots. `BadField` gives the offset of
-/// the first field that does not fit, or of the first byte after the snapshot.
+/// Decodes a snapshot, which must take up all of the bytes. Each epoch has `slots` slots. `BadField` gives the offset
+/// of the first field that does not fit, or of the first byte after the snapshot.
 // rule: Formats: A snapshot has one encoding a version: epochs, leaf, requests, certificates, votes, packets
 pub fn decode_snapshot(
     alloc: Global,

@@ -2,6 +2,9 @@
 use iss_checkpoint::{Cert, Vote};
 use iss_request::{Bytes, Epoch, Request, Seq, Value};
 
+/// The kind of a snapshot among a journal's entries.
+pub const KIND: u8 = 5;
+
 /// The epochs from `from` to before `to`.
 #[derive(Clone, Copy, Debug, PartialEq, Eq)]
 pub struct Span {

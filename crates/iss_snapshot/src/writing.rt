@@ -7,7 +7,7 @@ ghost use Rattle.iss_request.specs.Formats.{spell_request};
 ghost use Rattle.iss_snapshot.specs.Snapshots.{body_bytes, cert_entry, counted, fits, head_bytes, is_short, packet_entry};
 ghost use Rattle.iss_snapshot.specs.Snapshots.{snapshot_row, spell_snapshot, spell_values, vote_entry};
 
-use crate::snapshots::Snapshot;
+use crate::snapshots::{KIND, Snapshot};
 use iss_checkpoint::{Cert, Vote, write_cert, write_vote};
 use iss_request::{Bytes, NoMemory, Request, Seq, Value, Writer, write_request, write_value};
 use std::alloc::Global;
@@ -153,12 +153,18 @@ fn put_packets(packets: &[Bytes], out: &mut Writer) -> Result<(), NoMemory>
     put_each(packets, out)
 }
 
+fn put_span(s: &Snapshot, out: &mut Writer) -> Result<(), NoMemory>
+    ensures { OnOk result (out.new ≡ and_bytes out.old (to_be_bytes w64 s.now.from.0 ++ to_be_bytes w64 s.now.to.0)) }
+{
+    out.put_u64(s.from.0)?;
+    out.put_u64(s.to.0)
+}
+
 fn put_head(s: &Snapshot, out: &mut Writer) -> Result<(), NoMemory>
     ensures { OnOk result (out.new ≡ and_bytes out.old (head_bytes s.now)) }
 {
-    out.put_u8(5)?;
-    out.put_u64(s.from.0)?;
-    out.put_u64(s.to.0)
+    out.put_u8(KIND)?;
+    put_span(s, out)
 }
 
 fn put_body(s: &Snapshot, out: &mut Writer) -> Result<(), NoMemory>

@@ -9,11 +9,11 @@ unfolding parse_kind
 returns-in_err-kind-clause-bad c =
     exit c.from_residual.result _ _ c.from_residual.ensures.1 (λ at e. unread_tested _ _ (c.in_err-kind.ensures.bad at e))
 
-pub returns-then-kind-KIND-clause-bad : goal.returns-then-kind-KIND-clause-bad
+pub returns-then-kind-ne-KIND-clause-bad : goal.returns-then-kind-ne-KIND-clause-bad
 unfolding parse_kind
-returns-then-kind-KIND-clause-bad c at e =
-    named parse_kind c.args.f.now _ _ at (unread_failed _ _ c.in_ok-kind.ensures.ok (ne_eqb _ _ c.if-kind-KIND.true)) c.bad_field-no_snapshot.ensures e
+returns-then-kind-ne-KIND-clause-bad c at e =
+    named parse_kind c.args.f.now _ _ at (unread_failed _ _ c.in_ok-kind.ensures.ok (ne_eqb _ _ c.if-kind-ne-KIND.true)) c.bad_field-no_snapshot.ensures e
 
 pub returns-clause-ok : goal.returns-clause-ok
 unfolding parse_kind
-returns-clause-ok c = read_passed _ _ c.in_ok-kind.ensures.ok (eq-eqb _ _ c.if-kind-KIND.false)
+returns-clause-ok c = read_passed _ _ c.in_ok-kind.ensures.ok (eq-eqb _ _ c.if-kind-ne-KIND.false)
