@@ -342,7 +342,9 @@ module _ {Msg : Type 0} (W : Frame Msg) (P : IsGoodFrame W.setup W.formats W.rul
         go (Dropped why) q lt = before lt
         go (Taken t) q lt =
             let rises = step-rises F R M me st.core x t q in
-            taken-stored st (before (omega (arith, lt, rises))) x (named x (inl refl)) t q lt
+            let last : t.core.past.epoch < 2 ^ 64 = lt in
+            let earlier : st.core.past.epoch < 2 ^ 64 = omega (arith, last, rises) in
+            taken-stored st (before earlier) x (named x (inl refl)) t q last
 
     pub journals-recover : (events : List NodeEvent) → ((event : NodeEvent) → In event events → IsNamed event) → (stored W spell me events).core.past.epoch < 2 ^ 64 →
         IsRecovered W event_in me (retained (stored W spell me events).entries) (stored W spell me events)

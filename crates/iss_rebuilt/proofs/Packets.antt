@@ -82,12 +82,12 @@ module _ {Msg : Type 0} (s : Setup) (M : Module Msg) where
           (subst (λ (n : ℕ). n < 2 ^ 64) (sym own) (epoch-fits bytes p e), vote-again p.from p.epoch.0 p.body [] w parsed)
 
       kind : (p : Packet) → parse_packet s.version s.n bytes ≡ Good p [] → (kd : PacketKind) → parcel_of_kind M s.version p kd ≡ Some k → IsVoteEntry v
-      kind p e Message h = absurd (let q = sorts-meet k (OfVote v) 0 b (message-sort k p (whole (M.parse s.version p.body)) h) in omega (arith, q))
+      kind p e Message h = absurd (let q : 1 ≡ 0 = sorts-meet k (OfVote v) 0 b (message-sort k p (whole (M.parse s.version p.body)) h) in omega (arith, q))
       kind p e Kind_vote h = vote p e (whole (parse_vote p.from p.epoch.0 p.body)) refl h
-      kind p e Ask h = absurd (let q = sorts-meet k (OfVote v) 2 b (ask-sort k p (whole (parse_ask p.epoch.0 p.body)) h) in omega (arith, q))
+      kind p e Ask h = absurd (let q : 1 ≡ 2 = sorts-meet k (OfVote v) 2 b (ask-sort k p (whole (parse_ask p.epoch.0 p.body)) h) in omega (arith, q))
       kind p e Kind_piece h =
-          absurd (let q = sorts-meet k (OfVote v) 3 b (piece-sort k p (whole (parse_piece s.version p.epoch.0 p.body)) h) in omega (arith, q))
-      kind p e Kind_request h = absurd (let q = sorts-meet k (OfVote v) 4 b (request-sort k p (whole (parse_request p.body)) h) in omega (arith, q))
+          absurd (let q : 1 ≡ 3 = sorts-meet k (OfVote v) 3 b (piece-sort k p (whole (parse_piece s.version p.epoch.0 p.body)) h) in omega (arith, q))
+      kind p e Kind_request h = absurd (let q : 1 ≡ 4 = sorts-meet k (OfVote v) 4 b (request-sort k p (whole (parse_request p.body)) h) in omega (arith, q))
 
   -- ---- certificates
 
@@ -106,11 +106,11 @@ module _ {Msg : Type 0} (s : Setup) (M : Module Msg) where
           subst (λ (z : Sent_piece). IsCertEntry z.cert) same (cert-entry-of p.epoch.0 y.cert is.behind (epoch-fits bytes p e) is.cert_spelled)
 
       kind : (p : Packet) → parse_packet s.version s.n bytes ≡ Good p [] → (kd : PacketKind) → parcel_of_kind M s.version p kd ≡ Some k → IsCertEntry x.cert
-      kind p e Message h = absurd (let q = sorts-meet k (OfPiece x) 0 b (message-sort k p (whole (M.parse s.version p.body)) h) in omega (arith, q))
-      kind p e Kind_vote h = absurd (let q = sorts-meet k (OfPiece x) 1 b (vote-sort k p (whole (parse_vote p.from p.epoch.0 p.body)) h) in omega (arith, q))
-      kind p e Ask h = absurd (let q = sorts-meet k (OfPiece x) 2 b (ask-sort k p (whole (parse_ask p.epoch.0 p.body)) h) in omega (arith, q))
+      kind p e Message h = absurd (let q : 3 ≡ 0 = sorts-meet k (OfPiece x) 0 b (message-sort k p (whole (M.parse s.version p.body)) h) in omega (arith, q))
+      kind p e Kind_vote h = absurd (let q : 3 ≡ 1 = sorts-meet k (OfPiece x) 1 b (vote-sort k p (whole (parse_vote p.from p.epoch.0 p.body)) h) in omega (arith, q))
+      kind p e Ask h = absurd (let q : 3 ≡ 2 = sorts-meet k (OfPiece x) 2 b (ask-sort k p (whole (parse_ask p.epoch.0 p.body)) h) in omega (arith, q))
       kind p e Kind_piece h = piece p e (whole (parse_piece s.version p.epoch.0 p.body)) refl h
-      kind p e Kind_request h = absurd (let q = sorts-meet k (OfPiece x) 4 b (request-sort k p (whole (parse_request p.body)) h) in omega (arith, q))
+      kind p e Kind_request h = absurd (let q : 3 ≡ 4 = sorts-meet k (OfPiece x) 4 b (request-sort k p (whole (parse_request p.body)) h) in omega (arith, q))
 
   -- ---- messages
 
@@ -142,9 +142,9 @@ module _ {Msg : Type 0} (s : Setup) (M : Module Msg) where
             (formats_of s M).wrap k ≡ bytes
         kind p e Message q h = message p e q (whole (M.parse s.version p.body)) refl h
         kind p e Kind_vote q h =
-            absurd (let z = sorts-meet k (OfModule l msg) 1 b (vote-sort k p (whole (parse_vote p.from p.epoch.0 p.body)) h) in omega (arith, z))
-        kind p e Ask q h = absurd (let z = sorts-meet k (OfModule l msg) 2 b (ask-sort k p (whole (parse_ask p.epoch.0 p.body)) h) in omega (arith, z))
+            absurd (let z : 0 ≡ 1 = sorts-meet k (OfModule l msg) 1 b (vote-sort k p (whole (parse_vote p.from p.epoch.0 p.body)) h) in omega (arith, z))
+        kind p e Ask q h = absurd (let z : 0 ≡ 2 = sorts-meet k (OfModule l msg) 2 b (ask-sort k p (whole (parse_ask p.epoch.0 p.body)) h) in omega (arith, z))
         kind p e Kind_piece q h =
-            absurd (let z = sorts-meet k (OfModule l msg) 3 b (piece-sort k p (whole (parse_piece s.version p.epoch.0 p.body)) h) in omega (arith, z))
+            absurd (let z : 0 ≡ 3 = sorts-meet k (OfModule l msg) 3 b (piece-sort k p (whole (parse_piece s.version p.epoch.0 p.body)) h) in omega (arith, z))
         kind p e Kind_request q h =
-            absurd (let z = sorts-meet k (OfModule l msg) 4 b (request-sort k p (whole (parse_request p.body)) h) in omega (arith, z))
+            absurd (let z : 0 ≡ 4 = sorts-meet k (OfModule l msg) 4 b (request-sort k p (whole (parse_request p.body)) h) in omega (arith, z))

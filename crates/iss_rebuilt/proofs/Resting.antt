@@ -18,7 +18,7 @@ use Rattle.iss_transfer.specs.declared.pieces.Piece.{Piece as Sent_piece}
 use Rattle.iss_rules.specs.declared.events.NodeEvent.{NodeEvent}
 use Rattle.iss_rules.specs.declared.events.NodeEvent.TheVariants.{Packet as On_packet, Propose as On_propose, Timeout as On_timeout, AskFrom as On_ask}
 use Rattle.iss_rules.specs.Parcels.{Body, Formats, OfModule, OfPiece, Parcel}
-use Rattle.iss_rules.specs.Past.{is_complete}
+use Rattle.iss_rules.specs.Past.{Past, is_complete}
 use Rattle.iss_rules.specs.Rules.{Rules}
 use Rattle.iss_rules.specs.Votes.{stable}
 use Rattle.iss_model.specs.Node.{Core, Dropped, Early, Stepped, Taken, Turn, adopts_piece, advance_epochs, asking, counted, early_most, ended, ends, finish_step, handing, initial_core, or_unchanged, step, step_unjudged, takes_each, takes_early, then_turn, try_step, unchanged}
@@ -194,7 +194,7 @@ module _ {Msg : Type 0} (s : Setup) (F : Formats Msg) (R : Rules) (M : Module Ms
         on = goes-trans R (slots-in s F R M P me) M me c b u.core goes (input-goes s F R M P me b l input regular fit may)
 
         epoch : u.core.past.epoch ≡ c.past.epoch
-        epoch = ap (λ (z : _). z.epoch) past
+        epoch = ap (λ (z : Past Msg). z.epoch) past
 
         kept_early : AreEarly u.core
         kept_early =
@@ -279,8 +279,8 @@ module _ {Msg : Type 0} (s : Setup) (F : Formats Msg) (R : Rules) (M : Module Ms
         Goes R (slots-in s F R M P me) M me c d → AreEarly d → Ends c event t
     still event t d q regular past goes early =
         stays (subst (λ (f : Core Msg). IsRegular s F R M P me f) (sym q) regular)
-        (ap (λ (f : Core Msg). is_complete R M me f.past) q ∙ (ap (λ (z : _). is_complete R M me z) past ∙ h.unfinished))
-        (ap (λ (f : Core Msg). f.past.epoch) q ∙ ap (λ (z : _). z.epoch) past)
+        (ap (λ (f : Core Msg). is_complete R M me f.past) q ∙ (ap (λ (z : Past Msg). is_complete R M me z) past ∙ h.unfinished))
+        (ap (λ (f : Core Msg). f.past.epoch) q ∙ ap (λ (z : Past Msg). z.epoch) past)
         (subst (λ (f : Core Msg). Goes R (slots-in s F R M P me) M me c f) (sym q) goes)
         (subst (λ (f : Core Msg). AreEarly f) (sym q) early)
 
@@ -289,7 +289,7 @@ module _ {Msg : Type 0} (s : Setup) (F : Formats Msg) (R : Rules) (M : Module Ms
     same-early d q past = record {
       few = subst (λ (xs : List (Early Msg)). length xs ≤ early_most) (sym q) h.early.few;
       told = λ x i. h.early.told x (subst (λ (xs : List (Early Msg)). In x xs) q i);
-      again = λ x i. subst (λ (n : ℕ). F.unwrap (F.wrap (early_parcel (suc n) x)) ≡ Some (early_parcel (suc n) x)) (sym (ap (λ (z : _). z.epoch) past))
+      again = λ x i. subst (λ (n : ℕ). F.unwrap (F.wrap (early_parcel (suc n) x)) ≡ Some (early_parcel (suc n) x)) (sym (ap (λ (z : Past Msg). z.epoch) past))
           (h.early.again x (subst (λ (xs : List (Early Msg)). In x xs) q i));
     }
 
@@ -322,12 +322,12 @@ module _ {Msg : Type 0} (s : Setup) (F : Formats Msg) (R : Rules) (M : Module Ms
 
     took-ends : (event : NodeEvent) (t : Turn Msg) → Took F R M me c event t → Ends c event t
     took-ends event t (received {bytes} k l msg u un b e i q) =
-        plain-ends event t l (Receive (record { 0 = k.from }) msg) u i (may-hear s M k.from msg (P.faithful.told bytes k l msg un b)) q
+        plain-ends (On_packet bytes) t l (Receive (record { 0 = k.from }) msg) u i (may-hear s M k.from msg (P.faithful.told bytes k l msg un b)) q
         (message-step F R M me (quiet c) bytes k l msg un b e)
     took-ends event t (kept {bytes} k l msg un b e i) = kept-ends bytes t k l msg un b e i
     took-ends event t (asked {bytes} k r un b i) =
         let d : Core Msg = record c { waiting = c.waiting ++ r ∷ [] } in
-        still event t d (ap (λ (w : Turn Msg). w.core) i.is)
+        still (On_packet bytes) t d (ap (λ (w : Turn Msg). w.core) i.is)
         (record {
           ready = subst (λ (w : Turn Msg). IsReadyCore R M me w.core) i.is (requested-ready F R M me c r t h.regular.ready (P.faithful.asked bytes k r un b) i);
           heard = h.regular.heard;
@@ -339,7 +339,7 @@ module _ {Msg : Type 0} (s : Setup) (F : Formats Msg) (R : Rules) (M : Module Ms
     took-ends event t (voted {bytes} k v un b i) =
         let d : Core Msg = counted R c v in
         let old = h.regular in
-        still event t d (ap (λ (w : Turn Msg). w.core) i.is)
+        still (On_packet bytes) t d (ap (λ (w : Turn Msg). w.core) i.is)
         (record {
           ready = kept-ready F R M me c c.early (v ∷ c.votes) (stable R (v ∷ c.votes) v ++ c.certs) c.leaf old.ready;
           heard = old.heard;
@@ -348,10 +348,10 @@ module _ {Msg : Type 0} (s : Setup) (F : Formats Msg) (R : Rules) (M : Module Ms
         })
         refl (record { epoch = own.epoch; logs = own.logs; certs = counted-keeps s R P.few c.past.epoch c.votes c.certs v i.near i.signed i.uncounted })
         (same-early d refl refl)
-    took-ends event t (handed k x un b i) = still event t c (ap (λ (w : Turn Msg). w.core) i.is) h.regular refl own h.early
+    took-ends event t (handed {bytes} k x un b i) = still (On_packet bytes) t c (ap (λ (w : Turn Msg). w.core) i.is) h.regular refl own h.early
     took-ends event t (adopted {bytes} k x un b a) = piece-ends bytes t k x un b a
-    took-ends event t (sought peer q) = still event t c (ap (λ (w : Turn Msg). w.core) q) h.regular refl own h.early
-    took-ends event t (fired l u i q) = plain-ends event t l.0 Timeout u i (λ p setup. (tt, tt)) q refl
+    took-ends event t (sought peer q) = still (On_ask peer) t c (ap (λ (w : Turn Msg). w.core) q) h.regular refl own h.early
+    took-ends event t (fired l u i q) = plain-ends (On_timeout l) t l.0 Timeout u i (λ p setup. (tt, tt)) q refl
 
     pub step-ends : (event : NodeEvent) (t : Turn Msg) → step F R M me c event ≡ Taken t → Ends c event t
     step-ends event t q = took-ends event t (took F R M me c event t q)
