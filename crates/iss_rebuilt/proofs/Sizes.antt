@@ -17,7 +17,6 @@ use Rattle.iss_snapshot.specs.declared.snapshots.Snapshot.{Snapshot}
 use Rattle.iss_snapshot.specs.Snapshots.{body_bytes, cert_entry, counted, fits, head_bytes, is_short, packet_entry, snapshot_row, spell_values, vote_entry}
 use Rattle.iss_snapshot.proofs.SnapshotGrammar.{Fitting, is-fitting}
 
-
 -- ---- parts of a list of bytes
 
 left-shorter : (a b : List ℕ) → length a ≤ length (a ++ b)

@@ -187,6 +187,7 @@ fn put_row(s: &Snapshot, out: &mut Writer) -> Result<(), NoMemory>
     put_body(s, out)
 }
 
+#[tactic(auto, unfolding(crate::specs::Snapshots::spell_snapshot))]
 fn write(s: &Snapshot, out: &mut Writer) -> Result<(), NoMemory>
     ensures { OnOk result (out.new ≡ and_bytes out.old (spell_snapshot out.old.version s.now)) }
 {
