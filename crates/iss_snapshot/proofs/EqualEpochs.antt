@@ -1,5 +1,5 @@
 -- Where all epochs have the same number of slots, their values are rows of equal length.
-use Rattle.std.proofs.Common.{◌≡◌, ℕ, zero, suc, List, ◌∷◌, refl, sym, ap, ◌∙◌, subst}
+use Rattle.std.proofs.Common.{◌≡◌, ℕ, zero, suc, List, ◌∷◌, refl, sym, ap, subst}
 use mathlib.Core.Path.{fun_ext}
 use Rattle.iss_base.specs.Lists.{push_all}
 use Rattle.iss_request.specs.Fields.{IsRead, IsUnreadable, Reading}

@@ -1,5 +1,5 @@
 -- An example: a replica enters epoch 1 after three slots with empty batches; one leaf of its key is used.
-use Rattle.std.proofs.Common.{◌≡◌, ℕ, List, [], ◌∷◌, Some, refl}
+use Rattle.std.proofs.Common.{◌≡◌, ℕ, List, [], ◌∷◌, refl}
 use Rattle.iss_request.specs.Fields.{Good}
 use Rattle.iss_request.specs.Formats.{count_field, parse_batch, parse_count, parse_rest, parse_value, spell_batch, spell_count, spell_value}
 use Rattle.iss_request.specs.Parsing.{◌>>=◌, block, byte, done, number, such_that, times}

@@ -1,5 +1,5 @@
 -- Bytes begin with a snapshot exactly if they begin with its encoding.
-use Rattle.std.proofs.Common.{◌≡◌, ◌↔◌, ℕ, suc, ◌-◌, ◌<◌, ◌^◌, ◌==◌, ◌&&◌, Bool, true, List, [], ◌∷◌, ◌++◌, length, append_assoc, refl, sym, ap, ap₂, ◌∙◌, subst}
+use Rattle.std.proofs.Common.{◌≡◌, ◌↔◌, ℕ, ◌-◌, ◌<◌, ◌^◌, ◌==◌, ◌&&◌, true, List, [], ◌∷◌, ◌++◌, length, append_assoc, refl, sym, ap, ap₂, ◌∙◌, subst}
 use Rattle.std.specs.Prelude.{nat_lt}
 use Rattle.std.specs.Int.{to_be_bytes, w16, w32, w64}
 use Rattle.std.specs.List.{AllByRecursion, flat_map, list_all}
@@ -11,14 +11,14 @@ use Rattle.iss_checkpoint.specs.declared.votes.Vote.{Vote}
 use Rattle.iss_request.specs.declared.ids.Epoch.{Epoch}
 use Rattle.iss_request.specs.Fields.{Good, IsReadAgain}
 use Rattle.iss_request.specs.Formats.{parse_request, spell_request}
-use Rattle.iss_request.specs.Parsing.{Parser, ◌>>=◌, byte, done, number, such_that}
+use Rattle.iss_request.specs.Parsing.{Parser, ◌>>=◌, byte, done, number}
 use Rattle.iss_request.specs.declared.requests.Request.{Request}
 use Rattle.iss_request.specs.declared.requests.Value.{Value}
 use Rattle.iss_request.proofs.OneSpelling.{request_grammar}
 use Rattle.iss_request.proofs.ParserLemmas.{byte_again, byte_parts, done_parts, number_again, number_parts, test_parts, test_passed, then_parts, wide16, wide32, wide64}
 use Rattle.iss_snapshot.specs.declared.snapshots.Snapshot.{Snapshot}
 use Rattle.iss_snapshot.specs.declared.snapshots.Span.{Span}
-use Rattle.iss_snapshot.specs.Snapshots.{AreEpochs, IsCertEntry, IsEncodable, IsVoteEntry, body_bytes, cert_entry, counted, fits, head_bytes, is_short, packet_entry, parse_body, parse_cert_entry, parse_counted, parse_epochs, parse_kind, parse_packet_entry, parse_snapshot, parse_span, parse_to, parse_vote_entry, snapshot_row, spell_snapshot, spell_values, vote_entry}
+use Rattle.iss_snapshot.specs.Snapshots.{IsCertEntry, IsEncodable, IsVoteEntry, body_bytes, cert_entry, counted, fits, head_bytes, is_short, packet_entry, parse_body, parse_cert_entry, parse_counted, parse_epochs, parse_kind, parse_packet_entry, parse_snapshot, parse_span, parse_to, parse_vote_entry, snapshot_row, spell_snapshot, spell_values, vote_entry}
 use Rattle.iss_snapshot.proofs.Elements.{Again, AreCounted, IsExact, exact-counted, last-again, of-grammar, then-again}
 use Rattle.iss_snapshot.proofs.Entries.{IsShort, WereEpochs, epochs-again, epochs-read, exact-cert, exact-packet, exact-vote}
 

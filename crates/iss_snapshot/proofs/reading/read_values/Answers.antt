@@ -1,4 +1,4 @@
-use Rattle.std.proofs.Common.{◌∙◌, ℕ, refl, suc, ◌+◌, ◌-◌, arith}
+use Rattle.std.proofs.Common.{◌∙◌, refl, suc, ◌+◌, ◌-◌, arith}
 use Rattle.iss_request.specs.Formats.{parse_value}
 use Rattle.iss_request.proofs.Readings.{continues_bad, continues_end, continues_next, continues_start, exit}
 use Rattle.iss_sb.proofs.Read.{read-by, unread-by}
