@@ -35,10 +35,12 @@ flat-long spell (x ∷ xs) h =
     omega (arith, n, first, others)
 
 -- each element's bytes are among them
-flat-holds : {A : Type 0} (spell : A → List ℕ) (xs : List A) (x : A) → In x xs → length (spell x) ≤ length (flat_map spell xs)
-flat-holds spell [] x i = absurd i
-flat-holds spell (y ∷ ys) x (inl q) = subst (λ (z : _). length (spell z) ≤ length (flat_map spell (y ∷ ys))) (sym q) (left-shorter (spell y) (flat_map spell ys))
-flat-holds spell (y ∷ ys) x (inr i) = le_trans (flat-holds spell ys x i) (right-shorter (spell y) (flat_map spell ys))
+module _ {A : Type 0} (spell : A → List ℕ) where
+  flat-holds : (xs : List A) (x : A) → In x xs → length (spell x) ≤ length (flat_map spell xs)
+  flat-holds [] x i = absurd i
+  flat-holds (y ∷ ys) x (inl q) =
+      subst (λ (z : A). length (spell z) ≤ length (flat_map spell (y ∷ ys))) (sym q) (left-shorter (spell y) (flat_map spell ys))
+  flat-holds (y ∷ ys) x (inr i) = le_trans (flat-holds ys x i) (right-shorter (spell y) (flat_map spell ys))
 
 -- ---- elements
 
