@@ -1,7 +1,8 @@
 -- What a node holds of the votes on each epoch: a tally, or a certificate once there is one. It is compared with the
 -- model's lists by look-ups alone: the certificate of each epoch, and without one each node's vote. A vote is refused
 -- for the first test that fails. If it completes a quorum, the certificate is made of all votes that say the same.
-use Rattle.std.specs.Prelude.{◌≡◌, ◌⊎◌, ℕ, ◌||◌, ◌==◌, cond, Bool, false, true, List, [], ◌∷◌, ◌++◌, length, Option, Some, None, is_some, slice_get}
+use Rattle.std.specs.Prelude.{◌≡◌, ◌⊎◌, ℕ, ◌||◌, ◌==◌, cond, Bool, false, true, List, [], ◌∷◌, ◌++◌, length, Option, Some, None, is_some, reverse, slice_get}
+use Rattle.std.specs.List.{filter}
 use Rattle.iss_ballots.specs.declared.ballots.Ballot.{Ballot}
 use Rattle.iss_ballots.specs.declared.ballots.Ballot.TheVariants.{Open, Stable}
 use Rattle.iss_ballots.specs.declared.ballots.Taking.{Taking}
@@ -11,12 +12,14 @@ use Rattle.iss_checkpoint.specs.Votes.{Voters, is_signed, statement_of}
 use Rattle.iss_checkpoint.specs.declared.tallies.Refusal.TheVariants.{BadSignature as Refusal_bad_signature, OtherEpoch, Twice}
 use Rattle.iss_checkpoint.specs.declared.votes.Cert.{Cert}
 use Rattle.iss_checkpoint.specs.declared.votes.Vote.{Vote}
-use Rattle.iss_rules.specs.Votes.{cert_on, vote_by}
+use Rattle.iss_rules.specs.Votes.{cert_on, is_open, vote_by}
 
 pub record BallotsState : Type 0 where
   pub voters : Voters
   -- By epoch: its votes, or its certificate.
   pub all : List Ballot
+  -- The votes of epochs without a certificate, in the order in which they were counted.
+  pub open : List Vote
 
 -- ---- the state of one epoch
 
@@ -44,6 +47,7 @@ AreOpen w all = (e : ℕ) (b : Ballot) → slice_get all e ≡ Some b → IsOpen
 pub record AreKept (b : BallotsState) (votes : List Vote) (certs : List Cert) : Type 0 where
   pub certs_are : (e : ℕ) → cert_in (slice_get b.all e) ≡ cert_on certs e
   pub votes_are : (e k : ℕ) → cert_on certs e ≡ None → vote_in (slice_get b.all e) k ≡ vote_by votes e k
+  pub open_are : b.open ≡ reverse (filter (is_open certs) votes)
 
 -- The certificate of all votes that agree with v, once they are a quorum.
 abbrev pub stable_by : Voters → List Vote → Vote → List Cert

@@ -9,9 +9,10 @@ ghost use Rattle.iss_rules.specs.Votes.{cert_on, keeping};
 use iss_checkpoint::checking::is_signed;
 use iss_checkpoint::{Added, Cert, Refusal, Tally, Vote, vote_statement};
 use iss_keys::SharedDirectory;
-use iss_request::{Epoch, NoMemory, Setup, sum};
+use iss_request::{Epoch, NoMemory, Seq, Setup, sum};
 use std::alloc::Global;
 use std::marker::Model;
+use std::mem;
 
 /// The state of one epoch: `Open` with its votes, or, once a quorum agrees, `Stable` with its certificate (PBFT: stable
 /// checkpoint).
@@ -40,6 +41,8 @@ pub struct Ballots {
     directory: SharedDirectory,
     // By epoch.
     all: Vec<Ballot>,
+    // The votes of epochs without a certificate, in the order in which they were counted.
+    open: Vec<Vote>,
 }
 
 impl Model for Ballots {
@@ -49,7 +52,7 @@ impl Model for Ballots {
 
     ghost Value = { BallotsState };
 
-    ghost view = { λ b. record { voters = voters_of b.setup b.directory; all = b.all.items } };
+    ghost view = { λ b. record { voters = voters_of b.setup b.directory; all = b.all.items; open = b.open.items } };
 
     ghost invariant = { λ b. (b.setup.n ≤ 256) × AreOpen (voters_of b.setup b.directory) b.all.items };
 }
@@ -62,13 +65,14 @@ impl Ballots {
         directory: &SharedDirectory,
     ) -> Result<Ballots, NoMemory>
         requires { setup.now.n ≤ 256 }
-        ensures { IfOk result (λ b. b ≡ record { voters = voters_of setup.now directory.now; all = [] }) }
+        ensures { IfOk result (λ b. b ≡ record { voters = voters_of setup.now directory.now; all = []; open = [] }) }
     {
         Ok(Ballots {
             alloc,
             setup: setup.copy()?,
             directory: directory.share(),
             all: Vec::new(alloc),
+            open: Vec::new(alloc),
         })
     }
 
@@ -85,7 +89,12 @@ impl Ballots {
         if self.is_stable(place) && !self.is_true(&vote) {
             return Ok(Taking::BadSignature);
         }
-        count(&mut self.all[place], vote)
+        let copy = copy_of_vote(&vote)?;
+        let taking = count(&mut self.all[place], vote)?;
+        if taking == Taking::Counted {
+            self.note(copy)?;
+        }
+        Ok(taking)
     }
 
     /// Keeps a certificate, unless its epoch already has one. The only error is out of memory.
@@ -96,8 +105,44 @@ impl Ballots {
         ensures voters { self.new.voters ≡ self.old.voters }
     {
         self.reach(cert.epoch)?;
-        let place = cert.epoch.0 as usize;
-        close(&mut self.all[place], cert);
+        let epoch = cert.epoch;
+        close(&mut self.all[epoch.0 as usize], cert);
+        self.settle(epoch)
+    }
+
+    /// Copies of the votes of epochs without a certificate, in the order in which they were counted. The only error is
+    /// out of memory.
+    pub fn open_votes(&self, alloc: Global) -> Result<Seq<Vote>, NoMemory>
+        ensures { IfOk result (λ votes. votes ≡ self.now.open) }
+    {
+        let mut copies = Seq::new(alloc);
+        for vote in self.open.iter() {
+            copies.push(copy_of_vote(vote)?)?;
+        }
+        Ok(copies)
+    }
+
+    // Notes a vote that was counted: it is open, or its epoch has a certificate now.
+    fn note(&mut self, vote: Vote) -> Result<(), NoMemory>
+    {
+        let epoch = vote.epoch;
+        if self.is_stable(epoch.0 as usize) {
+            return self.settle(epoch);
+        }
+        self.open.push(vote)?;
+        Ok(())
+    }
+
+    // Removes the open votes of an epoch.
+    fn settle(&mut self, epoch: Epoch) -> Result<(), NoMemory>
+    {
+        let mut others = Vec::new(self.alloc);
+        for vote in mem::replace(&mut self.open, Vec::new(self.alloc)) {
+            if vote.epoch.0 != epoch.0 {
+                others.push(vote)?;
+            }
+        }
+        self.open = others;
         Ok(())
     }
 
@@ -173,6 +218,18 @@ fn count(ballot: &mut Ballot, vote: Vote) -> Result<Taking, NoMemory>
         Added::Refused(Refusal::Twice) => Ok(Taking::Known),
         Added::Refused(Refusal::BadSignature | Refusal::OtherEpoch) => Ok(Taking::BadSignature),
     }
+}
+
+fn copy_of_vote(vote: &Vote) -> Result<Vote, NoMemory>
+    ensures { IfOk result (λ v. v ≡ vote.now) }
+{
+    Ok(Vote {
+        epoch: vote.epoch,
+        chain: vote.chain,
+        requests: vote.requests,
+        by: vote.by,
+        sig: vote.sig.copy()?,
+    })
 }
 
 // Makes an epoch stable with this certificate, unless it already has one.

@@ -16,7 +16,7 @@ use Rattle.iss_rules.specs.Concrete.{rules_of}
 use Rattle.iss_rules.specs.Formats.{formats_of}
 use Rattle.iss_rules.specs.Past.{adopted_at, log_of, start_of}
 use Rattle.iss_rules.specs.Rules.{Rules}
-use Rattle.iss_rules.specs.Votes.{cert_on}
+pub use Rattle.iss_rules.specs.Votes.{cert_on, is_open}
 use Rattle.iss_model.specs.Node.{Core, Dropped, Early, Stepped, Taken, Turn, initial_core, step}
 use Rattle.iss_model.specs.Run.{claims_at}
 
@@ -34,10 +34,6 @@ pub record SlimCore (Msg : Type 0) : Type 0 where
   -- by epoch: steps look certificates up, and their order is of no account
   pub certs : ℕ → Option Cert
   pub leaf : ℕ
-
--- whether the vote's epoch has no certificate
-abbrev pub is_open : List Cert → Vote → Bool
-is_open certs v = not (is_some (cert_on certs v.epoch.0))
 
 -- rule: Epochs: Of earlier epochs a node keeps the log, the certificates and what follows from these alone
 abbrev pub slim : {Msg : Type 0} → Rules → Module Msg → ℕ → Core Msg → SlimCore Msg
