@@ -122,6 +122,19 @@ impl Ballots {
         Ok(copies)
     }
 
+    /// Forgets the votes of epochs without a certificate.
+    pub fn forget_open(&mut self) -> Result<(), NoMemory> {
+        for place in 0..self.all.len() {
+            if !self.is_stable(place) {
+                let directory = self.directory.share();
+                let epoch = Epoch(place as u64);
+                self.all[place] = Ballot::Open(Tally::new(self.alloc, &self.setup, directory, epoch));
+            }
+        }
+        self.open = Vec::new(self.alloc);
+        Ok(())
+    }
+
     // Notes a vote that was counted: it is open, or its epoch has a certificate now.
     fn note(&mut self, vote: Vote) -> Result<(), NoMemory>
     {

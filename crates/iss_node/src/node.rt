@@ -19,6 +19,7 @@ ghost use Rattle.iss_node.specs.Steps.{HasRetreated, IsAnswer, IsHeldStepOf, IsL
 use crate::answers::{Accepted, Answer, StepResult};
 use crate::flight::Flight;
 use crate::starting::start_segments;
+use crate::saved::Saved;
 use crate::state::NodeState;
 use iss_ballots::Ballots;
 use iss_buckets::Pending;
@@ -39,7 +40,7 @@ use std::marker::Model;
 /// takes no further event.
 #[derive(Drop)]
 pub struct Node<M: Sequenced> {
-    state: NodeState<M>,
+    pub(crate) state: NodeState<M>,
     stale: bool,
 }
 
@@ -95,6 +96,8 @@ impl<M: Sequenced> Node<M> {
             early: Vec::new(alloc),
             logged: Ids::new(alloc),
             ballots,
+            saved: Saved::nothing(alloc),
+            next: None,
             keys,
         };
         Ok(Node {
@@ -124,6 +127,7 @@ impl<M: Sequenced> Node<M> {
         match self.state.turn(alloc, event) {
             Ok(StepResult::Taken(outcome)) => {
                 self.stale = false;
+                self.state.note_saved();
                 Answer::Taken(outcome)
             }
             Ok(StepResult::Dropped(why)) => {
@@ -135,6 +139,26 @@ impl<M: Sequenced> Node<M> {
                 self.state.epoch = epoch;
                 Answer::NoMemory
             }
+        }
+    }
+
+    /// Takes an event of a journal. It notes nothing for the next snapshot.
+    pub fn replay(&mut self, alloc: Global, event: NodeEvent) -> Answer {
+        if self.stale {
+            return Answer::Stale;
+        }
+        self.stale = true;
+        match self.state.turn(alloc, event) {
+            Ok(StepResult::Taken(outcome)) => {
+                self.stale = false;
+                self.state.next = None;
+                Answer::Taken(outcome)
+            }
+            Ok(StepResult::Dropped(why)) => {
+                self.stale = false;
+                Answer::Dropped(why)
+            }
+            Err(_) => Answer::NoMemory,
         }
     }
 
@@ -249,6 +273,13 @@ impl<M: Sequenced> NodeState<M> {
                 self.finish_step(alloc, step)
             }
             NodeEvent::AskFrom(peer) => self.ask_from(alloc, peer),
+        }
+    }
+
+    // A snapshot took the place of the event, if one was made.
+    fn note_saved(&mut self) {
+        if let Some(saved) = self.next.take() {
+            self.saved = saved;
         }
     }
 

@@ -8,6 +8,7 @@ ghost use Rattle.iss_segment.specs.Instance.{SegmentState};
 
 use crate::answers::{Accepted, Early};
 use crate::flight::Flight;
+use crate::saved::Saved;
 use iss_ballots::Ballots;
 use iss_buckets::Pending;
 use iss_keys::{Keys, SharedDirectory};
@@ -44,6 +45,9 @@ pub struct NodeState<M: Sequenced> {
     pub(crate) logged: Ids,
     // The checkpoint votes of all nodes, and the certificates.
     pub(crate) ballots: Ballots,
+    // What snapshots have saved, and what they will have with the one that is being written.
+    pub(crate) saved: Saved,
+    pub(crate) next: Option<Saved>,
     pub(crate) keys: Keys,
 }
 
@@ -70,6 +74,7 @@ impl<M: Sequenced> Model for NodeState<M> {
       early = v.early.items;
       logged = v.logged;
       ballots = v.ballots;
+      saved = v.saved;
       keys = v.keys;
     } };
 
@@ -90,6 +95,7 @@ impl<M: Sequenced> Model for NodeState<M> {
       early = v.early.items;
       logged = v.logged;
       ballots = v.ballots;
+      saved = v.saved;
       keys = v.keys;
     }) };
 }

@@ -1,0 +1,207 @@
+//! A node from the snapshots of its journal.
+ghost use Rattle.std.specs.Prelude.{◌≡◌, IfOk};
+ghost use Rattle.iss_rules.specs.Concrete.{keys_of};
+ghost use Rattle.iss_rules.specs.Setups.{IsSetupOf};
+
+use crate::answers::{Early, Outcome, StepResult};
+use crate::node::Node;
+use crate::parcels::{Body, unwrap};
+use crate::state::NodeState;
+use crate::transfer::at_slots;
+use iss_buckets::Pending;
+use iss_checkpoint::{Cert, Vote, check};
+use iss_keys::SharedDirectory;
+use iss_request::{Bytes, DecodeError, Epoch, NoMemory, NodeId, Request, Seq, Setup, Value};
+use iss_sb::Sequenced;
+use iss_snapshot::{Snapshot, decode_snapshot};
+use std::alloc::Global;
+
+/// How many messages of the next epoch a node keeps.
+const EARLY_MOST: usize = 256;
+
+/// A node that snapshots lead to; or the first of them that is no snapshot, does not continue those before it, or has
+/// a part that the node would drop.
+#[derive(Drop)]
+pub enum Rebuilt<M: Sequenced> {
+    Rebuilt(Node<M>),
+    BadEntry { index: usize },
+    NoMemory,
+}
+
+impl<M: Sequenced> Node<M> {
+    /// The node that these snapshots lead to, with the early messages of the last taken. Without any, a node that took
+    /// no event, with unused keys.
+    pub fn rebuild(
+        alloc: Global,
+        setup: &Setup,
+        directory: &SharedDirectory,
+        me: NodeId,
+        entries: &[Bytes],
+    ) -> Rebuilt<M>
+        requires good { IsSetupOf M.spec setup.now }
+        requires directory { directory.now ≡ keys_of setup.now }
+        requires me { me.0 < setup.now.n }
+    {
+        let keys = directory.directory().keys_of_node(alloc, me.0);
+        let Ok(mut node) = Node::start(alloc, setup, directory, me, keys) else {
+            return Rebuilt::NoMemory;
+        };
+        let mut early = Vec::new(alloc);
+        for index in 0..entries.len() {
+            match node.state.read_entry(alloc, entries[index].as_slice()) {
+                Ok(Some(messages)) => early = messages,
+                Ok(None) => return Rebuilt::BadEntry { index },
+                Err(_) => return Rebuilt::NoMemory,
+            }
+        }
+        match node.state.take_each(alloc, Outcome::nothing(alloc), early) {
+            Ok(_) => Rebuilt::Rebuilt(node),
+            Err(_) => Rebuilt::NoMemory,
+        }
+    }
+}
+
+impl<M: Sequenced> NodeState<M> {
+    // Goes on with a snapshot. Returns the messages that came early; `None` if the bytes are no snapshot, or not the
+    // next one.
+    fn read_entry(
+        &mut self,
+        alloc: Global,
+        bytes: &[u8],
+    ) -> Result<Option<Vec<Early<M::Msg>>>, NoMemory> {
+        match decode_snapshot(alloc, self.setup.version, self.setup.epoch, bytes) {
+            Ok(snapshot) => self.go_on(alloc, snapshot),
+            Err(DecodeError::BadField { .. }) => Ok(None),
+            Err(DecodeError::NoMemory) => Err(NoMemory),
+        }
+    }
+
+    fn go_on(
+        &mut self,
+        alloc: Global,
+        snapshot: Snapshot,
+    ) -> Result<Option<Vec<Early<M::Msg>>>, NoMemory> {
+        if !self.continues(&snapshot) {
+            return Ok(None);
+        }
+        let Snapshot {
+            to,
+            epochs,
+            leaf,
+            waiting,
+            certs,
+            votes,
+            early,
+            ..
+        } = snapshot;
+        self.saved = self.saved.and(alloc, to, certs.as_slice())?;
+        self.adopt_epochs(alloc, epochs)?;
+        self.keep_certs(certs)?;
+        self.ballots.forget_open()?;
+        self.waiting = Pending::new(alloc);
+        let keys = self
+            .directory
+            .directory()
+            .keys_of_node_at(alloc, self.me.0, leaf);
+        self.keys = keys;
+        if !self.take_requests(alloc, waiting)? || !self.take_votes(alloc, votes)? {
+            return Ok(None);
+        }
+        self.early_of(alloc, early.as_slice())
+    }
+
+    // Whether the snapshot begins where the one before it ended, its next leaf is within the key, and its certificates
+    // are valid, rise by epoch, and are held by none before.
+    fn continues(&self, snapshot: &Snapshot) -> bool {
+        let capacity = 1u32 << self.setup.keys;
+        snapshot.from.0 == self.saved.from.0
+            && snapshot.leaf <= capacity
+            && self.are_new(0, snapshot.certs.as_slice())
+    }
+
+    fn are_new(&self, from: u64, certs: &[Cert]) -> bool {
+        match certs {
+            [] => true,
+            [first, others @ ..] => {
+                let epoch = first.epoch;
+                epoch.0 >= from
+                    && !self.saved.holds(epoch)
+                    && check(&self.setup, self.directory.directory(), first)
+                    && self.are_new(epoch.0.saturating_add(1), others)
+            }
+        }
+    }
+
+    fn adopt_epochs(&mut self, alloc: Global, epochs: Seq<Seq<Value>>) -> Result<(), NoMemory> {
+        for values in epochs.into_vec() {
+            let mut strings = Seq::new(alloc);
+            let delivers = at_slots(alloc, self.layout.first(), values)?;
+            self.apply_deliveries(alloc, delivers, &mut strings)?;
+            let _none = self.next_epoch(alloc)?;
+        }
+        Ok(())
+    }
+
+    fn keep_certs(&mut self, certs: Seq<Cert>) -> Result<(), NoMemory> {
+        for cert in certs.into_vec() {
+            self.ballots.keep(cert)?;
+        }
+        Ok(())
+    }
+
+    // Whether all requests were taken.
+    fn take_requests(&mut self, alloc: Global, requests: Seq<Request>) -> Result<bool, NoMemory> {
+        for request in requests.into_vec() {
+            if let StepResult::Dropped(_) = self.take_request(alloc, request)? {
+                return Ok(false);
+            }
+        }
+        Ok(true)
+    }
+
+    // Whether all votes were counted.
+    fn take_votes(&mut self, alloc: Global, votes: Seq<Vote>) -> Result<bool, NoMemory> {
+        for vote in votes.into_vec() {
+            if let StepResult::Dropped(_) = self.take_vote(alloc, vote)? {
+                return Ok(false);
+            }
+        }
+        Ok(true)
+    }
+
+    // The messages of the current epoch in these packets, if each is one and there are not too many.
+    fn early_of(
+        &self,
+        alloc: Global,
+        packets: &[Bytes],
+    ) -> Result<Option<Vec<Early<M::Msg>>>, NoMemory> {
+        if packets.len() > EARLY_MOST {
+            return Ok(None);
+        }
+        let mut early = Vec::new(alloc);
+        for packet in packets {
+            match self.message_of(alloc, packet)? {
+                Some(message) => early.push(message)?,
+                None => return Ok(None),
+            }
+        }
+        Ok(Some(early))
+    }
+
+    fn message_of(&self, alloc: Global, packet: &Bytes) -> Result<Option<Early<M::Msg>>, NoMemory> {
+        let Some(parcel) = unwrap::<M>(alloc, &self.setup, packet)? else {
+            return Ok(None);
+        };
+        if parcel.epoch.0 != self.epoch.0 {
+            return Ok(None);
+        }
+        match parcel.body {
+            Body::Message { leader, msg } => Ok(Some(Early {
+                from: parcel.from,
+                leader,
+                msg,
+            })),
+            _ => Ok(None),
+        }
+    }
+}
