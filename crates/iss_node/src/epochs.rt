@@ -76,9 +76,9 @@ impl<M: Sequenced> NodeState<M> {
     {
         let _setup = &self.setup;
         let vote = self.vote()?;
-        let mut outcome = self.hand_out_vote(alloc, &vote)?;
+        let outcome = self.hand_out_vote(alloc, &vote)?;
         let early = self.next_epoch(alloc)?;
-        outcome.entered = self.entered(alloc, early.as_slice())?;
+        self.store(alloc, early.as_slice())?;
         Ok((outcome, early))
     }
 
@@ -235,7 +235,6 @@ fn with_early(outcome: Outcome, claims: Seq<Claim>) -> Outcome
         sends,
         own,
         hashed,
-        entered,
         ..
     } = outcome;
     Outcome {
@@ -243,7 +242,7 @@ fn with_early(outcome: Outcome, claims: Seq<Claim>) -> Outcome
         own,
         early: claims,
         hashed,
-        entered,
+        entered: None,
     }
 }
 
@@ -254,11 +253,7 @@ fn append_outcome(all: &mut Outcome, more: Outcome) -> Result<(), NoMemory>
     append(&mut all.sends, more.sends)?;
     append(&mut all.own, more.own)?;
     append(&mut all.early, more.early)?;
-    append(&mut all.hashed, more.hashed)?;
-    if more.entered.is_some() {
-        all.entered = more.entered;
-    }
-    Ok(())
+    append(&mut all.hashed, more.hashed)
 }
 
 fn append<T: Drop>(row: &mut Seq<T>, more: Seq<T>) -> Result<(), NoMemory>

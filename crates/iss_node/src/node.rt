@@ -97,7 +97,8 @@ impl<M: Sequenced> Node<M> {
             logged: Ids::new(alloc),
             ballots,
             saved: Saved::nothing(alloc),
-            next: None,
+            entered: None,
+            writes: true,
             keys,
         };
         Ok(Node {
@@ -127,8 +128,13 @@ impl<M: Sequenced> Node<M> {
         match self.state.turn(alloc, event) {
             Ok(StepResult::Taken(outcome)) => {
                 self.stale = false;
-                self.state.note_saved();
-                Answer::Taken(outcome)
+                Answer::Taken(Outcome {
+                    sends: outcome.sends,
+                    own: outcome.own,
+                    early: outcome.early,
+                    hashed: outcome.hashed,
+                    entered: self.state.take_entered(),
+                })
             }
             Ok(StepResult::Dropped(why)) => {
                 self.stale = false;
@@ -148,10 +154,12 @@ impl<M: Sequenced> Node<M> {
             return Answer::Stale;
         }
         self.stale = true;
-        match self.state.turn(alloc, event) {
+        self.state.writes = false;
+        let step = self.state.turn(alloc, event);
+        self.state.writes = true;
+        match step {
             Ok(StepResult::Taken(outcome)) => {
                 self.stale = false;
-                self.state.next = None;
                 Answer::Taken(outcome)
             }
             Ok(StepResult::Dropped(why)) => {
@@ -273,13 +281,6 @@ impl<M: Sequenced> NodeState<M> {
                 self.finish_step(alloc, step)
             }
             NodeEvent::AskFrom(peer) => self.ask_from(alloc, peer),
-        }
-    }
-
-    // A snapshot took the place of the event, if one was made.
-    fn note_saved(&mut self) {
-        if let Some(saved) = self.next.take() {
-            self.saved = saved;
         }
     }
 

@@ -9,6 +9,7 @@ ghost use Rattle.iss_segment.specs.Instance.{SegmentState};
 use crate::answers::{Accepted, Early};
 use crate::flight::Flight;
 use crate::saved::Saved;
+use crate::storing::Entered;
 use iss_ballots::Ballots;
 use iss_buckets::Pending;
 use iss_keys::{Keys, SharedDirectory};
@@ -45,9 +46,10 @@ pub struct NodeState<M: Sequenced> {
     pub(crate) logged: Ids,
     // The checkpoint votes of all nodes, and the certificates.
     pub(crate) ballots: Ballots,
-    // What snapshots have saved, and what they will have with the one that is being written.
+    // What snapshots have saved, the one that the current event made, and whether events make any.
     pub(crate) saved: Saved,
-    pub(crate) next: Option<Saved>,
+    pub(crate) entered: Option<Entered>,
+    pub(crate) writes: bool,
     pub(crate) keys: Keys,
 }
 

@@ -23,41 +23,29 @@ pub struct Entered {
 }
 
 impl<M: Sequenced> NodeState<M> {
-    /// The bytes of the snapshot of the node that has entered its epoch, unless they are too long. What would be saved
-    /// with them is noted.
-    pub(crate) fn entered(
-        &mut self,
-        alloc: Global,
-        early: &[Early<M::Msg>],
-    ) -> Result<Option<Bytes>, NoMemory> {
-        match self.store(alloc, early)? {
-            Some(entered) => {
-                self.next = Some(entered.saved);
-                Ok(Some(entered.bytes))
-            }
-            None => {
-                self.next = None;
-                Ok(None)
-            }
+    /// Writes the snapshot of the node that has entered its epoch, with the messages that it takes next, in the place of
+    /// one that the same event made before. There is none if it is too long for an entry, or if events of a journal are
+    /// replayed. The only error is out of memory.
+    pub(crate) fn store(&mut self, alloc: Global, early: &[Early<M::Msg>]) -> Result<(), NoMemory> {
+        self.entered = None;
+        if !self.writes {
+            return Ok(());
         }
-    }
-
-    // The snapshot of the node that has entered its epoch, with the messages that it takes next. `None` if it is too
-    // long for an entry. The only error is out of memory.
-    fn store(
-        &self,
-        alloc: Global,
-        early: &[Early<M::Msg>],
-    ) -> Result<Option<Entered>, NoMemory> {
         let snapshot = self.snapshot(alloc, early)?;
         let bytes = encode_snapshot(alloc, self.setup.version, &snapshot)?;
-        if !is_kept(&bytes) {
-            return Ok(None);
+        if is_kept(&bytes) {
+            let certs = snapshot.certs.as_slice();
+            let saved = self.saved.and(alloc, snapshot.to, certs)?;
+            self.entered = Some(Entered { bytes, saved });
         }
-        let saved = self
-            .saved
-            .and(alloc, snapshot.to, snapshot.certs.as_slice())?;
-        Ok(Some(Entered { bytes, saved }))
+        Ok(())
+    }
+
+    /// Hands out the snapshot that the event made, and notes what is saved with it.
+    pub(crate) fn take_entered(&mut self) -> Option<Bytes> {
+        let Entered { bytes, saved } = self.entered.take()?;
+        self.saved = saved;
+        Some(bytes)
     }
 
     fn snapshot(&self, alloc: Global, early: &[Early<M::Msg>]) -> Result<Snapshot, NoMemory> {

@@ -155,9 +155,9 @@ impl<M: Sequenced> NodeState<M> {
         self.apply_deliveries(alloc, delivers, &mut strings)?;
         self.ballots.keep(cert)?;
         let early = self.next_epoch(alloc)?;
+        self.store(alloc, early.as_slice())?;
         let mut outcome = Outcome::nothing(alloc);
         outcome.hashed = strings;
-        outcome.entered = self.entered(alloc, early.as_slice())?;
         self.take_each(alloc, outcome, early)
     }
 }
