@@ -17,7 +17,7 @@ use crate::entries::{ASK, PACKET, PROPOSE, TIMEOUT};
 use iss_disk::{Disk, EndError};
 use iss_journal::Journal;
 use iss_node::{Answer as NodeAnswer, Node};
-use iss_request::{Epoch, NoMemory};
+use iss_request::{Bytes, Epoch, NoMemory};
 use iss_rules::NodeEvent;
 use iss_sb::Sequenced;
 use std::alloc::Global;
@@ -120,6 +120,28 @@ fn append_or_retreat<M: Sequenced, D: Disk>(
     }
 }
 
+// Appends the snapshot that takes the event's place. Room for it is reserved only now. If that or the disk fails, the
+// node retreats.
+fn append_snapshot<M: Sequenced, D: Disk>(
+    node: &mut Node<M>,
+    journal: &mut Journal<D>,
+    bytes: &Bytes,
+    slots: usize,
+    epoch: Epoch,
+) -> Result<(), EndError> {
+    if journal.reserve(bytes.len() as u64).is_err() {
+        node.retreat(slots, epoch);
+        return Err(EndError::NoMemory);
+    }
+    match journal.append(bytes.as_slice()) {
+        Ok(()) => Ok(()),
+        Err(error) => {
+            node.retreat(slots, epoch);
+            Err(error)
+        }
+    }
+}
+
 // Applies `event`. If the node accepted it, appends `copy` (the same event) to the journal. The node's answer is left
 // in `made`.
 // rule: Persistence: A dropped event changes nothing and is not kept
@@ -150,7 +172,10 @@ fn apply_then_append<M: Sequenced, D: Disk>(
     let epoch = node.epoch();
     *made = node.take(alloc, event);
     match made {
-        NodeAnswer::Taken(_) => append_or_retreat(node, journal, copy, slots, epoch),
+        NodeAnswer::Taken(outcome) => match &outcome.entered {
+            Some(bytes) => append_snapshot(node, journal, bytes, slots, epoch),
+            None => append_or_retreat(node, journal, copy, slots, epoch),
+        },
         _ => Ok(()),
     }
 }

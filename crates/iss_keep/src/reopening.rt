@@ -11,11 +11,12 @@ ghost use Rattle.iss_node.specs.State.{RefinesCore};
 
 use crate::entries::decode_entry;
 use iss_disk::Disk;
-use iss_journal::{AttachError, Journal};
+use iss_journal::{AttachError, Entries, Journal};
 use iss_keys::SharedDirectory;
-use iss_node::{Answer, Node};
+use iss_node::{Answer, Node, Rebuilding};
 use iss_request::{NoMemory, NodeId, Setup};
 use iss_sb::Sequenced;
+use iss_snapshot::KIND;
 use std::alloc::Global;
 
 /// A node that took no event, with unused keys.
@@ -50,11 +51,58 @@ fn replay_entry<M: Sequenced>(
     let Some(event) = decode_entry(alloc, n, entry)? else {
         return Ok(false);
     };
-    match node.take(alloc, event) {
+    match node.replay(alloc, event) {
         Answer::Taken(_outcome) => Ok(true),
         Answer::Dropped(_why) => Ok(false),
         Answer::NoMemory => Err(NoMemory),
         Answer::Stale => Err(NoMemory),
+    }
+}
+
+// The place behind the last snapshot.
+fn behind_snapshots(entries: &Entries) -> usize {
+    let mut behind = 0;
+    for k in 0..entries.len() {
+        if is_snapshot(entries.get(k)) {
+            behind = k + 1;
+        }
+    }
+    behind
+}
+
+fn is_snapshot(entry: &[u8]) -> bool {
+    entry.first() == Some(&KIND)
+}
+
+// The node that the snapshots of the journal lead to.
+fn rebuild_front<M: Sequenced, D: Disk>(
+    alloc: Global,
+    setup: &Setup,
+    directory: &SharedDirectory,
+    me: NodeId,
+    journal: &Journal<D>,
+) -> Result<Node<M>, AttachError> {
+    let Ok(mut rebuilding) = Rebuilding::start(alloc, setup, directory, me) else {
+        return Err(AttachError::NoMemory);
+    };
+    let entries = journal.entries();
+    for k in 0..entries.len() {
+        if !is_snapshot(entries.get(k)) {
+            continue;
+        }
+        match rebuilding.read(entries.get(k)) {
+            Ok(true) => {}
+            Ok(false) => {
+                return Err(AttachError::Damaged {
+                    at: journal.gate_of(k),
+                });
+            }
+            Err(_) => return Err(AttachError::NoMemory),
+        }
+    }
+    match rebuilding.finish() {
+        Ok(node) => Ok(node),
+        Err(_) => Err(AttachError::NoMemory),
     }
 }
 
@@ -80,11 +128,10 @@ fn replay<M: Sequenced, D: Disk>(
         StopsAt setup.now M.spec me.0 at (entries_of journal.now) }
     ensures sound { IsErrOf result AttachError.Failed → ⊥ }
 {
-    let Ok(mut node) = start_fresh::<M>(alloc, setup, directory, me) else {
-        return Err(AttachError::NoMemory);
-    };
     let entries = journal.entries();
-    for k in 0..entries.len() {
+    let behind = behind_snapshots(entries);
+    let mut node = rebuild_front::<M, D>(alloc, setup, directory, me, journal)?;
+    for k in behind..entries.len() {
         let Ok(taken) = replay_entry(alloc, setup.n, &mut node, entries.get(k)) else {
             return Err(AttachError::NoMemory);
         };

@@ -24,5 +24,5 @@ pub mod votes;
 
 pub use answers::{Accepted, Answer, Outcome};
 pub use node::Node;
-pub use rebuilding::Rebuilt;
+pub use rebuilding::{Rebuilding, Rebuilt};
 pub use slims::nodes_stand_for_slims;

@@ -16,7 +16,7 @@ ghost use Rattle.iss_node.specs.State.{RefinesCore, RefinesPast, accepted_of};
 ghost use Rattle.iss_request.specs.Log.{ids};
 ghost use Rattle.iss_node.specs.Steps.{HasRetreated, IsAnswer, IsHeldStepOf, IsLeft, IsOfNodes, IsSameNode};
 
-use crate::answers::{Accepted, Answer, StepResult};
+use crate::answers::{Accepted, Answer, Outcome, StepResult};
 use crate::flight::Flight;
 use crate::starting::start_segments;
 use crate::saved::Saved;

@@ -28,6 +28,63 @@ pub enum Rebuilt<M: Sequenced> {
     NoMemory,
 }
 
+/// A node that reads its snapshots, one after the other.
+#[derive(Drop)]
+pub struct Rebuilding<M: Sequenced> {
+    alloc: Global,
+    node: Node<M>,
+    // The early messages of the last snapshot.
+    early: Vec<Early<M::Msg>>,
+}
+
+impl<M: Sequenced> Rebuilding<M> {
+    /// A node that took no event, with unused keys.
+    pub fn start(
+        alloc: Global,
+        setup: &Setup,
+        directory: &SharedDirectory,
+        me: NodeId,
+    ) -> Result<Rebuilding<M>, NoMemory>
+        requires good { IsSetupOf M.spec setup.now }
+        requires directory { directory.now ≡ keys_of setup.now }
+        requires me { me.0 < setup.now.n }
+    {
+        let keys = directory.directory().keys_of_node(alloc, me.0);
+        let mut node = Node::start(alloc, setup, directory, me, keys)?;
+        node.state.writes = false;
+        Ok(Rebuilding {
+            alloc,
+            node,
+            early: Vec::new(alloc),
+        })
+    }
+
+    /// Goes on with a snapshot. `false` if the bytes are no snapshot, do not continue those before, or have a part that
+    /// the node would drop; the node must not be used afterwards.
+    pub fn read(&mut self, bytes: &[u8]) -> Result<bool, NoMemory> {
+        match self.node.state.read_entry(self.alloc, bytes)? {
+            Some(early) => {
+                self.early = early;
+                Ok(true)
+            }
+            None => Ok(false),
+        }
+    }
+
+    /// The node, with the early messages of the last snapshot taken.
+    pub fn finish(self) -> Result<Node<M>, NoMemory> {
+        let Rebuilding {
+            alloc,
+            mut node,
+            early,
+        } = self;
+        node.state
+            .take_each(alloc, Outcome::nothing(alloc), early)?;
+        node.state.writes = true;
+        Ok(node)
+    }
+}
+
 impl<M: Sequenced> Node<M> {
     /// The node that these snapshots lead to, with the early messages of the last taken. Without any, a node that took
     /// no event, with unused keys.
@@ -42,20 +99,18 @@ impl<M: Sequenced> Node<M> {
         requires directory { directory.now ≡ keys_of setup.now }
         requires me { me.0 < setup.now.n }
     {
-        let keys = directory.directory().keys_of_node(alloc, me.0);
-        let Ok(mut node) = Node::start(alloc, setup, directory, me, keys) else {
+        let Ok(mut rebuilding) = Rebuilding::start(alloc, setup, directory, me) else {
             return Rebuilt::NoMemory;
         };
-        let mut early = Vec::new(alloc);
         for index in 0..entries.len() {
-            match node.state.read_entry(alloc, entries[index].as_slice()) {
-                Ok(Some(messages)) => early = messages,
-                Ok(None) => return Rebuilt::BadEntry { index },
+            match rebuilding.read(entries[index].as_slice()) {
+                Ok(true) => {}
+                Ok(false) => return Rebuilt::BadEntry { index },
                 Err(_) => return Rebuilt::NoMemory,
             }
         }
-        match node.state.take_each(alloc, Outcome::nothing(alloc), early) {
-            Ok(_) => Rebuilt::Rebuilt(node),
+        match rebuilding.finish() {
+            Ok(node) => Rebuilt::Rebuilt(node),
             Err(_) => Rebuilt::NoMemory,
         }
     }
