@@ -4,3 +4,4 @@ pub mod Views
 pub mod EntryViews
 pub mod Promises
 pub mod Sound
+pub mod Retained
