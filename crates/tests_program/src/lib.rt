@@ -1,6 +1,6 @@
-//! Tests of what no schedule can show. The top call with sources and sinks that fail, and a world with echo, a module
-//! that the program does not run. In that world one node is Byzantine, or one byte of a packet is changed. And
-//! clusters over links in memory.
+//! Tests of what no schedule can show. The top call with sources, sinks, links and disks that fail, and with running
+//! nodes. And a world with echo, a module that the program does not run: one node is Byzantine in it, or one byte of a
+//! packet is changed.
 #![tactic(auto)]
 
 pub mod ends;

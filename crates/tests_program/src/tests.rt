@@ -1,6 +1,5 @@
 //! Tests of public calls only.
 mod calls;
-mod clusters;
 mod damaged;
 mod four;
 mod liars;

@@ -1,52 +1,47 @@
-//! The orders that run nodes, over links and disks in memory, some of which fail. The expected logs follow from the
-//! rules: node 0 alone casts a slot in its first turn, and its own Commit fills the slot in the second.
+//! The orders that run nodes, over links and disks in memory, some of which fail. The lengths of traces were computed
+//! by an independent program. The expected logs follow from the rules: node 0 alone casts a slot in its first turn, and
+//! its own Commit fills the slot in the second.
 use crate::tests::calls::{answer, call_over};
 use iss_disk::{Disk, MemoryDisk};
-use iss_links::{FailingLinks, MemoryLinks};
+use iss_links::{FailingLinks, MemoryLinks, UdpLinks};
 use std::test::Fail;
 
-const FOUR_NODES: &str =
-    "module = \"pbft\"\nf = 1\nepoch = 4\nbuckets = 4\nbatch = 4\nwindow = 8\npolicy = \"simple\"\n\
-     clients = 8\nkeys = 6\nrequests = 8\nturns = 400\n";
+const HEADER_LINES: usize = 11;
+
+// A configuration without its module and its number of faults.
+const SIZES: &str =
+    "epoch = 4\nbuckets = 4\nbatch = 4\nwindow = 8\npolicy = \"simple\"\nclients = 2\nkeys = 6\n\
+     requests = 4\nturns = 100\n";
+
+// Each module with its faults, and how many events its cluster's trace has.
+const CLUSTERS: [(&str, u32, usize); 5] = [
+    ("relay", 0, 372),
+    ("raft", 1, 328),
+    ("pbft", 1, 428),
+    ("hotstuff", 1, 432),
+    ("chained", 1, 431),
+];
 
 // One node, without its last line.
 const ONE_NODE: &str =
     "module = \"pbft\"\nf = 0\nepoch = 1\nbuckets = 1\nbatch = 4\nwindow = 8\npolicy = \"simple\"\n\
      clients = 1\nkeys = 4\nrequests = 0\n";
 
-// What may not stand in place of its last line, `turns = 1`.
-const BAD_ENDS: [&str; 5] = [
-    "",
-    "turns = 0\n",
-    "turns = \"1\"\n",
-    "turns = 1\nnodes = 1\n",
-    "turns = 1\nturns = 1\n",
-];
-
-const REFUSED: &[u8] = b"refused configuration\n";
-
-const MOST_BYTES: usize = 16_777_216;
-
-// Where a line of its own begins in the text.
-fn place_of(text: &[u8], line: &[u8]) -> Option<usize> {
-    text.windows(line.len()).position(|part| part == line)
-}
-
 #[test]
 fn a_replay_of_a_clusters_trace_prints_its_report(rt: HostRuntime) -> Result<(), Fail> {
-    let (status, text) = answer(rt.alloc(), "cluster 20000", FOUR_NODES.as_bytes())?;
-    assert_eq!(rt; status, 0);
-    let Some(end) = place_of(&text, b"\nreport\n") else {
-        panic!(&rt; "the output has a line `report`");
-    };
-    let (status, report) = answer(rt.alloc(), "replay", &text[..end + 1])?;
-    assert_eq!(rt; status, 0);
-    assert_eq!(rt; report.as_slice(), &text[end + 8..]);
-    let full = b" requests 8\n".as_slice();
-    assert!(rt;
-        place_of(&report, full).is_some(),
-        "the nodes order all requests"
-    );
+    for (module, f, events) in CLUSTERS {
+        let config = format!(in rt.alloc(); "module = \"{module}\"\nf = {f}\n{SIZES}")?;
+        let (status, text) = answer(rt.alloc(), "cluster 20000", config.as_bytes())?;
+        assert_eq!(rt; status, 0, "{module}");
+        let text = str::from_utf8(&text)?;
+        let Some((trace, report)) = text.split_once("report\n") else {
+            panic!(&rt; "the output has a line `report`");
+        };
+        assert_eq!(rt; trace.lines().count(), HEADER_LINES + events, "{module}");
+        let (status, replayed) = answer(rt.alloc(), "replay", trace.as_bytes())?;
+        assert_eq!(rt; status, 0, "{module}");
+        assert_eq!(rt; replayed.as_slice(), report.as_bytes(), "{module}");
+    }
     Ok(())
 }
 
@@ -69,6 +64,30 @@ fn a_node_runs_for_its_turns(rt: HostRuntime) -> Result<(), Fail> {
     Ok(())
 }
 
+// What the node prints for these turns over UDP, at the first free port.
+fn printed_over_udp(rt: &HostRuntime, config: &[u8]) -> Result<Vec<u8>, Fail> {
+    for i in 0..1000u32 {
+        let line = format!(in rt.alloc(); "node 0 {} journal", 20_000 + 31 * i)?;
+        let mut links = UdpLinks::new(rt, rt.alloc());
+        let mut disk = MemoryDisk::new(rt.alloc())?;
+        let (status, text) = call_over(rt.alloc(), &line, config, &mut links, &mut disk)?;
+        if status != 8 {
+            assert_eq!(rt; status, 0);
+            return Ok(text);
+        }
+    }
+    panic!(rt; "no port is free");
+}
+
+#[test]
+fn a_node_runs_over_udp(rt: HostRuntime) -> Result<(), Fail> {
+    let config = format!(in rt.alloc(); "{ONE_NODE}turns = 1000\n")?;
+    let text = printed_over_udp(&rt, config.as_bytes())?;
+    let first = b"node 0 epoch 0 slots 0".as_slice();
+    assert!(rt; !text.starts_with(first), "a slot is filled");
+    Ok(())
+}
+
 #[test]
 fn a_node_goes_on_from_its_journal(rt: HostRuntime) -> Result<(), Fail> {
     let mut disk = MemoryDisk::new(rt.alloc())?;
@@ -86,49 +105,10 @@ fn a_node_goes_on_from_its_journal(rt: HostRuntime) -> Result<(), Fail> {
 
 #[test]
 fn a_node_is_one_of_the_cluster(rt: HostRuntime) -> Result<(), Fail> {
-    for line in ["node 4 20000 journal", "node 9 20000 journal"] {
-        let mut links = FailingLinks::new(
-            MemoryLinks::new(rt.alloc())?,
-            vec![in rt.alloc(); 0u64; 1]?,
-        );
-        let mut disk = MemoryDisk::new(rt.alloc())?;
-        let (status, text) = call_over(
-            rt.alloc(),
-            line,
-            FOUR_NODES.as_bytes(),
-            &mut links,
-            &mut disk,
-        )?;
-        assert_eq!(rt; status, 11, "{line}");
-        assert_eq!(rt; text.as_slice(), REFUSED, "{line}");
-    }
-    Ok(())
-}
-
-#[test]
-fn other_texts_are_refused(rt: HostRuntime) -> Result<(), Fail> {
-    for end in BAD_ENDS {
-        let text = format!(in rt.alloc(); "{ONE_NODE}{end}")?;
-        for line in ["cluster 20000", "node 0 20000 journal"] {
-            let (status, text) = answer(rt.alloc(), line, text.as_bytes())?;
-            assert_eq!(rt; status, 11, "{line}: {end}");
-            assert_eq!(rt; text.as_slice(), REFUSED, "{line}: {end}");
-        }
-    }
-    Ok(())
-}
-
-#[test]
-fn a_longer_text_is_refused(rt: HostRuntime) -> Result<(), Fail> {
-    let mut long = Vec::new(rt.alloc());
-    long.extend_from_slice(ONE_NODE.as_bytes())?;
-    long.extend_from_slice(b"turns = 1\n#")?;
-    long.resize(MOST_BYTES + 1, b'x')?;
-    for line in ["cluster 20000", "node 0 20000 journal"] {
-        let (status, text) = answer(rt.alloc(), line, &long)?;
-        assert_eq!(rt; status, 11, "{line}");
-        assert_eq!(rt; text.as_slice(), REFUSED, "{line}");
-    }
+    let config = format!(in rt.alloc(); "{ONE_NODE}turns = 1\n")?;
+    let (status, text) = answer(rt.alloc(), "node 1 20000 journal", config.as_bytes())?;
+    assert_eq!(rt; status, 11);
+    assert_eq!(rt; text.as_slice(), b"refused configuration\n".as_slice());
     Ok(())
 }
 
