@@ -9,6 +9,20 @@ const FOUR_NODES: &str =
     "module = \"pbft\"\nf = 1\nepoch = 4\nbuckets = 4\nbatch = 4\nwindow = 8\npolicy = \"simple\"\n\
      clients = 8\nkeys = 6\nrequests = 8\nturns = 400\n";
 
+// Each module with its faults.
+const CLUSTERS: [(&str, u32); 5] = [
+    ("relay", 0),
+    ("raft", 1),
+    ("pbft", 1),
+    ("hotstuff", 1),
+    ("chained", 1),
+];
+
+// A configuration without its module and its faults.
+const SIZES: &str =
+    "epoch = 4\nbuckets = 4\nbatch = 4\nwindow = 8\npolicy = \"simple\"\nclients = 8\nkeys = 6\n\
+     requests = 8\nturns = 400\n";
+
 // One node, without its last line.
 const ONE_NODE: &str =
     "module = \"pbft\"\nf = 0\nepoch = 1\nbuckets = 1\nbatch = 4\nwindow = 8\npolicy = \"simple\"\n\
@@ -29,19 +43,18 @@ const MOST_BYTES: usize = 16_777_216;
 
 #[test]
 fn a_replay_of_a_clusters_trace_prints_its_report(rt: HostRuntime) -> Result<(), Fail> {
-    let (status, text) = answer(rt.alloc(), "cluster 20000", FOUR_NODES.as_bytes())?;
-    assert_eq!(rt; status, 0);
-    let text = str::from_utf8(&text)?;
-    let (trace, printed) = text
-        .split_once("report\n")
-        .ok_or("the output has no line `report`")?;
-    let (status, report) = answer(rt.alloc(), "replay", trace.as_bytes())?;
-    assert_eq!(rt; status, 0);
-    assert_eq!(rt; report.as_slice(), printed.as_bytes());
-    assert!(rt;
-        printed.split_once(" requests 8\n").is_some(),
-        "the nodes order all requests"
-    );
+    for (module, f) in CLUSTERS {
+        let config = format!(in rt.alloc(); "module = \"{module}\"\nf = {f}\n{SIZES}")?;
+        let (status, text) = answer(rt.alloc(), "cluster 20000", config.as_bytes())?;
+        assert_eq!(rt; status, 0, "{module}");
+        let text = str::from_utf8(&text)?;
+        let (trace, printed) = text.split_once("report\n").ok_or("no line `report`")?;
+        let (status, report) = answer(rt.alloc(), "replay", trace.as_bytes())?;
+        assert_eq!(rt; status, 0, "{module}");
+        assert_eq!(rt; report.as_slice(), printed.as_bytes(), "{module}");
+        let all = printed.split_once(" requests 8\n").is_some();
+        assert!(rt; all, "{module} orders all requests");
+    }
     Ok(())
 }
 
