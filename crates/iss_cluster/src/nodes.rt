@@ -47,25 +47,6 @@ impl<M: Sequenced, D: Disk> Model for RunningNode<M, D> {
     ghost invariant = { λ v. IsRunning M.spec M.refines D.history v.nodes v.me v.kept };
 }
 
-impl<M: Sequenced, D: Disk + Drop> RunningNode<M, D> {
-    /// Node `me` of the cluster with this configuration, over the current file of `disk`. It has not read its journal.
-    /// The only error is out of memory.
-    pub fn over(
-        alloc: Global,
-        config: &Config,
-        me: NodeId,
-        disk: D,
-    ) -> Result<RunningNode<M, D>, NoMemory>
-        requires range { IsInRange config.now }
-        requires good { IsSetupOf M.spec (setup_of config.now) }
-        requires me { me.0 < (setup_of config.now).n }
-        ensures same { IfOk result (λ v. (v.setup ≡ setup_of config.now) × (v.me ≡ me)) }
-        ensures disk { IfOk result (λ v. v.disk ≡ disk) }
-    {
-        Ok(RunningNode::of(start_node(alloc, config, me)?, disk))
-    }
-}
-
 /// Node `me` of the cluster with this configuration, without a journal. The only error is out of memory.
 pub fn start_node<M: Sequenced>(
     alloc: Global,

@@ -1,5 +1,5 @@
-//! Keys that a directory hands out, compared with another program's results. Numbers, heights and leaves are parameters,
-//! so that the tactics evaluate no key.
+//! Keys that a directory hands out, compared with another program's results. Numbers, heights and leaves are
+//! parameters, so that the tactics evaluate no key.
 ghost use Rattle.std.specs.Prelude.{◌<◌, ◌≤◌, ◌^◌, IfSome, length, slice_get};
 ghost use Rattle.iss_base.specs.Heights.{IsHeight};
 
