@@ -1,13 +1,9 @@
-//! The orders that run nodes, over links and disks in memory, some of which fail. The expected logs follow from the
-//! rules: node 0 alone casts a slot in its first turn, and its own Commit fills the slot in the second.
+//! The orders that run nodes, over links and disks in memory, some of which fail, and over UDP. The expected logs follow
+//! from the rules: node 0 alone casts a slot in its first turn, and its own Commit fills the slot in the second.
 use crate::tests::calls::{answer, call_over};
 use iss_disk::{Disk, MemoryDisk};
-use iss_links::{FailingLinks, MemoryLinks};
+use iss_links::{FailingLinks, MemoryLinks, UdpLinks};
 use std::test::Fail;
-
-const FOUR_NODES: &str =
-    "module = \"pbft\"\nf = 1\nepoch = 4\nbuckets = 4\nbatch = 4\nwindow = 8\npolicy = \"simple\"\n\
-     clients = 8\nkeys = 6\nrequests = 8\nturns = 400\n";
 
 // Each module with its faults.
 const CLUSTERS: [(&str, u32); 5] = [
@@ -23,19 +19,10 @@ const SIZES: &str =
     "epoch = 4\nbuckets = 4\nbatch = 4\nwindow = 8\npolicy = \"simple\"\nclients = 8\nkeys = 6\n\
      requests = 8\nturns = 400\n";
 
-// One node, without its last line.
+// One node, without the height of its keys and its turns.
 const ONE_NODE: &str =
     "module = \"pbft\"\nf = 0\nepoch = 1\nbuckets = 1\nbatch = 4\nwindow = 8\npolicy = \"simple\"\n\
-     clients = 1\nkeys = 4\nrequests = 0\n";
-
-// What may not stand in place of its last line, `turns = 1`.
-const BAD_ENDS: [&str; 5] = [
-    "",
-    "turns = 0\n",
-    "turns = \"1\"\n",
-    "turns = 1\nnodes = 1\n",
-    "turns = 1\nturns = 1\n",
-];
+     clients = 1\nrequests = 0\n";
 
 const REFUSED: &[u8] = b"refused configuration\n";
 
@@ -60,14 +47,14 @@ fn a_replay_of_a_clusters_trace_prints_its_report(rt: HostRuntime) -> Result<(),
 
 #[test]
 fn a_node_runs_for_its_turns(rt: HostRuntime) -> Result<(), Fail> {
-    let one = format!(in rt.alloc(); "{ONE_NODE}turns = 1\n")?;
+    let one = format!(in rt.alloc(); "{ONE_NODE}keys = 4\nturns = 1\n")?;
     let (status, text) = answer(rt.alloc(), "node 0 20000 journal", one.as_bytes())?;
     assert_eq!(rt; status, 0);
     assert_eq!(rt;
         text.as_slice(),
         b"node 0 epoch 0 slots 0 requests 0\nend ok\n".as_slice()
     );
-    let two = format!(in rt.alloc(); "{ONE_NODE}turns = 2\n")?;
+    let two = format!(in rt.alloc(); "{ONE_NODE}keys = 4\nturns = 2\n")?;
     let (status, text) = answer(rt.alloc(), "node 0 20000 journal", two.as_bytes())?;
     assert_eq!(rt; status, 0);
     assert_eq!(rt;
@@ -80,7 +67,7 @@ fn a_node_runs_for_its_turns(rt: HostRuntime) -> Result<(), Fail> {
 #[test]
 fn a_node_goes_on_from_its_journal(rt: HostRuntime) -> Result<(), Fail> {
     let mut disk = MemoryDisk::new(rt.alloc())?;
-    let two = format!(in rt.alloc(); "{ONE_NODE}turns = 2\n")?;
+    let two = format!(in rt.alloc(); "{ONE_NODE}keys = 4\nturns = 2\n")?;
     for slots in 1..4u32 {
         let mut links = MemoryLinks::new(rt.alloc())?;
         let line = "node 0 20000 journal";
@@ -92,37 +79,37 @@ fn a_node_goes_on_from_its_journal(rt: HostRuntime) -> Result<(), Fail> {
     Ok(())
 }
 
-#[test]
-fn a_node_is_one_of_the_cluster(rt: HostRuntime) -> Result<(), Fail> {
-    for line in ["node 4 20000 journal", "node 9 20000 journal"] {
-        let mut links = FailingLinks::new(
-            MemoryLinks::new(rt.alloc())?,
-            vec![in rt.alloc(); 0u64; 1]?,
-        );
-        let mut disk = MemoryDisk::new(rt.alloc())?;
-        let (status, text) = call_over(
-            rt.alloc(),
-            line,
-            FOUR_NODES.as_bytes(),
-            &mut links,
-            &mut disk,
-        )?;
-        assert_eq!(rt; status, 11, "{line}");
-        assert_eq!(rt; text.as_slice(), REFUSED, "{line}");
-    }
-    Ok(())
-}
-
-#[test]
-fn other_texts_are_refused(rt: HostRuntime) -> Result<(), Fail> {
-    for end in BAD_ENDS {
-        let text = format!(in rt.alloc(); "{ONE_NODE}{end}")?;
-        for line in ["cluster 20000", "node 0 20000 journal"] {
-            let (status, text) = answer(rt.alloc(), line, text.as_bytes())?;
-            assert_eq!(rt; status, 11, "{line}: {end}");
-            assert_eq!(rt; text.as_slice(), REFUSED, "{line}: {end}");
+// Runs node 0 over UDP at the first free port, and over a disk. Its exit status, and what it prints.
+fn answer_over_udp(
+    rt: &HostRuntime,
+    config: &str,
+    disk: &mut MemoryDisk,
+) -> Result<(u8, Vec<u8>), Fail> {
+    for i in 0..1000u32 {
+        let line = format!(in rt.alloc(); "node 0 {} journal", 20_000 + 31 * i)?;
+        let mut links = UdpLinks::new(rt, rt.alloc());
+        let (status, text) = call_over(rt.alloc(), &line, config.as_bytes(), &mut links, disk)?;
+        if status != 8 {
+            return Ok((status, text));
         }
     }
+    panic!(rt; "no port is free");
+}
+
+// With so many leaves the node never waits for a frame in vain, each time for some milliseconds. One turn fills no slot,
+// so the second run prints what the journal holds.
+#[test]
+fn a_node_runs_over_udp_and_goes_on(rt: HostRuntime) -> Result<(), Fail> {
+    let mut disk = MemoryDisk::new(rt.alloc())?;
+    let config = format!(in rt.alloc(); "{ONE_NODE}keys = 10\nturns = 1000\n")?;
+    let (status, text) = answer_over_udp(&rt, &config, &mut disk)?;
+    assert_eq!(rt; status, 0);
+    let slot = str::from_utf8(&text)?.lines().nth(1);
+    assert_eq!(rt; slot, Some("0 0 0"));
+    let config = format!(in rt.alloc(); "{ONE_NODE}keys = 10\nturns = 1\n")?;
+    let (status, again) = answer_over_udp(&rt, &config, &mut disk)?;
+    assert_eq!(rt; status, 0);
+    assert_eq!(rt; again, text);
     Ok(())
 }
 
@@ -130,7 +117,7 @@ fn other_texts_are_refused(rt: HostRuntime) -> Result<(), Fail> {
 fn a_longer_text_is_refused(rt: HostRuntime) -> Result<(), Fail> {
     let mut long = Vec::new(rt.alloc());
     long.extend_from_slice(ONE_NODE.as_bytes())?;
-    long.extend_from_slice(b"turns = 1\n#")?;
+    long.extend_from_slice(b"keys = 4\nturns = 1\n#")?;
     long.resize(MOST_BYTES + 1, b'x')?;
     for line in ["cluster 20000", "node 0 20000 journal"] {
         let (status, text) = answer(rt.alloc(), line, &long)?;
@@ -142,7 +129,7 @@ fn a_longer_text_is_refused(rt: HostRuntime) -> Result<(), Fail> {
 
 #[test]
 fn failing_links_are_told(rt: HostRuntime) -> Result<(), Fail> {
-    let config = format!(in rt.alloc(); "{ONE_NODE}turns = 2\n")?;
+    let config = format!(in rt.alloc(); "{ONE_NODE}keys = 4\nturns = 2\n")?;
     for line in ["cluster 20000", "node 0 20000 journal"] {
         for call in 0..3u64 {
             let failing = vec![in rt.alloc(); call; 1]?;
@@ -164,7 +151,7 @@ fn failing_links_are_told(rt: HostRuntime) -> Result<(), Fail> {
 
 #[test]
 fn failing_disks_are_told(rt: HostRuntime) -> Result<(), Fail> {
-    let config = format!(in rt.alloc(); "{ONE_NODE}turns = 2\n")?;
+    let config = format!(in rt.alloc(); "{ONE_NODE}keys = 4\nturns = 2\n")?;
     for call in 0..4usize {
         let mut outcomes = vec![in rt.alloc(); true; call]?;
         outcomes.push(false)?;
@@ -180,7 +167,7 @@ fn failing_disks_are_told(rt: HostRuntime) -> Result<(), Fail> {
 
 #[test]
 fn a_damaged_journal_is_told(rt: HostRuntime) -> Result<(), Fail> {
-    let config = format!(in rt.alloc(); "{ONE_NODE}turns = 2\n")?;
+    let config = format!(in rt.alloc(); "{ONE_NODE}keys = 4\nturns = 2\n")?;
     let mut links = MemoryLinks::new(rt.alloc())?;
     let mut disk = MemoryDisk::new(rt.alloc())?;
     disk.attach("journal")?;
