@@ -15,7 +15,7 @@ ghost use Rattle.iss_node.specs.declared.answers.Outcome.{Outcome};
 
 use crate::entries::{ASK, PACKET, PROPOSE, TIMEOUT};
 use iss_disk::{Disk, EndError};
-use iss_journal::Journal;
+use iss_journal::{Journal, Part};
 use iss_node::{Answer as NodeAnswer, Node};
 use iss_request::{Epoch, NoMemory};
 use iss_rules::NodeEvent;
@@ -48,16 +48,17 @@ fn entry_len(event: &NodeEvent) -> u64
     }
 }
 
-// Appends the entry of an event: its kind byte and its content.
+// Appends the entry of an event: its kind byte and its content. A packet's bytes are shared, not copied, if they
+// support that.
 #[inline(always)]
-fn append_event<D: Disk>(journal: &mut Journal<D>, event: &NodeEvent) -> Result<(), EndError>
+fn append_event<D: Disk>(journal: &mut Journal<D>, event: NodeEvent) -> Result<(), EndError>
     requires sound { IsSound D.history D.room journal.old }
     requires attached { is_attached journal.old ≡ true }
-    requires short { length (spell_event event.now) ≤ max_entry }
-    ensures entries { OnOk result (entries_of journal.new ≡ entries_of journal.old ++ spell_event event.now ∷ []) }
+    requires short { length (spell_event event) ≤ max_entry }
+    ensures entries { OnOk result (entries_of journal.new ≡ entries_of journal.old ++ spell_event event ∷ []) }
     ensures err { OnErr result (entries_of journal.new ≡ entries_of journal.old) }
     ensures attached { OnOk result (is_attached journal.new ≡ true) }
-    ensures any_moment { LeavesOnly (HoldsWithOrWithout (entries_of journal.old) (spell_event event.now))
+    ensures any_moment { LeavesOnly (HoldsWithOrWithout (entries_of journal.old) (spell_event event))
         (D.history (disk_of journal.old)) (D.history (disk_of journal.new)) }
     ensures durable { OnOk result
         (IfTold (D.history (disk_of journal.new))
@@ -74,10 +75,10 @@ fn append_event<D: Disk>(journal: &mut Journal<D>, event: &NodeEvent) -> Result<
     ensures sound { IsSound D.history D.room journal.new }
 {
     match event {
-        NodeEvent::Packet(bytes) => journal.append_parts(&[PACKET], bytes.as_slice()),
-        NodeEvent::Propose => journal.append_parts(&[PROPOSE], &[]),
-        NodeEvent::Timeout(leader) => journal.append_parts(&[TIMEOUT], &[leader.0]),
-        NodeEvent::AskFrom(peer) => journal.append_parts(&[ASK], &[peer.0]),
+        NodeEvent::Packet(bytes) => journal.append_parts(&[PACKET], Part::Shared(bytes)),
+        NodeEvent::Propose => journal.append_parts(&[PROPOSE], Part::Copied(&[])),
+        NodeEvent::Timeout(leader) => journal.append_parts(&[TIMEOUT], Part::Copied(&[leader.0])),
+        NodeEvent::AskFrom(peer) => journal.append_parts(&[ASK], Part::Copied(&[peer.0])),
     }
 }
 
@@ -89,16 +90,16 @@ fn append_event<D: Disk>(journal: &mut Journal<D>, event: &NodeEvent) -> Result<
 fn append_or_retreat<M: Sequenced, D: Disk>(
     node: &mut Node<M>,
     journal: &mut Journal<D>,
-    event: &NodeEvent,
+    event: NodeEvent,
     slots: usize,
     epoch: Epoch,
 ) -> Result<(), EndError>
     requires sound { IsSound D.history D.room journal.old }
     requires attached { is_attached journal.old ≡ true }
-    requires short { length (spell_event event.now) ≤ max_entry }
+    requires short { length (spell_event event) ≤ max_entry }
     requires slots { slots ≤ length node.old.state.log.entries }
     requires epoch { epoch.0 ≤ node.old.state.epoch }
-    ensures written { (outcome : Outcome) → IsWritten (entries_of journal.old) (spell_event event.now)
+    ensures written { (outcome : Outcome) → IsWritten (entries_of journal.old) (spell_event event)
         (sight D.history D.passes D.faults D.current D.files (disk_of journal.old))
         (sight D.history D.passes D.faults D.current D.files (disk_of journal.new)) (entries_of journal.new)
         (released (Node_taken outcome) result) }
@@ -129,15 +130,15 @@ fn apply_then_append<M: Sequenced, D: Disk>(
     node: &mut Node<M>,
     journal: &mut Journal<D>,
     event: NodeEvent,
-    copy: &NodeEvent,
+    copy: NodeEvent,
     made: &mut NodeAnswer,
 ) -> Result<(), EndError>
     requires good { IsSetupOf M.spec node.old.state.setup }
     requires refines { (c : Core M.Msg) × RefinesCore M.spec M.refines node.old c }
     requires sound { IsSound D.history D.room journal.old }
     requires attached { is_attached journal.old ≡ true }
-    requires copy { copy.now ≡ event }
-    ensures written { IsWritten (entries_of journal.old) (spell_event copy.now)
+    requires copy { copy ≡ event }
+    ensures written { IsWritten (entries_of journal.old) (spell_event copy)
         (sight D.history D.passes D.faults D.current D.files (disk_of journal.old))
         (sight D.history D.passes D.faults D.current D.files (disk_of journal.new)) (entries_of journal.new)
         (released made.new result) }
@@ -186,5 +187,5 @@ pub(crate) fn journal_and_apply<M: Sequenced, D: Disk>(
     if journal.reserve(entry_len(&copy)).is_err() {
         return Err(EndError::NoMemory);
     }
-    apply_then_append(alloc, node, journal, event, &copy, made)
+    apply_then_append(alloc, node, journal, event, copy, made)
 }

@@ -1,5 +1,5 @@
 // Recovery: a node is rebuilt by replaying the entries of its journal.
-ghost use Rattle.std.specs.Prelude.{◌≡◌, ◌<◌, ℕ, true, IfOk, IsErrOf, OnOk};
+ghost use Rattle.std.specs.Prelude.{◌≡◌, ◌<◌, ◌++◌, ℕ, true, IfOk, IsErrOf, OnOk};
 ghost use Rattle.iss_journal.specs.Sound.{IsSound, disk_of, entries_of, is_attached};
 ghost use Rattle.iss_keep.specs.Cores.{StopsAt};
 ghost use Rattle.iss_keep.specs.Internal.Replays.{GoesTo, IsOf, IsReplayed};
@@ -58,6 +58,35 @@ fn replay_entry<M: Sequenced>(
     }
 }
 
+// Replays an entry that is given in two parts.
+fn replay_parts<M: Sequenced>(
+    alloc: Global,
+    n: u32,
+    node: &mut Node<M>,
+    head: &[u8],
+    tail: &[u8],
+) -> Result<bool, NoMemory>
+    requires { n ≡ node.old.state.setup.n }
+    ensures goes { IfOk result (λ taken. (c : Core M.Msg) → RefinesCore M.spec M.refines node.old c →
+        GoesTo node.old.state.setup M.spec M.refines node.old.state.me.0 c (head.now ++ tail.now) node.new taken) }
+    ensures same { (node.new.state.setup ≡ node.old.state.setup) × (node.new.state.me ≡ node.old.state.me) }
+{
+    if tail.is_empty() {
+        return replay_entry(alloc, n, node, head);
+    }
+    let entry = joined(alloc, head, tail)?;
+    replay_entry(alloc, n, node, &entry)
+}
+
+// Both lists of bytes as one.
+fn joined(alloc: Global, head: &[u8], tail: &[u8]) -> Result<Vec<u8>, NoMemory>
+    ensures { IfOk result (λ all. all.items ≡ head.now ++ tail.now) }
+{
+    let mut all = head.to_vec(alloc)?;
+    all.extend_from_slice(tail)?;
+    Ok(all)
+}
+
 // Replays all entries of the journal. `Damaged` has the gate offset of the first entry that does not decode or is
 // dropped.
 // rule: Persistence: A reopened node is that of its entries, with its next leaf
@@ -85,7 +114,8 @@ fn replay<M: Sequenced, D: Disk>(
     };
     let entries = journal.entries();
     for k in 0..entries.len() {
-        let Ok(taken) = replay_entry(alloc, setup.n, &mut node, entries.get(k)) else {
+        let (head, tail) = entries.get(k);
+        let Ok(taken) = replay_parts(alloc, setup.n, &mut node, head, tail) else {
             return Err(AttachError::NoMemory);
         };
         if !taken {

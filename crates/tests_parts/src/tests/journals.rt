@@ -1,6 +1,7 @@
 //! Journals, on a disk in memory and over a file of the operating system.
 use iss_disk::{Disk, FileDisk, MemoryDisk};
-use iss_journal::{AttachError, Journal};
+use iss_journal::{AttachError, Journal, Part};
+use iss_request::Bytes;
 use std::alloc::Global;
 use std::fs;
 use std::process::Abort;
@@ -49,10 +50,30 @@ fn an_append_writes_a_frame(rt: HostRuntime) -> Result<(), Fail> {
         journal.attach()?;
         journal.append(&[0xaa])?;
         assert_eq!(rt; journal.entries().len(), 1);
-        assert_eq!(rt; journal.entries().get(0), [0xaa].as_slice());
+        assert_eq!(rt; journal.entries().get(0).0, [0xaa].as_slice());
         assert_eq!(rt; journal.gate_of(0), 0);
     }
     assert_file(&rt, &mut disk, &[1, 0, 0, 0, 1, 0xaa, 0])
+}
+
+#[test]
+fn a_shared_part_is_of_the_entry(rt: HostRuntime) -> Result<(), Fail> {
+    let alloc = rt.alloc();
+    let mut disk = MemoryDisk::new(alloc)?;
+    {
+        let mut journal = Journal::over(alloc, &mut disk);
+        journal.attach()?;
+        let shared = Bytes::shared(Vec::from_slice(alloc, b"wo")?)?;
+        journal.append_parts(b"t", Part::Shared(shared))?;
+        journal.append(b"x")?;
+        assert_eq!(rt; journal.entries().len(), 2);
+        assert_eq!(rt; journal.entries().get(0), (b"t".as_slice(), b"wo".as_slice()));
+        assert_eq!(rt; journal.gate_of(1), 8);
+        journal.attach()?;
+        assert_eq!(rt; journal.entries().get(0).0, b"two".as_slice());
+        assert_eq!(rt; journal.gate_of(1), 8);
+    }
+    assert_file(&rt, &mut disk, b"\x01\0\0\0\x03two\x01\0\0\0\x01x\0")
 }
 
 #[test]
@@ -99,6 +120,6 @@ fn a_file_is_attached_anew(rt: HostRuntime) -> Result<(), Fail> {
     let journal = file_journal(&rt, name)?;
     fs::remove_file(&rt, name)?;
     assert_eq!(rt; journal.entries().len(), 1);
-    assert_eq!(rt; journal.entries().get(0), b"kept".as_slice());
+    assert_eq!(rt; journal.entries().get(0).0, b"kept".as_slice());
     Ok(())
 }

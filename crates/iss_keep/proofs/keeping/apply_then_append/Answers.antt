@@ -13,7 +13,7 @@ append_or_retreat-requires-clause-short g c =
     let answer : Answers g.M.Sequenced.spec g.M.Sequenced.refines c.args.event c.args.node.now c.take.new.self (Node_taken outcome) =
     subst (λ (a : NodeAnswer). Answers g.M.Sequenced.spec g.M.Sequenced.refines c.args.event c.args.node.now c.take.new.self a) c.in-Taken.is c.take.ensures.answer in
     short g.M.Sequenced.spec g.M.Sequenced.refines c.args.event c.args.node.now c.take.new.self outcome c.requires.good c.requires.refines c.take.ensures.same.0
-    c.take.ensures.same.1 answer c.args.copy.now c.requires.copy
+    c.take.ensures.same.1 answer c.args.copy c.requires.copy
 
 pub append_or_retreat-requires-clause-slots : goal.append_or_retreat-requires-clause-slots
 append_or_retreat-requires-clause-slots g c =
