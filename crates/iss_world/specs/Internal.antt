@@ -1,4 +1,3 @@
 -- Relations that only private contracts of this crate use: nobody above it reads them.
 pub mod Shape
 pub mod Steps
-pub mod Texts

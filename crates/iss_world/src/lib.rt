@@ -10,7 +10,6 @@ mod shown;
 pub mod simulation;
 mod stepping;
 pub mod strings;
-pub mod texts;
 pub mod world;
 
 pub use world::{EventResult, World};

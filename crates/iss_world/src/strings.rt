@@ -7,19 +7,16 @@ ghost use Rattle.iss_world.specs.Books.{AreHashed, difference};
 ghost use Rattle.iss_world.specs.Refines.{end_of};
 
 use crate::ends::Evidence;
-use crate::texts::{Text, kept};
 use iss_keys::Directory;
-use iss_request::{Bytes, NoMemory, Value};
+use iss_request::{Bytes, NoMemory};
 use std::alloc::Global;
 use std::collections::BTreeMap;
 use std::marker::Model;
 
-/// The hashed strings, by digest, in one version of the formats.
+/// The hashed strings, by digest.
 #[derive(Drop)]
 pub struct Strings {
-    alloc: Global,
-    version: u8,
-    all: BTreeMap<[u8; 32], Text>,
+    all: BTreeMap<[u8; 32], Bytes>,
 }
 
 impl Model for Strings {
@@ -42,26 +39,16 @@ fn digest(directory: &Directory, string: &[u8]) -> [u8; 32]
 
 impl Strings {
     /// Holds only the empty string. The only error is out of memory.
-    pub fn new(alloc: Global, version: u8) -> Result<Strings, NoMemory>
+    pub fn new(alloc: Global) -> Result<Strings, NoMemory>
         ensures { IfOk result (λ v. AreHashed v ([] ∷ [])) }
     {
         let mut all = BTreeMap::new(alloc);
-        all.insert([0; 32], Text::of_bytes(&Bytes::new(alloc))?)?;
-        Ok(Strings {
-            alloc,
-            version,
-            all,
-        })
+        all.insert([0; 32], Bytes::new(alloc))?;
+        Ok(Strings { all })
     }
 
-    // Adds a string, which is kept as `text`. Returns the collision if another string has the same digest.
-    fn add(
-        &mut self,
-        directory: &Directory,
-        string: &Bytes,
-        text: Text,
-    ) -> Result<Option<Evidence>, NoMemory>
-        requires { text ≡ string.now }
+    // Adds a string. Returns the collision if another string has the same digest.
+    fn add(&mut self, directory: &Directory, string: &Bytes) -> Result<Option<Evidence>, NoMemory>
         ensures told { IfOk result
             (λ end. (book : List (List ℕ)) → AreHashed self.old book →
             option_map end_of end ≡ collision_with string.now book) }
@@ -70,20 +57,18 @@ impl Strings {
     {
         let digest = digest(directory, string.as_slice());
         if let Some(first) = self.all.get(&digest) {
-            return collision(self.alloc, first, string);
+            return collision(first, string);
         }
-        self.all.insert(digest, text)?;
+        self.all.insert(digest, string.copy()?)?;
         Ok(None)
     }
 
-    /// Adds the strings of a step, in order. Stops at the first that collides, and returns the collision. Strings of
-    /// `values`, in their order, share their requests.
+    /// Adds the strings of a step, in order. Stops at the first that collides, and returns the collision.
     // rule: Evidence: Two strings of one digest end the run, and the earlier one is named first
     pub fn book(
         &mut self,
         directory: &Directory,
         strings: &[Bytes],
-        values: &[Value],
     ) -> Result<Option<Evidence>, NoMemory>
         ensures told { IfOk result
             (λ end. (book : List (List ℕ)) → AreHashed self.old book →
@@ -91,11 +76,8 @@ impl Strings {
         ensures booked { IfOk result (λ end. (book : List (List ℕ)) → AreHashed self.old book → end ≡ None →
             AreHashed self.new (push_all strings.now book)) }
     {
-        let mut values = values;
         for string in strings {
-            let text = kept(self.alloc, self.version, string, values)?;
-            values = text.left_of(values);
-            let end = self.add(directory, string, text)?;
+            let end = self.add(directory, string)?;
             if end.is_some() {
                 return Ok(end);
             }
@@ -112,19 +94,14 @@ fn same(a: &[u8], b: &[u8]) -> bool
 }
 
 // The collision of two strings with one digest, if they differ.
-fn collision(
-    alloc: Global,
-    first: &Text,
-    second: &Bytes,
-) -> Result<Option<Evidence>, NoMemory>
+fn collision(first: &Bytes, second: &Bytes) -> Result<Option<Evidence>, NoMemory>
     ensures { IfOk result (λ end. option_map end_of end ≡ difference first.now second.now) }
 {
-    let first = first.bytes(alloc)?;
     if same(first.as_slice(), second.as_slice()) {
         return Ok(None);
     }
     Ok(Some(Evidence::Collision {
-        first,
+        first: first.copy()?,
         second: second.copy()?,
     }))
 }
