@@ -57,7 +57,7 @@ fn entry_of(alloc: Global, event: &NodeEvent) -> Result<Entry, NoMemory>
 fn entry_len(entry: &Entry) -> u64
     ensures { result ≡ length (entry.now.kind ∷ entry.now.content) }
 {
-    entry.content.len() as u64 + 1
+    entry.content.as_slice().len() as u64 + 1
 }
 
 // Appends the entry of an accepted event. If that fails, the node retreats to its earlier log (of `slots` slots) and
