@@ -130,11 +130,7 @@ fn same(a: &[u8], b: &[u8]) -> bool
 }
 
 // The collision of two strings with one digest, if they differ.
-fn collision(
-    alloc: Global,
-    first: &Text,
-    second: &Bytes,
-) -> Result<Option<Evidence>, NoMemory>
+fn collision(alloc: Global, first: &Text, second: &Bytes) -> Result<Option<Evidence>, NoMemory>
     ensures { IfOk result (λ end. option_map end_of end ≡ difference first.now second.now) }
 {
     let first = first.bytes(alloc)?;
