@@ -6,3 +6,4 @@ mod Steps
 mod Resting
 mod Reading
 mod SomeReading
+mod TailLemmas

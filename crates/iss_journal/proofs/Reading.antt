@@ -6,8 +6,10 @@ use Rattle.iss_journal.specs.Frames.{frames, ClosesAfter, Reading, Reads, holds}
 use Rattle.iss_journal.specs.Promises.{OnlyLeaves, LeavesOnly, LeavesReading, LosesNothing, HoldsFirst, HoldsWithOrWithout, RestsOn, ComesToRest}
 use Rattle.iss_journal.proofs.Crash.{only_settled, reads_closed}
 use Rattle.iss_journal.specs.EntryViews.{entries_in}
+use Rattle.iss_journal.specs.SharedViews.{AreSame, HasSpace, IsLonger, shared_in}
+use Rattle.iss_journal.specs.Tails.{with_tails}
+use Rattle.iss_journal.specs.declared.shared.SharedEntries.{SharedEntries}
 use Rattle.iss_journal.specs.Sound.{HasRoom, longest_of}
-use Rattle.iss_journal.specs.declared.entries.Entries.{Entries}
 use Rattle.iss_journal.specs.declared.reserved.Reserved.{Reserved}
 use Rattle.iss_journal.proofs.Grammar.{one_reading}
 use Rattle.iss_journal.proofs.Steps.{between_leaves, each_append}
@@ -141,17 +143,64 @@ pub history_same : (h0 h1 : List File) (f0 f1 : List ℕ → List File) (n0 n1 :
 history_same h0 h1 f0 f1 n0 n1 is0 is1 stays = is1 ∙ ap (λ (n : Place). f1 n.name) stays.place ∙ stays.all n0.name ∙ sym is0
 
 -- room that was added does not matter for whether there is room
-pub room_more : (spare : Reserved) (old new : Entries) (room now : Room) → HasRoom spare old room →
-    entries_in new ≡ entries_in old → vec_capacity old.bytes ≤ vec_capacity new.bytes →
-    vec_len new.marks ≡ vec_len old.marks → vec_capacity old.marks ≤ vec_capacity new.marks → Takes 0 0 room now →
-    HasRoom spare new now
-room_more spare old new room now has same no_less as_many marks takes = record {
-  some = has.some;
-  in_memory = omega (arith, has.in_memory, no_less, ap (λ (es : List (List ℕ)). length (frames es)) same);
-  for_marks = omega (arith, has.for_marks, as_many, marks);
-  calls = omega (arith, has.calls, takes.calls_left);
-  on_disk = omega (arith, has.on_disk, takes.bytes_left);
+pub room_more : (spare : Reserved) (old new : SharedEntries) (room now : Room) → HasRoom spare old room →
+    AreSame old new → Takes 0 0 room now → HasRoom spare new now
+room_more spare old new room now has same takes =
+    let own = ap (λ (es : List (List ℕ)). length (frames es)) same.own in
+    record {
+      some = has.some;
+      in_memory = omega (arith, has.in_memory, same.bytes, own);
+      for_marks = omega (arith, has.for_marks, same.marks_room, same.marks);
+      for_tails = omega (arith, has.for_tails, same.tails_room, same.few);
+      in_file = omega (arith, has.in_file, same.end);
+      calls = omega (arith, has.calls, takes.calls_left);
+      on_disk = omega (arith, has.on_disk, takes.bytes_left);
+    }
+
+-- room that is reserved is there for one entry
+pub space_of : (spare : Reserved) (entries : SharedEntries) (room : Room) (bytes : ℕ) → HasRoom spare entries room →
+    bytes < spare.limit → HasSpace 1 bytes entries
+space_of spare entries room bytes has below = record {
+  in_memory = omega (arith, has.in_memory, below);
+  for_marks = omega (arith, has.for_marks, has.some);
+  for_tails = omega (arith, has.for_tails, has.some);
+  in_file = omega (arith, has.in_file, below);
 }
+
+-- and still there once the entry is staged
+pub space_same : (some bytes : ℕ) (old new : SharedEntries) → HasSpace some bytes old → AreSame old new →
+    HasSpace some bytes new
+space_same some bytes old new has same =
+    let own = ap (λ (es : List (List ℕ)). length (frames es)) same.own in
+    record {
+      in_memory = omega (arith, has.in_memory, same.bytes, own);
+      for_marks = omega (arith, has.for_marks, same.marks_room, same.marks);
+      for_tails = omega (arith, has.for_tails, same.tails_room, same.few);
+      in_file = omega (arith, has.in_file, same.end);
+    }
+
+-- the room that is left after an entry
+pub room_after : (spare left : Reserved) (old staged new : SharedEntries) (room now : Room) (bytes : ℕ) →
+    HasRoom spare old room → AreSame old staged → IsLonger (5 + bytes) staged new → Takes 4 (bytes + 6) room now →
+    spare.entries ≡ left.entries + 1 → 1 ≤ left.entries → spare.limit ≡ left.limit + 6 + bytes →
+    HasRoom left new now
+room_after spare left old staged new room now bytes has same longer takes is_entries some is_limit =
+    let own = ap (λ (es : List (List ℕ)). length (frames es)) same.own in
+    record {
+      some = some;
+      in_memory = omega (arith, has.in_memory, same.bytes, own, longer.own, longer.bytes, is_limit);
+      for_marks = omega (arith, has.for_marks, same.marks_room, same.marks, longer.marks, longer.marks_room, is_entries);
+      for_tails = omega (arith, has.for_tails, same.tails_room, same.few, longer.tails, longer.tails_room, is_entries);
+      in_file = omega (arith, has.in_file, same.end, longer.end, is_limit);
+      calls = omega (arith, has.calls, takes.calls_left, is_entries);
+      on_disk = omega (arith, has.on_disk, takes.bytes_left, is_limit);
+    }
+
+-- the same entries rest on the same file
+pub same_entries : (old new : SharedEntries) → AreSame old new → shared_in new ≡ shared_in old
+same_entries old new same = ap (λ (es : List (List ℕ)). with_tails es new.read new.tails.items) same.own
+    ∙ ap (λ (n : ℕ). with_tails (entries_in old.own) n new.tails.items) same.read
+    ∙ ap (λ (ts : List (List ℕ)). with_tails (entries_in old.own) old.read ts) same.tails
 
 -- room for every entry below a limit is room for a longest entry
 pub longest_below : (below bytes : ℕ) → bytes < below → (most : ℕ) × (longest_of below ≡ Some most) × (bytes ≤ most)

@@ -1,12 +1,13 @@
 -- What a journal shows, and its invariant: while it is attached, its file rests on its entries, and the room that it
 -- reserved is there.
-use Rattle.std.specs.Prelude.{◌≡◌, ℕ, zero, suc, ◌+◌, ◌*◌, ◌≤◌, ◌<◌, Bool, true, Option, None, Some, List, length, vec_len, vec_capacity}
+use Rattle.std.specs.Prelude.{◌≡◌, ℕ, zero, suc, ◌+◌, ◌*◌, ◌≤◌, ◌<◌, ◌^◌, Bool, true, Option, None, Some, List, length, vec_len, vec_capacity}
 use Rattle.iss_disk.specs.File.{File}
 use Rattle.iss_disk.specs.Calls.{IfTold, Room, Passes}
 use Rattle.iss_journal.specs.Frames.{frames}
 use Rattle.iss_journal.specs.EntryViews.{entries_in}
+use Rattle.iss_journal.specs.SharedViews.{shared_in}
 use Rattle.iss_journal.specs.Promises.{RestsOn}
-use Rattle.iss_journal.specs.declared.entries.Entries.{Entries}
+use Rattle.iss_journal.specs.declared.shared.SharedEntries.{SharedEntries}
 use Rattle.iss_journal.specs.declared.journal.Journal.{Journal}
 use Rattle.iss_journal.specs.declared.reserved.Reserved.{Reserved}
 
@@ -15,7 +16,7 @@ disk_of journal = journal.disk
 
 -- the entries, oldest first
 abbrev pub entries_of : {D : Type 0} → Journal D → List (List ℕ)
-entries_of journal = entries_in journal.entries
+entries_of journal = shared_in journal.entries
 
 abbrev pub is_attached : {D : Type 0} → Journal D → Bool
 is_attached journal = journal.attached
@@ -30,17 +31,19 @@ abbrev pub reserved_of : {D : Type 0} → Journal D → Option ℕ
 reserved_of journal = longest_of journal.reserved.limit
 
 -- room for some entries, in memory and on the disk
-pub record HasRoom (spare : Reserved) (entries : Entries) (room : Room) : Type 0 where
+pub record HasRoom (spare : Reserved) (entries : SharedEntries) (room : Room) : Type 0 where
   pub some : 1 ≤ spare.entries
-  pub in_memory : length (frames (entries_in entries)) + spare.limit + 5 ≤ vec_capacity entries.bytes
-  pub for_marks : vec_len entries.marks + spare.entries ≤ vec_capacity entries.marks
+  pub in_memory : length (frames (entries_in entries.own)) + spare.limit + 5 ≤ vec_capacity entries.own.bytes
+  pub for_marks : vec_len entries.own.marks + spare.entries ≤ vec_capacity entries.own.marks
+  pub for_tails : vec_len entries.tails + spare.entries ≤ vec_capacity entries.tails
+  pub in_file : entries.end + spare.limit + 5 < 2 ^ 64
   pub calls : 4 * spare.entries ≤ room.calls
   pub on_disk : spare.limit + 5 ≤ room.bytes
 
 -- The invariant of a journal. While it is attached, its file is the frames of its entries and a closed gate, all
 -- synced. The room that it has reserved is there.
 pub record IsSound {D : Type 0} (history : D → List File) (room : D → Room) (journal : Journal D) : Type 0 where
-  pub rests : journal.attached ≡ true → IfTold (history journal.disk) (RestsOn (entries_in journal.entries))
+  pub rests : journal.attached ≡ true → IfTold (history journal.disk) (RestsOn (shared_in journal.entries))
   pub room_kept : 0 < journal.reserved.limit → HasRoom journal.reserved journal.entries (room journal.disk)
 
 -- the file, the outcomes of later calls, whether the journal is attached and its room are the same

@@ -15,9 +15,9 @@ pub(crate) const OPEN: u8 = 1;
 
 pub(crate) const CLOSED: u8 = 0;
 
-/// The entries of a journal, in the order in which they were appended.
+/// Entries, in the order in which they were appended.
 #[derive(Drop)]
-pub struct Entries {
+pub(crate) struct Entries {
     // The file's bytes up to its last gate, followed by the entry that is being appended.
     bytes: Vec<u8>,
     count: usize,
@@ -127,14 +127,14 @@ impl Entries {
     }
 
     /// The number of entries.
-    pub fn len(&self) -> usize
+    pub(crate) fn len(&self) -> usize
         ensures { result ≡ length (entries_in self.now) }
     {
         self.count
     }
 
     /// Entry `k`, counted from 0.
-    pub fn get(&self, k: usize) -> &[u8]
+    pub(crate) fn get(&self, k: usize) -> &[u8]
         requires { k < length (entries_in self.now) }
         ensures { result.now ≡ slice_index_or (entries_in self.now) k [] }
     {
@@ -144,7 +144,7 @@ impl Entries {
     }
 
     /// The offset in the file of the gate of entry `k`, counted from 0.
-    pub fn gate_of(&self, k: usize) -> u64
+    pub(crate) fn gate_of(&self, k: usize) -> u64
         requires { k < length (entries_in self.now) }
         ensures { result ≡ length (frames (take k (entries_in self.now))) }
     {

@@ -6,7 +6,9 @@ use crate::errors::AttachError;
 use crate::keep::keep_entry;
 use crate::load::load;
 use crate::reserved::{Reserved, left_behind};
+use crate::shared::SharedEntries;
 use iss_disk::{Disk, EndError, Fused, NoMemory};
+use iss_request::Bytes;
 use std::alloc::Global;
 
 // Room is made for this many entries at once, and for `SOME_BYTES` bytes more than requested.
@@ -19,7 +21,7 @@ const SOME_BYTES: u64 = 4096;
 pub struct Journal<D: Disk> {
     alloc: Global,
     disk: D,
-    entries: Entries,
+    entries: SharedEntries,
     attached: bool,
     // The entries for which there is room.
     reserved: Reserved,
@@ -31,7 +33,7 @@ impl<D: Disk> Journal<D> {
     ghost use Rattle.iss_disk.specs.Calls.{IfTold, Stays, StaysHere, HasCause, Runs};
     ghost use Rattle.iss_journal.specs.Frames.{frames, max_entry, Reads, holds, damaged};
     ghost use Rattle.iss_journal.specs.Promises.{OnlyLeaves, LeavesOnly, HoldsWithOrWithout, LosesNothing, ComesToRest, EndsClosed, Works};
-    ghost use Rattle.iss_journal.specs.EntryViews.{entries_in};
+    ghost use Rattle.iss_journal.specs.SharedViews.{shared_in};
     ghost use Rattle.iss_journal.specs.Sound.{disk_of, entries_of, is_attached, reserved_of, IsSound, NothingChanged};
 
     /// A journal over the current file of a disk. It is not attached yet.
@@ -44,7 +46,7 @@ impl<D: Disk> Journal<D> {
         Journal {
             alloc,
             disk,
-            entries: Entries::new(alloc),
+            entries: SharedEntries::of(alloc, Entries::new(alloc)),
             attached: false,
             reserved: Reserved {
                 entries: 0,
@@ -90,7 +92,8 @@ impl<D: Disk> Journal<D> {
         // A sync, a cut, a write and a sync.
         self.disk.reserve(4, 1)?;
         self.disk.sync()?;
-        self.entries = load(self.alloc, &mut self.disk)?;
+        let found = load(self.alloc, &mut self.disk)?;
+        self.entries = SharedEntries::of(self.alloc, found);
         self.attached = true;
         Ok(())
     }
@@ -110,8 +113,8 @@ impl<D: Disk> Journal<D> {
     }
 
     /// The entries.
-    pub fn entries(&self) -> &Entries
-        ensures { entries_in result.now ≡ entries_of self.now }
+    pub fn entries(&self) -> &SharedEntries
+        ensures { shared_in result.now ≡ entries_of self.now }
     {
         &self.entries
     }
@@ -194,57 +197,22 @@ impl<D: Disk> Journal<D> {
         Ok(())
     }
 
-    /// Appends an entry. After Ok, every crash image holds it. After `NoMemory` nothing has changed. After `Failed` the
-    /// journal must be attached again; the entry is then in it or not.
-    pub fn append(&mut self, entry: &[u8]) -> Result<(), EndError>
-        requires sound { IsSound D.history D.room self.old }
-        requires attached { is_attached self.old ≡ true }
-        requires short { length entry.now ≤ max_entry }
-        ensures entries { OnOk result (entries_of self.new ≡ entries_of self.old ++ entry.now ∷ []) }
-        ensures err { OnErr result (entries_of self.new ≡ entries_of self.old) }
-        ensures file { OnOk result (IfTold (D.history (disk_of self.new)) (EndsClosed (entries_of self.new))) }
-        ensures attached { OnOk result (is_attached self.new ≡ true) }
-        ensures failed { IsErrOf result EndError.Failed → is_attached self.new ≡ false }
-
-        // A crash at any moment of the call leaves the entries with or without the new one; after Ok, with it.
-        ensures any_moment { LeavesOnly (HoldsWithOrWithout (entries_of self.old) entry.now)
-            (D.history (disk_of self.old)) (D.history (disk_of self.new)) }
-        ensures durable { OnOk result
-            (IfTold (D.history (disk_of self.new)) (OnlyLeaves (λ bytes. Reads bytes (holds (entries_of self.new))))) }
-
-        // If the device failed, what was synced holds the entries without the new one.
-        ensures kept { IsErrOf result EndError.Failed → IfTold (D.history (disk_of self.new))
-            (λ file. Reads file.kept (holds (entries_of self.old))) }
-
-        // It takes four calls of the device.
-        ensures device { (IsErrOf result EndError.NoMemory → ⊥) →
-            Runs 4 (D.passes (disk_of self.old)) (D.passes (disk_of self.new)) (is_ok result) }
-        ensures no_memory { IsErrOf result EndError.NoMemory → NothingChanged D.history D.passes self.old self.new }
-        ensures ready { (most : ℕ) → reserved_of self.old ≡ Some most → length entry.now ≤ most →
-            IsErrOf result EndError.NoMemory → ⊥ }
-        ensures others { StaysHere (D.current (disk_of self.old)) (D.current (disk_of self.new))
-            (D.files (disk_of self.old)) (D.files (disk_of self.new)) }
-        ensures cause { HasCause (D.faults (disk_of self.old)) (D.faults (disk_of self.new))
-            (IsErrOf result EndError.Failed) }
-        ensures sound { IsSound D.history D.room self.new }
-    {
-        self.append_parts(&[], entry)
-    }
-
-    /// Appends an entry that is given in two parts, `head` and `body`. Otherwise the same as `append`.
+    /// Appends an entry, given in two parts. `head` is copied. `body` is kept as it is: in memory the journal shares it.
+    /// After Ok, every crash image holds the entry. After `NoMemory` nothing has changed. After `Failed` the journal
+    /// must be attached again; the entry is then in it or not.
     #[inline(always)]
-    pub fn append_parts(&mut self, head: &[u8], body: &[u8]) -> Result<(), EndError>
+    pub fn append(&mut self, head: &[u8], body: Bytes) -> Result<(), EndError>
         requires sound { IsSound D.history D.room self.old }
         requires attached { is_attached self.old ≡ true }
-        requires short { length (head.now ++ body.now) ≤ max_entry }
-        ensures entries { OnOk result (entries_of self.new ≡ entries_of self.old ++ (head.now ++ body.now) ∷ []) }
+        requires short { length (head.now ++ body) ≤ max_entry }
+        ensures entries { OnOk result (entries_of self.new ≡ entries_of self.old ++ (head.now ++ body) ∷ []) }
         ensures err { OnErr result (entries_of self.new ≡ entries_of self.old) }
         ensures file { OnOk result (IfTold (D.history (disk_of self.new)) (EndsClosed (entries_of self.new))) }
         ensures attached { OnOk result (is_attached self.new ≡ true) }
         ensures failed { IsErrOf result EndError.Failed → is_attached self.new ≡ false }
 
         // A crash at any moment of the call leaves the entries with or without the new one; after Ok, with it.
-        ensures any_moment { LeavesOnly (HoldsWithOrWithout (entries_of self.old) (head.now ++ body.now))
+        ensures any_moment { LeavesOnly (HoldsWithOrWithout (entries_of self.old) (head.now ++ body))
             (D.history (disk_of self.old)) (D.history (disk_of self.new)) }
         ensures durable { OnOk result
             (IfTold (D.history (disk_of self.new)) (OnlyLeaves (λ bytes. Reads bytes (holds (entries_of self.new))))) }
@@ -257,7 +225,7 @@ impl<D: Disk> Journal<D> {
         ensures device { (IsErrOf result EndError.NoMemory → ⊥) →
             Runs 4 (D.passes (disk_of self.old)) (D.passes (disk_of self.new)) (is_ok result) }
         ensures no_memory { IsErrOf result EndError.NoMemory → NothingChanged D.history D.passes self.old self.new }
-        ensures ready { (most : ℕ) → reserved_of self.old ≡ Some most → length (head.now ++ body.now) ≤ most →
+        ensures ready { (most : ℕ) → reserved_of self.old ≡ Some most → length (head.now ++ body) ≤ most →
             IsErrOf result EndError.NoMemory → ⊥ }
         ensures others { StaysHere (D.current (disk_of self.old)) (D.current (disk_of self.new))
             (D.files (disk_of self.old)) (D.files (disk_of self.new)) }
@@ -270,8 +238,8 @@ impl<D: Disk> Journal<D> {
         let left = left_behind(self.reserved, bytes);
         self.reserved.limit = 0;
         self.attached = false;
-        self.entries.stage(head, body);
-        keep_entry(&mut self.disk, &self.entries, head, body)?;
+        self.entries.stage(head, &body);
+        keep_entry(&mut self.disk, &self.entries, head, &body)?;
         self.entries.commit(head, body);
         self.attached = true;
         self.reserved = left;

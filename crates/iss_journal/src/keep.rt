@@ -4,9 +4,12 @@ ghost use Rattle.iss_disk.specs.Calls.{IfTold, StaysHere, HasCause, Runs, Takes}
 ghost use Rattle.iss_journal.specs.Frames.{frame, frames, max_entry, Reads, holds};
 ghost use Rattle.iss_journal.specs.Promises.{LeavesOnly, HoldsWithOrWithout, RestsOn, EndsClosed};
 ghost use Rattle.iss_journal.specs.EntryViews.{entries_in};
+ghost use Rattle.iss_journal.specs.SharedViews.{HasSpace, shared_in};
 
-use crate::entries::{Entries, OPEN};
+use crate::entries::OPEN;
+use crate::shared::SharedEntries;
 use iss_disk::{Disk, Failed};
+use iss_request::Bytes;
 
 /// Writes a staged entry, given in two parts, after the last gate. The gate stays closed until the entry is synced, and
 /// is opened only then.
@@ -14,26 +17,27 @@ use iss_disk::{Disk, Failed};
 #[inline(always)]
 pub(crate) fn keep_entry<D: Disk>(
     disk: &mut D,
-    entries: &Entries,
+    entries: &SharedEntries,
     head: &[u8],
-    body: &[u8],
+    body: &Bytes,
 ) -> Result<(), Failed>
     requires short { length (head.now ++ body.now) ≤ max_entry }
-    requires staged { entries.now.bytes.items ≡ frames (entries_in entries.now)
+    requires staged { entries.now.own.bytes.items ≡ frames (entries_in entries.now.own)
         ++ (frame (head.now ++ body.now) ++ 0 ∷ []) }
+    requires space { HasSpace 1 (length (head.now ++ body.now)) entries.now }
     requires calls { 4 ≤ (D.room disk.old).calls }
     requires bytes { length (head.now ++ body.now) + 6 ≤ (D.room disk.old).bytes }
-    requires rests { IfTold (D.history disk.old) (RestsOn (entries_in entries.now)) }
+    requires rests { IfTold (D.history disk.old) (RestsOn (shared_in entries.now)) }
 
     // A crash at any moment leaves the entries with or without the new one.
-    ensures any_moment { LeavesOnly (HoldsWithOrWithout (entries_in entries.now) (head.now ++ body.now))
+    ensures any_moment { LeavesOnly (HoldsWithOrWithout (shared_in entries.now) (head.now ++ body.now))
         (D.history disk.old) (D.history disk.new) }
     ensures rests { OnOk result
-        (IfTold (D.history disk.new) (RestsOn (entries_in entries.now ++ (head.now ++ body.now) ∷ []))) }
+        (IfTold (D.history disk.new) (RestsOn (shared_in entries.now ++ (head.now ++ body.now) ∷ []))) }
     ensures file { OnOk result
-        (IfTold (D.history disk.new) (EndsClosed (entries_in entries.now ++ (head.now ++ body.now) ∷ []))) }
+        (IfTold (D.history disk.new) (EndsClosed (shared_in entries.now ++ (head.now ++ body.now) ∷ []))) }
     ensures kept { OnErr result (IfTold (D.history disk.new)
-        (λ file. Reads file.kept (holds (entries_in entries.now)))) }
+        (λ file. Reads file.kept (holds (shared_in entries.now)))) }
     ensures room { OnOk result (Takes 4 (length (head.now ++ body.now) + 6) (D.room disk.old) (D.room disk.new)) }
     ensures others { StaysHere (D.current disk.old) (D.current disk.new) (D.files disk.old) (D.files disk.new) }
     ensures cause { HasCause (D.faults disk.old) (D.faults disk.new) (IsErr result) }
