@@ -1,9 +1,9 @@
 //! The strings that were hashed, to detect collisions.
-ghost use Rattle.std.specs.Prelude.{◌≡◌, ◌∷◌, [], ℕ, List, None, IfOk, OnOk, option_map};
+ghost use Rattle.std.specs.Prelude.{◌≡◌, ◌∷◌, [], ℕ, List, None, Some, IfOk, IsTrue, OnOk, option_map};
 ghost use Rattle.iss_base.specs.Lists.{push_all, same_bytes};
 ghost use Rattle.iss_model.specs.Run.{collision_in, collision_with};
 ghost use Rattle.iss_request.specs.Digest.{digest};
-ghost use Rattle.iss_world.specs.Books.{AreHashed, difference};
+ghost use Rattle.iss_world.specs.Books.{AreHashed, difference, string_at};
 ghost use Rattle.iss_world.specs.Refines.{end_of};
 
 use crate::ends::Evidence;
@@ -87,7 +87,17 @@ impl Strings {
         Ok(None)
     }
 
-    // Keeps the string of a value, if it is here, as the value.
+    // Whether this string is here under its digest, and its bytes are kept.
+    fn copies(&self, digest: [u8; 32], string: &[u8]) -> bool
+        ensures { IsTrue result → string_at self.now digest ≡ Some string.now }
+    {
+        match self.all.get(&digest) {
+            Some(text) => text.copies(string),
+            None => false,
+        }
+    }
+
+    // Keeps the string of a value, if its bytes are kept, as the value.
     fn share_one(
         &mut self,
         version: u8,
@@ -98,9 +108,9 @@ impl Strings {
     {
         let string = value_string(self.alloc, version, value)?;
         let digest = digest(directory, string.as_slice());
-        match self.all.get(&digest) {
-            Some(text) if text.copies(string.as_slice()) => (),
-            _ => return Ok(()),
+        let here = self.copies(digest, string.as_slice());
+        if !here {
+            return Ok(());
         }
         self.all.insert(digest, Text::of_value(version, value)?)?;
         Ok(())
@@ -133,12 +143,12 @@ fn same(a: &[u8], b: &[u8]) -> bool
 fn collision(alloc: Global, first: &Text, second: &Bytes) -> Result<Option<Evidence>, NoMemory>
     ensures { IfOk result (λ end. option_map end_of end ≡ difference first.now second.now) }
 {
-    let first = first.bytes(alloc)?;
-    if same(first.as_slice(), second.as_slice()) {
+    let known = first.bytes(alloc)?;
+    if same(known.as_slice(), second.as_slice()) {
         return Ok(None);
     }
     Ok(Some(Evidence::Collision {
-        first,
+        first: known.copy()?,
         second: second.copy()?,
     }))
 }
