@@ -28,7 +28,7 @@ pub struct Journal<D: Disk> {
 }
 
 impl<D: Disk> Journal<D> {
-    ghost use Rattle.std.specs.Prelude.{slice_index_or, take};
+    ghost use Rattle.std.specs.Prelude.{take};
     ghost use Rattle.iss_disk.specs.File.{settled};
     ghost use Rattle.iss_disk.specs.Calls.{IfTold, Stays, StaysHere, HasCause, Runs};
     ghost use Rattle.iss_journal.specs.Frames.{frames, max_entry, Reads, holds, damaged};

@@ -24,7 +24,7 @@ pub struct SharedEntries {
 }
 
 impl SharedEntries {
-    ghost use Rattle.std.specs.Prelude.{◌≡◌, ◌+◌, ◌<◌, ◌≤◌, ◌++◌, ◌^◌, [], ◌∷◌, length, take, drop, slice_index_or, vec_len, vec_capacity, IfOk, OnOk};
+    ghost use Rattle.std.specs.Prelude.{◌≡◌, ◌+◌, ◌<◌, ◌≤◌, ◌++◌, [], ◌∷◌, length, take, drop, slice_index_or, IfOk, OnOk};
     ghost use Rattle.iss_journal.specs.Frames.{frame, frames, max_entry};
     ghost use Rattle.iss_journal.specs.EntryViews.{entries_in};
     ghost use Rattle.iss_journal.specs.SharedViews.{AreSame, HasSpace, IsLonger, shared_in};

@@ -1,6 +1,6 @@
 -- What the disk of a kept node holds from call to call. The synced part of its file is exactly the journal's entries,
 -- so a restart reopens the node in the same state.
-use Rattle.std.proofs.Common.{arith, ◌≡◌, ◌≢◌, inl, inr, ℕ, zero, suc, ◌+◌, ◌-◌, ◌<◌, ◌≤◌, Bool, true, false, List, [], ◌∷◌, ◌++◌, Some, refl, sym, ap, ◌∙◌, subst, length-append}
+use Rattle.std.proofs.Common.{arith, ◌≡◌, ◌≢◌, inl, inr, ℕ, zero, suc, ◌-◌, ◌<◌, ◌≤◌, Bool, true, false, List, [], ◌∷◌, ◌++◌, Some, refl, sym, ap, ◌∙◌, subst, length-append}
 use Rattle.iss_disk.specs.Calls.{IfTold, Passes, Place, Restarts, Room, Runs, Stays, script, up_to}
 use Rattle.iss_disk.specs.EachState.{newest_state, states_some}
 use Rattle.iss_disk.specs.File.{File, Image, restarted, settled, shortened, wrote}

@@ -1,9 +1,7 @@
 // One event of a node with an attached journal: reserve room for the entry, step the node, append the entry.
-ghost use Rattle.std.specs.Prelude.{◌≡◌, ◌≤◌, ◌++◌, ◌∷◌, [], false, true, length, is_ok, IfOk, IsErrOf, OnErr, OnOk};
-ghost use Rattle.iss_disk.specs.Calls.{HasCause, IfTold, Runs, StaysHere};
-ghost use Rattle.iss_journal.specs.Frames.{Reads, holds, max_entry};
-ghost use Rattle.iss_journal.specs.Promises.{HoldsWithOrWithout, LeavesOnly, OnlyLeaves};
-ghost use Rattle.iss_journal.specs.Sound.{IsSound, NothingChanged, disk_of, entries_of, is_attached};
+ghost use Rattle.std.specs.Prelude.{◌≡◌, ◌≤◌, ◌∷◌, [], false, true, length, IfOk, OnOk};
+ghost use Rattle.iss_journal.specs.Frames.{max_entry};
+ghost use Rattle.iss_journal.specs.Sound.{IsSound, disk_of, entries_of, is_attached};
 ghost use Rattle.iss_keep.specs.Entries.{spell_event};
 ghost use Rattle.iss_keep.specs.Internal.Keeping.{HasEnded, HasStepped, released};
 ghost use Rattle.iss_keep.specs.Steps.{IsWritten, makes_stale, sight};

@@ -4,7 +4,7 @@ use Rattle.iss_log.specs.LogState.{LogState}
 use Rattle.iss_node.specs.declared.answers.Answer.{Answer as NodeAnswer}
 use Rattle.iss_node.specs.declared.answers.Answer.TheVariants.{Taken as Node_taken}
 use Rattle.iss_request.specs.declared.requests.Value.{Value}
-use Rattle.iss_keep.specs.Internal.Keeping.{Answers, HasEnded, HasStepped, released}
+use Rattle.iss_keep.specs.Internal.Keeping.{Answers, HasStepped, released}
 use Rattle.iss_keep.proofs.StepLemmas.{later, longer, same-node, short, stepped}
 use Rattle.iss_keep.proofs.keeping.apply_then_append.Goals as goal
 

@@ -1,4 +1,4 @@
-use Rattle.std.proofs.Common.{rules, ◌≡◌, IsErrOf}
+use Rattle.std.proofs.Common.{rules, IsErrOf}
 use Rattle.iss_journal.specs.Sound.{disk_of, entries_of}
 use Rattle.iss_journal.specs.declared.errors.AttachError.TheVariants.{Damaged}
 use Rattle.iss_keep.proofs.WriteLemmas.{left-damaged}

@@ -1,4 +1,4 @@
-use Rattle.std.proofs.Common.{rules, arith, ◌<◌, ◌++◌, length, ap, sym, subst, List, ℕ}
+use Rattle.std.proofs.Common.{◌++◌, sym, subst, List, ℕ}
 use Rattle.iss_disk.specs.File.{File}
 use Rattle.iss_disk.specs.Calls.{IfTold}
 use Rattle.iss_journal.specs.SharedViews.{shared_in}
