@@ -1,6 +1,7 @@
 //! Tests of each crate's calls, each in a module of its own.
 mod checkpoints;
 mod configs;
+mod frames;
 mod handed_out;
 mod journals;
 mod keys;
