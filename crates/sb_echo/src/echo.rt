@@ -15,6 +15,7 @@ use iss_request::{
     quorum,
 };
 use iss_sb::{Claim, Effects, Input, Params, Sequenced, To, asks_if};
+use sb_context::{Context, Modelled};
 use std::alloc::Global;
 use std::collections::BTreeMap;
 
@@ -75,20 +76,18 @@ impl Echo {
     }
 
     // Whether a quorum echoed the digest at the slot.
-    fn is_heard(&self, p: &Params, slot: Slot, digest: &[u8; 32]) -> bool
-        requires { IsGoodParams echo p.now }
-        ensures { result ≡ is_heard self.now p.now slot.0 digest.now }
+    fn is_heard(&self, context: &Context<Echo>, slot: Slot, digest: &[u8; 32]) -> bool
+        ensures { result ≡ is_heard self.now context.now.p.now slot.0 digest.now }
     {
-        self.heard.count(slot, digest, p.setup.n as u8) >= p.setup.quorum
+        self.heard.count(slot, digest, context.nodes()) >= context.p.setup.quorum
     }
 
     // Whether the value that waits at the slot has a quorum of echoes.
-    fn is_complete(&self, p: &Params, slot: Slot) -> bool
-        requires { IsGoodParams echo p.now }
-        ensures { result ≡ is_complete self.now p.now slot.0 }
+    fn is_complete(&self, context: &Context<Echo>, slot: Slot) -> bool
+        ensures { result ≡ is_complete self.now context.now.p.now slot.0 }
     {
         match self.places.get(&slot.0) {
-            Some(Place::Waiting { digest, .. }) => self.is_heard(p, slot, digest),
+            Some(Place::Waiting { digest, .. }) => self.is_heard(context, slot, digest),
             _ => false,
         }
     }
@@ -97,21 +96,19 @@ impl Echo {
     // batch.
     fn take(
         &mut self,
-        alloc: Global,
-        p: &Params,
+        context: &Context<Echo>,
         slot: Slot,
         batch: Batch,
     ) -> Result<([u8; 32], Effects<Word>), NoMemory>
-        requires { IsGoodParams echo p.now }
-        ensures { IfOk result (λ r. HasTaken p.now self.old self.new slot batch r.0 r.1) }
+        ensures { IfOk result (λ r. HasTaken context.now.p.now self.old self.new slot batch r.0 r.1) }
     {
-        let mut effects = Effects::nothing(alloc);
-        let string = string_of(alloc, p, &batch)?;
-        let digest = digest_of(p, &batch, &string);
+        let mut effects = Effects::nothing(context.alloc);
+        let string = string_of(context.alloc, context.p, &batch)?;
+        let digest = digest_of(context.p, &batch, &string);
         effects.hashed.push(string)?;
         effects.accepted = Some((slot, batch.copy()?));
         let value = Value::Batch(batch);
-        if self.is_heard(p, slot, &digest) {
+        if self.is_heard(context, slot, &digest) {
             self.places.insert(slot.0, Place::Delivered)?;
             effects.delivers.push((slot, value))?;
             return Ok((digest, effects));
@@ -122,11 +119,10 @@ impl Echo {
     }
 
     // If a quorum echoed the value that waits at the slot, marks the slot as delivered and returns the value.
-    fn complete(&mut self, p: &Params, slot: Slot) -> Result<Option<Value>, NoMemory>
-        requires { IsGoodParams echo p.now }
-        ensures { IfOk result (λ v. HasCompleted p.now self.old self.new slot v) }
+    fn complete(&mut self, context: &Context<Echo>, slot: Slot) -> Result<Option<Value>, NoMemory>
+        ensures { IfOk result (λ v. HasCompleted context.now.p.now self.old self.new slot v) }
     {
-        if !self.is_complete(p, slot) {
+        if !self.is_complete(context, slot) {
             return Ok(None);
         }
         match self.places.insert(slot.0, Place::Delivered)? {
@@ -139,24 +135,22 @@ impl Echo {
     // rule: Modules: A correct leader accepts one batch at a slot
     fn cast(
         &mut self,
-        alloc: Global,
-        p: &Params,
+        context: &Context<Echo>,
         slot: Slot,
         batch: Batch,
         keys: &mut Keys,
     ) -> Result<Effects<Word>, NoMemory>
-        requires good { IsGoodParams echo p.now }
-        requires enough { 2 ≤ left_of keys.old }
-        ensures { IfOk result (λ e.
-            IsTrueStep echo Refines p.now self.old self.new (Input.Cast slot batch) keys.old keys.new e) }
+        requires { 2 ≤ left_of keys.old }
+        ensures { IfOk result (λ e. IsTrueStep echo Refines context.now.p.now self.old self.new
+            (Input.Cast slot batch) keys.old keys.new e) }
     {
-        if !self.may_cast(p, slot) {
-            return Ok(Effects::nothing(alloc));
+        if !self.may_cast(context.p, slot) {
+            return Ok(Effects::nothing(context.alloc));
         }
         let said = batch.copy()?;
-        let (digest, mut effects) = self.take(alloc, p, slot, batch)?;
-        let sig = sign_word(alloc, p, SAY, slot, &digest, keys)?;
-        let own = sign_word(alloc, p, ECHO, slot, &digest, keys)?;
+        let (digest, mut effects) = self.take(context, slot, batch)?;
+        let sig = sign_word(context, SAY, slot, &digest, keys)?;
+        let own = sign_word(context, ECHO, slot, &digest, keys)?;
         let word = Word::Say {
             slot,
             batch: said,
@@ -176,24 +170,22 @@ impl Echo {
     // rule: Echo: A node takes the leader's first batch for a slot and echoes its digest once
     fn take_say(
         &mut self,
-        alloc: Global,
-        p: &Params,
+        context: &Context<Echo>,
         from: NodeId,
         slot: Slot,
         batch: Batch,
         keys: &mut Keys,
     ) -> Result<Effects<Word>, NoMemory>
-        requires good { IsGoodParams echo p.now }
-        requires enough { 2 ≤ left_of keys.old }
+        requires { 2 ≤ left_of keys.old }
         ensures { IfOk result (λ e. (sig : List ℕ) →
-            IsTrueStep echo Refines p.now self.old self.new
+            IsTrueStep echo Refines context.now.p.now self.old self.new
             (Input.Receive from (Word.Say slot batch sig)) keys.old keys.new e) }
     {
-        if !self.may_take(p, from, slot) {
-            return Ok(Effects::nothing(alloc));
+        if !self.may_take(context.p, from, slot) {
+            return Ok(Effects::nothing(context.alloc));
         }
-        let (digest, mut effects) = self.take(alloc, p, slot, batch)?;
-        let sig = sign_word(alloc, p, ECHO, slot, &digest, keys)?;
+        let (digest, mut effects) = self.take(context, slot, batch)?;
+        let sig = sign_word(context, ECHO, slot, &digest, keys)?;
         let word = Word::Echo { slot, digest, sig };
         effects.sends.push((To::All, word))?;
         Ok(effects)
@@ -204,26 +196,30 @@ impl Echo {
     // rule: Echo: A quorum of echoes decides the batch that was taken
     fn take_echo(
         &mut self,
-        alloc: Global,
-        p: &Params,
+        context: &Context<Echo>,
         from: NodeId,
         slot: Slot,
         digest: [u8; 32],
     ) -> Result<Effects<Word>, NoMemory>
-        requires { IsGoodParams echo p.now }
         ensures { IfOk result (λ e. (sig : List ℕ) (keys : KeyState) → 2 ≤ left_of keys →
-            IsTrueStep echo Refines p.now self.old self.new
+            IsTrueStep echo Refines context.now.p.now self.old self.new
             (Input.Receive from (Word.Echo slot digest sig)) keys keys e) }
     {
-        if !is_inside(p, slot) {
-            return Ok(Effects::nothing(alloc));
+        if !is_inside(context.p, slot) {
+            return Ok(Effects::nothing(context.alloc));
         }
         self.heard.hear(slot, digest, from)?;
-        let value = self.complete(p, slot)?;
-        let mut effects = Effects::nothing(alloc);
-        effects.delivers = one_at(alloc, slot, value)?;
+        let value = self.complete(context, slot)?;
+        let mut effects = Effects::nothing(context.alloc);
+        effects.delivers = one_at(context.alloc, slot, value)?;
         Ok(effects)
     }
+}
+
+impl Modelled for Echo {
+    type Msg = Word;
+
+    ghost spec = { echo };
 }
 
 impl Sequenced for Echo {
@@ -296,11 +292,12 @@ impl Sequenced for Echo {
         requires enough { echo.signs p.now ≤ left_of keys.old }
         ensures { IfOk result (λ e. IsTrueStep echo Refines p.now self.old self.new i keys.old keys.new e) }
     {
+        let context = Context::of(alloc, p);
         match i {
-            Input::Cast { slot, batch } => self.cast(alloc, p, slot, batch, keys),
+            Input::Cast { slot, batch } => self.cast(&context, slot, batch, keys),
             Input::Receive { from, msg } => match msg {
-                Word::Say { slot, batch, .. } => self.take_say(alloc, p, from, slot, batch, keys),
-                Word::Echo { slot, digest, .. } => self.take_echo(alloc, p, from, slot, digest),
+                Word::Say { slot, batch, .. } => self.take_say(&context, from, slot, batch, keys),
+                Word::Echo { slot, digest, .. } => self.take_echo(&context, from, slot, digest),
             },
             Input::Timeout => Ok(Effects::nothing(alloc)),
         }

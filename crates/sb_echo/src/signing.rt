@@ -5,9 +5,11 @@ ghost use Rattle.iss_keys.specs.KeyStates.{left_of};
 ghost use Rattle.iss_sb.specs.Statements.{signature};
 ghost use Rattle.sb_echo.specs.Echo.{digest_of, statement, string_of};
 
+use crate::echo::Echo;
 use iss_keys::Keys;
 use iss_request::{Batch, Bytes, NoMemory, Slot, Writer, batch_string};
 use iss_sb::{Params, put_head, sign};
+use sb_context::Context;
 use std::alloc::Global;
 
 /// The tag of the module, which is part of each statement.
@@ -56,19 +58,18 @@ pub fn statement(
 /// Signs that a batch of this digest was sent by the leader, or accepted (`kind`), at the slot, with the next
 /// one-time key.
 pub fn sign_word(
-    alloc: Global,
-    p: &Params,
+    context: &Context<Echo>,
     kind: u8,
     slot: Slot,
     digest: &[u8; 32],
     keys: &mut Keys,
 ) -> Result<Bytes, NoMemory>
     requires { 0 < left_of keys.old }
-    ensures sig { IfOk result (λ s. (me : ℕ) → AreKeysOf me p.now.setup.keys keys.old →
-        s ≡ signature p.now me keys.old.used (statement p.now kind slot.0 digest.now)) }
+    ensures sig { IfOk result (λ s. (me : ℕ) → AreKeysOf me context.now.p.now.setup.keys keys.old →
+        s ≡ signature context.now.p.now me keys.old.used (statement context.now.p.now kind slot.0 digest.now)) }
     ensures used { OnOk result (keys.new ≡ record keys.old { used = keys.old.used + 1 }) }
     ensures left { OnOk result (left_of keys.new + 1 ≡ left_of keys.old) }
 {
-    let statement = statement(alloc, p, kind, slot, digest)?;
+    let statement = statement(context.alloc, context.p, kind, slot, digest)?;
     sign(&statement, keys)
 }

@@ -279,6 +279,13 @@ on_timeout p me s =
 
 -- ---- One input
 
+-- the term of a message
+abbrev pub term_of : Message → ℕ
+term_of (Append term previous previous_term commit es) = term
+term_of (Reply term ok i) = term
+term_of (AskVote term last last_term) = term
+term_of (Vote term granted) = term
+
 abbrev pub on_message : Params → ℕ → State → ℕ → Message → Step
 on_message p me s from (Append term previous previous_term commit es) =
     on_append (raised s term) from term previous previous_term commit es

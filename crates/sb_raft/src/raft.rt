@@ -3,7 +3,7 @@ ghost use Rattle.std.specs.Prelude.{◌≡◌, ◌<◌, ◌≤◌, None, IfOk};
 ghost use Rattle.iss_keys.specs.KeyStates.{left_of};
 ghost use Rattle.iss_sb.specs.Calls.{IsGoodInput, IsGoodParams, IsTrueStep};
 ghost use Rattle.sb_raft.specs.Raft.{raft};
-ghost use Rattle.sb_raft.specs.Rules.{is_candidate, is_leader, on_message};
+ghost use Rattle.sb_raft.specs.Rules.{is_candidate, is_leader, on_message, term_of};
 ghost use Rattle.sb_raft.specs.Refines.{Does, IsLow, Refines, held, role_of};
 
 use crate::log::Log;
@@ -15,6 +15,7 @@ use iss_request::{
 };
 use iss_sb::{Claim, Effects, Input, Params, Sequenced, asks_if};
 use raft_wire::Message;
+use sb_context::{Context, Modelled};
 use std::alloc::Global;
 
 /// A node's role in its term.
@@ -63,6 +64,18 @@ pub struct Raft {
     pub(crate) granted: PerPeer<bool>,
 }
 
+// The term of a message.
+fn term_of(msg: &Message) -> u16
+    ensures { result ≡ term_of msg.now }
+{
+    match msg {
+        Message::Append { term, .. } => *term,
+        Message::Reply { term, .. } => *term,
+        Message::AskVote { term, .. } => *term,
+        Message::Vote { term, .. } => *term,
+    }
+}
+
 impl Raft {
     // The term. Its type bounds it, which proofs use.
     fn term(&self) -> u16
@@ -71,19 +84,19 @@ impl Raft {
         self.term
     }
 
-    // Takes a message. A higher term is taken over first.
+    // Takes a message. Its term is taken over first if it is higher.
     fn receive(
         &mut self,
-        alloc: Global,
-        p: &Params,
+        context: &Context<Raft>,
         from: NodeId,
         msg: Message,
     ) -> Result<Effects<Message>, NoMemory>
-        requires good { IsGoodParams raft p.now }
-        requires from { from.0 < p.now.setup.n }
-        ensures { IfOk result (λ e. Does p.now self.old.me (IsLow (held self.old)) (held self.old) self.new
-            (on_message p.now self.old.me.0 (held self.old) from.0 msg) None e) }
+        requires { from.0 < context.now.p.now.setup.n }
+        ensures { IfOk result (λ e. Does context.now.p.now self.old.me (IsLow (held self.old)) (held self.old) self.new
+            (on_message context.now.p.now self.old.me.0 (held self.old) from.0 msg) None e) }
     {
+        let told = term_of(&msg);
+        self.raise(told);
         match msg {
             Message::Append {
                 term,
@@ -92,33 +105,29 @@ impl Raft {
                 commit,
                 entries,
             } => {
-                self.raise(term);
                 let sent = Sent {
                     previous,
                     previous_term,
                     commit,
                     entries,
                 };
-                self.take_append(alloc, p, from, term, sent)
+                self.take_append(context, from, term, sent)
             }
-            Message::Reply { term, ok, index } => {
-                self.raise(term);
-                self.take_reply(alloc, p, from, term, ok, index)
-            }
+            Message::Reply { term, ok, index } => self.take_reply(context, from, term, ok, index),
             Message::AskVote {
                 term,
                 last,
                 last_term,
-            } => {
-                self.raise(term);
-                self.take_ask(alloc, p, from, term, last, last_term)
-            }
-            Message::Vote { term, granted } => {
-                self.raise(term);
-                self.take_vote(alloc, p, from, term, granted)
-            }
+            } => self.take_ask(context, from, term, last, last_term),
+            Message::Vote { term, granted } => self.take_vote(context, from, term, granted),
         }
     }
+}
+
+impl Modelled for Raft {
+    type Msg = Message;
+
+    ghost spec = { raft };
 }
 
 impl Sequenced for Raft {
@@ -192,10 +201,11 @@ impl Sequenced for Raft {
         ensures { IfOk result (λ e. IsTrueStep raft Refines p.now self.old self.new i _keys.old _keys.new e) }
     {
         let _term = self.term();
+        let context = Context::of(alloc, p);
         match i {
-            Input::Cast { slot, batch } => self.cast(alloc, p, slot, batch),
-            Input::Receive { from, msg } => self.receive(alloc, p, from, msg),
-            Input::Timeout => self.time_out(alloc, p),
+            Input::Cast { slot, batch } => self.cast(&context, slot, batch),
+            Input::Receive { from, msg } => self.receive(&context, from, msg),
+            Input::Timeout => self.time_out(&context),
         }
     }
 

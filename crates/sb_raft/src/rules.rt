@@ -1,9 +1,8 @@
 //! The rules of Raft, one function each.
 ghost use Rattle.std.specs.Prelude.{◌≡◌, ◌<◌, ◌≤◌, ◌-◌, ◌^◌, ◌==◌, ◌&&◌, true, not, nat_le, OnOk, None, IfOk, length};
-ghost use Rattle.iss_sb.specs.Calls.{AreToNodes, IsGoodParams};
+ghost use Rattle.iss_sb.specs.Calls.{AreToNodes};
 ghost use Rattle.sb_raft.specs.Kept.{kept};
 ghost use Rattle.sb_raft.specs.Logs.{fits_behind, up_to_date};
-ghost use Rattle.sb_raft.specs.Raft.{raft};
 ghost use Rattle.sb_raft.specs.Rules.{candidate, counted, free_for, grants, is_candidate, is_leader, may_cast, on_append};
 ghost use Rattle.sb_raft.specs.Rules.{on_ask, on_cast, on_not_ok, on_ok, on_reply, on_timeout, on_vote, raised, stands_up, won};
 ghost use Rattle.sb_raft.specs.Refines.{Does, HasRoom, IsLow, cast_of, held, merges, role_of};
@@ -14,7 +13,7 @@ use crate::sending::{one, only, reply};
 use iss_request::{Batch, NoMemory, NodeId, Seq, Slot};
 use iss_sb::{Content, Effects, Params, To, is_next};
 use raft_wire::{Entry, Message};
-use std::alloc::Global;
+use sb_context::Context;
 
 /// The entries of an Append, with the index and term of the leader's entry before them, and the leader's commit index.
 #[derive(Drop)]
@@ -56,24 +55,23 @@ impl Raft {
     // rule: Modules: A correct leader accepts one batch at a slot
     pub(crate) fn cast(
         &mut self,
-        alloc: Global,
-        p: &Params,
+        context: &Context<Raft>,
         slot: Slot,
         batch: Batch,
     ) -> Result<Effects<Message>, NoMemory>
-        requires { IsGoodParams raft p.now }
-        ensures { IfOk result (λ e. Does p.now self.old.me (IsLow (held self.old)) (held self.old) self.new
-            (on_cast p.now self.old.me.0 (held self.old) slot.0 batch) (cast_of p.now (held self.old) slot batch) e) }
+        ensures { IfOk result (λ e. Does context.now.p.now self.old.me (IsLow (held self.old)) (held self.old) self.new
+            (on_cast context.now.p.now self.old.me.0 (held self.old) slot.0 batch)
+            (cast_of context.now.p.now (held self.old) slot batch) e) }
     {
-        if !self.may_cast(p, slot) {
-            return Ok(Effects::nothing(alloc));
+        if !self.may_cast(context.p, slot) {
+            return Ok(Effects::nothing(context.alloc));
         }
         let what = Content::Holds(batch.copy()?);
         let term = self.term;
         self.log.push(Entry { term, what })?;
-        let mut sends = Seq::new(alloc);
-        self.append_to_others(alloc, p, &mut sends)?;
-        let mut effects = self.advance(alloc, p, sends)?;
+        let mut sends = Seq::new(context.alloc);
+        self.append_to_others(context, &mut sends)?;
+        let mut effects = self.advance(context, sends)?;
         effects.accepted = Some((slot, batch));
         Ok(effects)
     }
@@ -83,26 +81,25 @@ impl Raft {
     // rule: Raft: An Append of a lower term is refused with the node's own term
     pub(crate) fn take_append(
         &mut self,
-        alloc: Global,
-        p: &Params,
+        context: &Context<Raft>,
         from: NodeId,
         term: u16,
         sent: Sent,
     ) -> Result<Effects<Message>, NoMemory>
-        requires { from.0 < p.now.setup.n }
-        ensures { IfOk result (λ e. Does p.now self.old.me (IsLow (held self.old)) (held self.old) self.new
+        requires { from.0 < context.now.p.now.setup.n }
+        ensures { IfOk result (λ e. Does context.now.p.now self.old.me (IsLow (held self.old)) (held self.old) self.new
             (on_append (held self.old) from.0 term sent.previous sent.previous_term sent.commit sent.entries) None e) }
     {
         let previous = sent.previous as usize;
         if term != self.term {
-            return reply(alloc, from, self.term, false, previous);
+            return reply(context.alloc, from, self.term, false, previous);
         }
         self.part = Role::Follower;
         if !self.fits_behind(previous, sent.previous_term) {
-            return reply(alloc, from, self.term, false, previous);
+            return reply(context.alloc, from, self.term, false, previous);
         }
         let commit = sent.commit as usize;
-        self.merge(alloc, p, from, previous, commit, sent.entries)
+        self.merge(context, from, previous, commit, sent.entries)
     }
 
     // The consistency check: whether the log has an entry of this term at the previous index.
@@ -118,26 +115,27 @@ impl Raft {
     // rule: Raft: An Append commits only entries that it covers
     fn merge(
         &mut self,
-        alloc: Global,
-        p: &Params,
+        context: &Context<Raft>,
         from: NodeId,
         previous: usize,
         commit: usize,
         entries: Seq<Entry>,
     ) -> Result<Effects<Message>, NoMemory>
-        requires from { from.0 < p.now.setup.n }
+        requires from { from.0 < context.now.p.now.setup.n }
         requires previous { previous ≤ length self.old.log.entries }
         requires field { previous < 2 ^ 32 }
-        ensures { IfOk result (λ e. Does p.now self.old.me (IsLow (held self.old)) (held self.old) self.new
+        ensures { IfOk result (λ e. Does context.now.p.now self.old.me (IsLow (held self.old)) (held self.old) self.new
             (merges (held self.old) from.0 previous commit entries) None e) }
     {
         let sent = previous.saturating_add(entries.len());
         if !self.log.merge(previous, entries)? {
-            return Ok(Effects::nothing(alloc));
+            return Ok(Effects::nothing(context.alloc));
         }
         let told = sent.min(commit);
-        let delivers = self.log.commit_to(alloc, told, p.slots.as_slice())?;
-        let mut effects = reply(alloc, from, self.term, true, sent)?;
+        let delivers = self
+            .log
+            .commit_to(context.alloc, told, context.p.slots.as_slice())?;
+        let mut effects = reply(context.alloc, from, self.term, true, sent)?;
         effects.delivers = delivers;
         Ok(effects)
     }
@@ -153,25 +151,23 @@ impl Raft {
 
     pub(crate) fn take_reply(
         &mut self,
-        alloc: Global,
-        p: &Params,
+        context: &Context<Raft>,
         from: NodeId,
         term: u16,
         ok: bool,
         index: u32,
     ) -> Result<Effects<Message>, NoMemory>
-        requires good { IsGoodParams raft p.now }
-        requires from { from.0 < p.now.setup.n }
-        ensures { IfOk result (λ e. Does p.now self.old.me (IsLow (held self.old)) (held self.old) self.new
-            (on_reply p.now self.old.me.0 (held self.old) from.0 term ok index) None e) }
+        requires { from.0 < context.now.p.now.setup.n }
+        ensures { IfOk result (λ e. Does context.now.p.now self.old.me (IsLow (held self.old)) (held self.old) self.new
+            (on_reply context.now.p.now self.old.me.0 (held self.old) from.0 term ok index) None e) }
     {
         if !self.hears(from, term) {
-            return Ok(Effects::nothing(alloc));
+            return Ok(Effects::nothing(context.alloc));
         }
         if ok {
-            self.take_ok(alloc, p, from, index as usize)
+            self.take_ok(context, from, index as usize)
         } else {
-            self.take_not_ok(alloc, p, from, index as usize)
+            self.take_not_ok(context, from, index as usize)
         }
     }
 
@@ -179,23 +175,21 @@ impl Raft {
     // rule: Raft: A follower's match index never decreases within a term
     fn take_ok(
         &mut self,
-        alloc: Global,
-        p: &Params,
+        context: &Context<Raft>,
         from: NodeId,
         index: usize,
     ) -> Result<Effects<Message>, NoMemory>
-        requires good { IsGoodParams raft p.now }
-        requires leads { is_leader (role_of self.old.part) ≡ true }
-        ensures { IfOk result (λ e. Does p.now self.old.me (IsLow (held self.old)) (held self.old) self.new
-            (on_ok p.now self.old.me.0 (held self.old) from.0 index) None e) }
+        requires { is_leader (role_of self.old.part) ≡ true }
+        ensures { IfOk result (λ e. Does context.now.p.now self.old.me (IsLow (held self.old)) (held self.old) self.new
+            (on_ok context.now.p.now self.old.me.0 (held self.old) from.0 index) None e) }
     {
         if index > self.log.len() {
-            return Ok(Effects::nothing(alloc));
+            return Ok(Effects::nothing(context.alloc));
         }
         let held = self.matched.at(from).max(index);
         self.matched.put(from, held)?;
         self.next.put(from, held.saturating_add(1))?;
-        self.advance(alloc, p, Seq::new(alloc))
+        self.advance(context, Seq::new(context.alloc))
     }
 
     fn was_sent_last(&self, node: NodeId, index: usize) -> bool
@@ -208,22 +202,21 @@ impl Raft {
     // rule: Raft: After a refused Append the leader sends one entry more
     fn take_not_ok(
         &mut self,
-        alloc: Global,
-        p: &Params,
+        context: &Context<Raft>,
         from: NodeId,
         index: usize,
     ) -> Result<Effects<Message>, NoMemory>
-        requires from { from.0 < p.now.setup.n }
+        requires from { from.0 < context.now.p.now.setup.n }
         requires leads { is_leader (role_of self.old.part) ≡ true }
-        ensures { IfOk result (λ e. Does p.now self.old.me (IsLow (held self.old)) (held self.old) self.new
+        ensures { IfOk result (λ e. Does context.now.p.now self.old.me (IsLow (held self.old)) (held self.old) self.new
             (on_not_ok (held self.old) from.0 index) None e) }
     {
         if !self.was_sent_last(from, index) {
-            return Ok(Effects::nothing(alloc));
+            return Ok(Effects::nothing(context.alloc));
         }
         self.next.put(from, index)?;
-        let msg = self.append_behind(alloc, index - 1)?;
-        one(alloc, from, msg)
+        let msg = self.append_behind(context.alloc, index - 1)?;
+        one(context.alloc, from, msg)
     }
 
     // ---- RequestVote: one vote a term, only for a candidate whose log is at least as up to date
@@ -253,15 +246,14 @@ impl Raft {
     // rule: Raft: A node gives one vote a term, to a candidate whose log is up to date
     pub(crate) fn take_ask(
         &mut self,
-        alloc: Global,
-        p: &Params,
+        context: &Context<Raft>,
         from: NodeId,
         term: u16,
         last: u32,
         last_term: u16,
     ) -> Result<Effects<Message>, NoMemory>
-        requires { from.0 < p.now.setup.n }
-        ensures { IfOk result (λ e. Does p.now self.old.me (IsLow (held self.old)) (held self.old) self.new
+        requires { from.0 < context.now.p.now.setup.n }
+        ensures { IfOk result (λ e. Does context.now.p.now self.old.me (IsLow (held self.old)) (held self.old) self.new
             (on_ask (held self.old) from.0 term last last_term) None e) }
     {
         let term_now = self.term;
@@ -270,14 +262,14 @@ impl Raft {
                 term: term_now,
                 granted: false,
             };
-            return one(alloc, from, refusal);
+            return one(context.alloc, from, refusal);
         }
         self.vote = Some(from.0);
         let vote = Message::Vote {
             term: term_now,
             granted: true,
         };
-        one(alloc, from, vote)
+        one(context.alloc, from, vote)
     }
 
     // ---- a candidate with the votes of a quorum becomes leader
@@ -290,57 +282,54 @@ impl Raft {
 
     pub(crate) fn take_vote(
         &mut self,
-        alloc: Global,
-        p: &Params,
+        context: &Context<Raft>,
         from: NodeId,
         term: u16,
         granted: bool,
     ) -> Result<Effects<Message>, NoMemory>
-        requires { IsGoodParams raft p.now }
-        ensures { IfOk result (λ e. Does p.now self.old.me (IsLow (held self.old)) (held self.old) self.new
-            (on_vote p.now self.old.me.0 (held self.old) from.0 term granted) None e) }
+        ensures { IfOk result (λ e. Does context.now.p.now self.old.me (IsLow (held self.old)) (held self.old) self.new
+            (on_vote context.now.p.now self.old.me.0 (held self.old) from.0 term granted) None e) }
     {
         if !self.counts(term, granted) {
-            return Ok(Effects::nothing(alloc));
+            return Ok(Effects::nothing(context.alloc));
         }
         self.granted.put(from, true)?;
-        self.count_votes(alloc, p, Seq::new(alloc))
+        self.count_votes(context, Seq::new(context.alloc))
     }
 
     // Becomes leader if a quorum granted its vote. The log is then appended for all others to `sends`. The only error
     // is out of memory.
     fn count_votes(
         &mut self,
-        alloc: Global,
-        p: &Params,
+        context: &Context<Raft>,
         sends: Seq<(To, Message)>,
     ) -> Result<Effects<Message>, NoMemory>
-        requires good { IsGoodParams raft p.now }
-        requires addressed { AreToNodes p.now.setup.n sends }
-        ensures { IfOk result (λ e. Does p.now self.old.me (HasRoom (held self.old)) (held self.old) self.new
-            (counted p.now self.old.me.0 (held self.old) sends) None e) }
+        requires { AreToNodes context.now.p.now.setup.n sends }
+        ensures { IfOk result (λ e.
+            Does context.now.p.now self.old.me (HasRoom (held self.old)) (held self.old) self.new
+            (counted context.now.p.now self.old.me.0 (held self.old) sends) None e) }
     {
-        if count(&self.granted, p.setup.n as u8) < p.setup.quorum {
-            return Ok(only(alloc, sends));
+        if count(&self.granted, context.nodes()) < context.p.setup.quorum {
+            return Ok(only(context.alloc, sends));
         }
-        self.lead(alloc, p)?;
+        self.lead(context)?;
         let mut sends = sends;
-        self.append_to_others(alloc, p, &mut sends)?;
-        self.advance(alloc, p, sends)
+        self.append_to_others(context, &mut sends)?;
+        self.advance(context, sends)
     }
 
     // Becomes leader: appends a mark of the term, and nil for each open slot. nextIndex is the index after the old log.
     // rule: Raft: A new leader fills the rest of its segment with a mark and nil entries
-    fn lead(&mut self, alloc: Global, p: &Params) -> Result<(), NoMemory>
+    fn lead(&mut self, context: &Context<Raft>) -> Result<(), NoMemory>
         ensures within { self.old.log.commit ≤ length self.old.log.entries }
         ensures me { OnOk result (self.new.me ≡ self.old.me) }
-        ensures state { OnOk result (held self.new ≡ won p.now (held self.old)) }
+        ensures state { OnOk result (held self.new ≡ won context.now.p.now (held self.old)) }
     {
-        let missing = p.slots.len().saturating_sub(self.log.filled());
+        let missing = context.p.slots.len().saturating_sub(self.log.filled());
         let term = self.term;
         self.part = Role::Leader;
-        self.next = PerPeer::all(alloc, self.log.len().saturating_add(1));
-        self.matched = PerPeer::all(alloc, 0);
+        self.next = PerPeer::all(context.alloc, self.log.len().saturating_add(1));
+        self.matched = PerPeer::all(context.alloc, 0);
         let what = Content::Mark;
         self.log.push(Entry { term, what })?;
         self.log.push_nils(term, missing)
@@ -350,38 +339,32 @@ impl Raft {
 
     // rule: Raft: A timeout makes a node a candidate of the next term, up to the last term
     // rule: Raft: A leader that times out sends its log to all others again
-    pub(crate) fn time_out(
-        &mut self,
-        alloc: Global,
-        p: &Params,
-    ) -> Result<Effects<Message>, NoMemory>
-        requires { IsGoodParams raft p.now }
-        ensures { IfOk result (λ e. Does p.now self.old.me (IsLow (held self.old)) (held self.old) self.new
-            (on_timeout p.now self.old.me.0 (held self.old)) None e) }
+    pub(crate) fn time_out(&mut self, context: &Context<Raft>) -> Result<Effects<Message>, NoMemory>
+        ensures { IfOk result (λ e. Does context.now.p.now self.old.me (IsLow (held self.old)) (held self.old) self.new
+            (on_timeout context.now.p.now self.old.me.0 (held self.old)) None e) }
     {
         if self.part.is_leader() {
-            let mut sends = Seq::new(alloc);
-            self.append_to_others(alloc, p, &mut sends)?;
-            return Ok(only(alloc, sends));
+            let mut sends = Seq::new(context.alloc);
+            self.append_to_others(context, &mut sends)?;
+            return Ok(only(context.alloc, sends));
         }
         if self.term >= LAST_TERM {
-            return Ok(Effects::nothing(alloc));
+            return Ok(Effects::nothing(context.alloc));
         }
-        self.stand(alloc, p)
+        self.stand(context)
     }
 
-    fn stand(&mut self, alloc: Global, p: &Params) -> Result<Effects<Message>, NoMemory>
-        requires good { IsGoodParams raft p.now }
-        requires term { self.old.term < 65535 }
-        ensures { IfOk result (λ e. Does p.now self.old.me (IsLow (held self.old)) (held self.old) self.new
-            (stands_up p.now self.old.me.0 (candidate self.old.me.0 (held self.old))) None e) }
+    fn stand(&mut self, context: &Context<Raft>) -> Result<Effects<Message>, NoMemory>
+        requires { self.old.term < 65535 }
+        ensures { IfOk result (λ e. Does context.now.p.now self.old.me (IsLow (held self.old)) (held self.old) self.new
+            (stands_up context.now.p.now self.old.me.0 (candidate self.old.me.0 (held self.old))) None e) }
     {
         self.term += 1;
         self.vote = Some(self.me.0);
         self.part = Role::Candidate;
-        self.granted = PerPeer::all(alloc, false);
+        self.granted = PerPeer::all(context.alloc, false);
         self.granted.put(self.me, true)?;
-        let sends = self.ask_others(alloc, p)?;
-        self.count_votes(alloc, p, sends)
+        let sends = self.ask_others(context)?;
+        self.count_votes(context, sends)
     }
 }

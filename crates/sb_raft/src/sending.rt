@@ -1,14 +1,14 @@
 //! The messages that a node sends.
 ghost use Rattle.std.specs.Prelude.{◌≡◌, ◌<◌, ◌≤◌, ◌^◌, ◌++◌, ◌∷◌, [], ℕ, length, IfOk, OnOk};
-ghost use Rattle.iss_sb.specs.Calls.{AreToNodes, IsGoodParams};
-ghost use Rattle.sb_raft.specs.Raft.{raft};
+ghost use Rattle.iss_sb.specs.Calls.{AreToNodes};
 ghost use Rattle.sb_raft.specs.Rules.{append_behind, appends, ask_vote, others, append_to, to, to_each};
 ghost use Rattle.sb_raft.specs.Refines.{Fits, IsReply, OnlySends, held, other};
 
 use crate::raft::Raft;
 use iss_request::{NoMemory, NodeId, Seq};
-use iss_sb::{Effects, Params, To};
+use iss_sb::{Effects, To};
 use raft_wire::Message;
+use sb_context::Context;
 use std::alloc::Global;
 
 // An index as a message's field. Every index that is sent fits; a larger one would become the greatest.
@@ -73,17 +73,16 @@ impl Raft {
     // Appends to `sends` an Append for each other node, from its nextIndex on. The only error is out of memory.
     pub(crate) fn append_to_others(
         &self,
-        alloc: Global,
-        p: &Params,
+        context: &Context<Raft>,
         sends: &mut Seq<(To, Message)>,
     ) -> Result<(), NoMemory>
-        requires { IsGoodParams raft p.now }
         ensures appends { OnOk result
-            (Fits (held self.now) → sends.new ≡ sends.old ++ appends p.now self.now.me.0 (held self.now)) }
-        ensures addressed { OnOk result (AreToNodes p.now.setup.n sends.old → AreToNodes p.now.setup.n sends.new) }
+            (Fits (held self.now) → sends.new ≡ sends.old ++ appends context.now.p.now self.now.me.0 (held self.now)) }
+        ensures addressed { OnOk result
+            (AreToNodes context.now.p.now.setup.n sends.old → AreToNodes context.now.p.now.setup.n sends.new) }
     {
-        for k in 0..p.setup.n as u8 {
-            self.append_to(alloc, NodeId(k), sends)?;
+        for k in 0..context.nodes() {
+            self.append_to(context.alloc, NodeId(k), sends)?;
         }
         Ok(())
     }
@@ -110,18 +109,13 @@ impl Raft {
     }
 
     // A RequestVote for each other node. The only error is out of memory.
-    pub(crate) fn ask_others(
-        &self,
-        alloc: Global,
-        p: &Params,
-    ) -> Result<Seq<(To, Message)>, NoMemory>
-        requires { IsGoodParams raft p.now }
+    pub(crate) fn ask_others(&self, context: &Context<Raft>) -> Result<Seq<(To, Message)>, NoMemory>
         ensures asks { IfOk result (λ sends. length self.now.log.entries < 2 ^ 32 →
-            sends ≡ to_each (ask_vote (held self.now)) (others self.now.me.0 p.now.setup.n)) }
-        ensures addressed { IfOk result (λ sends. AreToNodes p.now.setup.n sends) }
+            sends ≡ to_each (ask_vote (held self.now)) (others self.now.me.0 context.now.p.now.setup.n)) }
+        ensures addressed { IfOk result (λ sends. AreToNodes context.now.p.now.setup.n sends) }
     {
-        let mut sends = Seq::new(alloc);
-        for k in 0..p.setup.n as u8 {
+        let mut sends = Seq::new(context.alloc);
+        for k in 0..context.nodes() {
             self.ask(NodeId(k), &mut sends)?;
         }
         Ok(sends)

@@ -12,7 +12,7 @@ use Rattle.iss_request.specs.declared.requests.Value.{Value}
 use Rattle.iss_sb.specs.declared.effects.Effects.{Effects}
 use Rattle.iss_sb.specs.declared.effects.Params.{Params}
 use Rattle.iss_sb.specs.declared.effects.To.{To}
-use Rattle.iss_sb.specs.Calls.{AreToNodes, IsGoodParams, IsNothing}
+use Rattle.iss_sb.specs.Calls.{AreToNodes, IsNothing}
 use Rattle.iss_sb.specs.declared.content.Content.TheVariants.{Holds, Mark}
 use Rattle.raft_wire.specs.declared.messages.Message.{Message}
 use Rattle.raft_wire.specs.declared.messages.Message.TheVariants.{Vote}
@@ -21,7 +21,6 @@ use Rattle.iss_sb.specs.Paired.{paired}
 use Rattle.sb_raft.specs.Held.{LogState}
 use Rattle.sb_raft.specs.Kept.{kept}
 use Rattle.sb_raft.specs.Logs.{contents, entry, filled, nils}
-use Rattle.sb_raft.specs.Raft.{raft}
 use Rattle.sb_raft.specs.Rules.{Candidate, Leader, State, Step, advanced, answer, append_behind, appends, ask_vote, candidate, counted, filling, grants, greatest, is_candidate, is_leader, may_cast, may_commit, on_ask, on_cast, on_not_ok, on_ok, on_reply, on_timeout, on_vote, others, quiet, risen, spread, stands_up, to, to_each, won}
 use Rattle.sb_raft.specs.Refines.{Does, Fits, HasRoom, IsLow, OnlySends, cast_of, held}
 use Rattle.sb_raft.proofs.StateChanges.NextIndexIsInLog.{Bounds, match-bounds, won-bounds}
@@ -167,26 +166,25 @@ module _ (p : Params) (m : Raft) where
       goes_not p (HasRoom (held m)) m.me (held m) m (nat_le p.setup.quorum (count_below (kept m.granted) p.setup.n)) _ (record { state = held m; sends = sends }) None e (lt-leb p.setup.quorum (count_below (kept m.granted) p.setup.n) lt)
       (does-only p (HasRoom (held m)) m m (record { state = held m; sends = sends }) e refl (λ _. refl) refl sends addressed (λ _. refl) h)
 
-  room-won : IsGoodParams raft p → HasRoom (held m) → Fits (won p (held m))
-  room-won good room =
+  room-won : length p.slots ≤ 64 → HasRoom (held m) → Fits (won p (held m))
+  room-won few room =
       let b = won-bounds p (held m) in
       let l = length-append m.log.entries (filling p (held m)) in
       let f = filling-long p (held m) in
-      let few = good.few in
       record { log = omega (arith, room, l, f, few); next = b.next }
 
-  pub votes-won : IsGoodParams raft p → (mid new : Raft) (sends more : List (To × Message)) (e : Effects Message) → p.setup.quorum ≤ count_below (kept m.granted) p.setup.n → m.log.commit ≤ length m.log.entries →
+  pub votes-won : length p.slots ≤ 64 → (mid new : Raft) (sends more : List (To × Message)) (e : Effects Message) → p.setup.quorum ≤ count_below (kept m.granted) p.setup.n → m.log.commit ≤ length m.log.entries →
       Does p mid.me (Fits (held mid)) (held mid) new (advanced p mid.me.0 (record { state = held mid; sends = more })) None e → mid.me ≡ m.me → held mid ≡ won p (held m) →
       (Fits (held mid) → more ≡ sends ++ appends p mid.me.0 (held mid)) → Does p m.me (HasRoom (held m)) (held m) new (counted p me (held m) sends) None e
-  votes-won good mid new sends more e enough low_commit d node is sent =
+  votes-won few mid new sends more e enough low_commit d node is sent =
       goes p (HasRoom (held m)) m.me (held m) new (nat_le p.setup.quorum (count_below (kept m.granted) p.setup.n)) (advanced p me (record { state = won p (held m); sends = sends ++ appends p me (won p (held m)) })) (record { state = held m; sends = sends }) None e
       (le-leb p.setup.quorum (count_below (kept m.granted) p.setup.n) enough)
-      (further (HasRoom (held m)) mid new (won p (held m)) more (sends ++ appends p me (won p (held m))) e d node (λ _. is) (λ room. room-won good room) same (ap (λ (z : State). z.commit) is)
+      (further (HasRoom (held m)) mid new (won p (held m)) more (sends ++ appends p me (won p (held m))) e d node (λ _. is) (λ room. room-won few room) same (ap (λ (z : State). z.commit) is)
       (ap (λ (z : State). take m.log.commit z.log) is ∙ take-append-le m.log.commit m.log.entries (filling p (held m)) low_commit))
     where
       same : HasRoom (held m) → more ≡ sends ++ appends p me (won p (held m))
       same room =
-          sent (subst (λ (z : State). Fits z) (sym is) (room-won good room))
+          sent (subst (λ (z : State). Fits z) (sym is) (room-won few room))
           ∙ ap (λ (k : NodeId). sends ++ appends p k.0 (held mid)) node ∙ ap (λ (z : State). sends ++ appends p me z) is
 
   -- counting votes, from a later state

@@ -4,11 +4,14 @@ use Rattle.sb_echo.proofs.Steps.{idle_timeout-refines, idle_timeout-taken}
 use Rattle.sb_echo.proofs.Within.{nothing-within}
 use Rattle.sb_echo.proofs.echo.EchoSequenced.apply.Goals as goal
 
+pub returns-in-Cast : goal.returns-in-Cast
+returns-in-Cast c = rw c.in-Cast.is (rw c.of-context.ensures at c.cast.ensures)
+
 pub returns-in-Say : goal.returns-in-Say
-returns-in-Say c = rw (c.in-Receive.is, c.in-Say.is) (IfOk-weaker c.take_say.result _ _ (λ e h. h c.in-Say.sig) c.take_say.ensures)
+returns-in-Say c = rw (c.in-Receive.is, c.in-Say.is) (IfOk-weaker c.take_say.result _ _ (λ e h. h c.in-Say.sig) (rw c.of-context.ensures at c.take_say.ensures))
 
 pub returns-in-Receive : goal.returns-in-Receive
-returns-in-Receive c = rw (c.in-Receive.is, c.in-Echo.is) (IfOk-weaker c.take_echo.result _ _ (λ e h. h c.in-Echo.sig c.args.keys.now c.requires.enough) c.take_echo.ensures)
+returns-in-Receive c = rw (c.in-Receive.is, c.in-Echo.is) (IfOk-weaker c.take_echo.result _ _ (λ e h. h c.in-Echo.sig c.args.keys.now c.requires.enough) (rw c.of-context.ensures at c.take_echo.ensures))
 
 pub returns : goal.returns
 returns c =

@@ -7,4 +7,4 @@ use Rattle.sb_raft.proofs.raft.Raft.append_to_others.Given as goal
 abbrev pub invariant-loop-k : goal.invariant-loop-k
 invariant-loop-k l =
     (Fits (held l.self) → l.sends ≡ l.fn.sends ++ to_each (append_to (held l.self)) (others l.self.me.0 l.k))
-    × (AreToNodes l.p.setup.n l.fn.sends → AreToNodes l.p.setup.n l.sends)
+    × (AreToNodes l.context.p.now.setup.n l.fn.sends → AreToNodes l.context.p.now.setup.n l.sends)

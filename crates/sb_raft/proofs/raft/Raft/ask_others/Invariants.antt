@@ -7,4 +7,4 @@ use Rattle.sb_raft.proofs.raft.Raft.ask_others.Given as goal
 abbrev pub invariant-loop-k : goal.invariant-loop-k
 invariant-loop-k l =
     (length l.self.log.entries < 2 ^ 32 → l.sends ≡ to_each (ask_vote (held l.self)) (others l.self.me.0 l.k))
-    × AreToNodes l.p.setup.n l.sends
+    × AreToNodes l.context.p.now.setup.n l.sends

@@ -14,4 +14,4 @@ returns-clause-state c =
     let small = c.len-2.ensures.small in
     let next = c.saturating_add.ensures in
     let new : Raft = record c.args.self.now { part = Role_leader; log = c.push_nils.new.self; next = c.all.result; matched = c.all-2.result } in
-    on_ok_weaker c.push_nils.result (λ q. lead-state c.args.p.now c.args.self.now new c.push.new.self c.saturating_sub-missing.result c.saturating_add.result refl (omega (arith, slots, full, less)) (omega (arith, long, small, next)) c.all.ensures c.all-2.ensures c.in_ok-push.ensures.log q) c.push_nils.ensures
+    on_ok_weaker c.push_nils.result (λ q. lead-state c.args.context.now.p.now c.args.self.now new c.push.new.self c.saturating_sub-missing.result c.saturating_add.result refl (omega (arith, slots, full, less)) (omega (arith, long, small, next)) c.all.ensures c.all-2.ensures c.in_ok-push.ensures.log q) c.push_nils.ensures

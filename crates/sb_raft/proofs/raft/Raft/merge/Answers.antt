@@ -12,7 +12,7 @@ pub returns-then-not-branch : goal.returns-then-not-branch
 returns-then-not-branch c =
     let m = c.args.self.now in
     let new : Raft = record m { log = c.merge.new.self } in
-    merge-idle c.args.p.now m new c.args.from.0 c.args.previous c.args.commit c.args.entries c.requires.from c.requires.previous refl c.nothing.result
+    merge-idle c.args.context.now.p.now m new c.args.from.0 c.args.previous c.args.commit c.args.entries c.requires.from c.requires.previous refl c.nothing.result
     (λ i. let r : Raft = record m { log = when-false c.in_ok-merge.field-0 c.merge.new.self m.log (with_merged m.log c.args.previous c.args.entries) c.if-not-branch.true c.in_ok-merge.ensures.log i } in held r) (sym c.in_ok-merge.ensures.tells ∙ c.if-not-branch.true) c.nothing.ensures
 
 pub commit_to-requires : goal.commit_to-requires
@@ -30,7 +30,7 @@ returns c =
     let sum = c.saturating_add-sent.ensures in
     let mid = c.merge.new.self in
     let new : Raft = record m { log = c.commit_to.new.self } in
-    merge-done c.args.p.now m new c.args.from.0 c.args.previous c.args.commit c.args.entries c.requires.from c.requires.previous refl mid c.saturating_add-sent.result c.min-told.result c.in_ok-delivers.delivers c.in_ok-effects.effects
+    merge-done c.args.context.now.p.now m new c.args.from.0 c.args.previous c.args.commit c.args.entries c.requires.from c.requires.previous refl mid c.saturating_add-sent.result c.min-told.result c.in_ok-delivers.delivers c.in_ok-effects.effects
     (sym c.in_ok-merge.ensures.tells ∙ c.if-not-branch.false) (when-true c.in_ok-merge.field-0 c.merge.new.self m.log (with_merged m.log c.args.previous c.args.entries) c.if-not-branch.false c.in_ok-merge.ensures.log) c.in_ok-delivers.ensures.log refl (omega (arith, long, sum)) c.min-told.ensures
     (c.in_ok-delivers.ensures.filled ∙ ap (λ (ss : List Slot). paired (drop (filled (take mid.commit mid.entries)) ss) (contents (drop mid.commit (take c.min-told.result mid.entries)))) c.as_slice.ensures)
     c.in_ok-effects.ensures

@@ -14,11 +14,11 @@ pub returns-then-not-was_sent_last : goal.returns-then-not-was_sent_last
 returns-then-not-was_sent_last c =
     let m = c.args.self.now in
     let i = c.args.index in
-    idle c.args.p.now (IsLow (held m)) m ((i == kept m.next c.args.from.0 - 1) && nat_le 1 i) (answer (record (held m) { next = set_at (kept m.next) c.args.from.0 i }) c.args.from.0 (append_behind (held m) (i - 1))) c.nothing.result
+    idle c.args.context.now.p.now (IsLow (held m)) m ((i == kept m.next c.args.from.0 - 1) && nat_le 1 i) (answer (record (held m) { next = set_at (kept m.next) c.args.from.0 i }) c.args.from.0 (append_behind (held m) (i - 1))) c.nothing.result
     (sym c.was_sent_last.ensures ∙ c.if-not-was_sent_last.true) c.nothing.ensures
 
 pub returns : goal.returns
 returns c =
     let m = c.args.self.now in
     let new : Raft = record m { next = c.put.new.self } in
-    IfOk-weaker c.one.result _ _ (λ e h. not-ok-done c.args.p.now m c.args.from.0 c.args.index c.requires.leads new c.in_ok-msg.msg e c.requires.from (sym c.was_sent_last.ensures ∙ c.if-not-was_sent_last.false) refl refl c.in_ok-put.ensures refl c.in_ok-msg.ensures h) c.one.ensures
+    IfOk-weaker c.one.result _ _ (λ e h. not-ok-done c.args.context.now.p.now m c.args.from.0 c.args.index c.requires.leads new c.in_ok-msg.msg e c.requires.from (sym c.was_sent_last.ensures ∙ c.if-not-was_sent_last.false) refl refl c.in_ok-put.ensures refl c.in_ok-msg.ensures h) c.one.ensures

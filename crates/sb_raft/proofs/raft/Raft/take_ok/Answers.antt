@@ -15,7 +15,7 @@ returns-then-index-len c =
     let m = c.args.self.now in
     let long = c.len.ensures.value in
     let lt = c.if-index-len.true in
-    idle c.args.p.now (IsLow (held m)) m (nat_le c.args.index (length m.log.entries)) (advanced c.args.p.now m.me.0 (quiet (with_match (held m) c.args.from.0 c.args.index))) c.nothing.result
+    idle c.args.context.now.p.now (IsLow (held m)) m (nat_le c.args.index (length m.log.entries)) (advanced c.args.context.now.p.now m.me.0 (quiet (with_match (held m) c.args.from.0 c.args.index))) c.nothing.result
     (lt-leb c.args.index (length m.log.entries) (omega (arith, long, lt))) c.nothing.ensures
 
 pub returns : goal.returns
@@ -26,5 +26,5 @@ returns c =
     let was = c.at.ensures in
     let most = c.max-held.ensures in
     let mid : Raft = record m { matched = c.put.new.self; next = c.put-2.new.self } in
-    IfOk-weaker c.advance.result _ _ (λ e d. ok-done c.args.p.now m c.args.from.0 c.args.index c.requires.leads mid c.advance.new.self c.max-held.result c.saturating_add.result c.new.result e (omega (arith, long, le)) d c.new.ensures refl refl
+    IfOk-weaker c.advance.result _ _ (λ e d. ok-done c.args.context.now.p.now m c.args.from.0 c.args.index c.requires mid c.advance.new.self c.max-held.result c.saturating_add.result c.new.result e (omega (arith, long, le)) d c.new.ensures refl refl
     (omega (arith, was, most)) c.saturating_add.ensures c.in_ok-put.ensures c.in_ok-put-2.ensures refl) c.advance.ensures
