@@ -7,7 +7,7 @@ mod journals;
 mod keys;
 mod links;
 mod schedules;
-mod snapshots;
+mod snapshot_bytes;
 mod tall_keys;
 mod vectors;
 mod versions;
