@@ -1,5 +1,5 @@
-//! The orders that run nodes, over links and disks in memory, some of which fail, and over UDP. The expected logs follow
-//! from the rules: node 0 alone casts a slot in its first turn, and its own Commit fills the slot in the second.
+//! The orders that run nodes, over links and disks in memory, some of which fail, and over UDP. The expected logs
+//! follow from the rules: node 0 alone casts a slot in its first turn, and its own Commit fills the slot in the second.
 use crate::tests::calls::{Call, answer, call_over, check_over};
 use iss_disk::{Disk, MemoryDisk};
 use iss_links::{FailingLinks, MemoryLinks, UdpLinks};
