@@ -24,6 +24,7 @@ use iss_request::{
     quorum,
 };
 use iss_sb::{Claim, Content, Effects, Input, Params, Sequenced, asks_if};
+use sb_context::{Context, Modelled};
 use std::alloc::Global;
 
 /// A replica's part in one instance: the protocol's state, the batches that it accepted, and how many slots of the
@@ -86,18 +87,26 @@ impl Chained {
     // rule: Modules: A step delivers exactly what the module's definition delivers
     fn deliver(
         &mut self,
-        alloc: Global,
-        p: &Params,
+        context: &Context<Chained>,
         decided: Option<[u8; 32]>,
     ) -> Result<Seq<(Slot, Value)>, NoMemory>
-        ensures inside { IfOk result (λ ds. AllIn (slots_of ds) p.now.slots) }
-        ensures delivers { IfOk result (λ ds. IsDeciding p.now self.old self.new decided ds) }
+        ensures inside { IfOk result (λ ds. AllIn (slots_of ds) context.now.p.now.slots) }
+        ensures delivers { IfOk result (λ ds. IsDeciding context.now.p.now self.old self.new decided ds) }
     {
         let Some(digest) = decided else {
-            return Ok(Seq::new(alloc));
+            return Ok(Seq::new(context.alloc));
         };
-        let values = self.node.nodes.tree.behind(alloc, &digest, self.delivered)?;
-        let delivers = pair(alloc, p.slots.as_slice(), self.delivered, values.into_vec())?;
+        let values = self
+            .node
+            .nodes
+            .tree
+            .behind(context.alloc, &digest, self.delivered)?;
+        let delivers = pair(
+            context.alloc,
+            context.p.slots.as_slice(),
+            self.delivered,
+            values.into_vec(),
+        )?;
         let slots = self.node.nodes.tree.slots(&digest);
         if slots <= self.delivered {
             return Ok(delivers);
@@ -121,36 +130,33 @@ impl Chained {
     // only error is out of memory.
     fn show(
         &mut self,
-        alloc: Global,
-        p: &Params,
+        context: &Context<Chained>,
         shown: Certificate,
     ) -> Result<Seq<(Slot, Value)>, NoMemory>
-        ensures inside { IfOk result (λ ds. AllIn (slots_of ds) p.now.slots) }
+        ensures inside { IfOk result (λ ds. AllIn (slots_of ds) context.now.p.now.slots) }
         ensures accepted { OnOk result (self.new.accepted ≡ self.old.accepted) }
-        ensures shown { IfOk result (λ ds. (k : State) → RefinesState p.now self.old.node k →
-            IsShown p.now self.old self.new k (Some shown) ds) }
+        ensures shown { IfOk result (λ ds. (k : State) → RefinesState context.now.p.now self.old.node k →
+            IsShown context.now.p.now self.old self.new k (Some shown) ds) }
     {
-        let decided = self.decided(p, &shown);
-        let delivers = self.deliver(alloc, p, decided)?;
-        self.node.note(p, shown);
+        let decided = self.decided(context.p, &shown);
+        let delivers = self.deliver(context, decided)?;
+        self.node.note(context.p, shown);
         Ok(delivers)
     }
 
     // The leader takes a cast. It proposes the batch at once if its last turn is certified.
     fn cast(
         &mut self,
-        alloc: Global,
-        p: &Params,
+        context: &Context<Chained>,
         slot: Slot,
         batch: Batch,
     ) -> Result<Taken, NoMemory>
-        requires { IsGoodParams chained p.now }
-        ensures { IfOk result (λ t. Takes p.now self.old self.new (Input.Cast slot batch) t) }
+        ensures { IfOk result (λ t. Takes context.now.p.now self.old self.new (Input.Cast slot batch) t) }
     {
-        let free = cast_slot(&self.node, p, slot);
-        let accepted = keep_at(&mut self.accepted, alloc, free, &batch)?;
-        let outcome = self.node.take_cast(alloc, p, slot, batch)?;
-        let delivers = Seq::new(alloc);
+        let free = cast_slot(&self.node, context.p, slot);
+        let accepted = keep_at(&mut self.accepted, context.alloc, free, &batch)?;
+        let outcome = self.node.take_cast(context, slot, batch)?;
+        let delivers = Seq::new(context.alloc);
         Ok(Taken {
             outcome,
             accepted,
@@ -161,33 +167,31 @@ impl Chained {
     // Takes a proposal, if it is valid: accepts its batch and votes. Its justification counts even if it is not taken.
     fn prepare(
         &mut self,
-        alloc: Global,
-        p: &Params,
+        context: &Context<Chained>,
         from: NodeId,
         proposal: Proposal,
     ) -> Result<Taken, NoMemory>
-        requires { IsGoodParams chained p.now }
-        ensures { IfOk result (λ t. (sig : List ℕ) → Takes p.now self.old self.new
+        ensures { IfOk result (λ t. (sig : List ℕ) → Takes context.now.p.now self.old self.new
             (Input.Receive from (Prepare proposal.view proposal.what proposal.just sig)) t) }
     {
         let view = proposal.view;
         let what = proposal.what;
         let just = proposal.just;
-        if !self.node.is_usable(p, from, view, &just) {
-            return Ok(Taken::of(alloc, Outcome::nothing(alloc)));
+        if !self.node.is_usable(context.p, from, view, &just) {
+            return Ok(Taken::of(context.alloc, Outcome::nothing(context.alloc)));
         }
-        if !self.node.may_prepare(p, from, view, &what, &just) {
-            let delivers = self.show(alloc, p, just)?;
+        if !self.node.may_prepare(context.p, from, view, &what, &just) {
+            let delivers = self.show(context, just)?;
             return Ok(Taken {
-                outcome: Outcome::nothing(alloc),
+                outcome: Outcome::nothing(context.alloc),
                 accepted: None,
                 delivers,
             });
         }
-        let slot = offered_slot(&self.node, &self.accepted, p, &what, &just);
-        let accepted = keep_what(&mut self.accepted, alloc, slot, &what)?;
-        let outcome = self.node.take_node(alloc, p, view, what, &just)?;
-        let delivers = self.show(alloc, p, just)?;
+        let slot = offered_slot(&self.node, &self.accepted, context.p, &what, &just);
+        let accepted = keep_what(&mut self.accepted, context.alloc, slot, &what)?;
+        let outcome = self.node.take_node(context, view, what, &just)?;
+        let delivers = self.show(context, just)?;
         Ok(Taken {
             outcome,
             accepted,
@@ -198,28 +202,32 @@ impl Chained {
     // Takes a vote for one of the leader's own turns. A quorum of them certifies the turn, and the next one follows.
     fn vote(
         &mut self,
-        alloc: Global,
-        p: &Params,
+        context: &Context<Chained>,
         from: NodeId,
         vote: SignedVote,
     ) -> Result<Taken, NoMemory>
-        requires { IsGoodParams chained p.now }
-        ensures { IfOk result (λ t. Takes p.now self.old self.new
+        ensures { IfOk result (λ t. Takes context.now.p.now self.old self.new
             (Input.Receive from (Vote vote.phase vote.view vote.digest vote.sig)) t) }
     {
         let view = vote.view;
         let digest = vote.digest;
-        if !self.node.keeps_vote(p, from, vote.phase, view, &digest) {
-            return Ok(Taken::of(alloc, Outcome::nothing(alloc)));
+        if !self
+            .node
+            .keeps_vote(context, from, vote.phase, view, &digest)
+        {
+            return Ok(Taken::of(context.alloc, Outcome::nothing(context.alloc)));
         }
         self.node.votes.keep(from.0, PHASE, view, digest, vote.sig)?;
-        if !self.node.is_reached(p, view, &digest) {
-            return Ok(Taken::of(alloc, Outcome::nothing(alloc)));
+        if !self.node.is_reached(context, view, &digest) {
+            return Ok(Taken::of(context.alloc, Outcome::nothing(context.alloc)));
         }
-        let n = p.setup.n as u8;
-        let shown = self.node.votes.certificate(alloc, n, PHASE, view, &digest)?;
-        let delivers = self.show(alloc, p, shown)?;
-        let outcome = self.node.next(alloc, p)?;
+        let n = context.p.setup.n as u8;
+        let shown = self
+            .node
+            .votes
+            .certificate(context.alloc, n, PHASE, view, &digest)?;
+        let delivers = self.show(context, shown)?;
+        let outcome = self.node.next(context)?;
         Ok(Taken {
             outcome,
             accepted: None,
@@ -230,29 +238,27 @@ impl Chained {
     // Takes a NewView. A quorum of them makes the round's leader propose.
     fn new_view(
         &mut self,
-        alloc: Global,
-        p: &Params,
+        context: &Context<Chained>,
         from: NodeId,
         round: u16,
         high: Certificate,
     ) -> Result<Taken, NoMemory>
-        requires { IsGoodParams chained p.now }
         ensures { IfOk result (λ t. (sig : List ℕ) →
-            Takes p.now self.old self.new (Input.Receive from (NewView round high sig)) t) }
+            Takes context.now.p.now self.old self.new (Input.Receive from (NewView round high sig)) t) }
     {
         if round == 0 {
-            return Ok(Taken::of(alloc, Outcome::nothing(alloc)));
+            return Ok(Taken::of(context.alloc, Outcome::nothing(context.alloc)));
         }
-        if !self.node.keeps_news(p, from, round, &high) {
-            return Ok(Taken::of(alloc, Outcome::nothing(alloc)));
+        if !self.node.keeps_news(context, from, round, &high) {
+            return Ok(Taken::of(context.alloc, Outcome::nothing(context.alloc)));
         }
         self.node.news.keep(from.0, round, high)?;
-        let Some(best) = self.node.best(alloc, p, round)? else {
-            return Ok(Taken::of(alloc, Outcome::nothing(alloc)));
+        let Some(best) = self.node.best(context, round)? else {
+            return Ok(Taken::of(context.alloc, Outcome::nothing(context.alloc)));
         };
-        let just = best.copy(alloc)?;
-        let delivers = self.show(alloc, p, best)?;
-        let outcome = self.node.first(alloc, p, round, just)?;
+        let just = best.copy(context.alloc)?;
+        let delivers = self.show(context, best)?;
+        let outcome = self.node.first(context, round, just)?;
         Ok(Taken {
             outcome,
             accepted: None,
@@ -263,22 +269,20 @@ impl Chained {
     // Takes a message.
     fn receive(
         &mut self,
-        alloc: Global,
-        p: &Params,
+        context: &Context<Chained>,
         from: NodeId,
         msg: Message,
     ) -> Result<Taken, NoMemory>
-        requires { IsGoodParams chained p.now }
-        ensures { IfOk result (λ t. Takes p.now self.old self.new (Input.Receive from msg) t) }
+        ensures { IfOk result (λ t. Takes context.now.p.now self.old self.new (Input.Receive from msg) t) }
     {
         match msg {
-            Message::NewView { round, high, .. } => self.new_view(alloc, p, from, round, high),
+            Message::NewView { round, high, .. } => self.new_view(context, from, round, high),
             Message::Prepare {
                 view,
                 what,
                 just,
                 ..
-            } => self.prepare(alloc, p, from, Proposal { view, what, just }),
+            } => self.prepare(context, from, Proposal { view, what, just }),
             Message::Vote {
                 phase,
                 view,
@@ -291,34 +295,41 @@ impl Chained {
                     digest,
                     sig,
                 };
-                self.vote(alloc, p, from, vote)
+                self.vote(context, from, vote)
             }
-            Message::PreCommit { .. } => Ok(Taken::of(alloc, Outcome::nothing(alloc))),
-            Message::Commit { .. } => Ok(Taken::of(alloc, Outcome::nothing(alloc))),
-            Message::Decide { .. } => Ok(Taken::of(alloc, Outcome::nothing(alloc))),
+            Message::PreCommit { .. } => Ok(Taken::of(
+                context.alloc,
+                Outcome::nothing(context.alloc),
+            )),
+            Message::Commit { .. } => Ok(Taken::of(context.alloc, Outcome::nothing(context.alloc))),
+            Message::Decide { .. } => Ok(Taken::of(context.alloc, Outcome::nothing(context.alloc))),
         }
     }
 
     // The round times out: enters the next one and sends its leader a NewView.
-    fn time_out(&mut self, alloc: Global, p: &Params) -> Result<Taken, NoMemory>
-        requires { IsGoodParams chained p.now }
-        ensures { IfOk result (λ t. Takes p.now self.old self.new Input.Timeout t) }
+    fn time_out(&mut self, context: &Context<Chained>) -> Result<Taken, NoMemory>
+        ensures { IfOk result (λ t. Takes context.now.p.now self.old self.new Input.Timeout t) }
     {
-        let outcome = self.node.time_out(alloc, p)?;
-        Ok(Taken::of(alloc, outcome))
+        let outcome = self.node.time_out(context)?;
+        Ok(Taken::of(context.alloc, outcome))
     }
 
     // Takes an input.
-    fn take(&mut self, alloc: Global, p: &Params, i: Input<Message>) -> Result<Taken, NoMemory>
-        requires { IsGoodParams chained p.now }
-        ensures { IfOk result (λ t. Takes p.now self.old self.new i t) }
+    fn take(&mut self, context: &Context<Chained>, i: Input<Message>) -> Result<Taken, NoMemory>
+        ensures { IfOk result (λ t. Takes context.now.p.now self.old self.new i t) }
     {
         match i {
-            Input::Cast { slot, batch } => self.cast(alloc, p, slot, batch),
-            Input::Receive { from, msg } => self.receive(alloc, p, from, msg),
-            Input::Timeout => self.time_out(alloc, p),
+            Input::Cast { slot, batch } => self.cast(context, slot, batch),
+            Input::Receive { from, msg } => self.receive(context, from, msg),
+            Input::Timeout => self.time_out(context),
         }
     }
+}
+
+impl Modelled for Chained {
+    type Msg = Message;
+
+    ghost spec = { chained };
 }
 
 impl Sequenced for Chained {
@@ -382,8 +393,9 @@ impl Sequenced for Chained {
         requires enough { chained.signs p.now ≤ left_of keys.old }
         ensures { IfOk result (λ e. IsTrueStep chained Refines p.now self.old self.new i keys.old keys.new e) }
     {
-        let taken = self.take(alloc, p, i)?;
-        taken.sign(alloc, p, keys)
+        let context = Context::of(alloc, p);
+        let taken = self.take(&context, i)?;
+        taken.sign(&context, keys)
     }
 
     fn encode(m: &Message, out: &mut Writer) -> Result<(), NoMemory> {

@@ -1,16 +1,16 @@
 //! The outcome of a rule, not yet signed.
 ghost use Rattle.std.specs.Prelude.{◌≤◌, Some, IfOk};
 ghost use Rattle.iss_keys.specs.KeyStates.{left_of};
-ghost use Rattle.iss_sb.specs.Calls.{IsGoodParams};
-ghost use Rattle.sb_chained.specs.Chained.{chained};
 ghost use Rattle.sb_chained.specs.Internal.Instances.{IsSigned};
 ghost use Rattle.sb_chained.specs.Refines.{IsAlone, IsDrafted, IsQuiet};
 
+use crate::chained::Chained;
 use hs_tree::Message;
 use hs_views::{Draft, send};
 use iss_keys::Keys;
 use iss_request::{Batch, Bytes, NoMemory, Seq, Slot, Value};
-use iss_sb::{Effects, Params};
+use iss_sb::Effects;
+use sb_context::Context;
 use std::alloc::Global;
 
 /// An unsigned message, if there is one, and the strings that were hashed.
@@ -65,17 +65,15 @@ impl Taken {
     /// The effects: the message signed with the next leaf, and the rest. The only error is out of memory.
     pub fn sign(
         self,
-        alloc: Global,
-        p: &Params,
+        context: &Context<Chained>,
         keys: &mut Keys,
     ) -> Result<Effects<Message>, NoMemory>
-        requires good { IsGoodParams chained p.now }
-        requires enough { 2 ≤ left_of keys.old }
-        ensures { IfOk result (λ e. IsSigned p.now self keys.old keys.new e) }
+        requires { 2 ≤ left_of keys.old }
+        ensures { IfOk result (λ e. IsSigned context.now.p.now self keys.old keys.new e) }
     {
-        let mut sends = Seq::new(alloc);
+        let mut sends = Seq::new(context.alloc);
         let outcome = self.outcome;
-        send(p, outcome.draft, keys, &mut sends)?;
+        send(context.p, outcome.draft, keys, &mut sends)?;
         Ok(Effects {
             sends,
             accepted: self.accepted,

@@ -1,12 +1,11 @@
 //! The rules of chained HotStuff that change a replica's state: what is answered and proposed.
 ghost use Rattle.std.specs.Prelude.{◌≡◌, Some, IfOk};
-ghost use Rattle.iss_sb.specs.Calls.{IsGoodParams};
-ghost use Rattle.sb_chained.specs.Chained.{chained};
 ghost use Rattle.sb_chained.specs.Internal.Instances.{Makes, TakesNode};
 ghost use Rattle.sb_chained.specs.Links.{raised_by};
 ghost use Rattle.sb_chained.specs.Rules.{State, with_shown};
 ghost use Rattle.sb_chained.specs.Refines.{RefinesState};
 
+use crate::chained::Chained;
 use crate::links::{Link, Lock};
 use crate::outcomes::Outcome;
 use crate::state::{Node, PHASE};
@@ -15,7 +14,7 @@ use hs_tree::{Certificate, Protocol};
 use hs_views::{round_draft, round_of, vote_draft};
 use iss_request::{Batch, NoMemory, Slot};
 use iss_sb::{Content, Input, Params};
-use std::alloc::Global;
+use sb_context::Context;
 
 /// The last round: a view has 16 bits for it.
 const LAST_ROUND: u16 = 65_535;
@@ -58,41 +57,44 @@ impl Node {
     /// is out of memory.
     pub fn take_cast(
         &mut self,
-        alloc: Global,
-        p: &Params,
+        context: &Context<Chained>,
         slot: Slot,
         batch: Batch,
     ) -> Result<Outcome, NoMemory>
-        requires { IsGoodParams chained p.now }
-        ensures { IfOk result (λ o. (s : State) → RefinesState p.now self.old s →
-            Makes p.now self.old self.new s (Input.Cast slot batch) o) }
+        ensures { IfOk result (λ o. (s : State) → RefinesState context.now.p.now self.old s →
+            Makes context.now.p.now self.old self.new s (Input.Cast slot batch) o) }
     {
-        if !self.may_cast(p, slot) {
-            return Ok(Outcome::nothing(alloc));
+        if !self.may_cast(context.p, slot) {
+            return Ok(Outcome::nothing(context.alloc));
         }
         self.casts.push(batch)?;
-        self.next(alloc, p)
+        self.next(context)
     }
 
     /// A proposal that passed `may_prepare`: its node becomes known, its view the replica's own, and the answer is a
     /// vote. The only error is out of memory.
     pub fn take_node(
         &mut self,
-        alloc: Global,
-        p: &Params,
+        context: &Context<Chained>,
         view: u32,
         what: Content,
         just: &Certificate,
     ) -> Result<Outcome, NoMemory>
-        requires { IsGoodParams chained p.now }
-        ensures { IfOk result (λ o. (s : State) → RefinesState p.now self.old s →
-            TakesNode p.now self.old self.new s view what just.now o) }
+        ensures { IfOk result (λ o. (s : State) → RefinesState context.now.p.now self.old s →
+            TakesNode context.now.p.now self.old self.new s view what just.now o) }
     {
         let parent = just.digest();
         let from = just.view();
-        let node = hash_node(alloc, p, Some(view), &parent, &what)?;
+        let node = hash_node(context.alloc, context.p, Some(view), &parent, &what)?;
         let digest = node.digest;
-        let draft = vote_draft(alloc, Protocol::Chained, p, PHASE, view, digest)?;
+        let draft = vote_draft(
+            context.alloc,
+            Protocol::Chained,
+            context.p,
+            PHASE,
+            view,
+            digest,
+        )?;
         self.nodes.add(digest, Link { view, from, parent }, what)?;
         self.view = view;
         Ok(Outcome {
@@ -104,19 +106,18 @@ impl Node {
     /// The round times out. The replica enters the next round, if there is one, and sends its leader the highest
     /// certificate. The only error is out of memory.
     // rule: Chained HotStuff: A timeout enters the next round and tells its leader the highest certificate
-    pub fn time_out(&mut self, alloc: Global, p: &Params) -> Result<Outcome, NoMemory>
-        requires { IsGoodParams chained p.now }
-        ensures { IfOk result (λ o. (s : State) → RefinesState p.now self.old s →
-            Makes p.now self.old self.new s Input.Timeout o) }
+    pub fn time_out(&mut self, context: &Context<Chained>) -> Result<Outcome, NoMemory>
+        ensures { IfOk result (λ o. (s : State) → RefinesState context.now.p.now self.old s →
+            Makes context.now.p.now self.old self.new s Input.Timeout o) }
     {
         let round = round_of(self.view);
         if round >= LAST_ROUND {
-            return Ok(Outcome::nothing(alloc));
+            return Ok(Outcome::nothing(context.alloc));
         }
         let next = round + 1;
-        let high = self.high.copy(alloc)?;
-        let draft = round_draft(alloc, Protocol::Chained, p, next, high)?;
+        let high = self.high.copy(context.alloc)?;
+        let draft = round_draft(context.alloc, Protocol::Chained, context.p, next, high)?;
         self.view = next as u32 * 65536;
-        Ok(Outcome::of(alloc, draft))
+        Ok(Outcome::of(context.alloc, draft))
     }
 }

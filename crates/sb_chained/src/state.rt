@@ -2,18 +2,18 @@
 ghost use Rattle.std.specs.Prelude.{◌≡◌, ◌==◌, ◌&&◌, not, nat_lt, is_some, length, IsTrue};
 ghost use Rattle.iss_base.specs.Lists.{In};
 ghost use Rattle.iss_sb.specs.declared.effects.Params.{Params};
-ghost use Rattle.iss_sb.specs.Calls.{IsGoodParams};
-ghost use Rattle.sb_chained.specs.Chained.{chained};
 ghost use Rattle.sb_chained.specs.Rules.{State, is_allowed, is_good, is_just, is_reached, keeps_news, keeps_vote, may_cast, start};
 ghost use Rattle.hs_views.specs.Views.{is_own_turn, vote_of, votes_of};
 ghost use Rattle.sb_chained.specs.Refines.{RefinesState};
 
+use crate::chained::Chained;
 use crate::links::{Lock, Nodes};
 use crate::turns::Turns;
 use hs_tree::Certificate;
 use hs_views::{Ballots, Words, leader_of, round_of};
 use iss_request::{Batch, NodeId, Seq, Slot};
 use iss_sb::{Content, Params, is_next};
+use sb_context::Context;
 use std::alloc::Global;
 
 /// The only voting phase.
@@ -112,53 +112,61 @@ impl Node {
     }
 
     // Whether the vote is its sender's first, and fewer than a quorum were received.
-    fn is_new(&self, p: &Params, from: NodeId, view: u32, digest: &[u8; 32]) -> bool
-        requires { IsGoodParams chained p.now }
-        ensures { (s : State) → RefinesState p.now self.now s →
+    fn is_new(&self, context: &Context<Chained>, from: NodeId, view: u32, digest: &[u8; 32]) -> bool
+        ensures { (s : State) → RefinesState context.now.p.now self.now s →
             result ≡ (not (is_some (vote_of s.votes 1 view digest.now from.0)) &&
-            nat_lt (length (votes_of p.now.setup.n s.votes 1 view digest.now)) p.now.setup.quorum) }
+            nat_lt (length (votes_of context.now.p.now.setup.n s.votes 1 view digest.now))
+            context.now.p.now.setup.quorum) }
     {
         if self.votes.has(from.0, PHASE, view, digest) {
             return false;
         }
-        self.votes.count(p.setup.n as u8, PHASE, view, digest) < p.setup.quorum
+        self.votes
+            .count(context.p.setup.n as u8, PHASE, view, digest)
+            < context.p.setup.quorum
     }
 
     /// Whether the vote is counted: for one of the replica's own turns, the sender's first, and below a quorum.
     pub fn keeps_vote(
         &self,
-        p: &Params,
+        context: &Context<Chained>,
         from: NodeId,
         phase: u8,
         view: u32,
         digest: &[u8; 32],
     ) -> bool
-        requires { IsGoodParams chained p.now }
-        ensures { (s : State) → RefinesState p.now self.now s →
-            result ≡ keeps_vote p.now s from.0 phase view digest.now }
+        ensures { (s : State) → RefinesState context.now.p.now self.now s →
+            result ≡ keeps_vote context.now.p.now s from.0 phase view digest.now }
     {
-        self.is_own(phase, view, digest) && self.is_new(p, from, view, digest)
+        self.is_own(phase, view, digest) && self.is_new(context, from, view, digest)
     }
 
     /// Whether exactly a quorum's votes were received.
-    pub fn is_reached(&self, p: &Params, view: u32, digest: &[u8; 32]) -> bool
-        requires { IsGoodParams chained p.now }
-        ensures { (s : State) → RefinesState p.now self.now s → result ≡ is_reached p.now s view digest.now }
+    pub fn is_reached(&self, context: &Context<Chained>, view: u32, digest: &[u8; 32]) -> bool
+        ensures { (s : State) → RefinesState context.now.p.now self.now s →
+            result ≡ is_reached context.now.p.now s view digest.now }
     {
-        self.votes.count(p.setup.n as u8, PHASE, view, digest) == p.setup.quorum
+        self.votes
+            .count(context.p.setup.n as u8, PHASE, view, digest)
+            == context.p.setup.quorum
     }
 
     /// Whether the NewView message is counted: for a round that the replica leads, with a valid justification, the
     /// sender's first, and below a quorum.
-    pub fn keeps_news(&self, p: &Params, from: NodeId, round: u16, high: &Certificate) -> bool
-        requires { IsGoodParams chained p.now }
-        ensures { (s : State) → RefinesState p.now self.now s →
-            result ≡ keeps_news p.now self.now.me.0 s from.0 round high.now }
+    pub fn keeps_news(
+        &self,
+        context: &Context<Chained>,
+        from: NodeId,
+        round: u16,
+        high: &Certificate,
+    ) -> bool
+        ensures { (s : State) → RefinesState context.now.p.now self.now s →
+            result ≡ keeps_news context.now.p.now self.now.me.0 s from.0 round high.now }
     {
         round >= 1
-            && self.me == leader_of(p, round)
-            && is_just(p, round as u32 * 65536, high)
+            && self.me == leader_of(context.p, round)
+            && is_just(context.p, round as u32 * 65536, high)
             && !self.news.has(from.0, round)
-            && self.news.count(p.setup.n as u8, round) < p.setup.quorum
+            && self.news.count(context.p.setup.n as u8, round) < context.p.setup.quorum
     }
 }

@@ -20,6 +20,7 @@ use iss_request::{
     Batch, DecodeError, Fields, Kind, NoMemory, NodeId, Seq, Slot, Writer, nodes_of_kind, quorum,
 };
 use iss_sb::{Claim, Content, Effects, Input, Params, Sequenced, asks_if};
+use sb_context::{Context, Modelled};
 use std::alloc::Global;
 
 /// A replica's part in one instance: the protocol's state, the batches that it accepted, and how many slots of the
@@ -81,48 +82,44 @@ impl HotStuff {
     // The leader takes a cast. It proposes the batch at once if its last turn is complete.
     fn cast(
         &mut self,
-        alloc: Global,
-        p: &Params,
+        context: &Context<HotStuff>,
         slot: Slot,
         batch: Batch,
         keys: &mut Keys,
     ) -> Result<Effects<Message>, NoMemory>
-        requires good { IsGoodParams hotstuff p.now }
-        requires enough { 2 ≤ left_of keys.old }
-        ensures { IfOk result (λ e. IsTrueStep hotstuff Refines p.now self.old self.new
+        requires { 2 ≤ left_of keys.old }
+        ensures { IfOk result (λ e. IsTrueStep hotstuff Refines context.now.p.now self.old self.new
             (Input.Cast slot batch) keys.old keys.new e) }
     {
-        let free = cast_slot(&self.node, p, slot);
-        let accepted = keep_at(&mut self.accepted, alloc, free, &batch)?;
-        let outcome = self.node.take_cast(alloc, p, slot, batch)?;
-        outcome.sign(alloc, p, accepted, keys)
+        let free = cast_slot(&self.node, context.p, slot);
+        let accepted = keep_at(&mut self.accepted, context.alloc, free, &batch)?;
+        let outcome = self.node.take_cast(context, slot, batch)?;
+        outcome.sign(context, accepted, keys)
     }
 
     // Takes a proposal, if it is valid: accepts its batch and casts a prepare vote.
     fn prepare(
         &mut self,
-        alloc: Global,
-        p: &Params,
+        context: &Context<HotStuff>,
         from: NodeId,
         proposal: Proposal,
         keys: &mut Keys,
     ) -> Result<Effects<Message>, NoMemory>
-        requires good { IsGoodParams hotstuff p.now }
-        requires enough { 2 ≤ left_of keys.old }
+        requires { 2 ≤ left_of keys.old }
         ensures { IfOk result (λ e. (sig : List ℕ) →
-            IsTrueStep hotstuff Refines p.now self.old self.new
+            IsTrueStep hotstuff Refines context.now.p.now self.old self.new
             (Input.Receive from (Prepare proposal.view proposal.what proposal.just sig)) keys.old keys.new e) }
     {
         let view = proposal.view;
         let what = proposal.what;
         let just = proposal.just;
-        if !self.node.may_prepare(p, from, view, &what, &just) {
-            return Ok(Effects::nothing(alloc));
+        if !self.node.may_prepare(context.p, from, view, &what, &just) {
+            return Ok(Effects::nothing(context.alloc));
         }
-        let slot = offered_slot(&self.node, &self.accepted, p, &what, &just);
-        let accepted = keep_what(&mut self.accepted, alloc, slot, &what)?;
-        let outcome = self.node.take_node(alloc, p, view, what, &just)?;
-        outcome.sign(alloc, p, accepted, keys)
+        let slot = offered_slot(&self.node, &self.accepted, context.p, &what, &just);
+        let accepted = keep_what(&mut self.accepted, context.alloc, slot, &what)?;
+        let outcome = self.node.take_node(context, view, what, &just)?;
+        outcome.sign(context, accepted, keys)
     }
 
     // Takes a Decide. A valid commitQC of a known node delivers the slots of its branch that are not yet delivered.
@@ -130,23 +127,29 @@ impl HotStuff {
     // rule: Modules: A step delivers exactly what the module's definition delivers
     fn decide(
         &mut self,
-        alloc: Global,
-        p: &Params,
+        context: &Context<HotStuff>,
         view: u32,
         shown: Certificate,
     ) -> Result<Effects<Message>, NoMemory>
-        requires { IsGoodParams hotstuff p.now }
         ensures { IfOk result (λ e. (from : NodeId) (sig : List ℕ) (keys : KeyState) → 2 ≤ left_of keys →
-            IsTrueStep hotstuff Refines p.now self.old self.new
+            IsTrueStep hotstuff Refines context.now.p.now self.old self.new
             (Input.Receive from (Decide view shown sig)) keys keys e) }
     {
-        let mut effects = Effects::nothing(alloc);
-        if !self.node.may_deliver(p, view, &shown) {
+        let mut effects = Effects::nothing(context.alloc);
+        if !self.node.may_deliver(context.p, view, &shown) {
             return Ok(effects);
         }
         let digest = shown.digest();
-        let values = self.node.tree.behind(alloc, &digest, self.delivered)?;
-        effects.delivers = pair(alloc, p.slots.as_slice(), self.delivered, values.into_vec())?;
+        let values = self
+            .node
+            .tree
+            .behind(context.alloc, &digest, self.delivered)?;
+        effects.delivers = pair(
+            context.alloc,
+            context.p.slots.as_slice(),
+            self.delivered,
+            values.into_vec(),
+        )?;
         let slots = self.node.tree.slots(&digest);
         if slots <= self.delivered {
             return Ok(effects);
@@ -158,110 +161,98 @@ impl HotStuff {
     // Takes a NewView. A quorum of them makes the round's leader propose.
     fn new_view(
         &mut self,
-        alloc: Global,
-        p: &Params,
+        context: &Context<HotStuff>,
         from: NodeId,
         round: u16,
         high: Certificate,
         keys: &mut Keys,
     ) -> Result<Effects<Message>, NoMemory>
-        requires good { IsGoodParams hotstuff p.now }
-        requires enough { 2 ≤ left_of keys.old }
+        requires { 2 ≤ left_of keys.old }
         ensures { IfOk result (λ e. (sig : List ℕ) →
-            IsTrueStep hotstuff Refines p.now self.old self.new
+            IsTrueStep hotstuff Refines context.now.p.now self.old self.new
             (Input.Receive from (NewView round high sig)) keys.old keys.new e) }
     {
-        let outcome = self.node.take_new_view(alloc, p, from, round, high)?;
-        outcome.sign(alloc, p, None, keys)
+        let outcome = self.node.take_new_view(context, from, round, high)?;
+        outcome.sign(context, None, keys)
     }
 
     // Takes a PreCommit: its prepareQC, if valid, gets a pre-commit vote.
     fn pre_commit(
         &mut self,
-        alloc: Global,
-        p: &Params,
+        context: &Context<HotStuff>,
         from: NodeId,
         view: u32,
         shown: Certificate,
         keys: &mut Keys,
     ) -> Result<Effects<Message>, NoMemory>
-        requires good { IsGoodParams hotstuff p.now }
-        requires enough { 2 ≤ left_of keys.old }
+        requires { 2 ≤ left_of keys.old }
         ensures { IfOk result (λ e. (sig : List ℕ) →
-            IsTrueStep hotstuff Refines p.now self.old self.new
+            IsTrueStep hotstuff Refines context.now.p.now self.old self.new
             (Input.Receive from (PreCommit view shown sig)) keys.old keys.new e) }
     {
-        let outcome = self.node.take_pre_commit(alloc, p, view, shown)?;
-        outcome.sign(alloc, p, None, keys)
+        let outcome = self.node.take_pre_commit(context, view, shown)?;
+        outcome.sign(context, None, keys)
     }
 
     // Takes a Commit: its precommitQC, if valid, becomes the lock and gets a commit vote.
     fn commit(
         &mut self,
-        alloc: Global,
-        p: &Params,
+        context: &Context<HotStuff>,
         from: NodeId,
         view: u32,
         shown: Certificate,
         keys: &mut Keys,
     ) -> Result<Effects<Message>, NoMemory>
-        requires good { IsGoodParams hotstuff p.now }
-        requires enough { 2 ≤ left_of keys.old }
+        requires { 2 ≤ left_of keys.old }
         ensures { IfOk result (λ e. (sig : List ℕ) →
-            IsTrueStep hotstuff Refines p.now self.old self.new
+            IsTrueStep hotstuff Refines context.now.p.now self.old self.new
             (Input.Receive from (Commit view shown sig)) keys.old keys.new e) }
     {
-        let outcome = self.node.take_commit(alloc, p, view, shown)?;
-        outcome.sign(alloc, p, None, keys)
+        let outcome = self.node.take_commit(context, view, shown)?;
+        outcome.sign(context, None, keys)
     }
 
     // Takes a vote for one of the leader's own turns. A quorum of them is broadcast as a certificate.
     fn vote(
         &mut self,
-        alloc: Global,
-        p: &Params,
+        context: &Context<HotStuff>,
         from: NodeId,
         vote: SignedVote,
         keys: &mut Keys,
     ) -> Result<Effects<Message>, NoMemory>
-        requires good { IsGoodParams hotstuff p.now }
-        requires enough { 2 ≤ left_of keys.old }
-        ensures { IfOk result (λ e. IsTrueStep hotstuff Refines p.now self.old self.new
+        requires { 2 ≤ left_of keys.old }
+        ensures { IfOk result (λ e. IsTrueStep hotstuff Refines context.now.p.now self.old self.new
             (Input.Receive from (Vote vote.phase vote.view vote.digest vote.sig)) keys.old keys.new e) }
     {
-        let outcome = self.node.take_vote(alloc, p, from, vote)?;
-        outcome.sign(alloc, p, None, keys)
+        let outcome = self.node.take_vote(context, from, vote)?;
+        outcome.sign(context, None, keys)
     }
 
     // Takes a message.
     fn receive(
         &mut self,
-        alloc: Global,
-        p: &Params,
+        context: &Context<HotStuff>,
         from: NodeId,
         msg: Message,
         keys: &mut Keys,
     ) -> Result<Effects<Message>, NoMemory>
-        requires good { IsGoodParams hotstuff p.now }
-        requires enough { 2 ≤ left_of keys.old }
-        ensures { IfOk result (λ e. IsTrueStep hotstuff Refines p.now self.old self.new
+        requires { 2 ≤ left_of keys.old }
+        ensures { IfOk result (λ e. IsTrueStep hotstuff Refines context.now.p.now self.old self.new
             (Input.Receive from msg) keys.old keys.new e) }
     {
         match msg {
-            Message::NewView { round, high, .. } => self.new_view(
-                alloc, p, from, round, high, keys,
-            ),
+            Message::NewView { round, high, .. } => self.new_view(context, from, round, high, keys),
             Message::Prepare {
                 view,
                 what,
                 just,
                 ..
-            } => self.prepare(alloc, p, from, Proposal { view, what, just }, keys),
+            } => self.prepare(context, from, Proposal { view, what, just }, keys),
             Message::PreCommit { view, shown, .. } => {
-                self.pre_commit(alloc, p, from, view, shown, keys)
+                self.pre_commit(context, from, view, shown, keys)
             }
-            Message::Commit { view, shown, .. } => self.commit(alloc, p, from, view, shown, keys),
-            Message::Decide { view, shown, .. } => self.decide(alloc, p, view, shown),
+            Message::Commit { view, shown, .. } => self.commit(context, from, view, shown, keys),
+            Message::Decide { view, shown, .. } => self.decide(context, view, shown),
             Message::Vote {
                 phase,
                 view,
@@ -274,7 +265,7 @@ impl HotStuff {
                     digest,
                     sig,
                 };
-                self.vote(alloc, p, from, vote, keys)
+                self.vote(context, from, vote, keys)
             }
         }
     }
@@ -282,18 +273,22 @@ impl HotStuff {
     // The round times out: enters the next one and sends its leader a NewView.
     fn time_out(
         &mut self,
-        alloc: Global,
-        p: &Params,
+        context: &Context<HotStuff>,
         keys: &mut Keys,
     ) -> Result<Effects<Message>, NoMemory>
-        requires good { IsGoodParams hotstuff p.now }
-        requires enough { 2 ≤ left_of keys.old }
+        requires { 2 ≤ left_of keys.old }
         ensures { IfOk result (λ e.
-            IsTrueStep hotstuff Refines p.now self.old self.new Input.Timeout keys.old keys.new e) }
+            IsTrueStep hotstuff Refines context.now.p.now self.old self.new Input.Timeout keys.old keys.new e) }
     {
-        let outcome = self.node.time_out(alloc, p)?;
-        outcome.sign(alloc, p, None, keys)
+        let outcome = self.node.time_out(context)?;
+        outcome.sign(context, None, keys)
     }
+}
+
+impl Modelled for HotStuff {
+    type Msg = Message;
+
+    ghost spec = { hotstuff };
 }
 
 impl Sequenced for HotStuff {
@@ -357,10 +352,11 @@ impl Sequenced for HotStuff {
         requires enough { hotstuff.signs p.now ≤ left_of keys.old }
         ensures { IfOk result (λ e. IsTrueStep hotstuff Refines p.now self.old self.new i keys.old keys.new e) }
     {
+        let context = Context::of(alloc, p);
         match i {
-            Input::Cast { slot, batch } => self.cast(alloc, p, slot, batch, keys),
-            Input::Receive { from, msg } => self.receive(alloc, p, from, msg, keys),
-            Input::Timeout => self.time_out(alloc, p, keys),
+            Input::Cast { slot, batch } => self.cast(&context, slot, batch, keys),
+            Input::Receive { from, msg } => self.receive(&context, from, msg, keys),
+            Input::Timeout => self.time_out(&context, keys),
         }
     }
 

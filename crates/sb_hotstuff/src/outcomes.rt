@@ -1,16 +1,16 @@
 //! The outcome of a rule, not yet signed.
 ghost use Rattle.std.specs.Prelude.{◌≤◌, Some, IfOk};
 ghost use Rattle.iss_keys.specs.KeyStates.{left_of};
-ghost use Rattle.iss_sb.specs.Calls.{IsGoodParams};
-ghost use Rattle.sb_hotstuff.specs.HotStuff.{hotstuff};
 ghost use Rattle.sb_hotstuff.specs.Internal.Instances.{IsSigned};
 ghost use Rattle.sb_hotstuff.specs.Steps.{IsAnswer, IsQuiet};
 
+use crate::hotstuff::HotStuff;
 use hs_tree::Message;
 use hs_views::{Draft, send};
 use iss_keys::Keys;
 use iss_request::{Batch, Bytes, NoMemory, Seq, Slot};
-use iss_sb::{Effects, Params};
+use iss_sb::Effects;
+use sb_context::Context;
 use std::alloc::Global;
 
 /// The answer and the proposal of a step, both unsigned, and the strings that were hashed.
@@ -48,19 +48,17 @@ impl Outcome {
     /// only error is out of memory.
     pub fn sign(
         self,
-        alloc: Global,
-        p: &Params,
+        context: &Context<HotStuff>,
         accepted: Option<(Slot, Batch)>,
         keys: &mut Keys,
     ) -> Result<Effects<Message>, NoMemory>
-        requires good { IsGoodParams hotstuff p.now }
-        requires enough { 2 ≤ left_of keys.old }
-        ensures { IfOk result (λ e. IsSigned p.now self accepted keys.old keys.new e) }
+        requires { 2 ≤ left_of keys.old }
+        ensures { IfOk result (λ e. IsSigned context.now.p.now self accepted keys.old keys.new e) }
     {
-        let mut sends = Seq::new(alloc);
-        send(p, self.answer, keys, &mut sends)?;
-        send(p, self.proposal, keys, &mut sends)?;
-        let delivers = Seq::new(alloc);
+        let mut sends = Seq::new(context.alloc);
+        send(context.p, self.answer, keys, &mut sends)?;
+        send(context.p, self.proposal, keys, &mut sends)?;
+        let delivers = Seq::new(context.alloc);
         Ok(Effects {
             sends,
             accepted,

@@ -2,14 +2,13 @@
 ghost use Rattle.std.specs.Prelude.{◌≡◌, ◌≤◌, ◌<◌, ◌+◌, ◌^◌, ◌%◌, Some, IfOk};
 ghost use Rattle.std.specs.Option.{option_copied};
 ghost use Rattle.iss_base.specs.Lists.{nth};
-ghost use Rattle.iss_sb.specs.Calls.{IsGoodParams};
-ghost use Rattle.sb_hotstuff.specs.HotStuff.{hotstuff};
 ghost use Rattle.sb_hotstuff.specs.Rules.{State, cast_turn, first_turn, next_turn, nil_or_mark, turn, turn_after};
 ghost use Rattle.hs_views.specs.Views.{Turn};
 ghost use Rattle.sb_hotstuff.specs.Refines.{IsLow, RefinesState, is_last_ready};
 ghost use Rattle.sb_hotstuff.specs.Steps.{Proposes};
 ghost use Rattle.hs_views.specs.Turns.{own_of};
 
+use crate::hotstuff::HotStuff;
 use crate::outcomes::Outcome;
 use crate::state::{Node, PHASES};
 use hs_tree::signing::hash_node;
@@ -18,7 +17,7 @@ use hs_tree::{Certificate, Protocol};
 use hs_views::{Last, Proposal, proposal_draft, round_of};
 use iss_request::{Batch, NoMemory};
 use iss_sb::{Content, Params};
-use std::alloc::Global;
+use sb_context::Context;
 
 // The first content of a later round on a branch that fills this many slots: nil if a slot is open, else a mark.
 fn nil_or_mark(p: &Params, slots: usize) -> Content
@@ -36,21 +35,20 @@ impl Node {
     // error is out of memory.
     fn propose(
         &mut self,
-        alloc: Global,
-        p: &Params,
+        context: &Context<HotStuff>,
         proposal: Proposal,
         slots: usize,
     ) -> Result<Outcome, NoMemory>
         ensures { IfOk result (λ o. (k : State) (t : Turn) →
-            t ≡ turn p.now proposal.view proposal.just proposal.what slots → slots < 2 ^ 63 →
-            IsLow (own_of t) → RefinesState self.old k → Proposes p.now self.old self.new k (Some t) o) }
+            t ≡ turn context.now.p.now proposal.view proposal.just proposal.what slots → slots < 2 ^ 63 →
+            IsLow (own_of t) → RefinesState self.old k → Proposes context.now.p.now self.old self.new k (Some t) o) }
     {
         let parent = proposal.just.digest();
-        let node = hash_node(alloc, p, None, &parent, &proposal.what)?;
+        let node = hash_node(context.alloc, context.p, None, &parent, &proposal.what)?;
         let digest = node.digest;
         let slots = slots.saturating_add(weight(&proposal.what));
         let view = proposal.view;
-        let draft = proposal_draft(alloc, Protocol::Basic, p, proposal, &digest)?;
+        let draft = proposal_draft(context.alloc, Protocol::Basic, context.p, proposal, &digest)?;
         self.turns.add(Last {
             view,
             digest,
@@ -73,8 +71,7 @@ impl Node {
     // Proposes the cast at this index, if there is one.
     fn propose_cast(
         &mut self,
-        alloc: Global,
-        p: &Params,
+        context: &Context<HotStuff>,
         view: u32,
         just: Certificate,
         slots: usize,
@@ -82,64 +79,62 @@ impl Node {
     ) -> Result<Outcome, NoMemory>
         ensures { IfOk result (λ o. (k : State) → slots < 2 ^ 63 → view % 65536 ≤ slots + 2 → slots + 1 ≤ view →
             RefinesState self.old k →
-            Proposes p.now self.old self.new k (cast_turn p.now view just slots (nth k.casts place)) o) }
+            Proposes context.now.p.now self.old self.new k
+            (cast_turn context.now.p.now view just slots (nth k.casts place)) o) }
     {
         let Some(batch) = self.cast_at(place) else {
-            return Ok(Outcome::nothing(alloc));
+            return Ok(Outcome::nothing(context.alloc));
         };
         let what = Content::Holds(batch.copy()?);
-        self.propose(alloc, p, Proposal { view, what, just }, slots)
+        self.propose(context, Proposal { view, what, just }, slots)
     }
 
     // Whether the last turn's prepareQC and commitQC were broadcast, and the replica is in no later round.
-    fn is_ready(&self, p: &Params, last: &Last) -> bool
-        requires { IsGoodParams hotstuff p.now }
-        ensures { (s : State) → RefinesState self.now s → result ≡ is_last_ready p.now s last.now }
+    fn is_ready(&self, context: &Context<HotStuff>, last: &Last) -> bool
+        ensures { (s : State) → RefinesState self.now s → result ≡ is_last_ready context.now.p.now s last.now }
     {
-        self.is_reached(p, 1, last.view, &last.digest)
-            && self.is_reached(p, PHASES, last.view, &last.digest)
+        self.is_reached(context, 1, last.view, &last.digest)
+            && self.is_reached(context, PHASES, last.view, &last.digest)
             && round_of(self.view) <= round_of(last.view)
     }
 
     /// Proposes the turn after the last one, if that is complete. In round 0 the first turn needs no predecessor. The
     /// only error is out of memory.
     // rule: HotStuff: The next turn extends the last one, once its first and last quorum were shown
-    pub(crate) fn next(&mut self, alloc: Global, p: &Params) -> Result<Outcome, NoMemory>
-        requires { IsGoodParams hotstuff p.now }
+    pub(crate) fn next(&mut self, context: &Context<HotStuff>) -> Result<Outcome, NoMemory>
         ensures { IfOk result (λ o. (k : State) → RefinesState self.old k →
-            Proposes p.now self.old self.new k (next_turn p.now k k.turns) o) }
+            Proposes context.now.p.now self.old self.new k (next_turn context.now.p.now k k.turns) o) }
     {
         let Some(last) = self.turns.last() else {
             if round_of(self.view) != 0 {
-                return Ok(Outcome::nothing(alloc));
+                return Ok(Outcome::nothing(context.alloc));
             }
-            return self.propose_cast(alloc, p, 1, Certificate::Root, 0, 0);
+            return self.propose_cast(context, 1, Certificate::Root, 0, 0);
         };
-        if !self.is_ready(p, &last) {
-            return Ok(Outcome::nothing(alloc));
+        if !self.is_ready(context, &last) {
+            return Ok(Outcome::nothing(context.alloc));
         }
-        self.turn_after(alloc, p, last)
+        self.turn_after(context, last)
     }
 
     // Proposes the turn after a complete one: in round 0 the next cast, in later rounds nil until the branch is full.
-    fn turn_after(&mut self, alloc: Global, p: &Params, last: Last) -> Result<Outcome, NoMemory>
-        requires { IsGoodParams hotstuff p.now }
+    fn turn_after(&mut self, context: &Context<HotStuff>, last: Last) -> Result<Outcome, NoMemory>
         ensures { IfOk result (λ o. (k : State) (t : Turn) → own_of t ≡ last → IsLow last → RefinesState self.old k →
-            Proposes p.now self.old self.new k (turn_after p.now k t) o) }
+            Proposes context.now.p.now self.old self.new k (turn_after context.now.p.now k t) o) }
     {
-        let n = p.setup.n as u8;
+        let n = context.p.setup.n as u8;
         let just = self
             .votes
-            .certificate(alloc, n, 1, last.view, &last.digest)?;
+            .certificate(context.alloc, n, 1, last.view, &last.digest)?;
         let view = last.view.saturating_add(1);
         if round_of(last.view) == 0 {
-            return self.propose_cast(alloc, p, view, just, last.slots, last.view as usize);
+            return self.propose_cast(context, view, just, last.slots, last.view as usize);
         }
-        if last.slots >= p.slots.len() {
-            return Ok(Outcome::nothing(alloc));
+        if last.slots >= context.p.slots.len() {
+            return Ok(Outcome::nothing(context.alloc));
         }
         let what = Content::Nil;
-        self.propose(alloc, p, Proposal { view, what, just }, last.slots)
+        self.propose(context, Proposal { view, what, just }, last.slots)
     }
 
     /// Proposes the first turn of a round, once exactly a quorum's NewView messages were received. Nothing is proposed
@@ -147,27 +142,25 @@ impl Node {
     // rule: HotStuff: A round begins on the highest certificate of a quorum of NewViews
     pub(crate) fn first(
         &mut self,
-        alloc: Global,
-        p: &Params,
+        context: &Context<HotStuff>,
         round: u16,
     ) -> Result<Outcome, NoMemory>
-        requires good { IsGoodParams hotstuff p.now }
-        requires round { 1 ≤ round }
+        requires { 1 ≤ round }
         ensures { IfOk result (λ o. (k : State) → RefinesState self.old k →
-            Proposes p.now self.old self.new k (first_turn p.now k round) o) }
+            Proposes context.now.p.now self.old self.new k (first_turn context.now.p.now k round) o) }
     {
-        let n = p.setup.n as u8;
-        if self.news.count(n, round) != p.setup.quorum || round_of(self.view) > round {
-            return Ok(Outcome::nothing(alloc));
+        let n = context.p.setup.n as u8;
+        if self.news.count(n, round) != context.p.setup.quorum || round_of(self.view) > round {
+            return Ok(Outcome::nothing(context.alloc));
         }
-        let just = self.news.best(alloc, n, round)?;
+        let just = self.news.best(context.alloc, n, round)?;
         let parent = just.digest();
         if !self.tree.has(&parent) {
-            return Ok(Outcome::nothing(alloc));
+            return Ok(Outcome::nothing(context.alloc));
         }
         let slots = self.tree.slots(&parent);
-        let what = nil_or_mark(p, slots);
+        let what = nil_or_mark(context.p, slots);
         let view = round as u32 * 65536 + 1;
-        self.propose(alloc, p, Proposal { view, what, just }, slots)
+        self.propose(context, Proposal { view, what, just }, slots)
     }
 }

@@ -1,13 +1,12 @@
 //! The rules of HotStuff, one function each: the next state, and what is sent.
 ghost use Rattle.std.specs.Prelude.{◌≡◌, List, ℕ, true, IfOk};
 ghost use Rattle.iss_request.specs.declared.ids.NodeId.{NodeId};
-ghost use Rattle.iss_sb.specs.Calls.{IsGoodParams};
 ghost use Rattle.hs_tree.specs.declared.messages.Message.TheVariants.{NewView, Prepare, PreCommit, Commit, Vote};
-ghost use Rattle.sb_hotstuff.specs.HotStuff.{hotstuff};
 ghost use Rattle.sb_hotstuff.specs.Rules.{State, may_prepare};
 ghost use Rattle.sb_hotstuff.specs.Refines.{RefinesState};
 ghost use Rattle.sb_hotstuff.specs.Steps.{Does};
 
+use crate::hotstuff::HotStuff;
 use crate::outcomes::Outcome;
 use crate::showing::shown_draft;
 use crate::state::Node;
@@ -15,8 +14,8 @@ use hs_tree::signing::hash_node;
 use hs_tree::{Certificate, Protocol};
 use hs_views::{SignedVote, round_draft, round_of, vote_draft};
 use iss_request::{Batch, NoMemory, NodeId, Slot};
-use iss_sb::{Content, Input, Params};
-use std::alloc::Global;
+use iss_sb::{Content, Input};
+use sb_context::Context;
 
 /// The last round: a view has 16 bits for it.
 const LAST_ROUND: u16 = 65_535;
@@ -26,41 +25,37 @@ impl Node {
     /// out of memory.
     pub fn take_cast(
         &mut self,
-        alloc: Global,
-        p: &Params,
+        context: &Context<HotStuff>,
         slot: Slot,
         batch: Batch,
     ) -> Result<Outcome, NoMemory>
-        requires { IsGoodParams hotstuff p.now }
         ensures { IfOk result (λ o. (s : State) → RefinesState self.old s →
-            Does p.now self.old self.new s (Input.Cast slot batch) o) }
+            Does context.now.p.now self.old self.new s (Input.Cast slot batch) o) }
     {
-        if !self.may_cast(p, slot) {
-            return Ok(Outcome::nothing(alloc));
+        if !self.may_cast(context.p, slot) {
+            return Ok(Outcome::nothing(context.alloc));
         }
         self.casts.push(batch)?;
-        self.next(alloc, p)
+        self.next(context)
     }
 
     /// A proposal that passed `may_prepare`: its node becomes known, its view the replica's own, and the answer is a
     /// prepare vote. The only error is out of memory.
     pub fn take_node(
         &mut self,
-        alloc: Global,
-        p: &Params,
+        context: &Context<HotStuff>,
         view: u32,
         what: Content,
         just: &Certificate,
     ) -> Result<Outcome, NoMemory>
-        requires { IsGoodParams hotstuff p.now }
         ensures { IfOk result (λ o. (s : State) (from : NodeId) (sig : List ℕ) → RefinesState self.old s →
-            may_prepare p.now s from.0 view what just.now ≡ true →
-            Does p.now self.old self.new s (Input.Receive from (Prepare view what just.now sig)) o) }
+            may_prepare context.now.p.now s from.0 view what just.now ≡ true →
+            Does context.now.p.now self.old self.new s (Input.Receive from (Prepare view what just.now sig)) o) }
     {
         let parent = just.digest();
-        let node = hash_node(alloc, p, None, &parent, &what)?;
+        let node = hash_node(context.alloc, context.p, None, &parent, &what)?;
         let digest = node.digest;
-        let draft = vote_draft(alloc, Protocol::Basic, p, 1, view, digest)?;
+        let draft = vote_draft(context.alloc, Protocol::Basic, context.p, 1, view, digest)?;
         self.tree.add(digest, parent, what)?;
         self.view = view;
         self.second = false;
@@ -76,23 +71,21 @@ impl Node {
     /// vote. Otherwise nothing changes. The only error is out of memory.
     pub fn take_pre_commit(
         &mut self,
-        alloc: Global,
-        p: &Params,
+        context: &Context<HotStuff>,
         view: u32,
         shown: Certificate,
     ) -> Result<Outcome, NoMemory>
-        requires { IsGoodParams hotstuff p.now }
         ensures { IfOk result (λ o. (s : State) (from : NodeId) (sig : List ℕ) → RefinesState self.old s →
-            Does p.now self.old self.new s (Input.Receive from (PreCommit view shown sig)) o) }
+            Does context.now.p.now self.old self.new s (Input.Receive from (PreCommit view shown sig)) o) }
     {
-        if !self.may_second(p, view, &shown) {
-            return Ok(Outcome::nothing(alloc));
+        if !self.may_second(context.p, view, &shown) {
+            return Ok(Outcome::nothing(context.alloc));
         }
         let digest = shown.digest();
-        let draft = vote_draft(alloc, Protocol::Basic, p, 2, view, digest)?;
+        let draft = vote_draft(context.alloc, Protocol::Basic, context.p, 2, view, digest)?;
         self.high = shown;
         self.second = true;
-        Ok(Outcome::of(alloc, draft))
+        Ok(Outcome::of(context.alloc, draft))
     }
 
     /// A Commit of the replica's own view: its precommitQC becomes the lock, and the answer is a commit vote. Otherwise
@@ -100,55 +93,54 @@ impl Node {
     // rule: HotStuff: Only a certificate of the second phase becomes the lock, which never decreases
     pub fn take_commit(
         &mut self,
-        alloc: Global,
-        p: &Params,
+        context: &Context<HotStuff>,
         view: u32,
         shown: Certificate,
     ) -> Result<Outcome, NoMemory>
-        requires { IsGoodParams hotstuff p.now }
         ensures { IfOk result (λ o. (s : State) (from : NodeId) (sig : List ℕ) → RefinesState self.old s →
-            Does p.now self.old self.new s (Input.Receive from (Commit view shown sig)) o) }
+            Does context.now.p.now self.old self.new s (Input.Receive from (Commit view shown sig)) o) }
     {
-        if !self.may_third(p, view, &shown) {
-            return Ok(Outcome::nothing(alloc));
+        if !self.may_third(context.p, view, &shown) {
+            return Ok(Outcome::nothing(context.alloc));
         }
         let digest = shown.digest();
-        let draft = vote_draft(alloc, Protocol::Basic, p, 3, view, digest)?;
+        let draft = vote_draft(context.alloc, Protocol::Basic, context.p, 3, view, digest)?;
         self.lock = shown;
         self.third = true;
-        Ok(Outcome::of(alloc, draft))
+        Ok(Outcome::of(context.alloc, draft))
     }
 
     /// A vote for one of the leader's own turns. Exactly a quorum is broadcast as a certificate. After the first and
     /// the last phase the next turn is tried. The only error is out of memory.
     pub fn take_vote(
         &mut self,
-        alloc: Global,
-        p: &Params,
+        context: &Context<HotStuff>,
         from: NodeId,
         vote: SignedVote,
     ) -> Result<Outcome, NoMemory>
-        requires { IsGoodParams hotstuff p.now }
         ensures { IfOk result (λ o. (s : State) → RefinesState self.old s →
-            Does p.now self.old self.new s (Input.Receive from (Vote vote.phase vote.view vote.digest vote.sig)) o) }
+            Does context.now.p.now self.old self.new s
+            (Input.Receive from (Vote vote.phase vote.view vote.digest vote.sig)) o) }
     {
         let phase = vote.phase;
         let view = vote.view;
         let digest = vote.digest;
-        if !self.keeps_vote(p, from, phase, view, &digest) {
-            return Ok(Outcome::nothing(alloc));
+        if !self.keeps_vote(context, from, phase, view, &digest) {
+            return Ok(Outcome::nothing(context.alloc));
         }
         self.votes.keep(from.0, phase, view, digest, vote.sig)?;
-        if !self.is_reached(p, phase, view, &digest) {
-            return Ok(Outcome::nothing(alloc));
+        if !self.is_reached(context, phase, view, &digest) {
+            return Ok(Outcome::nothing(context.alloc));
         }
-        let n = p.setup.n as u8;
-        let shown = self.votes.certificate(alloc, n, phase, view, &digest)?;
-        let draft = shown_draft(alloc, p, phase, view, shown)?;
+        let n = context.p.setup.n as u8;
+        let shown = self
+            .votes
+            .certificate(context.alloc, n, phase, view, &digest)?;
+        let draft = shown_draft(context.alloc, context.p, phase, view, shown)?;
         if phase == 2 {
-            return Ok(Outcome::of(alloc, draft));
+            return Ok(Outcome::of(context.alloc, draft));
         }
-        let mut outcome = self.next(alloc, p)?;
+        let mut outcome = self.next(context)?;
         outcome.answer = Some(draft);
         Ok(outcome)
     }
@@ -157,44 +149,41 @@ impl Node {
     /// is out of memory.
     pub fn take_new_view(
         &mut self,
-        alloc: Global,
-        p: &Params,
+        context: &Context<HotStuff>,
         from: NodeId,
         round: u16,
         high: Certificate,
     ) -> Result<Outcome, NoMemory>
-        requires { IsGoodParams hotstuff p.now }
         ensures { IfOk result (λ o. (s : State) (sig : List ℕ) → RefinesState self.old s →
-            Does p.now self.old self.new s (Input.Receive from (NewView round high sig)) o) }
+            Does context.now.p.now self.old self.new s (Input.Receive from (NewView round high sig)) o) }
     {
         if round == 0 {
-            return Ok(Outcome::nothing(alloc));
+            return Ok(Outcome::nothing(context.alloc));
         }
-        if !self.keeps_news(p, from, round, &high) {
-            return Ok(Outcome::nothing(alloc));
+        if !self.keeps_news(context, from, round, &high) {
+            return Ok(Outcome::nothing(context.alloc));
         }
         self.news.keep(from.0, round, high)?;
-        self.first(alloc, p, round)
+        self.first(context, round)
     }
 
     /// The round times out. The replica enters the next round, if there is one, and sends its leader the highest
     /// prepareQC. The only error is out of memory.
     // rule: HotStuff: A timeout enters the next round and tells its leader the highest certificate
-    pub fn time_out(&mut self, alloc: Global, p: &Params) -> Result<Outcome, NoMemory>
-        requires { IsGoodParams hotstuff p.now }
+    pub fn time_out(&mut self, context: &Context<HotStuff>) -> Result<Outcome, NoMemory>
         ensures { IfOk result (λ o. (s : State) → RefinesState self.old s →
-            Does p.now self.old self.new s Input.Timeout o) }
+            Does context.now.p.now self.old self.new s Input.Timeout o) }
     {
         let round = round_of(self.view);
         if round >= LAST_ROUND {
-            return Ok(Outcome::nothing(alloc));
+            return Ok(Outcome::nothing(context.alloc));
         }
         let next = round + 1;
-        let high = self.high.copy(alloc)?;
-        let draft = round_draft(alloc, Protocol::Basic, p, next, high)?;
+        let high = self.high.copy(context.alloc)?;
+        let draft = round_draft(context.alloc, Protocol::Basic, context.p, next, high)?;
         self.view = next as u32 * 65536;
         self.second = false;
         self.third = false;
-        Ok(Outcome::of(alloc, draft))
+        Ok(Outcome::of(context.alloc, draft))
     }
 }

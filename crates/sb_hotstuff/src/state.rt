@@ -8,11 +8,13 @@ ghost use Rattle.sb_hotstuff.specs.HotStuff.{hotstuff};
 ghost use Rattle.sb_hotstuff.specs.Rules.{State, is_allowed, is_good, is_just, is_reached, is_shown, is_timely, keeps_news, keeps_vote, may_cast, may_second, may_third, start};
 ghost use Rattle.sb_hotstuff.specs.Refines.{RefinesState};
 
+use crate::hotstuff::HotStuff;
 use hs_tree::certificates::is_phase;
 use hs_tree::{Certificate, Tree};
 use hs_views::{Ballots, Turns, Words, leader_of, round_of};
 use iss_request::{Batch, NodeId, Seq, Slot};
 use iss_sb::{Content, Params, is_next};
+use sb_context::Context;
 use std::alloc::Global;
 
 /// The number of voting phases: prepare, pre-commit and commit.
@@ -143,40 +145,56 @@ impl Node {
     /// Whether the vote is counted: for one of the replica's own turns, the sender's first, and below a quorum.
     pub fn keeps_vote(
         &self,
-        p: &Params,
+        context: &Context<HotStuff>,
         from: NodeId,
         phase: u8,
         view: u32,
         digest: &[u8; 32],
     ) -> bool
-        requires { IsGoodParams hotstuff p.now }
-        ensures { (s : State) → RefinesState self.now s → result ≡ keeps_vote p.now s from.0 phase view digest.now }
+        ensures { (s : State) → RefinesState self.now s →
+            result ≡ keeps_vote context.now.p.now s from.0 phase view digest.now }
     {
         is_phase(PHASES, phase)
             && self.turns.has(view, digest)
             && !self.votes.has(from.0, phase, view, digest)
-            && self.votes.count(p.setup.n as u8, phase, view, digest) < p.setup.quorum
+            && self
+                .votes
+                .count(context.p.setup.n as u8, phase, view, digest)
+                < context.p.setup.quorum
     }
 
     /// Whether exactly a quorum's votes were received.
-    pub fn is_reached(&self, p: &Params, phase: u8, view: u32, digest: &[u8; 32]) -> bool
-        requires { IsGoodParams hotstuff p.now }
-        ensures { (s : State) → RefinesState self.now s → result ≡ is_reached p.now s phase view digest.now }
+    pub fn is_reached(
+        &self,
+        context: &Context<HotStuff>,
+        phase: u8,
+        view: u32,
+        digest: &[u8; 32],
+    ) -> bool
+        ensures { (s : State) → RefinesState self.now s →
+            result ≡ is_reached context.now.p.now s phase view digest.now }
     {
-        self.votes.count(p.setup.n as u8, phase, view, digest) == p.setup.quorum
+        self.votes
+            .count(context.p.setup.n as u8, phase, view, digest)
+            == context.p.setup.quorum
     }
 
     /// Whether the NewView message is counted: for a round that the replica leads, with a valid justification, the
     /// sender's first, and below a quorum.
-    pub fn keeps_news(&self, p: &Params, from: NodeId, round: u16, high: &Certificate) -> bool
-        requires { IsGoodParams hotstuff p.now }
+    pub fn keeps_news(
+        &self,
+        context: &Context<HotStuff>,
+        from: NodeId,
+        round: u16,
+        high: &Certificate,
+    ) -> bool
         ensures { (s : State) → RefinesState self.now s →
-            result ≡ keeps_news p.now self.now.me.0 s from.0 round high.now }
+            result ≡ keeps_news context.now.p.now self.now.me.0 s from.0 round high.now }
     {
         round >= 1
-            && self.me == leader_of(p, round)
-            && is_just(p, round as u32 * 65536, high)
+            && self.me == leader_of(context.p, round)
+            && is_just(context.p, round as u32 * 65536, high)
             && !self.news.has(from.0, round)
-            && self.news.count(p.setup.n as u8, round) < p.setup.quorum
+            && self.news.count(context.p.setup.n as u8, round) < context.p.setup.quorum
     }
 }

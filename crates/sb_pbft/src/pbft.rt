@@ -18,6 +18,7 @@ use iss_request::{
 };
 use iss_sb::{Claim, Effects, Input, Params, Sequenced, asks_if};
 use pbft_wire::Message;
+use sb_context::{Context, Modelled};
 use std::alloc::Global;
 use std::collections::BTreeSet;
 
@@ -50,20 +51,18 @@ impl Pbft {
     // Handles a PrePrepare. One for nil is ignored: in view 0 the leader proposes batches only.
     fn take_proposal(
         &mut self,
-        alloc: Global,
-        p: &Params,
+        context: &Context<Pbft>,
         offer: Envelope,
         value: Value,
         keys: &mut Keys,
     ) -> Result<Effects<Message>, NoMemory>
-        requires good { IsGoodParams pbft p.now }
-        requires enough { 2 * length p.now.slots + 1 ≤ left_of keys.old }
-        ensures { IfOk result (λ e. Does p.now self.old self.new (Input.Receive offer.from
+        requires { 2 * length context.now.p.now.slots + 1 ≤ left_of keys.old }
+        ensures { IfOk result (λ e. Does context.now.p.now self.old self.new (Input.Receive offer.from
             (Message.PrePrepare offer.view offer.slot value offer.sig)) keys.old keys.new e) }
     {
         match value {
-            Value::Nil => Ok(Effects::nothing(alloc)),
-            Value::Batch(batch) => Ok(self.take_pre_prepare(alloc, p, offer, batch, keys)?),
+            Value::Nil => Ok(Effects::nothing(context.alloc)),
+            Value::Batch(batch) => Ok(self.take_pre_prepare(context, offer, batch, keys)?),
         }
     }
 
@@ -96,15 +95,14 @@ impl Pbft {
     // Handles a message by its kind.
     fn receive(
         &mut self,
-        alloc: Global,
-        p: &Params,
+        context: &Context<Pbft>,
         from: NodeId,
         msg: Message,
         keys: &mut Keys,
     ) -> Result<Effects<Message>, NoMemory>
-        requires good { IsGoodParams pbft p.now }
-        requires enough { 2 * length p.now.slots + 1 ≤ left_of keys.old }
-        ensures { IfOk result (λ e. Does p.now self.old self.new (Input.Receive from msg) keys.old keys.new e) }
+        requires { 2 * length context.now.p.now.slots + 1 ≤ left_of keys.old }
+        ensures { IfOk result (λ e.
+            Does context.now.p.now self.old self.new (Input.Receive from msg) keys.old keys.new e) }
     {
         match msg {
             Message::PrePrepare {
@@ -114,7 +112,7 @@ impl Pbft {
                 sig,
             } => {
                 let offer = Envelope::of(from, view, slot, sig);
-                Ok(self.take_proposal(alloc, p, offer, value, keys)?)
+                Ok(self.take_proposal(context, offer, value, keys)?)
             }
             Message::Prepare {
                 view,
@@ -123,7 +121,7 @@ impl Pbft {
                 sig,
             } => {
                 let vote = Envelope::of(from, view, slot, sig);
-                Ok(self.take_prepare(alloc, p, vote, digest, keys)?)
+                Ok(self.take_prepare(context, vote, digest, keys)?)
             }
             Message::Commit {
                 view,
@@ -132,7 +130,7 @@ impl Pbft {
                 sig,
             } => {
                 let vote = Envelope::of(from, view, slot, sig);
-                Ok(self.take_commit(alloc, p, vote, digest, keys)?)
+                Ok(self.take_commit(context, vote, digest, keys)?)
             }
             Message::ViewChange {
                 view,
@@ -140,7 +138,7 @@ impl Pbft {
                 sig,
             } => {
                 let change = change_of(from, view, certificates, sig);
-                Ok(self.take_change(alloc, p, change, keys)?)
+                Ok(self.take_change(context, change, keys)?)
             }
             Message::NewView {
                 view,
@@ -149,10 +147,16 @@ impl Pbft {
                 ..
             } => {
                 let new = NewView::of(from, view, changes, signatures);
-                Ok(self.take_new_view(alloc, p, new, keys)?)
+                Ok(self.take_new_view(context, new, keys)?)
             }
         }
     }
+}
+
+impl Modelled for Pbft {
+    type Msg = Message;
+
+    ghost spec = { pbft };
 }
 
 impl Sequenced for Pbft {
@@ -228,10 +232,11 @@ impl Sequenced for Pbft {
         requires enough { pbft.signs p.now ≤ left_of keys.old }
         ensures { IfOk result (λ e. IsTrueStep pbft Refines p.now self.old self.new i keys.old keys.new e) }
     {
+        let context = Context::of(alloc, p);
         match i {
-            Input::Cast { slot, batch } => self.cast(alloc, p, slot, batch, keys),
-            Input::Receive { from, msg } => self.receive(alloc, p, from, msg, keys),
-            Input::Timeout => self.time_out(alloc, p, keys),
+            Input::Cast { slot, batch } => self.cast(&context, slot, batch, keys),
+            Input::Receive { from, msg } => self.receive(&context, from, msg, keys),
+            Input::Timeout => self.time_out(&context, keys),
         }
     }
 

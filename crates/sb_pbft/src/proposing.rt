@@ -1,8 +1,6 @@
 //! Proposals of view 0: batches that are cast to the leader, and the leader's PrePrepares.
 ghost use Rattle.std.specs.Prelude.{◌≡◌, ◌≤◌, ◌*◌, ◌+◌, length, IfOk};
 ghost use Rattle.iss_keys.specs.KeyStates.{left_of};
-ghost use Rattle.iss_sb.specs.Calls.{IsGoodParams};
-ghost use Rattle.sb_pbft.specs.Pbft.{pbft};
 ghost use Rattle.sb_pbft.specs.Internal.Refines.{Does, HasAccepted, held, is_free, may_cast, may_take};
 
 use crate::pbft::Pbft;
@@ -16,23 +14,22 @@ use iss_sb::{Effects, Input, Params, To};
 use pbft_views::has_slot;
 use pbft_wire::signing::PRE_PREPARE;
 use pbft_wire::{Mark, Message, string_of};
-use std::alloc::Global;
+use sb_context::Context;
 
 // Accepts a batch at a slot. Returns the value that holds it, the value's digest, and the effects: an accepted batch
 // and a hashed string.
 fn accept(
-    alloc: Global,
-    p: &Params,
+    context: &Context<Pbft>,
     slot: Slot,
     batch: Batch,
 ) -> Result<(Value, [u8; 32], Effects<Message>), NoMemory>
-    ensures { IfOk result (λ r. HasAccepted p.now slot batch r.0 r.1 r.2) }
+    ensures { IfOk result (λ r. HasAccepted context.now.p.now slot batch r.0 r.1 r.2) }
 {
-    let mut effects = Effects::nothing(alloc);
+    let mut effects = Effects::nothing(context.alloc);
     effects.accepted = Some((slot, batch.copy()?));
     let value = Value::Batch(batch);
-    let string = string_of(alloc, p, &value)?;
-    let digest = p.directory.directory().digest(string.as_slice());
+    let string = string_of(context.alloc, context.p, &value)?;
+    let digest = context.p.directory.directory().digest(string.as_slice());
     effects.hashed.push(string)?;
     Ok((value, digest, effects))
 }
@@ -65,23 +62,22 @@ impl Pbft {
     // rule: Modules: A correct leader accepts one batch at a slot
     pub(crate) fn cast(
         &mut self,
-        alloc: Global,
-        p: &Params,
+        context: &Context<Pbft>,
         slot: Slot,
         batch: Batch,
         keys: &mut Keys,
     ) -> Result<Effects<Message>, NoMemory>
-        requires good { IsGoodParams pbft p.now }
-        requires enough { 2 * length p.now.slots + 1 ≤ left_of keys.old }
-        ensures { IfOk result (λ e. Does p.now self.old self.new (Input.Cast slot batch) keys.old keys.new e) }
+        requires { 2 * length context.now.p.now.slots + 1 ≤ left_of keys.old }
+        ensures { IfOk result (λ e.
+            Does context.now.p.now self.old self.new (Input.Cast slot batch) keys.old keys.new e) }
     {
-        if !self.may_cast(p, slot) {
-            return Ok(Effects::nothing(alloc));
+        if !self.may_cast(context.p, slot) {
+            return Ok(Effects::nothing(context.alloc));
         }
-        let (value, digest, mut effects) = accept(alloc, p, slot, batch)?;
+        let (value, digest, mut effects) = accept(context, slot, batch)?;
         let view = 0;
         let mark = Mark { slot, view, digest };
-        let sig = sign_at(alloc, p, PRE_PREPARE, &mark, keys)?;
+        let sig = sign_at(context, PRE_PREPARE, &mark, keys)?;
         let said = value.copy()?;
         let tag = sig.copy()?;
         let msg = Message::PrePrepare {
@@ -95,38 +91,36 @@ impl Pbft {
         self.proposals.put(view, slot, proposal)?;
         let answers = false;
         let touched = Touched { view, answers };
-        self.settle_at(alloc, p, touched, slot, keys, &mut effects)?;
+        self.settle_at(context, touched, slot, keys, &mut effects)?;
         Ok(effects)
     }
 
     // A backup accepts the leader's PrePrepare and sends its Prepare to all.
     pub(crate) fn take_pre_prepare(
         &mut self,
-        alloc: Global,
-        p: &Params,
+        context: &Context<Pbft>,
         offer: Envelope,
         batch: Batch,
         keys: &mut Keys,
     ) -> Result<Effects<Message>, NoMemory>
-        requires good { IsGoodParams pbft p.now }
-        requires enough { 2 * length p.now.slots + 1 ≤ left_of keys.old }
-        ensures { IfOk result (λ e. Does p.now self.old self.new (Input.Receive offer.from
+        requires { 2 * length context.now.p.now.slots + 1 ≤ left_of keys.old }
+        ensures { IfOk result (λ e. Does context.now.p.now self.old self.new (Input.Receive offer.from
             (Message.PrePrepare offer.view offer.slot (Value.Batch batch) offer.sig)) keys.old keys.new e) }
     {
-        if !self.may_take(p, offer.from, offer.view, offer.slot) {
-            return Ok(Effects::nothing(alloc));
+        if !self.may_take(context.p, offer.from, offer.view, offer.slot) {
+            return Ok(Effects::nothing(context.alloc));
         }
         let slot = offer.slot;
-        let (value, digest, mut effects) = accept(alloc, p, slot, batch)?;
+        let (value, digest, mut effects) = accept(context, slot, batch)?;
         let view = 0;
         let mark = Mark { slot, view, digest };
-        send_prepare(alloc, p, &mark, keys, &mut effects.sends)?;
+        send_prepare(context, &mark, keys, &mut effects.sends)?;
         let sig = offer.sig;
         let proposal = Proposal { value, digest, sig };
         self.proposals.put(view, slot, proposal)?;
         let answers = false;
         let touched = Touched { view, answers };
-        self.settle_at(alloc, p, touched, slot, keys, &mut effects)?;
+        self.settle_at(context, touched, slot, keys, &mut effects)?;
         Ok(effects)
     }
 }

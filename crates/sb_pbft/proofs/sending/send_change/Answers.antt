@@ -9,7 +9,7 @@ use Rattle.sb_pbft.proofs.sending.send_change.Goals as goal
 
 pub returns : goal.returns
 returns c =
-    let p = c.args.p.now in
+    let p = c.args.context.now.p.now in
     let keys = c.args.keys.now in
     sent-one p (DraftViewChange c.args.view c.args.certificates) _ keys _ _ _ c.in_ok-sig.ensures.used
     (λ me own. ap (λ (s : List ℕ). ViewChange c.args.view c.args.certificates s)

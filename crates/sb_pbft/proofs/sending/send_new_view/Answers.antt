@@ -11,7 +11,7 @@ use Rattle.sb_pbft.proofs.sending.send_new_view.Goals as goal
 
 pub returns : goal.returns
 returns c =
-    let p = c.args.p.now in
+    let p = c.args.context.now.p.now in
     let keys = c.args.keys.now in
     let mid = c.sign_choices.new.keys in
     let v = c.args.view in

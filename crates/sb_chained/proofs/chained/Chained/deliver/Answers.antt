@@ -8,10 +8,10 @@ use Rattle.sb_chained.proofs.chained.Chained.deliver.Goals as goal
 
 pub returns-then-slots-self-clause-inside : goal.returns-then-slots-self-clause-inside
 returns-then-slots-self-clause-inside c =
-    subst (λ (z : List (Slot × Value)). AllIn (slots_of z) c.args.p.now.slots) (sym c.in_ok-delivers.ensures)
-    (subst (λ (z : List Slot). AllIn (slots_of (paired (drop c.args.self.now.delivered z) c.into_vec.result.items)) c.args.p.now.slots) (sym c.as_slice.ensures) (fresh-within c.args.self.now.delivered c.args.p.now.slots c.into_vec.result.items))
+    subst (λ (z : List (Slot × Value)). AllIn (slots_of z) c.args.context.now.p.now.slots) (sym c.in_ok-delivers.ensures)
+    (subst (λ (z : List Slot). AllIn (slots_of (paired (drop c.args.self.now.delivered z) c.into_vec.result.items)) c.args.context.now.p.now.slots) (sym c.as_slice.ensures) (fresh-within c.args.self.now.delivered c.args.context.now.p.now.slots c.into_vec.result.items))
 
 pub returns-clause-inside : goal.returns-clause-inside
 returns-clause-inside c =
-    subst (λ (z : List (Slot × Value)). AllIn (slots_of z) c.args.p.now.slots) (sym c.in_ok-delivers.ensures)
-    (subst (λ (z : List Slot). AllIn (slots_of (paired (drop c.args.self.now.delivered z) c.into_vec.result.items)) c.args.p.now.slots) (sym c.as_slice.ensures) (fresh-within c.args.self.now.delivered c.args.p.now.slots c.into_vec.result.items))
+    subst (λ (z : List (Slot × Value)). AllIn (slots_of z) c.args.context.now.p.now.slots) (sym c.in_ok-delivers.ensures)
+    (subst (λ (z : List Slot). AllIn (slots_of (paired (drop c.args.self.now.delivered z) c.into_vec.result.items)) c.args.context.now.p.now.slots) (sym c.as_slice.ensures) (fresh-within c.args.self.now.delivered c.args.context.now.p.now.slots c.into_vec.result.items))

@@ -7,7 +7,7 @@ use Rattle.sb_chained.proofs.chained.Chained.new_view.Goals as goal
 
 pub returns-in_default : goal.returns-in_default
 returns-in_default c sig =
-    let p = c.args.p.now in
+    let p = c.args.context.now.p.now in
     let m = c.args.self.now in
     let node : Node = record m.node { news = c.keep.new.self } in
     let mid : Chained = record m { node = node } in
@@ -17,7 +17,7 @@ returns-in_default c sig =
 
 pub returns : goal.returns
 returns c sig =
-    let p = c.args.p.now in
+    let p = c.args.context.now.p.now in
     let m = c.args.self.now in
     let node : Node = record m.node { news = c.keep.new.self } in
     let mid : Chained = record m { node = node } in

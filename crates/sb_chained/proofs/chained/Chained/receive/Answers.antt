@@ -12,10 +12,10 @@ pub returns-in-Vote : goal.returns-in-Vote
 returns-in-Vote c = rw c.in-Vote.is c.vote.ensures
 
 pub returns-in-PreCommit : goal.returns-in-PreCommit
-returns-in-PreCommit c = rw c.in-PreCommit.is (unheard-pre c.args.p.now c.args.self.now c.of.result c.nothing.result c.of.ensures c.nothing.ensures c.args.from c.in-PreCommit.view c.in-PreCommit.shown c.in-PreCommit.sig)
+returns-in-PreCommit c = rw c.in-PreCommit.is (unheard-pre c.args.context.now.p.now c.args.self.now c.of.result c.nothing.result c.of.ensures c.nothing.ensures c.args.from c.in-PreCommit.view c.in-PreCommit.shown c.in-PreCommit.sig)
 
 pub returns-in-Commit : goal.returns-in-Commit
-returns-in-Commit c = rw c.in-Commit.is (unheard-commit c.args.p.now c.args.self.now c.of-in-Commit.result c.nothing-in-Commit.result c.of-in-Commit.ensures c.nothing-in-Commit.ensures c.args.from c.in-Commit.view c.in-Commit.shown c.in-Commit.sig)
+returns-in-Commit c = rw c.in-Commit.is (unheard-commit c.args.context.now.p.now c.args.self.now c.of-in-Commit.result c.nothing-in-Commit.result c.of-in-Commit.ensures c.nothing-in-Commit.ensures c.args.from c.in-Commit.view c.in-Commit.shown c.in-Commit.sig)
 
 pub returns : goal.returns
-returns c = rw c.in-Decide.is (unheard-decide c.args.p.now c.args.self.now c.of-in-Decide.result c.nothing-in-Decide.result c.of-in-Decide.ensures c.nothing-in-Decide.ensures c.args.from c.in-Decide.view c.in-Decide.shown c.in-Decide.sig)
+returns c = rw c.in-Decide.is (unheard-decide c.args.context.now.p.now c.args.self.now c.of-in-Decide.result c.nothing-in-Decide.result c.of-in-Decide.ensures c.nothing-in-Decide.ensures c.args.from c.in-Decide.view c.in-Decide.shown c.in-Decide.sig)

@@ -13,7 +13,7 @@ returns-clause-shown c k h =
     let d = c.in_ok-delivers.ensures.delivers in
     record {
       node = c.note.ensures.me ∙ ap (λ (z : Node). z.me) d.node;
-      state = c.note.ensures.state k (subst (λ (z : Node). RefinesState c.args.p.now z k) (sym d.node) h);
+      state = c.note.ensures.state k (subst (λ (z : Node). RefinesState c.args.context.now.p.now z k) (sym d.node) h);
       accepted = d.accepted;
       delivers = d.delivers k (committed_by k (Some c.args.shown)) h (sym (c.decided-decided.ensures k h));
     }

@@ -8,7 +8,7 @@ use Rattle.sb_chained.proofs.chained.Chained.vote.Goals as goal
 
 pub returns-then-not-is_reached : goal.returns-then-not-is_reached
 returns-then-not-is_reached c =
-    let p = c.args.p.now in
+    let p = c.args.context.now.p.now in
     let m = c.args.self.now in
     let node : Node = record m.node { votes = c.keep.new.self } in
     let mid : Chained = record m { node = node } in
@@ -18,7 +18,7 @@ returns-then-not-is_reached c =
 
 pub returns : goal.returns
 returns c =
-    let p = c.args.p.now in
+    let p = c.args.context.now.p.now in
     let m = c.args.self.now in
     let node : Node = record m.node { votes = c.keep.new.self } in
     let mid : Chained = record m { node = node } in

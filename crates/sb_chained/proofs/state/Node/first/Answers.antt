@@ -5,5 +5,5 @@ use Rattle.sb_chained.proofs.state.Node.first.Goals as goal
 pub returns : goal.returns
 returns c =
     IfOk-weaker c.propose.result _ _ (λ o d k h.
-    first-one c.args.p.now c.args.self.now c.propose.new.self k o c.args.round c.slots-slots.result c.args.just c.digest.result c.nil_or_mark-what.result h c.requires.round c.digest.ensures (c.slots-slots.ensures k.tree h.nodes.tree)
+    first-one c.args.context.now.p.now c.args.self.now c.propose.new.self k o c.args.round c.slots-slots.result c.args.just c.digest.result c.nil_or_mark-what.result h c.requires c.digest.ensures (c.slots-slots.ensures k.tree h.nodes.tree)
     c.nil_or_mark-what.ensures (d k)) c.propose.ensures

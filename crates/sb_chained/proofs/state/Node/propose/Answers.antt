@@ -8,7 +8,7 @@ use Rattle.sb_chained.proofs.state.Node.propose.Goals as goal
 
 pub returns : goal.returns
 returns c k t is may h =
-    let p = c.args.p.now in
+    let p = c.args.context.now.p.now in
     let m = c.args.self.now in
     let parent = c.digest-parent.result in
     let hp = c.digest-parent.ensures in

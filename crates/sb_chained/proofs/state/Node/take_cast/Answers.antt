@@ -6,7 +6,7 @@ use Rattle.sb_chained.proofs.state.Node.take_cast.Goals as goal
 
 pub returns : goal.returns
 returns c =
-    let p = c.args.p.now in
+    let p = c.args.context.now.p.now in
     let m = c.args.self.now in
     let mid : Node = record m { casts = c.push.new.self } in
     IfOk-weaker c.next.result _ _ (λ o d s h. cast-made p m s c.args.slot c.args.batch c.next.new.self mid o c.may_cast.result (c.may_cast.ensures.may s h) c.if-not-may_cast.false refl

@@ -14,4 +14,4 @@ pub returns-in-Commit : goal.returns-in-Commit
 returns-in-Commit c = rw c.in-Commit.is (IfOk-weaker c.commit.result _ _ (λ e h. h c.in-Commit.sig) c.commit.ensures)
 
 pub returns-in-Decide : goal.returns-in-Decide
-returns-in-Decide c = rw c.in-Decide.is (IfOk-weaker c.decide.result _ _ (λ e h. h c.args.from c.in-Decide.sig c.args.keys.now c.requires.enough) c.decide.ensures)
+returns-in-Decide c = rw c.in-Decide.is (IfOk-weaker c.decide.result _ _ (λ e h. h c.args.from c.in-Decide.sig c.args.keys.now c.requires) c.decide.ensures)

@@ -5,7 +5,7 @@ use Rattle.sb_hotstuff.proofs.state.Node.propose.Goals as goal
 
 pub returns : goal.returns
 returns c k t is small low h =
-    let p = c.args.p.now in
+    let p = c.args.context.now.p.now in
     let hashed = c.in_ok-node.ensures in
     let one = subst (λ (z : ℕ). z ≤ 1) (sym c.weight.ensures) (weight-few c.args.proposal.what) in
     proposes-one p c.args.self.now k c.args.proposal.view c.args.slots c.args.proposal.just c.args.proposal.what t is c.add.new.self c.in_ok-draft.draft c.digest-parent.result c.in_ok-node.node c.digest-parent.ensures hashed low h

@@ -6,7 +6,7 @@ use Rattle.sb_hotstuff.proofs.state.Node.take_vote.Goals as goal
 
 pub returns-then-not-is_reached : goal.returns-then-not-is_reached
 returns-then-not-is_reached c s h =
-    let p = c.args.p.now in
+    let p = c.args.context.now.p.now in
     let m = c.args.self.now in
     let keeps = c.keeps_vote.ensures s h in
     let f = voted-for p m s h c.args.from c.args.vote.phase c.args.vote.view c.args.vote.digest c.args.vote.sig c.keeps_vote.result c.keep.new.self keeps c.if-not-keeps_vote.false c.in_ok-keep.ensures in
@@ -15,7 +15,7 @@ returns-then-not-is_reached c s h =
 
 pub returns-then-phase-eq2 : goal.returns-then-phase-eq2
 returns-then-phase-eq2 c s h =
-    let p = c.args.p.now in
+    let p = c.args.context.now.p.now in
     let m = c.args.self.now in
     let keeps = c.keeps_vote.ensures s h in
     let k = with_vote s c.args.from.0 c.args.vote.phase c.args.vote.view c.args.vote.digest c.args.vote.sig in
@@ -26,7 +26,7 @@ returns-then-phase-eq2 c s h =
 
 pub returns : goal.returns
 returns c s h =
-    let p = c.args.p.now in
+    let p = c.args.context.now.p.now in
     let m = c.args.self.now in
     let keeps = c.keeps_vote.ensures s h in
     let k = with_vote s c.args.from.0 c.args.vote.phase c.args.vote.view c.args.vote.digest c.args.vote.sig in

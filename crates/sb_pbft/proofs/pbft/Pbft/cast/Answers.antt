@@ -13,12 +13,12 @@ use Rattle.sb_pbft.proofs.pbft.Pbft.cast.Goals as goal
 
 pub returns-then-not-may_cast : goal.returns-then-not-may_cast
 returns-then-not-may_cast c =
-    does-nothing c.args.p.now (Cast c.args.slot c.args.batch) c.args.self.now c.args.keys.now _
-    (cast-idle c.args.p.now c.args.self.now c.args.slot c.args.batch c.args.keys.now.used (sym c.if-not-may_cast.ensures)) c.nothing.ensures
+    does-nothing c.args.context.now.p.now (Cast c.args.slot c.args.batch) c.args.self.now c.args.keys.now _
+    (cast-idle c.args.context.now.p.now c.args.self.now c.args.slot c.args.batch c.args.keys.now.used (sym c.if-not-may_cast.ensures)) c.nothing.ensures
 
 pub returns : goal.returns
 returns c =
-    let p = c.args.p.now in
+    let p = c.args.context.now.p.now in
     let old = c.args.self.now in
     let slot = c.args.slot in
     let batch = c.args.batch in
@@ -26,7 +26,7 @@ returns c =
     let may = sym c.if-not-may_cast.ensures in
     let parts = and-true (old.me.0 == p.leader.0) (is_free p (held old) slot.0) may in
     let got = c.in_ok-value.ensures in
-    let some = c.requires.good.some in
+    let some = c.args.context.now.good.some in
     let few = first-few p old slot batch in
     does-settled p (Cast slot batch) old (record old { proposals = c.put.new.self }) c.settle_at.new.self keys c.sign_at.new.keys c.settle_at.new.keys _ c.settle_at.new.effects
     (first_draft p old.me.0 (Some (slot, batch))) false 0 (slot ∷ [])

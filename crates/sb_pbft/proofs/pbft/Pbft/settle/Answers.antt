@@ -3,17 +3,17 @@ use Rattle.sb_pbft.proofs.Refinement.SettleRefines.{left-more, owes-more, owes-n
 use Rattle.sb_pbft.proofs.pbft.Pbft.settle.Goals as goal
 
 pub loop-slot-init : goal.loop-slot-init
-loop-slot-init c = let enough = c.requires.enough in (omega (arith, enough), λ n k g h. h)
+loop-slot-init c = let enough = c.requires in (omega (arith, enough), λ n k g h. h)
 
-pub settle_at-requires-clause-enough : goal.settle_at-requires-clause-enough
-settle_at-requires-clause-enough c =
+pub settle_at-requires : goal.settle_at-requires
+settle_at-requires c =
     let within = c.loop-slot-test.true in
     let left = c.loop-slot.invariant.0 in
     omega (arith, within, left)
 
 pub loop-slot-preserved : goal.loop-slot-preserved
 loop-slot-preserved c =
-    let p = c.args.p.now in
+    let p = c.args.context.now.p.now in
     let slots = c.args.slots.now in
     let i = c.loop-slot.slot-index in
     let done = c.in_ok-settle_at.ensures in (
@@ -26,5 +26,5 @@ loop-slot-preserved c =
 pub returns : goal.returns
 returns c =
     let past = c.loop-slot-test.false in
-    owes-none c.args.p.now c.args.touched.answers c.args.touched.view c.args.slots.now c.loop-slot.slot-index c.args.self.now c.loop-slot.self c.args.keys.now c.loop-slot.keys c.args.effects.now c.loop-slot.effects
+    owes-none c.args.context.now.p.now c.args.touched.answers c.args.touched.view c.args.slots.now c.loop-slot.slot-index c.args.self.now c.loop-slot.self c.args.keys.now c.loop-slot.keys c.args.effects.now c.loop-slot.effects
     (omega (arith, past)) c.loop-slot.invariant.1

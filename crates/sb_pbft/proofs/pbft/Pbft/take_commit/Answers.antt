@@ -13,19 +13,19 @@ pub returns-then-not-has_slot : goal.returns-then-not-has_slot
 returns-then-not-has_slot c =
     let x = c.args.vote in
     let input = Receive x.from (Commit x.view x.slot c.args.digest x.sig) in
-    does-nothing c.args.p.now input c.args.self.now c.args.keys.now _
-    (commit-idle c.args.p.now c.args.self.now c.args.self.now.commits x.from x.view x.slot c.args.digest x.sig c.args.self.now.me.0 c.args.keys.now.used (sym c.if-not-has_slot.ensures)) c.nothing.ensures
+    does-nothing c.args.context.now.p.now input c.args.self.now c.args.keys.now _
+    (commit-idle c.args.context.now.p.now c.args.self.now c.args.self.now.commits x.from x.view x.slot c.args.digest x.sig c.args.self.now.me.0 c.args.keys.now.used (sym c.if-not-has_slot.ensures)) c.nothing.ensures
 
 pub returns : goal.returns
 returns c =
     let x = c.args.vote in
-    let p = c.args.p.now in
+    let p = c.args.context.now.p.now in
     let old = c.args.self.now in
     let slot = x.slot in
     let input = Receive x.from (Commit x.view slot c.args.digest x.sig) in
     let inside = sym c.if-not-has_slot.ensures in
     let nothing = c.nothing-effects.ensures in
-    let some = c.requires.good.some in
+    let some = c.args.context.now.good.some in
     does-settled p input old (record old { commits = c.keep.new.self }) c.settle_at.new.self c.args.keys.now c.args.keys.now c.settle_at.new.keys c.nothing-effects.result c.settle_at.new.effects
     [] false x.view (slot ∷ []) (and_commit p (held old) input) [] None
     refl (λ own. commit-held p old c.keep.new.self x.from x.view slot c.args.digest x.sig _ c.new.ensures c.in_ok-keep.ensures inside)

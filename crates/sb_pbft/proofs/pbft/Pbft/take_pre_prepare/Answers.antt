@@ -14,13 +14,13 @@ use Rattle.sb_pbft.proofs.pbft.Pbft.take_pre_prepare.Goals as goal
 pub returns-then-not-may_take : goal.returns-then-not-may_take
 returns-then-not-may_take c =
     let x = c.args.offer in
-    does-nothing c.args.p.now (Receive x.from (PrePrepare x.view x.slot (Value_batch c.args.batch) x.sig)) c.args.self.now c.args.keys.now _
-    (told-idle c.args.p.now c.args.self.now x.slot c.args.batch c.args.keys.now.used x.from x.view x.sig (sym c.if-not-may_take.ensures)) c.nothing.ensures
+    does-nothing c.args.context.now.p.now (Receive x.from (PrePrepare x.view x.slot (Value_batch c.args.batch) x.sig)) c.args.self.now c.args.keys.now _
+    (told-idle c.args.context.now.p.now c.args.self.now x.slot c.args.batch c.args.keys.now.used x.from x.view x.sig (sym c.if-not-may_take.ensures)) c.nothing.ensures
 
 pub returns : goal.returns
 returns c =
     let x = c.args.offer in
-    let p = c.args.p.now in
+    let p = c.args.context.now.p.now in
     let old = c.args.self.now in
     let slot = x.slot in
     let batch = c.args.batch in
@@ -30,7 +30,7 @@ returns c =
     let other = not-is (old.me.0 == p.leader.0) (and-true (not (old.me.0 == p.leader.0)) (x.from.0 == p.leader.0) parts.0).0 in
     let free = (and-true (x.view == 0) (is_free p (held old) slot.0) parts.1).1 in
     let got = c.in_ok-value.ensures in
-    let some = c.requires.good.some in
+    let some = c.args.context.now.good.some in
     let few = first-few p old slot batch in
     does-settled p (Receive x.from (PrePrepare x.view slot (Value_batch batch) x.sig)) old (record old { proposals = c.put.new.self }) c.settle_at.new.self keys c.send_prepare.new.keys
     c.settle_at.new.keys _ c.settle_at.new.effects (first_draft p old.me.0 (Some (slot, batch))) false 0 (slot ∷ [])

@@ -10,16 +10,16 @@ use Rattle.sb_pbft.proofs.pbft.Pbft.time_out.Goals as goal
 
 pub send_change-requires-clause-few : goal.send_change-requires-clause-few
 send_change-requires-clause-few c =
-    let p = c.args.p.now in
+    let p = c.args.context.now.p.now in
     let m = held c.args.self.now in
     let is = ap (λ (l : List _). length l) (c.in_ok-certificates.ensures ∙ ap (λ (l : List Slot). tops_of m.top l) c.as_slice.ensures) in
     let few = tops-few m.top p.slots in
-    let most = c.requires.good.few in
+    let most = c.args.context.now.good.few in
     omega (arith, is, few, most)
 
 pub returns : goal.returns
 returns c =
-    let p = c.args.p.now in
+    let p = c.args.context.now.p.now in
     let old = c.args.self.now in
     let keys = c.args.keys.now in
     let nothing = c.nothing-effects.ensures in
