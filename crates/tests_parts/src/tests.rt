@@ -7,7 +7,6 @@ mod journals;
 mod keys;
 mod links;
 mod schedules;
-mod snapshot_bytes;
 mod tall_keys;
 mod vectors;
 mod versions;

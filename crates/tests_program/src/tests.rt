@@ -7,3 +7,4 @@ mod mutations;
 mod running;
 mod spelled;
 mod top;
+mod words;
