@@ -17,13 +17,13 @@ use Rattle.iss_rules.specs.Parcels.{Formats}
 use Rattle.iss_rules.specs.Past.{log_of, initial_history}
 use Rattle.iss_rules.specs.Rules.{Rules}
 use Rattle.iss_rules.specs.Setups.{IsSetupOf}
-use Rattle.iss_rules.specs.Votes.{cert_on}
+use Rattle.iss_rules.specs.Votes.{cert_on, is_open}
 use Rattle.iss_rules.proofs.Ending.{HasSlots}
 use Rattle.iss_rules.proofs.Layouts.{sound-rules}
 use Rattle.iss_rules.proofs.Logs.{newborn-log}
 use Rattle.iss_model.specs.Node.{Core, Dropped, Early, Stepped, Taken, Turn, initial_core, step}
 use Rattle.iss_model.specs.Run.{claims_at}
-use Rattle.iss_model.specs.Slims.{IsPlaced, StepsRespectSlims, IsSameEntered, IsSameStep, SlimCore, StepsKeepPlaced, is_open, slim}
+use Rattle.iss_model.specs.Slims.{IsPlaced, StepsRespectSlims, IsSameEntered, IsSameStep, SlimCore, StepsKeepPlaced, slim}
 use Rattle.iss_model.proofs.AlikeLogs.{Placed, ap₃}
 use Rattle.iss_model.proofs.AlikeSteps.{AlikeCore, AlikeEntered, AlikeStep, claims-alike, step-alike}
 

@@ -16,7 +16,7 @@ use Rattle.iss_rules.specs.Concrete.{rules_of}
 use Rattle.iss_rules.specs.Formats.{formats_of}
 use Rattle.iss_rules.specs.Past.{adopted_at, log_of, start_of}
 use Rattle.iss_rules.specs.Rules.{Rules}
-pub use Rattle.iss_rules.specs.Votes.{cert_on, is_open}
+use Rattle.iss_rules.specs.Votes.{cert_on, is_open}
 use Rattle.iss_model.specs.Node.{Core, Dropped, Early, Stepped, Taken, Turn, initial_core, step}
 use Rattle.iss_model.specs.Run.{claims_at}
 
