@@ -92,10 +92,9 @@ impl Ballots {
             return self.count(vote);
         }
         if self.is_true(&vote) {
-            Ok(Taking::Known)
-        } else {
-            Ok(Taking::BadSignature)
+            return Ok(Taking::Known);
         }
+        Ok(Taking::BadSignature)
     }
 
     /// Keeps a certificate, unless its epoch already has one. The only error is out of memory.
@@ -108,6 +107,15 @@ impl Ballots {
         if self.has_cert(cert.epoch) {
             return Ok(());
         }
+        self.put(cert)
+    }
+
+    /// Keeps a certificate in the place of one that its epoch may have. The only error is out of memory.
+    pub fn put(&mut self, cert: Cert) -> Result<(), NoMemory>
+        ensures kept { OnOk result ((votes : List Voted) (certs : List Certificate) → AreKept self.old votes certs →
+            AreKept self.new votes (cert ∷ certs)) }
+        ensures voters { self.new.voters ≡ self.old.voters }
+    {
         let _tally = self.take_tally(cert.epoch);
         self.certify(cert)
     }
@@ -240,7 +248,8 @@ fn refused(cause: Refusal) -> Taking
     }
 }
 
-fn copy_of_vote(vote: &Vote) -> Result<Vote, NoMemory>
+/// A copy of the vote. The only error is out of memory.
+pub fn copy_of_vote(vote: &Vote) -> Result<Vote, NoMemory>
     ensures { IfOk result (λ v. v ≡ vote.now) }
 {
     Ok(Vote {
