@@ -160,6 +160,7 @@ impl Ballots {
             AreKept self.old votes certs → IsTaken votes certs vote self.new t) }
         ensures voters { self.new.voters ≡ self.old.voters }
     {
+        let _setup = &self.setup;
         let epoch = vote.epoch;
         let copy = copy_of_vote(&vote)?;
         let mut tally = self.take_tally(epoch);
