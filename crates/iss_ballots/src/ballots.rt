@@ -1,5 +1,5 @@
 //! Checkpoint votes and certificates, by epoch.
-ghost use Rattle.std.specs.Prelude.{◌≡◌, ◌++◌, ◌∷◌, ◌==◌, ◌≤◌, [], None, List, ℕ, cond, IfOk, OnOk, is_some, option_map};
+ghost use Rattle.std.specs.Prelude.{◌≡◌, ◌++◌, ◌∷◌, ◌==◌, ◌≤◌, [], None, List, ℕ, IfOk, OnOk, is_some, not, option_map};
 ghost use Rattle.iss_ballots.specs.Ballots.{AreKept, HasTally, IsCertified, IsTaken, IsUntallied, cert_at, is_true, refused, tally_at, tally_or};
 ghost use Rattle.iss_checkpoint.specs.Votes.{voters_of};
 ghost use Rattle.iss_checkpoint.specs.declared.votes.Cert.{Cert as Certificate};
@@ -217,7 +217,11 @@ impl Ballots {
         ensures voters { self.new.voters ≡ self.old.voters }
     {
         let epoch = cert.epoch.0;
-        self.counted.retain(|vote| vote.epoch.0 != epoch);
+        self.counted.retain(
+            |vote: &Vote| -> bool
+                ensures { result ≡ not (vote.now.epoch.0 == epoch) }
+            { vote.epoch.0 != epoch },
+        );
         self.certs.insert(epoch, cert)?;
         Ok(())
     }

@@ -1,5 +1,5 @@
 use Rattle.std.proofs.Common.{◌≡◌, ◌∙◌, ◌==◌, Some, ap, cond, not, rules}
-use Rattle.std.proofs.lemmas.List.Elements.{filter_from_retain}
+use Rattle.std.proofs.lemmas.Fn.{filter_same}
 use Rattle.std.specs.List.{filter}
 use Rattle.iss_ballots.proofs.BallotLemmas.{at-number}
 use Rattle.iss_ballots.specs.Ballots.{BallotsState, cert_at}
@@ -17,7 +17,7 @@ returns-clause-certified c =
           ∙ (at-number cert.epoch.0 d (Some cert) (cert_at before d)
           ∙ ap (λ (z : BallotsState). cond (cert.epoch.0 == d) (Some cert) (cert_at z.certs d)) c.self.view_is);
       counted =
-          filter_from_retain _ (λ (v : Vote). not (v.epoch.0 == cert.epoch.0)) (λ p x b q h. search rules) _ _ _ c.retain.ensures.filtered
+          filter_same _ (λ (v : Vote). not (v.epoch.0 == cert.epoch.0)) _ (λ x b f k. search rules) _ _ c.retain.ensures.filtered
           ∙ ap (λ (z : BallotsState). filter (λ (v : Vote). not (v.epoch.0 == cert.epoch.0)) z.counted) c.self.view_is;
       rest = ap put c.self.view_is;
     }
