@@ -5,10 +5,9 @@ use Rattle.std.specs.Prelude.{OnOk}
 use Rattle.std.specs.Ordering.{is_eq, nat_cmp}
 use Rattle.std.proofs.lemmas.List.{append-nil, reverse-append}
 use Rattle.std.proofs.lemmas.List.Elements.{filter-append}
-use Rattle.iss_base.proofs.Lists.{eqb-other, eqb-same, is-eq, none-some, same_number, same_or_not, some-injective}
-use Rattle.iss_ballots.specs.Ballots.{AreKept, AreTallies, BallotsState, HasTally, IsCertified, IsTaken, IsUntallied, cert_at, is_held, is_true, refused, stable_by, tally_at, tally_or, vote_in}
-use Rattle.iss_ballots.specs.declared.ballots.Taking.{Taking}
-use Rattle.iss_ballots.specs.declared.ballots.Taking.TheVariants.{BadSignature, Counted, Known}
+use Rattle.iss_base.proofs.Lists.{eqb-other, eqb-same, none-some, same_number, same_or_not, some-injective}
+use Rattle.iss_ballots.specs.Ballots.{AreKept, AreTallies, BallotsState, HasTally, IsCertified, IsTaken, IsUntallied, cert_at, is_held, is_true, refused, tally_at, tally_or, vote_in}
+use Rattle.iss_ballots.specs.declared.ballots.Taking.TheVariants.{Counted, Known}
 use Rattle.iss_checkpoint.proofs.TallyLemmas.{below-same}
 use Rattle.iss_checkpoint.specs.Tallies.{IsCounted, TallyState, certificate, certificate_by, refusal, vote_at, with_vote}
 use Rattle.iss_checkpoint.specs.Votes.{Voters, is_signed, statement_of}

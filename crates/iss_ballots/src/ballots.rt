@@ -110,7 +110,7 @@ impl Ballots {
         self.put(cert)
     }
 
-    /// Keeps a certificate in the place of one that its epoch may have. The only error is out of memory.
+    /// Keeps a certificate, and replaces one that its epoch may have. The only error is out of memory.
     pub fn put(&mut self, cert: Cert) -> Result<(), NoMemory>
         ensures kept { OnOk result ((votes : List Voted) (certs : List Certificate) → AreKept self.old votes certs →
             AreKept self.new votes (cert ∷ certs)) }

@@ -1,4 +1,4 @@
-use Rattle.std.proofs.Common.{◌≡◌, ◌∙◌, ◌==◌, Some, ap, cond, not, rules}
+use Rattle.std.proofs.Common.{◌∙◌, ◌==◌, Some, ap, cond, not, rules}
 use Rattle.std.proofs.lemmas.Fn.{filter_same}
 use Rattle.std.specs.List.{filter}
 use Rattle.iss_ballots.proofs.BallotLemmas.{at-number}

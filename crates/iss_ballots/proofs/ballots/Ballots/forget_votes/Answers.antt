@@ -1,4 +1,4 @@
-use Rattle.std.proofs.Common.{◌≡◌, ◌∙◌, ℕ, List, [], Some, ap, subst, sym}
+use Rattle.std.proofs.Common.{◌∙◌, ℕ, List, [], ap, subst, sym}
 use Rattle.iss_base.proofs.Lists.{none-some}
 use Rattle.iss_ballots.proofs.BallotLemmas.{forgets-kept}
 use Rattle.iss_ballots.specs.Ballots.{AreTallies, BallotsState}

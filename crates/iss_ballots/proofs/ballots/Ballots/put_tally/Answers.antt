@@ -1,7 +1,6 @@
-use Rattle.std.proofs.Common.{◌≡◌, ◌∙◌, ℕ, ◌==◌, Option, Some, ap, cond, sym}
+use Rattle.std.proofs.Common.{◌∙◌, ℕ, ◌==◌, Some, ap, cond, sym}
 use Rattle.iss_ballots.proofs.BallotLemmas.{at-number, tallied-tallies}
 use Rattle.iss_ballots.specs.Ballots.{BallotsState, tally_at}
-use Rattle.iss_checkpoint.specs.Tallies.{TallyState}
 use Rattle.iss_checkpoint.specs.Votes.{voters_of}
 use Rattle.iss_ballots.proofs.ballots.Ballots.put_tally.Goals as goal
 

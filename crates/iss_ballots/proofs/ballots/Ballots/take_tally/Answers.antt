@@ -1,4 +1,4 @@
-use Rattle.std.proofs.Common.{◌≡◌, ◌∙◌, ◌==◌, None, ap, cond}
+use Rattle.std.proofs.Common.{◌∙◌, ◌==◌, None, ap, cond}
 use Rattle.iss_ballots.proofs.BallotLemmas.{at-number, untallied-tallies}
 use Rattle.iss_ballots.specs.Ballots.{BallotsState, tally_at}
 use Rattle.iss_checkpoint.specs.Votes.{voters_of}
