@@ -108,6 +108,15 @@ impl Ballots {
         if self.has_cert(cert.epoch) {
             return Ok(());
         }
+        self.put(cert)
+    }
+
+    /// Keeps a certificate in the place of one that its epoch may have. The only error is out of memory.
+    pub fn put(&mut self, cert: Cert) -> Result<(), NoMemory>
+        ensures kept { OnOk result ((votes : List Voted) (certs : List Certificate) → AreKept self.old votes certs →
+            AreKept self.new votes (cert ∷ certs)) }
+        ensures voters { self.new.voters ≡ self.old.voters }
+    {
         let _tally = self.take_tally(cert.epoch);
         self.certify(cert)
     }
@@ -240,7 +249,8 @@ fn refused(cause: Refusal) -> Taking
     }
 }
 
-fn copy_of_vote(vote: &Vote) -> Result<Vote, NoMemory>
+/// A copy of the vote. The only error is out of memory.
+pub fn copy_of_vote(vote: &Vote) -> Result<Vote, NoMemory>
     ensures { IfOk result (λ v. v ≡ vote.now) }
 {
     Ok(Vote {

@@ -1,4 +1,5 @@
 pub mod Flights
 pub mod Internal
+pub mod Saved
 pub mod State
 pub mod Steps

@@ -16,8 +16,9 @@ ghost use Rattle.iss_node.specs.State.{RefinesCore, RefinesPast, accepted_of};
 ghost use Rattle.iss_request.specs.Log.{ids};
 ghost use Rattle.iss_node.specs.Steps.{HasRetreated, IsAnswer, IsHeldStepOf, IsLeft, IsOfNodes, IsSameNode};
 
-use crate::answers::{Accepted, Answer, StepResult};
+use crate::answers::{Accepted, Answer, Outcome, StepResult};
 use crate::flight::Flight;
+use crate::saved::Saved;
 use crate::starting::start_segments;
 use crate::state::NodeState;
 use iss_ballots::Ballots;
@@ -35,11 +36,14 @@ use iss_window::{Ids, Windows};
 use std::alloc::Global;
 use std::marker::Model;
 
+/// The length of the longest entry of a journal.
+const MAX_ENTRY: usize = 200_000_100;
+
 /// One replica. It becomes stale when memory runs out, or after `retreat`: then it only reports a log and an epoch, and
 /// takes no further event.
 #[derive(Drop)]
 pub struct Node<M: Sequenced> {
-    state: NodeState<M>,
+    pub(crate) state: NodeState<M>,
     stale: bool,
 }
 
@@ -95,6 +99,7 @@ impl<M: Sequenced> Node<M> {
             early: Vec::new(alloc),
             logged: Ids::new(alloc),
             ballots,
+            saved: Saved::nothing(alloc),
             keys,
         };
         Ok(Node {
@@ -120,6 +125,32 @@ impl<M: Sequenced> Node<M> {
         let held = self.state.log.entries().len();
         let epoch = self.state.epoch;
         // An event that runs out of memory midway leaves the node stale.
+        self.stale = true;
+        match self.state.kept_turn(alloc, event) {
+            Ok(StepResult::Taken(outcome)) => {
+                self.stale = false;
+                Answer::Taken(outcome)
+            }
+            Ok(StepResult::Dropped(why)) => {
+                self.stale = false;
+                Answer::Dropped(why)
+            }
+            Err(_) => {
+                self.state.log.cut(held);
+                self.state.epoch = epoch;
+                Answer::NoMemory
+            }
+        }
+    }
+
+    /// Takes an event of a journal: as `take`, but a snapshot that it would give is not noted.
+    pub fn replay(&mut self, alloc: Global, event: NodeEvent) -> Answer
+    {
+        if self.stale {
+            return Answer::Stale;
+        }
+        let held = self.state.log.entries().len();
+        let epoch = self.state.epoch;
         self.stale = true;
         match self.state.turn(alloc, event) {
             Ok(StepResult::Taken(outcome)) => {
@@ -234,6 +265,26 @@ impl<M: Sequenced> Node<M> {
 }
 
 impl<M: Sequenced> NodeState<M> {
+    // Takes an event, and notes the snapshot that takes its place, unless that is too long.
+    fn kept_turn(&mut self, alloc: Global, event: NodeEvent) -> Result<StepResult, NoMemory> {
+        match self.turn(alloc, event)? {
+            StepResult::Taken(outcome) => Ok(StepResult::Taken(self.keep_entered(alloc, outcome)?)),
+            StepResult::Dropped(why) => Ok(StepResult::Dropped(why)),
+        }
+    }
+
+    // The outcome without a snapshot that is too long. Another one is noted.
+    fn keep_entered(&mut self, alloc: Global, outcome: Outcome) -> Result<Outcome, NoMemory> {
+        let mut outcome = outcome;
+        if is_too_long(&outcome.entered) {
+            outcome.entered = None;
+        }
+        if outcome.entered.is_some() {
+            self.note_saved(alloc)?;
+        }
+        Ok(outcome)
+    }
+
     // Takes an event. The only error is out of memory; the state may be half updated then.
     fn turn(&mut self, alloc: Global, event: NodeEvent) -> Result<StepResult, NoMemory>
         requires { RefinesSome M.spec M.refines self.old }
@@ -261,6 +312,14 @@ impl<M: Sequenced> NodeState<M> {
             Some(segment) => is_any_empty(&self.log, segment.params().slots.as_slice()),
             None => false,
         }
+    }
+}
+
+// Whether these bytes are too long for an entry of a journal.
+fn is_too_long(entered: &Option<Bytes>) -> bool {
+    match entered {
+        Some(bytes) => bytes.len() > MAX_ENTRY,
+        None => false,
     }
 }
 

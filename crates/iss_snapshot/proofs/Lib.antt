@@ -1,0 +1,5 @@
+pub mod Elements
+pub mod Entries
+pub mod EqualEpochs
+mod Example
+pub mod SnapshotGrammar
