@@ -1,4 +1,5 @@
 pub mod AnswersRefine
+pub mod EntriesCompose
 pub mod OutcomesCompose
 pub mod QueriesAgree
 pub mod ReportsAgree

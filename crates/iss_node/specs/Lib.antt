@@ -1,3 +1,4 @@
+pub mod Entered
 pub mod Flights
 pub mod Internal
 pub mod Saved

@@ -14,6 +14,7 @@ use Rattle.iss_model.specs.Frames.{ends_in, finish_step_in, frame_of}
 use Rattle.iss_rules.specs.declared.events.NodeEvent.{NodeEvent}
 use Rattle.iss_rules.specs.declared.events.NodeEvent.TheVariants.{Packet as On_packet, Propose as On_propose, Timeout as On_timeout, AskFrom as On_ask}
 use Rattle.iss_rules.specs.declared.events.Why.{Why}
+use Rattle.iss_node.specs.Entered.{IsEntered, IsHeldEntered, IsKeptEntry}
 use Rattle.iss_node.specs.Internal.Epochs.{HasClosed, HasOpened}
 use Rattle.iss_node.specs.State.{NodeView, RefinesBareCore, RefinesCore, RefinesPast, StateRefinesCore, StateView, core_of}
 use Rattle.iss_node.specs.declared.answers.Answer.{Answer}
@@ -40,6 +41,7 @@ pub record IsTurned {M Msg : Type 0} (m : Module Msg) (refines : Relation M Msg)
     (turn : Turn Msg) (new : StateView M Msg) (outcome : Outcome) : Type 0 where
   pub refined : RefinesBareCore m refines new turn.core
   pub made : IsMade turn outcome
+  pub entered : IsEntered m new turn.entered outcome.entered
   pub addressed : AreToNodes new.setup.n outcome.sends
 
 -- The model accepts the event too, with this turn.
@@ -106,16 +108,18 @@ pub record IsNextEpoch {M Msg : Type 0} (refines : Relation M Msg) (old new : St
   pub new_is : new ≡ record begun { early = [] }
   pub kept : early ≡ old.early
 
--- Set-up and identity are the same, and the log was at most extended.
+-- Set-up, identity and what snapshots hold are the same, and the log was at most extended.
 pub record IsSameNode {M Msg : Type 0} (old new : StateView M Msg) : Type 0 where
   pub setup : new.setup ≡ old.setup
   pub me : new.me ≡ old.me
+  pub saved : new.saved ≡ old.saved
   pub log : GoesOn old.log.entries new.log.entries
 
 -- In addition the votes and certificates are the same.
 pub record IsLater {M Msg : Type 0} (old new : StateView M Msg) : Type 0 where
   pub setup : new.setup ≡ old.setup
   pub me : new.me ≡ old.me
+  pub saved : new.saved ≡ old.saved
   pub log : GoesOn old.log.entries new.log.entries
   pub ballots : new.ballots ≡ old.ballots
 
@@ -133,6 +137,7 @@ pub record IsHeldTurn {M Msg : Type 0} (m : Module Msg) (refines : Relation M Ms
     (turn : Turn Msg) (new : StateView M Msg) (outcome : Outcome) : Type 0 where
   pub refined : StateRefinesCore m refines new turn.core
   pub made : IsMade turn outcome
+  pub entered : IsHeldEntered m new turn.entered outcome.entered
   pub addressed : asked → AreToNodes new.setup.n outcome.sends
 
 pub record IsHeldTaken {M Msg : Type 0} (m : Module Msg) (refines : Relation M Msg) (asked : Type 0)

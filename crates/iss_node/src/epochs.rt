@@ -78,7 +78,8 @@ impl<M: Sequenced> NodeState<M> {
         let vote = self.vote()?;
         let mut outcome = self.hand_out_vote(alloc, &vote)?;
         let early = self.next_epoch(alloc)?;
-        outcome.entered = Some(self.entry(alloc, early.as_slice())?);
+        let bytes = self.entry(alloc, early.as_slice())?;
+        outcome.entered = Some(bytes);
         Ok((outcome, early))
     }
 

@@ -155,9 +155,10 @@ impl<M: Sequenced> NodeState<M> {
         self.apply_deliveries(alloc, delivers, &mut strings)?;
         self.ballots.keep(cert)?;
         let early = self.next_epoch(alloc)?;
+        let bytes = self.entry(alloc, early.as_slice())?;
         let mut outcome = Outcome::nothing(alloc);
         outcome.hashed = strings;
-        outcome.entered = Some(self.entry(alloc, early.as_slice())?);
+        outcome.entered = Some(bytes);
         self.take_each(alloc, outcome, early)
     }
 }

@@ -1,6 +1,6 @@
--- How a replica is encoded as it enters an epoch, before it takes the messages that came early. A snapshot stands in a
--- journal in the place of all events before it. It continues the snapshot before: it has the values of the epochs since
--- that one, and the certificates that no earlier one has. Nothing is in flight at that moment.
+-- How a replica is encoded as it enters an epoch, before it takes the messages that came early. In a journal a snapshot
+-- replaces all events before it. It continues the snapshot before: it has the values of the epochs since that one, and
+-- the certificates that no earlier one has. Nothing is in flight at that moment.
 --
 --   snapshot      kind (1 byte: 5), from (8), to (8, above from), the values of the epochs from `from` on and below
 --                 `to` in the order of their slots, next leaf (4), requests, certificates, votes, early packets; each
@@ -71,7 +71,7 @@ spell_snapshot version s = if fits s then snapshot_row version s else 0 ∷ []
 
 -- ---- decoding
 
--- so many elements as their number says
+-- as many elements as their number says
 unfoldable pub parse_counted : {A : Type 0} → Width → Parser A → Parser (List A)
 parse_counted w p = do
   count ← number w

@@ -1,4 +1,4 @@
-//! A replica as it enters an epoch, in bytes: what a journal may keep in the place of all events before it.
+//! A replica as it enters an epoch, in bytes: with it a journal may do without all events before it.
 #![tactic(auto)]
 
 pub mod laws;

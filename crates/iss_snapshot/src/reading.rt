@@ -73,7 +73,7 @@ fn read_values(alloc: Global, count: u64, f: &mut Fields) -> Result<Seq<Value>, 
     Ok(values)
 }
 
-// The values of so many epochs of `slots` slots.
+// The values of `count` epochs, each of `slots` slots.
 fn read_epochs(
     alloc: Global,
     count: u64,

@@ -25,7 +25,7 @@ fn three_nodes(alloc: Global) -> Result<Setup, NoMemory> {
         window: 8,
         policy: Policy::Simple,
         clients: 2,
-        keys: 4,
+        keys: 2,
         faulty,
         n: 3,
         quorum: 2,
@@ -206,7 +206,7 @@ fn play(rt: &impl Abort, alloc: Global, seed: u32) -> Result<(usize, usize, usiz
         early: 0,
         compared: 0,
     };
-    for round in 0..6u32 {
+    for round in 0..3u32 {
         let client = (round % 2) as u8;
         let packet = request_packet(alloc, &directory, client, round / 2)?;
         let some = Some(packet);
@@ -217,7 +217,7 @@ fn play(rt: &impl Abort, alloc: Global, seed: u32) -> Result<(usize, usize, usiz
             give(rt, alloc, &setup, &directory, &mut run, k, &None)?;
         }
         // Packets in any order; some stay for later rounds.
-        let stay = if round == 5 { 0 } else { pick(&mut run) % 12 };
+        let stay = if round == 2 { 0 } else { pick(&mut run) % 12 };
         for _ in 0..1000u32 {
             if run.queue.len() <= stay {
                 break;
@@ -234,7 +234,7 @@ fn play(rt: &impl Abort, alloc: Global, seed: u32) -> Result<(usize, usize, usiz
 #[test]
 fn a_rebuilt_node_goes_on(rt: HostRuntime) -> Result<(), Fail> {
     let alloc = rt.alloc();
-    for seed in 0..2u32 {
+    for seed in 0..1u32 {
         let r = play(&rt, alloc, seed)?;
         println!(rt; "{seed} epochs {} rebuilt {} early {} compared {}", r.0, r.1, r.2, r.3)?;
     }

@@ -117,6 +117,7 @@ module _ {M Msg : Type 0} (m : Module Msg) (refines : M → Params → ℕ → L
         turned = record {
           refined = h;
           made = record { sends = sent; own = handed.own; early = handed.early; hashed = handed.hashed };
+          entered = handed.entered;
           addressed = λ a. subst (λ (xs : List (To × List ℕ)). AreToNodes v.setup.n xs) (sym sent) (low, tt);
         };
       }
