@@ -31,7 +31,14 @@ IsEntered m v None bytes = bytes ≡ None
 IsEntered m v (Some d) bytes = (votes : List Vote) (certs : List Cert) → AreKept v.ballots votes certs →
     bytes ≡ Some (encoded_by m v (holding votes certs d))
 
--- The bytes are the snapshot of each core that the state refines, with these messages.
+-- The snapshot of each core that the state refines, with these messages.
+abbrev pub IsSnapshotOf : {M Msg : Type 0} → Module Msg → Relation M Msg → StateView M Msg → List (Early Msg) →
+    Snapshot → Type 0
+IsSnapshotOf {Msg = Msg} m refines v early s = (past : Past Msg) (votes : List Vote) (certs : List Cert) →
+    RefinesPast m refines v past → AreKept v.ballots votes certs →
+    s ≡ saved_by m v (holding votes certs (record (core_of v past) { early = seen_early early }))
+
+-- The same in bytes.
 abbrev pub IsEntryOf : {M Msg : Type 0} → Module Msg → Relation M Msg → StateView M Msg → List (Early Msg) → List ℕ →
     Type 0
 IsEntryOf {Msg = Msg} m refines v early bytes = (past : Past Msg) (votes : List Vote) (certs : List Cert) →
