@@ -1,5 +1,5 @@
 //! A node: its state, and whether it is stale.
-ghost use Rattle.std.specs.Prelude.{◌≡◌, ◌<◌, ◌≤◌, ◌↔◌, ℕ, true, IfOk, is_some, length, map, not, option_map, reverse};
+ghost use Rattle.std.specs.Prelude.{◌≡◌, ◌<◌, ◌≤◌, ◌↔◌, ℕ, true, IfOk, OnOk, is_some, length, map, not, option_map, reverse};
 ghost use Rattle.std.specs.List.{list_any};
 ghost use Rattle.iss_ballots.specs.Ballots.{cert_at};
 ghost use Rattle.iss_keys.specs.Directories.{AreKeysOf};
@@ -14,7 +14,8 @@ ghost use Rattle.iss_model.specs.Frames.{claims_of_bytes_in, frame_of, step_in};
 ghost use Rattle.iss_node.specs.Internal.Ready.{RefinesSome};
 ghost use Rattle.iss_node.specs.State.{RefinesCore, RefinesPast, accepted_of};
 ghost use Rattle.iss_request.specs.Log.{ids};
-ghost use Rattle.iss_node.specs.Steps.{HasRetreated, IsAnswer, IsHeldStepOf, IsLeft, IsOfNodes, IsSameNode};
+ghost use Rattle.iss_node.specs.Internal.Storing.{HasNoted, is_entry, storable};
+ghost use Rattle.iss_node.specs.Steps.{HasRetreated, IsAnswer, IsEnteredAnswer, IsHeldStepOf, IsKeptStepOf, IsLeft, IsOfNodes, IsSameLog, IsSameNode};
 
 use crate::answers::{Accepted, Answer, Outcome, StepResult};
 use crate::flight::Flight;
@@ -32,6 +33,7 @@ use iss_request::{Batch, Bytes, Epoch, NoMemory, NodeId, ReqId, Seq, Setup, Slot
 use iss_rules::NodeEvent;
 use iss_sb::{Claim, Input, Sequenced};
 use iss_segment::Segment;
+use iss_snapshot::KIND;
 use iss_window::{Ids, Windows};
 use std::alloc::Global;
 use std::marker::Model;
@@ -118,6 +120,8 @@ impl<M: Sequenced> Node<M> {
         ensures refused { (result ≡ Answer.Stale) ↔ (self.old.stale ≡ true) }
         ensures left { IsLeft self.old self.new result }
         ensures same { (self.new.state.setup ≡ self.old.state.setup) × (self.new.state.me ≡ self.old.state.me) }
+        ensures entered { (c : Core M.Msg) → RefinesCore M.spec M.refines self.old c → IsEnteredAnswer M.spec self.old.state
+            (step_in (frame_of self.old.state.setup M.spec) self.old.state.me.0 c event) self.new.state result }
     {
         if self.stale {
             return Answer::Stale;
@@ -145,6 +149,13 @@ impl<M: Sequenced> Node<M> {
 
     /// Takes an event of a journal: as `take`, but a snapshot that it would give is not noted.
     pub fn replay(&mut self, alloc: Global, event: NodeEvent) -> Answer
+        ensures answer { (c : Core M.Msg) → RefinesCore M.spec M.refines self.old c →
+            IsAnswer M.spec M.refines (IsOfNodes self.old.state.setup.n event) c
+            (step_in (frame_of self.old.state.setup M.spec) self.old.state.me.0 c event) self.new result }
+        ensures refused { (result ≡ Answer.Stale) ↔ (self.old.stale ≡ true) }
+        ensures left { IsLeft self.old self.new result }
+        ensures same { (self.new.state.setup ≡ self.old.state.setup) × (self.new.state.me ≡ self.old.state.me) }
+        ensures saved { self.new.state.saved ≡ self.old.state.saved }
     {
         if self.stale {
             return Answer::Stale;
@@ -266,7 +277,12 @@ impl<M: Sequenced> Node<M> {
 
 impl<M: Sequenced> NodeState<M> {
     // Takes an event, and notes the snapshot that takes its place, unless that is too long.
-    fn kept_turn(&mut self, alloc: Global, event: NodeEvent) -> Result<StepResult, NoMemory> {
+    fn kept_turn(&mut self, alloc: Global, event: NodeEvent) -> Result<StepResult, NoMemory>
+        requires { RefinesSome M.spec M.refines self.old }
+        ensures answer { IfOk result (λ a. IsKeptStepOf M.spec M.refines (IsOfNodes self.old.setup.n event) self.old
+            (λ F R me c. step F R M.spec me c event) self.new a) }
+        ensures same { IsSameLog self.old self.new }
+    {
         match self.turn(alloc, event)? {
             StepResult::Taken(outcome) => Ok(StepResult::Taken(self.keep_entered(alloc, outcome)?)),
             StepResult::Dropped(why) => Ok(StepResult::Dropped(why)),
@@ -274,13 +290,15 @@ impl<M: Sequenced> NodeState<M> {
     }
 
     // The outcome without a snapshot that is too long. Another one is noted.
-    fn keep_entered(&mut self, alloc: Global, outcome: Outcome) -> Result<Outcome, NoMemory> {
+    fn keep_entered(&mut self, alloc: Global, outcome: Outcome) -> Result<Outcome, NoMemory>
+        ensures kept { IfOk result (λ o. o ≡ record outcome { entered = storable outcome.entered }) }
+        ensures noted { OnOk result (HasNoted self.old (storable outcome.entered) self.new) }
+        ensures rest { self.new ≡ record self.old { saved = self.new.saved } }
+    {
         let mut outcome = outcome;
-        if is_too_long(&outcome.entered) {
-            outcome.entered = None;
-        }
-        if outcome.entered.is_some() {
-            self.note_saved(alloc)?;
+        match &outcome.entered {
+            Some(bytes) if is_storable(bytes) => self.note_saved(alloc)?,
+            _ => outcome.entered = None,
         }
         Ok(outcome)
     }
@@ -315,12 +333,11 @@ impl<M: Sequenced> NodeState<M> {
     }
 }
 
-// Whether these bytes are too long for an entry of a journal.
-fn is_too_long(entered: &Option<Bytes>) -> bool {
-    match entered {
-        Some(bytes) => bytes.len() > MAX_ENTRY,
-        None => false,
-    }
+// Whether these bytes are a snapshot that an entry of a journal can hold.
+fn is_storable(bytes: &Bytes) -> bool
+    ensures { result ≡ is_entry bytes.now }
+{
+    bytes.len() <= MAX_ENTRY && bytes.as_slice().first() == Some(&KIND)
 }
 
 // Whether one of these slots has no value.
