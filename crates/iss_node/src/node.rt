@@ -295,12 +295,33 @@ impl<M: Sequenced> NodeState<M> {
         ensures noted { OnOk result (HasNoted self.old (storable outcome.entered) self.new) }
         ensures rest { self.new ≡ record self.old { saved = self.new.saved } }
     {
-        let mut outcome = outcome;
-        match &outcome.entered {
-            Some(bytes) if is_storable(bytes) => self.note_saved(alloc)?,
-            _ => outcome.entered = None,
+        let Outcome {
+            sends,
+            own,
+            early,
+            hashed,
+            entered,
+        } = outcome;
+        let entered = storable(entered);
+        self.note_entered(alloc, &entered)?;
+        Ok(Outcome {
+            sends,
+            own,
+            early,
+            hashed,
+            entered,
+        })
+    }
+
+    // Notes a snapshot, if there is one.
+    fn note_entered(&mut self, alloc: Global, entered: &Option<Bytes>) -> Result<(), NoMemory>
+        ensures noted { OnOk result (HasNoted self.old entered.now self.new) }
+        ensures rest { self.new ≡ record self.old { saved = self.new.saved } }
+    {
+        match entered {
+            Some(_) => self.note_saved(alloc),
+            None => Ok(()),
         }
-        Ok(outcome)
     }
 
     // Takes an event. The only error is out of memory; the state may be half updated then.
@@ -331,6 +352,14 @@ impl<M: Sequenced> NodeState<M> {
             None => false,
         }
     }
+}
+
+// The snapshot, if an entry of a journal can hold it.
+fn storable(entered: Option<Bytes>) -> Option<Bytes>
+    ensures { result ≡ storable entered }
+{
+    let bytes = entered?;
+    if is_storable(&bytes) { Some(bytes) } else { None }
 }
 
 // Whether these bytes are a snapshot that an entry of a journal can hold.
