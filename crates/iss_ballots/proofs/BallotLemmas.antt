@@ -1,13 +1,13 @@
 -- The effect of a vote and of a certificate on the state, and on the lists that it refines.
-use Rattle.std.proofs.Common.{inl, inr, ◌≡◌, ◌≢◌, ◌⊎◌, ℕ, Bool, true, false, ◌||◌, ◌&&◌, ◌==◌, cond, not, List, [], ◌∷◌, ◌++◌, Option, Some, None, is_some, length, reverse, refl, sym, ap, ◌∙◌, subst, true≢false}
+use Rattle.std.proofs.Common.{inl, inr, ◌≡◌, ◌≢◌, ◌⊎◌, ℕ, Bool, true, false, ◌||◌, ◌&&◌, ◌==◌, cond, not, List, [], ◌∷◌, ◌++◌, Option, Some, None, Result, Ok, Err, is_some, length, reverse, refl, sym, ap, ◌∙◌, subst, true≢false}
 use Rattle.std.specs.List.{filter}
+use Rattle.std.specs.Prelude.{OnOk}
 use Rattle.std.specs.Ordering.{is_eq, nat_cmp}
 use Rattle.std.proofs.lemmas.List.{append-nil, reverse-append}
 use Rattle.std.proofs.lemmas.List.Elements.{filter-append}
-use Rattle.iss_base.proofs.Lists.{eqb-other, eqb-same, is-eq, none-some, same_number, same_or_not, some-injective}
-use Rattle.iss_ballots.specs.Ballots.{AreKept, AreTallies, BallotsState, HasTally, IsCertified, IsTaken, IsUntallied, cert_at, is_held, is_true, refused, stable_by, tally_at, tally_or, vote_in}
-use Rattle.iss_ballots.specs.declared.ballots.Taking.{Taking}
-use Rattle.iss_ballots.specs.declared.ballots.Taking.TheVariants.{BadSignature, Counted, Known}
+use Rattle.iss_base.proofs.Lists.{eqb-other, eqb-same, none-some, same_number, same_or_not, some-injective}
+use Rattle.iss_ballots.specs.Ballots.{AreKept, AreTallies, BallotsState, HasTally, IsCertified, IsTaken, IsUntallied, cert_at, is_held, is_true, refused, tally_at, tally_or, vote_in}
+use Rattle.iss_ballots.specs.declared.ballots.Taking.TheVariants.{Counted, Known}
 use Rattle.iss_checkpoint.proofs.TallyLemmas.{below-same}
 use Rattle.iss_checkpoint.specs.Tallies.{IsCounted, TallyState, certificate, certificate_by, refusal, vote_at, with_vote}
 use Rattle.iss_checkpoint.specs.Votes.{Voters, is_signed, statement_of}
@@ -31,7 +31,7 @@ at-same k d x y q = ap (λ (b : Bool). cond b x y) (ap (λ (n : ℕ). n == d) q 
 at-other : {A : Type 0} (k d : ℕ) (x y : A) → d ≢ k → cond (k == d) x y ≡ y
 at-other k d x y ne = ap (λ (b : Bool). cond b x y) (eqb-other k d (λ q. ne (sym q)))
 
-is-none : {A : Type 0} (o : Option A) → is_some o ≡ false → o ≡ None
+pub is-none : {A : Type 0} (o : Option A) → is_some o ≡ false → o ≡ None
 is-none None h = refl
 is-none (Some x) h = absurd (true≢false h)
 
@@ -98,6 +98,10 @@ unsigned-of t v same h = go (v.epoch.0 == t.epoch) own (is_signed t.voters (stat
     go true qe true qs false (inr r) = absurd (none-some OtherEpoch r)
     go true qe true qs true (inl r) = let q = some-injective Twice Refusal_bad_signature r in absurd (cc)
     go true qe true qs true (inr r) = let q = some-injective Twice OtherEpoch r in absurd (cc)
+
+pub on-ok : {A E : Type 0} (r : Result A E) (P Q : Type 0) → OnOk r P → (P → Q) → OnOk r Q
+on-ok (Ok x) P Q h f = f h
+on-ok (Err e) P Q h f = tt
 
 -- ---- tallies stay of their epochs
 
@@ -191,18 +195,21 @@ certified-kept b mid new c votes more certs kept gone put others same = record {
       ∙ open-with c certs votes b.counted kept.counted_are ∙ ap (λ (xs : List Vote). reverse xs) (sym same);
 }
 
+pub puts-kept : (b mid new : BallotsState) (c : Cert) → IsUntallied c.epoch.0 b mid → IsCertified c mid new → (votes : List Vote) (certs : List Cert) → AreKept b votes certs → AreKept new votes (c ∷ certs)
+puts-kept b mid new c gone put votes certs kept = certified-kept b mid new c votes votes certs kept gone put (λ d k ne. refl) refl
+
 -- a certificate of an epoch that has none
-pub keeps-new : (b mid new : BallotsState) (c : Cert) (votes : List Vote) (certs : List Cert) → is_some (cert_at b.certs c.epoch.0) ≡ false → IsUntallied c.epoch.0 b mid → IsCertified c mid new →
-    AreKept b votes certs → AreKept new votes (keeping certs c (cert_on certs c.epoch.0))
-keeps-new b mid new c votes certs none gone put kept =
+pub keeps-new : (b new : BallotsState) (c : Cert) → is_some (cert_at b.certs c.epoch.0) ≡ false → ((votes : List Vote) (certs : List Cert) → AreKept b votes certs → AreKept new votes (c ∷ certs)) →
+    (votes : List Vote) (certs : List Cert) → AreKept b votes certs → AreKept new votes (keeping certs c (cert_on certs c.epoch.0))
+keeps-new b new c none put votes certs kept =
     subst (λ (o : Option Cert). AreKept new votes (keeping certs c o))
     (sym (is-none (cert_on certs c.epoch.0) (ap (λ (o : Option Cert). is_some o) (sym (kept.certs_are c.epoch.0)) ∙ none)))
-    (certified-kept b mid new c votes votes certs kept gone put (λ d k ne. refl) refl)
+    (put votes certs kept)
 
 -- a certificate of an epoch that has one
-pub keeps-old : (b : BallotsState) (c : Cert) (votes : List Vote) (certs : List Cert) → is_some (cert_at b.certs c.epoch.0) ≡ true →
+pub keeps-old : (b : BallotsState) (c : Cert) → is_some (cert_at b.certs c.epoch.0) ≡ true → (votes : List Vote) (certs : List Cert) →
     AreKept b votes certs → AreKept b votes (keeping certs c (cert_on certs c.epoch.0))
-keeps-old b c votes certs there kept = go (cert_on certs c.epoch.0) (ap (λ (o : Option Cert). is_some o) (sym (kept.certs_are c.epoch.0)) ∙ there)
+keeps-old b c there votes certs kept = go (cert_on certs c.epoch.0) (ap (λ (o : Option Cert). is_some o) (sym (kept.certs_are c.epoch.0)) ∙ there)
   where
     go : (o : Option Cert) → is_some o ≡ true → AreKept b votes (keeping certs c o)
     go None h = absurd (true≢false (sym h))
@@ -218,6 +225,22 @@ forgets-kept b new votes certs is kept = subst (λ (z : BallotsState). AreKept z
 
 -- ---- a vote on an epoch without a certificate
 
+or-tally : (b : BallotsState) (e : ℕ) → AreTallies b.voters b.tallies → ((tally_or b.voters e (tally_at b.tallies e)).voters ≡ b.voters) × ((tally_or b.voters e (tally_at b.tallies e)).epoch ≡ e)
+or-tally b e all = go (tally_at b.tallies e) refl
+  where
+    go : (o : Option TallyState) → tally_at b.tallies e ≡ o → ((tally_or b.voters e o).voters ≡ b.voters) × ((tally_or b.voters e o).epoch ≡ e)
+    go None q = (refl, refl)
+    go (Some t) q = all e t q
+
+-- The tally may be put back.
+pub put-fits : (b mid : BallotsState) (e : ℕ) (t u : TallyState) → AreTallies b.voters b.tallies → IsUntallied e b mid → t ≡ tally_or b.voters e (tally_at b.tallies e) → u.voters ≡ t.voters → u.epoch ≡ t.epoch →
+    (u.voters ≡ mid.voters) × (u.epoch ≡ e)
+put-fits b mid e t u all gone is voters epoch =
+    let own = or-tally b e all in (
+      voters ∙ (ap (λ (z : TallyState). z.voters) is ∙ (own.0 ∙ sym (ap (λ (z : BallotsState). z.voters) gone.rest))),
+      epoch ∙ (ap (λ (z : TallyState). z.epoch) is ∙ own.1),
+    )
+
 module _ (b mid new : BallotsState) (v : Vote) (votes : List Vote) (certs : List Cert) (kept : AreKept b votes certs)
     (none : cert_at b.certs v.epoch.0 ≡ None) (all : AreTallies b.voters b.tallies) (gone : IsUntallied v.epoch.0 b mid) where
   abbrev tally : TallyState
@@ -226,12 +249,8 @@ module _ (b mid new : BallotsState) (v : Vote) (votes : List Vote) (certs : List
   no-cert : cert_on certs v.epoch.0 ≡ None
   no-cert = sym (kept.certs_are v.epoch.0) ∙ none
 
-  pub tally-of : (tally.voters ≡ b.voters) × (tally.epoch ≡ v.epoch.0)
-  tally-of = go (tally_at b.tallies v.epoch.0) refl
-    where
-      go : (o : Option TallyState) → tally_at b.tallies v.epoch.0 ≡ o → ((tally_or b.voters v.epoch.0 o).voters ≡ b.voters) × ((tally_or b.voters v.epoch.0 o).epoch ≡ v.epoch.0)
-      go None q = (refl, refl)
-      go (Some t) q = all v.epoch.0 t q
+  tally-of : (tally.voters ≡ b.voters) × (tally.epoch ≡ v.epoch.0)
+  tally-of = or-tally b v.epoch.0 all
 
   votes-at : (k : ℕ) → vote_at tally.votes k ≡ vote_by votes v.epoch.0 k
   votes-at k = go (tally_at b.tallies v.epoch.0) ∙ kept.votes_are v.epoch.0 k no-cert
@@ -344,8 +363,8 @@ module _ (b mid new : BallotsState) (v : Vote) (votes : List Vote) (certs : List
 
 -- ---- a vote on an epoch with a certificate
 
-pub known-taken : (b : BallotsState) (v : Vote) (votes : List Vote) (certs : List Cert) → is_some (cert_at b.certs v.epoch.0) ≡ true → is_true b.voters v ≡ true → AreKept b votes certs → IsTaken votes certs v b Known
-known-taken b v votes certs there signed kept = (
+pub known-taken : (b : BallotsState) (v : Vote) → is_some (cert_at b.certs v.epoch.0) ≡ true → is_true b.voters v ≡ true → (votes : List Vote) (certs : List Cert) → AreKept b votes certs → IsTaken votes certs v b Known
+known-taken b v there signed votes certs kept = (
   signed,
   ap (λ (t : Bool). t || is_some (vote_by votes v.epoch.0 v.by.0)) (ap (λ (o : Option Cert). is_some o) (sym (kept.certs_are v.epoch.0)) ∙ there),
   kept,

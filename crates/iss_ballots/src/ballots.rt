@@ -1,5 +1,5 @@
 //! Checkpoint votes and certificates, by epoch.
-ghost use Rattle.std.specs.Prelude.{◌≡◌, ◌++◌, ◌∷◌, ◌==◌, ◌≤◌, [], None, List, ℕ, cond, IfOk, OnOk, is_some, option_map};
+ghost use Rattle.std.specs.Prelude.{◌≡◌, ◌++◌, ◌∷◌, ◌==◌, ◌≤◌, [], None, List, ℕ, IfOk, OnOk, is_some, not, option_map};
 ghost use Rattle.iss_ballots.specs.Ballots.{AreKept, HasTally, IsCertified, IsTaken, IsUntallied, cert_at, is_true, refused, tally_at, tally_or};
 ghost use Rattle.iss_checkpoint.specs.Votes.{voters_of};
 ghost use Rattle.iss_checkpoint.specs.declared.votes.Cert.{Cert as Certificate};
@@ -92,10 +92,9 @@ impl Ballots {
             return self.count(vote);
         }
         if self.is_true(&vote) {
-            Ok(Taking::Known)
-        } else {
-            Ok(Taking::BadSignature)
+            return Ok(Taking::Known);
         }
+        Ok(Taking::BadSignature)
     }
 
     /// Keeps a certificate, unless its epoch already has one. The only error is out of memory.
@@ -111,7 +110,7 @@ impl Ballots {
         self.put(cert)
     }
 
-    /// Keeps a certificate in the place of one that its epoch may have. The only error is out of memory.
+    /// Keeps a certificate, and replaces one that its epoch may have. The only error is out of memory.
     pub fn put(&mut self, cert: Cert) -> Result<(), NoMemory>
         ensures kept { OnOk result ((votes : List Voted) (certs : List Certificate) → AreKept self.old votes certs →
             AreKept self.new votes (cert ∷ certs)) }
@@ -161,6 +160,7 @@ impl Ballots {
             AreKept self.old votes certs → IsTaken votes certs vote self.new t) }
         ensures voters { self.new.voters ≡ self.old.voters }
     {
+        let _setup = &self.setup;
         let epoch = vote.epoch;
         let copy = copy_of_vote(&vote)?;
         let mut tally = self.take_tally(epoch);
@@ -217,7 +217,11 @@ impl Ballots {
         ensures voters { self.new.voters ≡ self.old.voters }
     {
         let epoch = cert.epoch.0;
-        self.counted.retain(|vote| vote.epoch.0 != epoch);
+        self.counted.retain(
+            |vote: &Vote| -> bool
+                ensures { result ≡ not (vote.now.epoch.0 == epoch) }
+            { vote.epoch.0 != epoch },
+        );
         self.certs.insert(epoch, cert)?;
         Ok(())
     }
