@@ -1,34 +1,24 @@
 -- What a step does to a core between two events: it stays in its epoch, or enters the next one as it would without early
 -- messages, and then takes these.
-use Rattle.std.proofs.Common.{◌≡◌, ◌⊎◌, inl, inr, ℕ, suc, ◌≤◌, ◌<◌, ◌^◌, ◌&&◌, Bool, true, false, cond, eqb, not, nat_lt, List, [], ◌∷◌, ◌++◌, length, Option, Some, None, refl, sym, ap, ap₂, ◌∙◌, subst, arith, true≢false}
+use Rattle.std.proofs.Common.{◌≡◌, inl, inr, ℕ, suc, ◌≤◌, Bool, true, false, cond, eqb, not, nat_lt, List, [], ◌∷◌, ◌++◌, Option, Some, refl, sym, ap, ◌∙◌, subst, arith}
 use Rattle.std.proofs.lemmas.Bool.Decides.{leb_tells}
-use Rattle.iss_base.specs.Lists.{In}
 use Rattle.iss_base.proofs.Lists.{both, eqb-same}
 use Rattle.iss_buckets.specs.Waiting.{cut, uncut}
-use Rattle.iss_checkpoint.specs.declared.votes.Cert.{Cert}
-use Rattle.iss_checkpoint.specs.declared.votes.Vote.{Vote}
-use Rattle.iss_request.specs.Fields.{IsReadAgain}
 use Rattle.iss_request.specs.declared.ids.Slot.{Slot}
-use Rattle.iss_request.specs.declared.requests.Request.{Request}
-use Rattle.iss_request.specs.declared.setups.Setup.{Setup}
-use Rattle.iss_sb.specs.declared.effects.Claim.{Claim}
 use Rattle.iss_sb.specs.declared.effects.Input.{Input}
-use Rattle.iss_sb.specs.declared.effects.Input.TheVariants.{Cast, Receive, Timeout}
-use Rattle.iss_sb.specs.declared.effects.Params.{Params}
-use Rattle.iss_sb.specs.Calls.{IsGoodInput}
+use Rattle.iss_sb.specs.declared.effects.Input.TheVariants.{Cast, Receive}
 use Rattle.iss_sb.specs.Evidence.{Module}
-use Rattle.iss_sb.specs.Laws.{IsHeard}
 use Rattle.iss_transfer.specs.declared.pieces.Piece.{Piece as Sent_piece}
 use Rattle.iss_rules.specs.declared.events.NodeEvent.{NodeEvent}
-use Rattle.iss_rules.specs.declared.events.NodeEvent.TheVariants.{Packet as On_packet, Propose as On_propose, Timeout as On_timeout, AskFrom as On_ask}
+use Rattle.iss_rules.specs.declared.events.NodeEvent.TheVariants.{Packet as On_packet, Propose as On_propose}
 use Rattle.iss_rules.specs.declared.events.Refusal.{Refusal}
 use Rattle.iss_rules.specs.declared.events.Why.TheVariants.{BadClaim, NoKeys, NotLeader, NotNeeded, OtherEpoch, WrongChain as Why_wrong_chain}
 use Rattle.iss_rules.specs.Parcels.{Body, Formats, OfModule, OfPiece, Parcel}
-use Rattle.iss_rules.specs.Past.{before_own, is_complete, leads_in, log_of, params_of}
+use Rattle.iss_rules.specs.Past.{before_own, is_complete, leads_in, params_of}
 use Rattle.iss_rules.specs.Rules.{Rules}
 use Rattle.iss_rules.specs.Verdicts.{verdict_in}
 use Rattle.iss_rules.specs.Votes.{all_verify, is_true_cert}
-use Rattle.iss_model.specs.Node.{Core, Dropped, Early, Stepped, Taken, Turn, adopts_piece, advance_epochs, by_verdict, casts_at, claims_of_input, ends, finish_step, has_leaves, has_shape, is_mine, leads_to, next_slot, step, step_unjudged, takes_bytes, takes_each, takes_parcel, takes_piece, then_turn, try_step}
+use Rattle.iss_model.specs.Node.{Core, Dropped, Early, Stepped, Taken, Turn, adopts_piece, advance_epochs, by_verdict, casts_at, claims_of_input, ends, finish_step, has_leaves, has_shape, is_mine, keeps_early, leads_to, next_slot, step, step_unjudged, takes_bytes, takes_each, takes_parcel, then_turn, try_step}
 use Rattle.iss_model.proofs.Rows.{each-holds, settles-holds}
 use Rattle.iss_model.proofs.Steps.{IsAdopted, IsInput, Took, adopted, asked, cast, fired, handed, kept, received, sought, took, voted}
 
@@ -60,9 +50,11 @@ module _ {Msg : Type 0} (F : Formats Msg) (R : Rules) (M : Module Msg) (me : ℕ
       step F R M me c (On_packet bytes) ≡ finish_step F R M me (try_step F R M me c l (Receive (record { 0 = k.from }) msg))
   message-step c bytes k l msg un b e =
       let input : Input Msg = Receive (record { 0 = k.from }) msg in
+      let ahead : Stepped Msg =
+      cond (eqb k.epoch (suc c.past.epoch)) (keeps_early c (record { from = k.from; leader = l; msg = msg })) (Dropped OtherEpoch) in
       ap (λ (o : Option (Parcel Msg)). takes_bytes F R M me c o) un
       ∙ (ap (λ (x : Body Msg). takes_parcel F R M me c k.from k.epoch x) b
-      ∙ ap (λ (t : Bool). cond t (finish_step F R M me (try_step F R M me c l input)) _) (ap (λ (n : ℕ). eqb n c.past.epoch) e ∙ eqb-same c.past.epoch))
+      ∙ ap (λ (t : Bool). cond t (finish_step F R M me (try_step F R M me c l input)) ahead) (ap (λ (n : ℕ). eqb n c.past.epoch) e ∙ eqb-same c.past.epoch))
 
   -- a proposal
   pub cast-step : (c : Core Msg) (slot : Slot) → leads_in R M me c.past me ≡ true → has_leaves M (params_of R M me c.past me) c.leaf ≡ true → next_slot R M me c ≡ Some slot →

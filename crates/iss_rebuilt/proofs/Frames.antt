@@ -1,8 +1,8 @@
 -- The formats and rules of a set-up, with a lawful module, are as the proofs ask.
-use Rattle.std.proofs.Common.{◌≡◌, ℕ, ◌*◌, ◌+◌, ◌<◌, ◌≤◌, ◌^◌, Bool, true, false, eqb, if◌then◌else◌, List, refl, sym, ap, ◌∙◌, subst, arith, lt_of_le_of_lt}
+use Rattle.std.proofs.Common.{ℕ, ◌<◌, ◌≤◌, Bool, true, false, eqb, if◌then◌else◌, sym, subst, arith, lt_of_le_of_lt}
 use Rattle.std.proofs.Math.Pow.{pow_mono}
 use Rattle.iss_request.specs.Fields.{IsGrammar}
-use Rattle.iss_request.specs.Setup.{quorum_count, quorum_of_kind}
+use Rattle.iss_request.specs.Setup.{quorum_of_kind}
 use Rattle.iss_request.specs.declared.setups.Kind.{Kind}
 use Rattle.iss_request.specs.declared.setups.Kind.TheVariants.{Byzantine, Stopping}
 use Rattle.iss_request.specs.declared.setups.Setup.{Setup}
@@ -51,5 +51,4 @@ module _ {Msg : Type 0} (s : Setup) (M : Module Msg) (h : IsSetupOf M s) (law : 
   }
 
   pub recover : JournalsRecover s M
-  recover me low spell event_in IsNamed fmt events named last =
-      journals-recover (frame_of s M) good-frame me low spell event_in IsNamed fmt events named last
+  recover me low spell event_in events have last = journals-recover (frame_of s M) good-frame me low spell event_in events have last

@@ -1,5 +1,5 @@
 -- The entries that a replica stores lead back to it, and so do those of them that stay.
-use Rattle.std.proofs.Common.{◌≡◌, ◌⊎◌, inl, inr, ℕ, suc, ◌≤◌, ◌<◌, ◌^◌, Bool, true, false, cond, nat_le, List, [], ◌∷◌, ◌++◌, length, Option, Some, None, refl, sym, ap, ap₂, ◌∙◌, subst, arith, le_trans}
+use Rattle.std.proofs.Common.{◌≡◌, inl, inr, ℕ, ◌≤◌, ◌<◌, ◌^◌, Bool, true, false, cond, nat_le, List, [], ◌∷◌, length, Option, Some, None, refl, sym, ap, ap₂, ◌∙◌, subst, arith, le_trans}
 use Rattle.std.specs.List.{filter}
 use Rattle.std.proofs.lemmas.Bool.{leb-true}
 use Rattle.iss_base.specs.Lists.{In}
@@ -9,30 +9,30 @@ use Rattle.iss_request.specs.declared.setups.Setup.{Setup}
 use Rattle.iss_sb.specs.Evidence.{Module}
 use Rattle.iss_rules.specs.declared.events.NodeEvent.{NodeEvent}
 use Rattle.iss_rules.specs.Parcels.{Formats}
-use Rattle.iss_rules.specs.Past.{cut_at, log_of, start_of}
+use Rattle.iss_rules.specs.Past.{log_of, start_of}
 use Rattle.iss_rules.specs.Rules.{Rules}
 use Rattle.iss_rules.proofs.Epochs.{cut-extends, start-mono}
 use Rattle.iss_model.specs.Frames.{Frame, step_in}
 use Rattle.iss_model.specs.Node.{Core, Dropped, Early, Stepped, Taken, Turn, initial_core, step, takes_each}
-use Rattle.iss_model.specs.Slims.{IsPlaced, IsSameStep, SlimCore, slim}
+use Rattle.iss_model.specs.Slims.{IsPlaced, IsSameStep, SlimCore}
 use Rattle.iss_model.specs.Sound.{carried}
 use Rattle.iss_model.proofs.AlikeSlims.{steps-placed, steps-same}
 use Rattle.iss_model.proofs.Casts.{idle-ready}
 use Rattle.iss_model.proofs.Places.{FiledCore}
-use Rattle.iss_snapshot.specs.Snapshots.{IsEncodable, snapshot_row, spell_snapshot}
+use Rattle.iss_snapshot.specs.Snapshots.{snapshot_row, spell_snapshot}
 use Rattle.iss_snapshot.specs.declared.snapshots.Snapshot.{Snapshot}
 use Rattle.iss_snapshot.proofs.SnapshotGrammar.{spelled-row}
-use Rattle.iss_rebuilt.specs.Laws.{AreEntries, IsRecovered}
+use Rattle.iss_rebuilt.specs.Laws.{HasEntry, IsRecovered}
 use Rattle.iss_rebuilt.specs.Reading.{Rebuilt, core_of_step, reads_entry, rebuilt, recovered, replayed, replays, woken, woken_of}
-use Rattle.iss_rebuilt.specs.Storable.{IsBehind, IsReadBack}
-use Rattle.iss_rebuilt.specs.Stored.{Kept, Saved, Stored, entered_at, is_snapshot, kept_as, saved_after, nothing_saved, retained, snapshot_of, stored, stored_by}
+use Rattle.iss_rebuilt.specs.Storable.{IsBehind}
+use Rattle.iss_rebuilt.specs.Stored.{Kept, Saved, Stored, entered_at, is_snapshot, nothing_saved, or_event, retained, saved_after, snapshot_kept, snapshot_of, stored, stored_by}
 use Rattle.iss_rebuilt.proofs.Ballots.{no-ballots}
 use Rattle.iss_rebuilt.proofs.Encodable.{IsWritable, snapshot-fits}
 use Rattle.iss_rebuilt.proofs.Entering.{quiet, step-rises}
 use Rattle.iss_rebuilt.proofs.Entries.{entry-read, past-same}
 use Rattle.iss_rebuilt.proofs.Heard.{log-read}
 use Rattle.iss_rebuilt.proofs.Regular.{Goes, IsGoodFrame, IsRegular, regular-open, slots-in}
-use Rattle.iss_rebuilt.proofs.Resting.{IsOpen, IsResting, no-early, step-goes, step-rests}
+use Rattle.iss_rebuilt.proofs.Resting.{IsResting, no-early, step-goes, step-rests}
 use Rattle.iss_rebuilt.proofs.Storing.{IsEntered, entering}
 use Rattle.iss_rebuilt.proofs.Waking.{AreSlim, each-slim}
 
@@ -40,15 +40,16 @@ use Rattle.iss_rebuilt.proofs.Waking.{AreSlim, each-slim}
 
 filter-twice : (xs : List (List ℕ)) → filter is_snapshot (filter is_snapshot xs) ≡ filter is_snapshot xs
 filter-twice [] = refl
-filter-twice (x ∷ xs) = go (is_snapshot x) refl
+filter-twice (x ∷ xs) = go (is_snapshot x) refl (filter-twice xs)
   where
     row : Bool → List (List ℕ)
     row b = cond b (x ∷ filter is_snapshot xs) (filter is_snapshot xs)
 
-    go : (b : Bool) → is_snapshot x ≡ b → filter is_snapshot (row b) ≡ row b
-    go false q = filter-twice xs
-    go true q = ap (λ (b : Bool). cond b (x ∷ filter is_snapshot (filter is_snapshot xs)) (filter is_snapshot (filter is_snapshot xs))) q
-        ∙ ap (λ (ys : List (List ℕ)). x ∷ ys) (filter-twice xs)
+    go : (b : Bool) → is_snapshot x ≡ b → filter is_snapshot (filter is_snapshot xs) ≡ filter is_snapshot xs →
+        filter is_snapshot (row b) ≡ row b
+    go false q ih = ih
+    go true q ih = ap (λ (b : Bool). cond b (x ∷ filter is_snapshot (filter is_snapshot xs)) (filter is_snapshot (filter is_snapshot xs))) q
+        ∙ ap (λ (ys : List (List ℕ)). x ∷ ys) ih
 
 pub retained-recovers : {Msg : Type 0} (W : Frame Msg) (event_in : List ℕ → Option NodeEvent) (me : ℕ) (xs : List (List ℕ)) →
     recovered W event_in me (retained xs) ≡ recovered W event_in me xs
@@ -165,7 +166,7 @@ module _ {Msg : Type 0} (W : Frame Msg) (P : IsGoodFrame W.setup W.formats W.rul
 
   -- ---- what is stored
 
-  module _ (spell : NodeEvent → List ℕ) (event_in : List ℕ → Option NodeEvent) (IsNamed : NodeEvent → Type 0) (fmt : AreEntries spell event_in IsNamed) where
+  module _ (spell : NodeEvent → List ℕ) (event_in : List ℕ → Option NodeEvent) where
     -- what is known of a core and the entries that it stored
     record IsStored (st : Stored Msg) : Type 0 where
       resting : IsResting s F R M P me st.core
@@ -220,7 +221,7 @@ module _ {Msg : Type 0} (W : Frame Msg) (P : IsGoodFrame W.setup W.formats W.rul
       slims = record { placed = regular-placed initial_core initial-regular; other = regular-placed initial_core initial-regular; slims = refl };
     }
 
-    module _ (st : Stored Msg) (h : IsStored st) (event : NodeEvent) (named : IsNamed event) (t : Turn Msg) (q : step F R M me st.core event ≡ Taken t) where
+    module _ (st : Stored Msg) (h : IsStored st) (event : NodeEvent) (entry : HasEntry spell event_in event) (t : Turn Msg) (q : step F R M me st.core event ≡ Taken t) where
       abbrev rests : IsResting s F R M P me t.core
       rests = step-rests s F R M P me low st.core h.resting event t q
 
@@ -228,14 +229,13 @@ module _ {Msg : Type 0} (W : Frame Msg) (P : IsGoodFrame W.setup W.formats W.rul
       event-stored : IsStored (record { entries = spell event ∷ st.entries; saved = st.saved; core = t.core })
       event-stored =
           let too = takes-too h.found.core st.core event t h.slims q in
-          let apart = fmt.apart event in
           let front : filter is_snapshot (spell event ∷ st.entries) ≡ filter is_snapshot st.entries =
-          ap (λ (b : Bool). cond b (spell event ∷ filter is_snapshot st.entries) (filter is_snapshot st.entries)) apart in
+          ap (λ (b : Bool). cond b (spell event ∷ filter is_snapshot st.entries) (filter is_snapshot st.entries)) entry.1 in
           let first : recovered W event_in me (spell event ∷ st.entries) ≡ replays W me (event_in (spell event)) (recovered W event_in me st.entries) =
           ap (λ (b : Bool). cond b (woken_of W me (reads_entry W me (rebuilt W me (filter is_snapshot st.entries)) (spell event)))
-          (replays W me (event_in (spell event)) (recovered W event_in me st.entries))) apart in
+          (replays W me (event_in (spell event)) (recovered W event_in me st.entries))) entry.1 in
           let second : replays W me (event_in (spell event)) (recovered W event_in me st.entries) ≡ replays W me (Some event) (Some h.found) =
-          ap₂ (λ (o : Option NodeEvent) (p : Option (Rebuilt Msg)). replays W me o p) (fmt.again event named) h.found_is in
+          ap₂ (λ (o : Option NodeEvent) (p : Option (Rebuilt Msg)). replays W me o p) entry.0 h.found_is in
           record {
             resting = rests;
             front = h.front;
@@ -303,54 +303,53 @@ module _ {Msg : Type 0} (W : Frame Msg) (P : IsGoodFrame W.setup W.formats W.rul
 
         entered-stored : IsStored (stored_by W spell me st event (Taken t))
         entered-stored =
-            subst (λ (o : Option (Core Msg)). IsStored (put (kept_as W me st.saved (spell event) o))) (sym e.entered)
-            (subst (λ (m : Saved). IsStored (put (kept_as W me m (spell event) (Some d)))) h.front_saved
+            subst (λ (o : Option (Core Msg)). IsStored (put (or_event (snapshot_kept W me st.saved o) (spell event) st.saved))) (sym e.entered)
+            (subst (λ (m : Saved). IsStored (put (or_event (snapshot_kept W me m (Some d)) (spell event) m))) h.front_saved
             (go (nat_le (length (snapshot_row s.version snap)) max_entry) refl))
           where
             put : Kept → Stored Msg
             put k = record { entries = k.entry ∷ st.entries; saved = k.saved; core = t.core }
 
             go : (b : Bool) → nat_le (length (snapshot_row s.version snap)) max_entry ≡ b →
-                IsStored (put (cond b (record { entry = spell_snapshot s.version snap; saved = saved_after h.front.saved snap }) (record { entry = spell event; saved = h.front.saved })))
+                IsStored (put (or_event (cond b (Some (record { entry = spell_snapshot s.version snap; saved = saved_after h.front.saved snap })) None)
+                (spell event) h.front.saved))
             go true k = snapshot-stored (leb-true (length (snapshot_row s.version snap)) max_entry k)
             go false k = subst (λ (m : Saved). IsStored (record { entries = spell event ∷ st.entries; saved = m; core = t.core })) (sym h.front_saved) event-stored
 
       stayed-stored : entered_at W me st.core event ≡ None → IsStored (stored_by W spell me st event (Taken t))
-      stayed-stored none = subst (λ (o : Option (Core Msg)). IsStored (put (kept_as W me st.saved (spell event) o))) (sym none) event-stored
+      stayed-stored none = subst (λ (o : Option (Core Msg)). IsStored (put (or_event (snapshot_kept W me st.saved o) (spell event) st.saved))) (sym none) event-stored
         where
           put : Kept → Stored Msg
           put k = record { entries = k.entry ∷ st.entries; saved = k.saved; core = t.core }
 
-      pub taken-stored : t.core.past.epoch < 2 ^ 64 → IsStored (stored_by W spell me st event (Taken t))
+      taken-stored : t.core.past.epoch < 2 ^ 64 → IsStored (stored_by W spell me st event (Taken t))
       taken-stored last = elim (entering W P me low st.core h.resting event t q) [
         | inl none ↦ stayed-stored none
         | inr e ↦ entered-stored e last
       ]
 
-    all-stored : (events : List NodeEvent) → ((event : NodeEvent) → In event events → IsNamed event) → (stored W spell me events).core.past.epoch < 2 ^ 64 →
+    all-stored : (events : List NodeEvent) → ((event : NodeEvent) → In event events → HasEntry spell event_in event) → (stored W spell me events).core.past.epoch < 2 ^ 64 →
         IsStored (stored W spell me events)
-    all-stored [] named last = initial-stored
-    all-stored (x ∷ xs) named last = go (step_in W me st.core x) refl last
+    all-stored [] have last = initial-stored
+    all-stored (x ∷ xs) have last = go (λ lt. all-stored xs (λ e i. have e (inr i)) lt) (step_in W me st.core x) refl last
       where
         st : Stored Msg
         st = stored W spell me xs
 
-        before : st.core.past.epoch < 2 ^ 64 → IsStored st
-        before lt = all-stored xs (λ e i. named e (inr i)) lt
-
-        go : (o : Stepped Msg) → step_in W me st.core x ≡ o → (stored_by W spell me st x o).core.past.epoch < 2 ^ 64 → IsStored (stored_by W spell me st x o)
-        go (Dropped why) q lt = before lt
-        go (Taken t) q lt =
+        go : (st.core.past.epoch < 2 ^ 64 → IsStored st) → (o : Stepped Msg) → step_in W me st.core x ≡ o →
+            (stored_by W spell me st x o).core.past.epoch < 2 ^ 64 → IsStored (stored_by W spell me st x o)
+        go before (Dropped why) q lt = before lt
+        go before (Taken t) q lt =
             let rises = step-rises F R M me st.core x t q in
             let last : t.core.past.epoch < 2 ^ 64 = lt in
             let earlier : st.core.past.epoch < 2 ^ 64 = omega (arith, last, rises) in
-            taken-stored st (before earlier) x (named x (inl refl)) t q last
+            taken-stored st (before earlier) x (have x (inl refl)) t q last
 
-    pub journals-recover : (events : List NodeEvent) → ((event : NodeEvent) → In event events → IsNamed event) → (stored W spell me events).core.past.epoch < 2 ^ 64 →
+    pub journals-recover : (events : List NodeEvent) → ((event : NodeEvent) → In event events → HasEntry spell event_in event) → (stored W spell me events).core.past.epoch < 2 ^ 64 →
         IsRecovered W event_in me (retained (stored W spell me events).entries) (stored W spell me events)
-    journals-recover events named last =
+    journals-recover events have last =
         let st : Stored Msg = stored W spell me events in
-        let h = all-stored events named last in
+        let h = all-stored events have last in
         record {
           found = h.found;
           is = retained-recovers W event_in me st.entries ∙ h.found_is;

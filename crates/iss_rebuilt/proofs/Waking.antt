@@ -1,5 +1,5 @@
 -- Cores with equal slim parts take the same early messages alike: each is taken as the packet that it came in.
-use Rattle.std.proofs.Common.{◌≡◌, ◌≢◌, ◌⊎◌, inl, inr, ℕ, suc, Bool, true, false, cond, nat_le, List, [], ◌∷◌, length, Option, Some, refl, sym, ap, ap₂, ◌∙◌, subst}
+use Rattle.std.proofs.Common.{◌≡◌, ◌≢◌, ◌⊎◌, inl, inr, ℕ, suc, Bool, true, false, cond, nat_le, List, [], ◌∷◌, length, Some, refl, sym, ap, ap₂, ◌∙◌, subst}
 use Rattle.iss_base.specs.Lists.{In}
 use Rattle.iss_base.proofs.Lists.{same_or_not}
 use Rattle.iss_request.specs.declared.requests.Value.{Value}
@@ -8,7 +8,7 @@ use Rattle.iss_sb.specs.Evidence.{Module}
 use Rattle.iss_rules.specs.declared.events.NodeEvent.{NodeEvent}
 use Rattle.iss_rules.specs.declared.events.NodeEvent.TheVariants.{Packet as On_packet}
 use Rattle.iss_rules.specs.Parcels.{Formats}
-use Rattle.iss_rules.specs.Past.{is_complete, log_of, start_of}
+use Rattle.iss_rules.specs.Past.{is_complete, start_of}
 use Rattle.iss_rules.specs.Rules.{Rules}
 use Rattle.iss_model.specs.Node.{Core, Dropped, Early, Stepped, Taken, Turn, ended, ends, finish_step, or_unchanged, step, takes_each, takes_early, then_turn, try_step, unchanged}
 use Rattle.iss_model.specs.Slims.{IsPlaced, IsSameStep, SlimCore, slim}
@@ -85,21 +85,26 @@ module _ {Msg : Type 0} (s : Setup) (F : Formats Msg) (R : Rules) (M : Module Ms
         slims = z.core;
       }
 
+  abbrev TakeAlike : ℕ → List (Early Msg) → Core Msg → Core Msg → Type 0
+  TakeAlike e xs c d = AreSlim (takes_each F R M me e xs c).core (takes_each F R M me e xs d).core
+
   -- and so do early messages
   pub each-slim : (e : ℕ) (xs : List (Early Msg)) (c d : Core Msg) → AreSlim c d → IsRegular s F R M P me c → IsOpen s F R M P me c → c.early ≡ [] →
       ((x : Early Msg) → In x xs → IsTold s M x.from x.msg) → ((x : Early Msg) → In x xs → IsAgain e x) →
-      AreSlim (takes_each F R M me e xs c).core (takes_each F R M me e xs d).core
+      TakeAlike e xs c d
   each-slim e [] c d h regular unfinished early told again = h
-  each-slim e (x ∷ xs) c d h regular unfinished early told again = go (same_or_not c.past.epoch e)
+  each-slim e (x ∷ xs) c d h regular unfinished early told again =
+      go (λ a b k r u n. each-slim e xs a b k r u n (λ y i. told y (inr i)) (λ y i. again y (inr i))) (same_or_not c.past.epoch e)
     where
       same : c.past.epoch ≡ d.past.epoch
       same = slim-epoch c d h.slims
 
-      go : (c.past.epoch ≡ e) ⊎ (c.past.epoch ≢ e) → AreSlim (takes_each F R M me e (x ∷ xs) c).core (takes_each F R M me e (x ∷ xs) d).core
-      go (inr ne) =
+      go : ((a b : Core Msg) → AreSlim a b → IsRegular s F R M P me a → IsOpen s F R M P me a → a.early ≡ [] → TakeAlike e xs a b) →
+          (c.past.epoch ≡ e) ⊎ (c.past.epoch ≢ e) → TakeAlike e (x ∷ xs) c d
+      go others (inr ne) =
           subst (λ (w : Turn Msg). AreSlim w.core (takes_each F R M me e (x ∷ xs) d).core) (sym (each-stops s F R M P me e (x ∷ xs) c ne))
           (subst (λ (w : Turn Msg). AreSlim c w.core) (sym (each-stops s F R M P me e (x ∷ xs) d (λ z. ne (same ∙ z)))) h)
-      go (inl q) =
+      go others (inl q) =
           let c1 : Core Msg = (takes_early F R M me c x).core in
           let d1 : Core Msg = (takes_early F R M me d x).core in
           let tried = early-tried s F R M P me c x regular unfinished early (told x (inl refl)) in
@@ -110,4 +115,4 @@ module _ {Msg : Type 0} (s : Setup) (F : Formats Msg) (R : Rules) (M : Module Ms
           (subst (λ (f : Core Msg). AreSlim (after c (step F R M me c (event_of e x))) f) (sym d_is) (slim-after c d h (event_of e x))) in
           subst (λ (f : Core Msg). AreSlim f (takes_each F R M me e (x ∷ xs) d).core) (sym (each-next s F R M P me e x xs c q))
           (subst (λ (f : Core Msg). AreSlim (takes_each F R M me e xs c1).core f) (sym (each-next s F R M P me e x xs d (sym same ∙ q)))
-          (each-slim e xs c1 d1 next tried.regular tried.unfinished tried.early (λ y i. told y (inr i)) (λ y i. again y (inr i))))
+          (others c1 d1 next tried.regular tried.unfinished tried.early))
