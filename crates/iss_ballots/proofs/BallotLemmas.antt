@@ -337,12 +337,11 @@ module _ (b mid new : BallotsState) (v : Vote) (votes : List Vote) (certs : List
         let after : AreKept (record put { counted = put.counted ++ v ∷ [] }) (v ∷ votes) certs =
         back-kept put u epoch-is has (v ∷ votes) (put.counted ++ v ∷ []) with-it (λ d k ne. vote-there v votes d k ne)
         (ap (λ (xs : List Vote). xs ++ v ∷ []) (back-counted put u epoch-is has ∙ kept.counted_are)
-        ∙ (sym (reverse-more v (filter (is_open certs) votes)) ∙ ap (λ (xs : List Vote). reverse xs) (sym (open-here certs v votes no-cert)))) in
-        (
+        ∙ (sym (reverse-more v (filter (is_open certs) votes)) ∙ ap (λ (xs : List Vote). reverse xs) (sym (open-here certs v votes no-cert)))) in (
           by-voters true same free.signed,
           held-is false free.free,
           subst (λ (q : Bool). AreKept new (v ∷ votes) (cond q (certificate_by (vote_by (v ∷ votes) v.epoch.0) v new.voters.n ∷ []) [] ++ certs)) (sym test)
-          (subst (λ (z : BallotsState). AreKept z (v ∷ votes) certs) (sym is) after),
+              (subst (λ (z : BallotsState). AreKept z (v ∷ votes) certs) (sym is) after),
         )
 
     pub stable-taken : (c : Cert) → c ≡ certificate u v → length (certificate u v).signers ≡ tally.voters.quorum → IsCertified c mid new → IsTaken votes certs v new Counted
@@ -353,12 +352,11 @@ module _ (b mid new : BallotsState) (v : Vote) (votes : List Vote) (certs : List
         let epoch : v.epoch.0 ≡ c.epoch.0 = ap (λ (x : Cert). x.epoch.0) (sym is) in
         let after : AreKept new (v ∷ votes) (c ∷ certs) =
         certified-kept b mid new c votes (v ∷ votes) certs kept (subst (λ (n : ℕ). IsUntallied n b mid) epoch gone) put
-        (λ d k ne. vote-there v votes d k (λ q. ne (q ∙ epoch))) (shut-here c certs v votes epoch) in
-        (
+        (λ d k ne. vote-there v votes d k (λ q. ne (q ∙ epoch))) (shut-here c certs v votes epoch) in (
           by-voters true same free.signed,
           held-is false free.free,
           subst (λ (q : Bool). AreKept new (v ∷ votes) (cond q (certificate_by (vote_by (v ∷ votes) v.epoch.0) v new.voters.n ∷ []) [] ++ certs)) (sym test)
-          (subst (λ (z : Cert). AreKept new (v ∷ votes) (z ∷ certs)) (is ∙ cert-is new.voters same) after),
+              (subst (λ (z : Cert). AreKept new (v ∷ votes) (z ∷ certs)) (is ∙ cert-is new.voters same) after),
         )
 
 -- ---- a vote on an epoch with a certificate

@@ -359,7 +359,11 @@ fn storable(entered: Option<Bytes>) -> Option<Bytes>
     ensures { result ≡ storable entered }
 {
     let bytes = entered?;
-    if is_storable(&bytes) { Some(bytes) } else { None }
+    if is_storable(&bytes) {
+        Some(bytes)
+    } else {
+        None
+    }
 }
 
 // Whether these bytes are a snapshot that an entry of a journal can hold.

@@ -77,9 +77,7 @@ impl<M: Sequenced> Rebuilding<M> {
             mut node,
             early,
         } = self;
-        let _outcome = node
-            .state
-            .take_each(alloc, Outcome::nothing(alloc), early)?;
+        let _outcome = node.state.take_each(alloc, Outcome::nothing(alloc), early)?;
         Ok(node)
     }
 }

@@ -63,7 +63,11 @@ impl<M: Sequenced> NodeState<M> {
     }
 
     // The values of an epoch, if the log has all of its slots.
-    pub(crate) fn values_of(&self, alloc: Global, epoch: Epoch) -> Result<Option<Seq<Value>>, NoMemory>
+    pub(crate) fn values_of(
+        &self,
+        alloc: Global,
+        epoch: Epoch,
+    ) -> Result<Option<Seq<Value>>, NoMemory>
         ensures { IfOk result (λ values. values ≡ held_values self.now epoch.0) }
     {
         let Some(slots) = self.slots_of(epoch) else {
@@ -183,7 +187,11 @@ fn copies_of(alloc: Global, values: &[Value]) -> Result<Seq<Value>, NoMemory>
 }
 
 // Values with their slots, which are consecutive from `first` on.
-pub(crate) fn at_slots(alloc: Global, first: Slot, values: Seq<Value>) -> Result<Vec<(Slot, Value)>, NoMemory>
+pub(crate) fn at_slots(
+    alloc: Global,
+    first: Slot,
+    values: Seq<Value>,
+) -> Result<Vec<(Slot, Value)>, NoMemory>
     requires { first.0 + length values < 2 ^ 64 }
     ensures { IfOk result (λ ds. ds.items ≡ at_slots first.0 values) }
 {

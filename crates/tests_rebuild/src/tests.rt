@@ -3,7 +3,10 @@
 use iss_keys::SharedDirectory;
 use iss_node::{Answer, Node, Outcome, Rebuilt};
 use iss_packet::{Packet, PacketKind};
-use iss_request::{Bytes, Epoch, Kind, NoMemory, NodeId, Nodes, Policy, ReqId, Request, Setup, Writer, write_request};
+use iss_request::{
+    Bytes, Epoch, Kind, NoMemory, NodeId, Nodes, Policy, ReqId, Request, Setup, Writer,
+    write_request,
+};
 use iss_rules::NodeEvent;
 use iss_sb::To;
 use iss_segment::sign_request;
@@ -159,7 +162,10 @@ fn give(
             run.entries.push(bytes.copy()?)?;
             let node = rebuild(rt, alloc, setup, directory, run.entries.as_slice())?;
             assert_eq!(rt; node.epoch(), run.nodes[1].epoch());
-            assert_eq!(rt; node.log().entries().len(), run.nodes[1].log().entries().len());
+            assert_eq!(rt;
+                node.log().entries().len(),
+                run.nodes[1].log().entries().len()
+            );
             assert_eq!(rt; node.castable(), run.nodes[1].castable());
             let ours = node.unordered(alloc)?;
             let theirs = run.nodes[1].unordered(alloc)?;
@@ -228,7 +234,12 @@ fn play(rt: &impl Abort, alloc: Global, seed: u32) -> Result<(usize, usize, usiz
             give(rt, alloc, &setup, &directory, &mut run, to, &some)?;
         }
     }
-    Ok((run.nodes[1].epoch().0 as usize, run.rebuilt, run.early, run.compared))
+    Ok((
+        run.nodes[1].epoch().0 as usize,
+        run.rebuilt,
+        run.early,
+        run.compared,
+    ))
 }
 
 #[test]
@@ -236,7 +247,10 @@ fn a_rebuilt_node_goes_on(rt: HostRuntime) -> Result<(), Fail> {
     let alloc = rt.alloc();
     for seed in 0..1u32 {
         let r = play(&rt, alloc, seed)?;
-        println!(rt; "{seed} epochs {} rebuilt {} early {} compared {}", r.0, r.1, r.2, r.3)?;
+        println!(rt;
+            "{seed} epochs {} rebuilt {} early {} compared {}",
+            r.0, r.1, r.2, r.3
+        )?;
     }
     Ok(())
 }

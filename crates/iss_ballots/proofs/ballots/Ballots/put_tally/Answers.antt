@@ -8,12 +8,11 @@ pub invariant_of-self-2 : goal.invariant_of-self-2
 invariant_of-self-2 c =
     let e = c.args.epoch.0 in
     let t = c.args.tally in
-    let before = c.self.inside.tallies.entries in
-    (
+    let before = c.self.inside.tallies.entries in (
       c.self.invariant.0,
       tallied-tallies (voters_of c.self.inside.setup c.self.inside.directory) before c.insert.new.self.entries e t c.self.invariant.1
-      (c.requires.0 ∙ sym (ap (λ (z : BallotsState). z.voters) c.self.view_is)) c.requires.1
-      (λ d. c.in_ok-insert.ensures.updates.0 d ∙ at-number e d (Some t) (tally_at before d)),
+          (c.requires.0 ∙ sym (ap (λ (z : BallotsState). z.voters) c.self.view_is)) c.requires.1
+          (λ d. c.in_ok-insert.ensures.updates.0 d ∙ at-number e d (Some t) (tally_at before d)),
     )
 
 pub returns-clause-put : goal.returns-clause-put
