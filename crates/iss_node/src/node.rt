@@ -33,7 +33,7 @@ use iss_request::{Batch, Bytes, Epoch, NoMemory, NodeId, ReqId, Seq, Setup, Slot
 use iss_rules::NodeEvent;
 use iss_sb::{Claim, Input, Sequenced};
 use iss_segment::Segment;
-use iss_snapshot::KIND;
+use iss_snapshot::snapshots::KIND;
 use iss_window::{Ids, Windows};
 use std::alloc::Global;
 use std::marker::Model;
