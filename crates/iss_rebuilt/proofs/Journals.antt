@@ -25,7 +25,7 @@ use Rattle.iss_snapshot.proofs.SnapshotGrammar.{spelled-row}
 use Rattle.iss_rebuilt.specs.Laws.{AreEntries, IsRecovered}
 use Rattle.iss_rebuilt.specs.Reading.{Rebuilt, core_of_step, reads_entry, rebuilt, recovered, replayed, replays, woken, woken_of}
 use Rattle.iss_rebuilt.specs.Storable.{IsBehind, IsReadBack}
-use Rattle.iss_rebuilt.specs.Stored.{Kept, Saved, Stored, is_snapshot, kept_as, nothing_saved, saved_after, retained, snapshot_of, stored, stored_by}
+use Rattle.iss_rebuilt.specs.Stored.{Kept, Saved, Stored, is_snapshot, nothing_saved, or_event, retained, saved_after, snapshot_kept, snapshot_of, stored, stored_by}
 use Rattle.iss_rebuilt.proofs.Ballots.{no-ballots}
 use Rattle.iss_rebuilt.proofs.Encodable.{IsWritable, snapshot-fits}
 use Rattle.iss_rebuilt.proofs.Entering.{quiet, step-rises}
@@ -303,20 +303,21 @@ module _ {Msg : Type 0} (W : Frame Msg) (P : IsGoodFrame W.setup W.formats W.rul
 
         entered-stored : IsStored (stored_by W spell me st event (Taken t))
         entered-stored =
-            subst (λ (o : Option (Core Msg)). IsStored (put (kept_as W me st.saved (spell event) o))) (sym e.entered)
-            (subst (λ (m : Saved). IsStored (put (kept_as W me m (spell event) (Some d)))) h.front_saved
+            subst (λ (o : Option (Core Msg)). IsStored (put (or_event (snapshot_kept W me st.saved o) (spell event) st.saved))) (sym e.entered)
+            (subst (λ (m : Saved). IsStored (put (or_event (snapshot_kept W me m (Some d)) (spell event) m))) h.front_saved
             (go (nat_le (length (snapshot_row s.version snap)) max_entry) refl))
           where
             put : Kept → Stored Msg
             put k = record { entries = k.entry ∷ st.entries; saved = k.saved; core = t.core }
 
             go : (b : Bool) → nat_le (length (snapshot_row s.version snap)) max_entry ≡ b →
-                IsStored (put (cond b (record { entry = spell_snapshot s.version snap; saved = saved_after h.front.saved snap }) (record { entry = spell event; saved = h.front.saved })))
+                IsStored (put (or_event (cond b (Some (record { entry = spell_snapshot s.version snap; saved = saved_after h.front.saved snap })) None)
+                (spell event) h.front.saved))
             go true k = snapshot-stored (leb-true (length (snapshot_row s.version snap)) max_entry k)
             go false k = subst (λ (m : Saved). IsStored (record { entries = spell event ∷ st.entries; saved = m; core = t.core })) (sym h.front_saved) event-stored
 
       stayed-stored : t.entered ≡ None → IsStored (stored_by W spell me st event (Taken t))
-      stayed-stored none = subst (λ (o : Option (Core Msg)). IsStored (put (kept_as W me st.saved (spell event) o))) (sym none) event-stored
+      stayed-stored none = subst (λ (o : Option (Core Msg)). IsStored (put (or_event (snapshot_kept W me st.saved o) (spell event) st.saved))) (sym none) event-stored
         where
           put : Kept → Stored Msg
           put k = record { entries = k.entry ∷ st.entries; saved = k.saved; core = t.core }

@@ -14,3 +14,4 @@ pub mod Waking
 pub mod Storing
 pub mod Journals
 pub mod Frames
+mod RecoveryExample

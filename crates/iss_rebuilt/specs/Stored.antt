@@ -1,6 +1,6 @@
--- What a replica's journal holds: its events, and, in the place of each event that ended an epoch, the replica as it
--- entered its newest epoch, before it took the messages that came early. An event whose snapshot would be too long is
--- kept itself. Of a journal stay its snapshots and what follows the last of them.
+-- What a replica's journal holds: its events, and instead of each event that ended an epoch the replica as it entered
+-- its newest epoch, before it took the messages that came early. An event whose snapshot would be too long is kept
+-- itself. Of a journal stay its snapshots and what follows the last of them.
 use Rattle.std.specs.Prelude.{ℕ, zero, suc, ◌-◌, ◌==◌, ◌||◌, nat_le, cond, Bool, true, false, is_some, List, [], ◌∷◌, ◌++◌, length, reverse, Option, Some, None}
 use Rattle.std.specs.List.{filter}
 use Rattle.iss_base.specs.Lists.{below}
@@ -75,14 +75,18 @@ pub record Kept : Type 0 where
   pub entry : List ℕ
   pub saved : Saved
 
--- the snapshot where an epoch was entered, unless it is too long; else the event
-abbrev pub kept_as : {Msg : Type 0} → Frame Msg → ℕ → Saved → List ℕ → Option (Core Msg) → Kept
-kept_as W me saved event None = record { entry = event; saved = saved }
-kept_as W me saved event (Some d) =
+-- the snapshot of the core that entered an epoch, unless it is too long
+abbrev pub snapshot_kept : {Msg : Type 0} → Frame Msg → ℕ → Saved → Option (Core Msg) → Option Kept
+snapshot_kept W me saved None = None
+snapshot_kept W me saved (Some d) =
     let s = snapshot_of W me saved d in
     cond (nat_le (length (snapshot_row W.setup.version s)) max_entry)
-    (record { entry = spell_snapshot W.setup.version s; saved = saved_after saved s })
-    (record { entry = event; saved = saved })
+    (Some (record { entry = spell_snapshot W.setup.version s; saved = saved_after saved s })) None
+
+-- else the event
+abbrev pub or_event : Option Kept → List ℕ → Saved → Kept
+or_event None event saved = record { entry = event; saved = saved }
+or_event (Some k) event saved = k
 
 -- entries, newest first, with what snapshots saved and the core that wrote them
 pub record Stored (Msg : Type 0) : Type 0 where
@@ -94,7 +98,7 @@ abbrev pub stored_by : {Msg : Type 0} → Frame Msg → (NodeEvent → List ℕ)
     Stored Msg
 stored_by W spell me s event (Dropped why) = s
 stored_by W spell me s event (Taken t) =
-    let k = kept_as W me s.saved (spell event) t.entered in
+    let k = or_event (snapshot_kept W me s.saved t.entered) (spell event) s.saved in
     record { entries = k.entry ∷ s.entries; saved = k.saved; core = t.core }
 
 -- What is stored of events, newest first, with the core that they lead to. `spell` encodes an event as an entry.
