@@ -50,20 +50,20 @@ part-in x a b e h = subst (λ (t : List _). In x t) (sym e.1) (in_right x e.0 a 
 
 filter-in : (p : Vote → Bool) (vs : List Vote) (v : Vote) → In v (filter p vs) → In v vs
 filter-in p [] v h = absurd h
-filter-in p (w ∷ ws) v h = go (p w) h
+filter-in p (w ∷ ws) v h = go (p w) h (λ i. filter-in p ws v i)
   where
-    go : (b : Bool) → In v (cond b (w ∷ filter p ws) (filter p ws)) → In v (w ∷ ws)
-    go true (inl e) = inl e
-    go true (inr i) = inr (filter-in p ws v i)
-    go false i = inr (filter-in p ws v i)
+    go : (b : Bool) → In v (cond b (w ∷ filter p ws) (filter p ws)) → (In v (filter p ws) → In v ws) → In v (w ∷ ws)
+    go true (inl e) ih = inl e
+    go true (inr i) ih = inr (ih i)
+    go false i ih = inr (ih i)
 
 cert-in : (certs : List Cert) (e : ℕ) (c : Cert) → cert_on certs e ≡ Some c → In c certs
 cert-in [] e c h = absurd (none-some c h)
-cert-in (x ∷ xs) e c h = go (eqb x.epoch.0 e) h
+cert-in (x ∷ xs) e c h = go (eqb x.epoch.0 e) h (λ k. cert-in xs e c k)
   where
-    go : (b : Bool) → cond b (Some x) (cert_on xs e) ≡ Some c → In c (x ∷ xs)
-    go true k = inl (sym (some-injective x c k))
-    go false k = inr (cert-in xs e c k)
+    go : (b : Bool) → cond b (Some x) (cert_on xs e) ≡ Some c → (cert_on xs e ≡ Some c → In c xs) → In c (x ∷ xs)
+    go true k ih = inl (sym (some-injective x c k))
+    go false k ih = inr (ih k)
 
 new-in : (held : ℕ → Bool) (certs : List Cert) (es : List ℕ) (c : Cert) → In c (new_certs held certs es) → In c certs
 new-in held certs [] c h = absurd h

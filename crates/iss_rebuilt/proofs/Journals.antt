@@ -40,15 +40,16 @@ use Rattle.iss_rebuilt.proofs.Waking.{AreSlim, each-slim}
 
 filter-twice : (xs : List (List ℕ)) → filter is_snapshot (filter is_snapshot xs) ≡ filter is_snapshot xs
 filter-twice [] = refl
-filter-twice (x ∷ xs) = go (is_snapshot x) refl
+filter-twice (x ∷ xs) = go (is_snapshot x) refl (filter-twice xs)
   where
     row : Bool → List (List ℕ)
     row b = cond b (x ∷ filter is_snapshot xs) (filter is_snapshot xs)
 
-    go : (b : Bool) → is_snapshot x ≡ b → filter is_snapshot (row b) ≡ row b
-    go false q = filter-twice xs
-    go true q = ap (λ (b : Bool). cond b (x ∷ filter is_snapshot (filter is_snapshot xs)) (filter is_snapshot (filter is_snapshot xs))) q
-        ∙ ap (λ (ys : List (List ℕ)). x ∷ ys) (filter-twice xs)
+    go : (b : Bool) → is_snapshot x ≡ b → filter is_snapshot (filter is_snapshot xs) ≡ filter is_snapshot xs →
+        filter is_snapshot (row b) ≡ row b
+    go false q ih = ih
+    go true q ih = ap (λ (b : Bool). cond b (x ∷ filter is_snapshot (filter is_snapshot xs)) (filter is_snapshot (filter is_snapshot xs))) q
+        ∙ ap (λ (ys : List (List ℕ)). x ∷ ys) ih
 
 pub retained-recovers : {Msg : Type 0} (W : Frame Msg) (event_in : List ℕ → Option NodeEvent) (me : ℕ) (xs : List (List ℕ)) →
     recovered W event_in me (retained xs) ≡ recovered W event_in me xs
@@ -331,17 +332,15 @@ module _ {Msg : Type 0} (W : Frame Msg) (P : IsGoodFrame W.setup W.formats W.rul
     all-stored : (events : List NodeEvent) → ((event : NodeEvent) → In event events → IsNamed event) → (stored W spell me events).core.past.epoch < 2 ^ 64 →
         IsStored (stored W spell me events)
     all-stored [] named last = initial-stored
-    all-stored (x ∷ xs) named last = go (step_in W me st.core x) refl last
+    all-stored (x ∷ xs) named last = go (λ lt. all-stored xs (λ e i. named e (inr i)) lt) (step_in W me st.core x) refl last
       where
         st : Stored Msg
         st = stored W spell me xs
 
-        before : st.core.past.epoch < 2 ^ 64 → IsStored st
-        before lt = all-stored xs (λ e i. named e (inr i)) lt
-
-        go : (o : Stepped Msg) → step_in W me st.core x ≡ o → (stored_by W spell me st x o).core.past.epoch < 2 ^ 64 → IsStored (stored_by W spell me st x o)
-        go (Dropped why) q lt = before lt
-        go (Taken t) q lt =
+        go : (st.core.past.epoch < 2 ^ 64 → IsStored st) → (o : Stepped Msg) → step_in W me st.core x ≡ o →
+            (stored_by W spell me st x o).core.past.epoch < 2 ^ 64 → IsStored (stored_by W spell me st x o)
+        go before (Dropped why) q lt = before lt
+        go before (Taken t) q lt =
             let rises = step-rises F R M me st.core x t q in
             let last : t.core.past.epoch < 2 ^ 64 = lt in
             let earlier : st.core.past.epoch < 2 ^ 64 = omega (arith, last, rises) in

@@ -85,21 +85,26 @@ module _ {Msg : Type 0} (s : Setup) (F : Formats Msg) (R : Rules) (M : Module Ms
         slims = z.core;
       }
 
+  abbrev TakeAlike : ℕ → List (Early Msg) → Core Msg → Core Msg → Type 0
+  TakeAlike e xs c d = AreSlim (takes_each F R M me e xs c).core (takes_each F R M me e xs d).core
+
   -- and so do early messages
   pub each-slim : (e : ℕ) (xs : List (Early Msg)) (c d : Core Msg) → AreSlim c d → IsRegular s F R M P me c → IsOpen s F R M P me c → c.early ≡ [] →
       ((x : Early Msg) → In x xs → IsTold s M x.from x.msg) → ((x : Early Msg) → In x xs → IsAgain e x) →
-      AreSlim (takes_each F R M me e xs c).core (takes_each F R M me e xs d).core
+      TakeAlike e xs c d
   each-slim e [] c d h regular unfinished early told again = h
-  each-slim e (x ∷ xs) c d h regular unfinished early told again = go (same_or_not c.past.epoch e)
+  each-slim e (x ∷ xs) c d h regular unfinished early told again =
+      go (λ a b k r u n. each-slim e xs a b k r u n (λ y i. told y (inr i)) (λ y i. again y (inr i))) (same_or_not c.past.epoch e)
     where
       same : c.past.epoch ≡ d.past.epoch
       same = slim-epoch c d h.slims
 
-      go : (c.past.epoch ≡ e) ⊎ (c.past.epoch ≢ e) → AreSlim (takes_each F R M me e (x ∷ xs) c).core (takes_each F R M me e (x ∷ xs) d).core
-      go (inr ne) =
+      go : ((a b : Core Msg) → AreSlim a b → IsRegular s F R M P me a → IsOpen s F R M P me a → a.early ≡ [] → TakeAlike e xs a b) →
+          (c.past.epoch ≡ e) ⊎ (c.past.epoch ≢ e) → TakeAlike e (x ∷ xs) c d
+      go others (inr ne) =
           subst (λ (w : Turn Msg). AreSlim w.core (takes_each F R M me e (x ∷ xs) d).core) (sym (each-stops s F R M P me e (x ∷ xs) c ne))
           (subst (λ (w : Turn Msg). AreSlim c w.core) (sym (each-stops s F R M P me e (x ∷ xs) d (λ z. ne (same ∙ z)))) h)
-      go (inl q) =
+      go others (inl q) =
           let c1 : Core Msg = (takes_early F R M me c x).core in
           let d1 : Core Msg = (takes_early F R M me d x).core in
           let tried = early-tried s F R M P me c x regular unfinished early (told x (inl refl)) in
@@ -110,4 +115,4 @@ module _ {Msg : Type 0} (s : Setup) (F : Formats Msg) (R : Rules) (M : Module Ms
           (subst (λ (f : Core Msg). AreSlim (after c (step F R M me c (event_of e x))) f) (sym d_is) (slim-after c d h (event_of e x))) in
           subst (λ (w : Turn Msg). AreSlim w.core (takes_each F R M me e (x ∷ xs) d).core) (sym (each-next s F R M P me e x xs c q))
           (subst (λ (w : Turn Msg). AreSlim (takes_each F R M me e xs c1).core w.core) (sym (each-next s F R M P me e x xs d (sym same ∙ q)))
-          (each-slim e xs c1 d1 next tried.regular tried.unfinished tried.early (λ y i. told y (inr i)) (λ y i. again y (inr i))))
+          (others c1 d1 next tried.regular tried.unfinished tried.early))
