@@ -28,7 +28,7 @@ use Rattle.iss_rules.specs.Past.{before_own, is_complete, leads_in, log_of, para
 use Rattle.iss_rules.specs.Rules.{Rules}
 use Rattle.iss_rules.specs.Verdicts.{verdict_in}
 use Rattle.iss_rules.specs.Votes.{all_verify, is_true_cert}
-use Rattle.iss_model.specs.Node.{Core, Dropped, Early, Stepped, Taken, Turn, adopts_piece, advance_epochs, by_verdict, casts_at, claims_of_input, ends, finish_step, has_leaves, has_shape, is_mine, leads_to, next_slot, step, step_unjudged, takes_bytes, takes_each, takes_parcel, takes_piece, then_turn, try_step}
+use Rattle.iss_model.specs.Node.{Core, Dropped, Early, Stepped, Taken, Turn, adopts_piece, advance_epochs, by_verdict, casts_at, claims_of_input, ends, finish_step, has_leaves, has_shape, is_mine, keeps_early, leads_to, next_slot, step, step_unjudged, takes_bytes, takes_each, takes_parcel, takes_piece, then_turn, try_step}
 use Rattle.iss_model.proofs.Rows.{each-holds, settles-holds}
 use Rattle.iss_model.proofs.Steps.{IsAdopted, IsInput, Took, adopted, asked, cast, fired, handed, kept, received, sought, took, voted}
 
@@ -60,9 +60,11 @@ module _ {Msg : Type 0} (F : Formats Msg) (R : Rules) (M : Module Msg) (me : ℕ
       step F R M me c (On_packet bytes) ≡ finish_step F R M me (try_step F R M me c l (Receive (record { 0 = k.from }) msg))
   message-step c bytes k l msg un b e =
       let input : Input Msg = Receive (record { 0 = k.from }) msg in
+      let ahead : Stepped Msg =
+      cond (eqb k.epoch (suc c.past.epoch)) (keeps_early c (record { from = k.from; leader = l; msg = msg })) (Dropped OtherEpoch) in
       ap (λ (o : Option (Parcel Msg)). takes_bytes F R M me c o) un
       ∙ (ap (λ (x : Body Msg). takes_parcel F R M me c k.from k.epoch x) b
-      ∙ ap (λ (t : Bool). cond t (finish_step F R M me (try_step F R M me c l input)) _) (ap (λ (n : ℕ). eqb n c.past.epoch) e ∙ eqb-same c.past.epoch))
+      ∙ ap (λ (t : Bool). cond t (finish_step F R M me (try_step F R M me c l input)) ahead) (ap (λ (n : ℕ). eqb n c.past.epoch) e ∙ eqb-same c.past.epoch))
 
   -- a proposal
   pub cast-step : (c : Core Msg) (slot : Slot) → leads_in R M me c.past me ≡ true → has_leaves M (params_of R M me c.past me) c.leaf ≡ true → next_slot R M me c ≡ Some slot →

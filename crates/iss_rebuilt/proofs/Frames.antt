@@ -51,5 +51,4 @@ module _ {Msg : Type 0} (s : Setup) (M : Module Msg) (h : IsSetupOf M s) (law : 
   }
 
   pub recover : JournalsRecover s M
-  recover me low spell event_in IsNamed fmt events named last =
-      journals-recover (frame_of s M) good-frame me low spell event_in IsNamed fmt events named last
+  recover me low spell event_in events have last = journals-recover (frame_of s M) good-frame me low spell event_in events have last

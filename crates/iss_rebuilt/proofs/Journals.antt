@@ -22,7 +22,7 @@ use Rattle.iss_model.proofs.Places.{FiledCore}
 use Rattle.iss_snapshot.specs.Snapshots.{IsEncodable, snapshot_row, spell_snapshot}
 use Rattle.iss_snapshot.specs.declared.snapshots.Snapshot.{Snapshot}
 use Rattle.iss_snapshot.proofs.SnapshotGrammar.{spelled-row}
-use Rattle.iss_rebuilt.specs.Laws.{AreEntries, IsRecovered}
+use Rattle.iss_rebuilt.specs.Laws.{HasEntry, IsRecovered}
 use Rattle.iss_rebuilt.specs.Reading.{Rebuilt, core_of_step, reads_entry, rebuilt, recovered, replayed, replays, woken, woken_of}
 use Rattle.iss_rebuilt.specs.Storable.{IsBehind, IsReadBack}
 use Rattle.iss_rebuilt.specs.Stored.{Kept, Saved, Stored, is_snapshot, nothing_saved, or_event, retained, saved_after, snapshot_kept, snapshot_of, stored, stored_by}
@@ -166,7 +166,7 @@ module _ {Msg : Type 0} (W : Frame Msg) (P : IsGoodFrame W.setup W.formats W.rul
 
   -- ---- what is stored
 
-  module _ (spell : NodeEvent → List ℕ) (event_in : List ℕ → Option NodeEvent) (IsNamed : NodeEvent → Type 0) (fmt : AreEntries spell event_in IsNamed) where
+  module _ (spell : NodeEvent → List ℕ) (event_in : List ℕ → Option NodeEvent) where
     -- what is known of a core and the entries that it stored
     record IsStored (st : Stored Msg) : Type 0 where
       resting : IsResting s F R M P me st.core
@@ -221,7 +221,7 @@ module _ {Msg : Type 0} (W : Frame Msg) (P : IsGoodFrame W.setup W.formats W.rul
       slims = record { placed = regular-placed initial_core initial-regular; other = regular-placed initial_core initial-regular; slims = refl };
     }
 
-    module _ (st : Stored Msg) (h : IsStored st) (event : NodeEvent) (named : IsNamed event) (t : Turn Msg) (q : step F R M me st.core event ≡ Taken t) where
+    module _ (st : Stored Msg) (h : IsStored st) (event : NodeEvent) (entry : HasEntry spell event_in event) (t : Turn Msg) (q : step F R M me st.core event ≡ Taken t) where
       abbrev rests : IsResting s F R M P me t.core
       rests = step-rests s F R M P me low st.core h.resting event t q
 
@@ -229,14 +229,13 @@ module _ {Msg : Type 0} (W : Frame Msg) (P : IsGoodFrame W.setup W.formats W.rul
       event-stored : IsStored (record { entries = spell event ∷ st.entries; saved = st.saved; core = t.core })
       event-stored =
           let too = takes-too h.found.core st.core event t h.slims q in
-          let apart = fmt.apart event in
           let front : filter is_snapshot (spell event ∷ st.entries) ≡ filter is_snapshot st.entries =
-          ap (λ (b : Bool). cond b (spell event ∷ filter is_snapshot st.entries) (filter is_snapshot st.entries)) apart in
+          ap (λ (b : Bool). cond b (spell event ∷ filter is_snapshot st.entries) (filter is_snapshot st.entries)) entry.1 in
           let first : recovered W event_in me (spell event ∷ st.entries) ≡ replays W me (event_in (spell event)) (recovered W event_in me st.entries) =
           ap (λ (b : Bool). cond b (woken_of W me (reads_entry W me (rebuilt W me (filter is_snapshot st.entries)) (spell event)))
-          (replays W me (event_in (spell event)) (recovered W event_in me st.entries))) apart in
+          (replays W me (event_in (spell event)) (recovered W event_in me st.entries))) entry.1 in
           let second : replays W me (event_in (spell event)) (recovered W event_in me st.entries) ≡ replays W me (Some event) (Some h.found) =
-          ap₂ (λ (o : Option NodeEvent) (p : Option (Rebuilt Msg)). replays W me o p) (fmt.again event named) h.found_is in
+          ap₂ (λ (o : Option NodeEvent) (p : Option (Rebuilt Msg)). replays W me o p) entry.0 h.found_is in
           record {
             resting = rests;
             front = h.front;
@@ -323,16 +322,16 @@ module _ {Msg : Type 0} (W : Frame Msg) (P : IsGoodFrame W.setup W.formats W.rul
           put : Kept → Stored Msg
           put k = record { entries = k.entry ∷ st.entries; saved = k.saved; core = t.core }
 
-      pub taken-stored : t.core.past.epoch < 2 ^ 64 → IsStored (stored_by W spell me st event (Taken t))
+      taken-stored : t.core.past.epoch < 2 ^ 64 → IsStored (stored_by W spell me st event (Taken t))
       taken-stored last = elim (entering W P me low st.core h.resting event t q) [
         | inl none ↦ stayed-stored none
         | inr e ↦ entered-stored e last
       ]
 
-    all-stored : (events : List NodeEvent) → ((event : NodeEvent) → In event events → IsNamed event) → (stored W spell me events).core.past.epoch < 2 ^ 64 →
+    all-stored : (events : List NodeEvent) → ((event : NodeEvent) → In event events → HasEntry spell event_in event) → (stored W spell me events).core.past.epoch < 2 ^ 64 →
         IsStored (stored W spell me events)
-    all-stored [] named last = initial-stored
-    all-stored (x ∷ xs) named last = go (λ lt. all-stored xs (λ e i. named e (inr i)) lt) (step_in W me st.core x) refl last
+    all-stored [] have last = initial-stored
+    all-stored (x ∷ xs) have last = go (λ lt. all-stored xs (λ e i. have e (inr i)) lt) (step_in W me st.core x) refl last
       where
         st : Stored Msg
         st = stored W spell me xs
@@ -344,13 +343,13 @@ module _ {Msg : Type 0} (W : Frame Msg) (P : IsGoodFrame W.setup W.formats W.rul
             let rises = step-rises F R M me st.core x t q in
             let last : t.core.past.epoch < 2 ^ 64 = lt in
             let earlier : st.core.past.epoch < 2 ^ 64 = omega (arith, last, rises) in
-            taken-stored st (before earlier) x (named x (inl refl)) t q last
+            taken-stored st (before earlier) x (have x (inl refl)) t q last
 
-    pub journals-recover : (events : List NodeEvent) → ((event : NodeEvent) → In event events → IsNamed event) → (stored W spell me events).core.past.epoch < 2 ^ 64 →
+    pub journals-recover : (events : List NodeEvent) → ((event : NodeEvent) → In event events → HasEntry spell event_in event) → (stored W spell me events).core.past.epoch < 2 ^ 64 →
         IsRecovered W event_in me (retained (stored W spell me events).entries) (stored W spell me events)
-    journals-recover events named last =
+    journals-recover events have last =
         let st : Stored Msg = stored W spell me events in
-        let h = all-stored events named last in
+        let h = all-stored events have last in
         record {
           found = h.found;
           is = retained-recovers W event_in me st.entries ∙ h.found_is;

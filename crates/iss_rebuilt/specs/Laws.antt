@@ -23,12 +23,9 @@ SnapshotsRebuild {Msg} s M =
     (read : IsReadBack W me r d)
     × (reads_entry W me (Some r) (spell_snapshot s.version (snapshot_of W me r.saved d)) ≡ Some read.next)
 
--- How events are encoded as entries of a journal: each entry decodes to its event, and none is a snapshot. Only events
--- that name nodes of the cluster have to decode.
-pub record AreEntries (spell : NodeEvent → List ℕ) (event_in : List ℕ → Option NodeEvent)
-    (IsNamed : NodeEvent → Type 0) : Type 0 where
-  pub again : (event : NodeEvent) → IsNamed event → event_in (spell event) ≡ Some event
-  pub apart : (event : NodeEvent) → is_snapshot (spell event) ≡ false
+-- The event has an entry: `spell` encodes the event, `event_in` decodes the entry, and the entry is no snapshot.
+abbrev pub HasEntry : (NodeEvent → List ℕ) → (List ℕ → Option NodeEvent) → NodeEvent → Type 0
+HasEntry spell event_in event = (event_in (spell event) ≡ Some event) × (is_snapshot (spell event) ≡ false)
 
 -- Entries lead to a core with the slim part of the one that wrote them, and tell what snapshots saved. So each step is
 -- the same from there on, and so is each later entry.
@@ -45,8 +42,7 @@ pub record IsRecovered {Msg : Type 0} (W : Frame Msg) (event_in : List ℕ → O
 abbrev pub JournalsRecover : {Msg : Type 0} → Setup → Module Msg → Type 0
 JournalsRecover {Msg} s M =
     let W = frame_of s M in
-    (me : ℕ) → me < s.n → (spell : NodeEvent → List ℕ) (event_in : List ℕ → Option NodeEvent)
-    (IsNamed : NodeEvent → Type 0) → AreEntries spell event_in IsNamed → (events : List NodeEvent) →
-    ((event : NodeEvent) → In event events → IsNamed event) →
+    (me : ℕ) → me < s.n → (spell : NodeEvent → List ℕ) (event_in : List ℕ → Option NodeEvent) →
+    (events : List NodeEvent) → ((event : NodeEvent) → In event events → HasEntry spell event_in event) →
     let st = stored W spell me events in st.core.past.epoch < 2 ^ 64 →
     IsRecovered W event_in me (retained st.entries) st
