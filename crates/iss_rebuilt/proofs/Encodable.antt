@@ -1,10 +1,10 @@
 -- The snapshot of a storable core has an encoding, if what the core holds has one and the snapshot is not too long.
-use Rattle.std.proofs.Common.{◌≡◌, inl, inr, ℕ, zero, suc, ◌+◌, ◌-◌, ◌≤◌, ◌<◌, ◌^◌, Bool, true, false, cond, eqb, List, [], ◌∷◌, ◌++◌, length, reverse, Option, Some, None, refl, sym, ap, ◌∙◌, subst, arith, le_trans}
+use Rattle.std.proofs.Common.{◌≡◌, inl, inr, ℕ, zero, suc, ◌+◌, ◌-◌, ◌≤◌, ◌<◌, ◌^◌, Bool, true, false, cond, eqb, List, [], ◌∷◌, length, reverse, Option, Some, None, refl, sym, ap, ◌∙◌, subst, arith, le_trans}
 use Rattle.std.specs.Prelude.{take}
 use Rattle.std.specs.List.{AllByRecursion, filter}
 use Rattle.std.proofs.lemmas.List.{reverse-append}
 use Rattle.iss_base.specs.Lists.{Extends, In}
-use Rattle.iss_base.proofs.Lists.{in_append, in_right, is-eq, length-over, none-some, oldest-part, some-injective}
+use Rattle.iss_base.proofs.Lists.{in_append, in_right, length-over, none-some, oldest-part, some-injective}
 use Rattle.iss_checkpoint.specs.declared.votes.Cert.{Cert}
 use Rattle.iss_checkpoint.specs.declared.votes.Vote.{Vote}
 use Rattle.iss_journal.specs.Frames.{max_entry}

@@ -1,34 +1,25 @@
 -- What a step does to a core between two events: it stays in its epoch, or enters the next one as it would without early
 -- messages, and then takes these.
-use Rattle.std.proofs.Common.{◌≡◌, ◌⊎◌, inl, inr, ℕ, suc, ◌≤◌, ◌<◌, ◌^◌, ◌&&◌, Bool, true, false, cond, eqb, not, nat_lt, List, [], ◌∷◌, ◌++◌, length, Option, Some, None, refl, sym, ap, ap₂, ◌∙◌, subst, arith, true≢false}
+use Rattle.std.proofs.Common.{◌≡◌, inl, inr, ℕ, suc, ◌≤◌, Bool, true, false, cond, eqb, not, nat_lt, List, [], ◌∷◌, ◌++◌, Option, Some, refl, sym, ap, ◌∙◌, subst, arith}
 use Rattle.std.proofs.lemmas.Bool.Decides.{leb_tells}
-use Rattle.iss_base.specs.Lists.{In, first_of}
+use Rattle.iss_base.specs.Lists.{first_of}
 use Rattle.iss_base.proofs.Lists.{both, eqb-same}
 use Rattle.iss_buckets.specs.Waiting.{cut, uncut}
-use Rattle.iss_checkpoint.specs.declared.votes.Cert.{Cert}
-use Rattle.iss_checkpoint.specs.declared.votes.Vote.{Vote}
-use Rattle.iss_request.specs.Fields.{IsReadAgain}
 use Rattle.iss_request.specs.declared.ids.Slot.{Slot}
-use Rattle.iss_request.specs.declared.requests.Request.{Request}
-use Rattle.iss_request.specs.declared.setups.Setup.{Setup}
-use Rattle.iss_sb.specs.declared.effects.Claim.{Claim}
 use Rattle.iss_sb.specs.declared.effects.Input.{Input}
-use Rattle.iss_sb.specs.declared.effects.Input.TheVariants.{Cast, Receive, Timeout}
-use Rattle.iss_sb.specs.declared.effects.Params.{Params}
-use Rattle.iss_sb.specs.Calls.{IsGoodInput}
+use Rattle.iss_sb.specs.declared.effects.Input.TheVariants.{Cast, Receive}
 use Rattle.iss_sb.specs.Evidence.{Module}
-use Rattle.iss_sb.specs.Laws.{IsHeard}
 use Rattle.iss_transfer.specs.declared.pieces.Piece.{Piece as Sent_piece}
 use Rattle.iss_rules.specs.declared.events.NodeEvent.{NodeEvent}
-use Rattle.iss_rules.specs.declared.events.NodeEvent.TheVariants.{Packet as On_packet, Propose as On_propose, Timeout as On_timeout, AskFrom as On_ask}
+use Rattle.iss_rules.specs.declared.events.NodeEvent.TheVariants.{Packet as On_packet, Propose as On_propose}
 use Rattle.iss_rules.specs.declared.events.Refusal.{Refusal}
 use Rattle.iss_rules.specs.declared.events.Why.TheVariants.{BadClaim, NoKeys, NotLeader, NotNeeded, OtherEpoch, WrongChain as Why_wrong_chain}
 use Rattle.iss_rules.specs.Parcels.{Body, Formats, OfModule, OfPiece, Parcel}
-use Rattle.iss_rules.specs.Past.{before_own, is_complete, leads_in, log_of, params_of}
+use Rattle.iss_rules.specs.Past.{before_own, is_complete, leads_in, params_of}
 use Rattle.iss_rules.specs.Rules.{Rules}
 use Rattle.iss_rules.specs.Verdicts.{verdict_in}
 use Rattle.iss_rules.specs.Votes.{all_verify, is_true_cert}
-use Rattle.iss_model.specs.Node.{Core, Dropped, Early, Stepped, Taken, Turn, adopts_piece, advance_epochs, by_verdict, casts_at, claims_of_input, ends, finish_step, has_leaves, has_shape, is_mine, keeps_early, leads_to, next_slot, step, step_unjudged, takes_bytes, takes_each, takes_parcel, takes_piece, then_turn, try_step}
+use Rattle.iss_model.specs.Node.{Core, Dropped, Early, Stepped, Taken, Turn, adopts_piece, advance_epochs, by_verdict, casts_at, claims_of_input, ends, finish_step, has_leaves, has_shape, is_mine, keeps_early, leads_to, next_slot, step, step_unjudged, takes_bytes, takes_each, takes_parcel, then_turn, try_step}
 use Rattle.iss_model.proofs.Rows.{each-holds, settles-holds}
 use Rattle.iss_model.proofs.Steps.{IsAdopted, IsInput, Took, adopted, asked, cast, fired, handed, kept, received, sought, took, voted}
 

@@ -1,8 +1,6 @@
 -- The entry of a core is read as a core with its slim part; and what snapshots led to stays behind later cores.
-use Rattle.std.proofs.Common.{◌≡◌, ℕ, zero, suc, ◌≤◌, ◌<◌, List, [], ◌∷◌, length, reverse, Option, Some, sym, ap, ap₂, ◌∙◌, refl, arith, le_trans, append-nil}
-use Rattle.iss_base.specs.Lists.{Extends}
+use Rattle.std.proofs.Common.{◌≡◌, ℕ, zero, suc, ◌≤◌, ◌<◌, List, [], ◌∷◌, length, reverse, Some, sym, ap, ap₂, ◌∙◌, refl, arith, append-nil}
 use Rattle.iss_base.proofs.Lists.{oldest-part}
-use Rattle.iss_checkpoint.specs.declared.votes.Cert.{Cert}
 use Rattle.iss_request.specs.Fields.{Good, Parsed}
 use Rattle.iss_request.specs.declared.requests.Value.{Value}
 use Rattle.iss_request.specs.declared.setups.Setup.{Setup}
@@ -10,7 +8,6 @@ use Rattle.iss_sb.specs.Evidence.{Module}
 use Rattle.iss_rules.specs.Formats.{whole}
 use Rattle.iss_rules.specs.Past.{Past, Piece, cut_at, log_of, start_of}
 use Rattle.iss_rules.specs.Setups.{IsSetupOf}
-use Rattle.iss_rules.specs.Votes.{cert_on}
 use Rattle.iss_rules.proofs.Ending.{HasSlots}
 use Rattle.iss_rules.proofs.Epochs.{cut-extends, start-cut, start-mono}
 use Rattle.iss_rules.proofs.Layouts.{sound-rules}

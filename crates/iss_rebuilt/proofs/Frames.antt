@@ -1,8 +1,8 @@
 -- The formats and rules of a set-up, with a lawful module, are as the proofs ask.
-use Rattle.std.proofs.Common.{◌≡◌, ℕ, ◌*◌, ◌+◌, ◌<◌, ◌≤◌, ◌^◌, Bool, true, false, eqb, if◌then◌else◌, List, refl, sym, ap, ◌∙◌, subst, arith, lt_of_le_of_lt}
+use Rattle.std.proofs.Common.{ℕ, ◌<◌, ◌≤◌, Bool, true, false, eqb, if◌then◌else◌, sym, subst, arith, lt_of_le_of_lt}
 use Rattle.std.proofs.Math.Pow.{pow_mono}
 use Rattle.iss_request.specs.Fields.{IsGrammar}
-use Rattle.iss_request.specs.Setup.{quorum_count, quorum_of_kind}
+use Rattle.iss_request.specs.Setup.{quorum_of_kind}
 use Rattle.iss_request.specs.declared.setups.Kind.{Kind}
 use Rattle.iss_request.specs.declared.setups.Kind.TheVariants.{Byzantine, Stopping}
 use Rattle.iss_request.specs.declared.setups.Setup.{Setup}

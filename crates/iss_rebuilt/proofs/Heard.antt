@@ -1,5 +1,5 @@
 -- All that a core took can be encoded, and so can each value of its log.
-use Rattle.std.proofs.Common.{◌≡◌, ◌⊎◌, inl, inr, ℕ, suc, ◌≤◌, ◌<◌, ◌-◌, Bool, true, false, cond, eqb, List, [], ◌∷◌, ◌++◌, length, Option, Some, None, refl, sym, ap, ◌∙◌, subst, arith, le_trans}
+use Rattle.std.proofs.Common.{◌≡◌, inl, inr, ℕ, ◌≤◌, ◌<◌, ◌-◌, Bool, true, false, cond, eqb, List, [], ◌∷◌, length, Some, None, refl, sym, ◌∙◌, subst, arith, le_trans}
 use Rattle.std.proofs.lemmas.Bool.Decides.{leb_tells}
 use Rattle.iss_base.specs.Lists.{Extends, In, nth}
 use Rattle.iss_base.proofs.Lists.{extends-refl, extends-tail, first-cases, none-some, nth-in, same_pair, set_at2-other, set_at2-same}
@@ -10,7 +10,7 @@ use Rattle.iss_sb.specs.declared.effects.Params.{Params}
 use Rattle.iss_sb.specs.Calls.{IsGoodParams}
 use Rattle.iss_sb.specs.Evidence.{Item, Module, and_then, delivered}
 use Rattle.iss_sb.specs.Laws.{AreHeard, DecidesReadable, IsHeard}
-use Rattle.iss_rules.specs.Past.{Past, Piece, adopted_at, adopts, advanced, before, before_at, cell, cut_at, epoch_at, leader_at, log_of, params_at, params_of, start_of, takes}
+use Rattle.iss_rules.specs.Past.{Past, Piece, adopted_at, adopts, advanced, before, before_at, epoch_at, leader_at, log_of, params_at, params_of, start_of, takes}
 use Rattle.iss_rules.specs.Rules.{Rules}
 use Rattle.iss_rules.specs.SoundRules.{IsSoundRules}
 use Rattle.iss_rules.proofs.Ending.{advanced-later}

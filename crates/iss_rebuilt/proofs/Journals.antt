@@ -1,5 +1,5 @@
 -- The entries that a replica stores lead back to it, and so do those of them that stay.
-use Rattle.std.proofs.Common.{◌≡◌, ◌⊎◌, inl, inr, ℕ, suc, ◌≤◌, ◌<◌, ◌^◌, Bool, true, false, cond, nat_le, List, [], ◌∷◌, ◌++◌, length, Option, Some, None, refl, sym, ap, ap₂, ◌∙◌, subst, arith, le_trans}
+use Rattle.std.proofs.Common.{◌≡◌, inl, inr, ℕ, ◌≤◌, ◌<◌, ◌^◌, Bool, true, false, cond, nat_le, List, [], ◌∷◌, length, Option, Some, None, refl, sym, ap, ap₂, ◌∙◌, subst, arith, le_trans}
 use Rattle.std.specs.List.{filter}
 use Rattle.std.proofs.lemmas.Bool.{leb-true}
 use Rattle.iss_base.specs.Lists.{In}
@@ -9,22 +9,22 @@ use Rattle.iss_request.specs.declared.setups.Setup.{Setup}
 use Rattle.iss_sb.specs.Evidence.{Module}
 use Rattle.iss_rules.specs.declared.events.NodeEvent.{NodeEvent}
 use Rattle.iss_rules.specs.Parcels.{Formats}
-use Rattle.iss_rules.specs.Past.{cut_at, log_of, start_of}
+use Rattle.iss_rules.specs.Past.{log_of, start_of}
 use Rattle.iss_rules.specs.Rules.{Rules}
 use Rattle.iss_rules.proofs.Epochs.{cut-extends, start-mono}
 use Rattle.iss_model.specs.Frames.{Frame, step_in}
 use Rattle.iss_model.specs.Node.{Core, Dropped, Early, Stepped, Taken, Turn, initial_core, step, takes_each}
-use Rattle.iss_model.specs.Slims.{IsPlaced, IsSameStep, SlimCore, slim}
+use Rattle.iss_model.specs.Slims.{IsPlaced, IsSameStep, SlimCore}
 use Rattle.iss_model.specs.Sound.{carried}
 use Rattle.iss_model.proofs.AlikeSlims.{steps-placed, steps-same}
 use Rattle.iss_model.proofs.Casts.{idle-ready}
 use Rattle.iss_model.proofs.Places.{FiledCore}
-use Rattle.iss_snapshot.specs.Snapshots.{IsEncodable, snapshot_row, spell_snapshot}
+use Rattle.iss_snapshot.specs.Snapshots.{snapshot_row, spell_snapshot}
 use Rattle.iss_snapshot.specs.declared.snapshots.Snapshot.{Snapshot}
 use Rattle.iss_snapshot.proofs.SnapshotGrammar.{spelled-row}
 use Rattle.iss_rebuilt.specs.Laws.{HasEntry, IsRecovered}
 use Rattle.iss_rebuilt.specs.Reading.{Rebuilt, core_of_step, reads_entry, rebuilt, recovered, replayed, replays, woken, woken_of}
-use Rattle.iss_rebuilt.specs.Storable.{IsBehind, IsReadBack}
+use Rattle.iss_rebuilt.specs.Storable.{IsBehind}
 use Rattle.iss_rebuilt.specs.Stored.{Kept, Saved, Stored, is_snapshot, nothing_saved, or_event, retained, saved_after, snapshot_kept, snapshot_of, stored, stored_by}
 use Rattle.iss_rebuilt.proofs.Ballots.{no-ballots}
 use Rattle.iss_rebuilt.proofs.Encodable.{IsWritable, snapshot-fits}
@@ -32,7 +32,7 @@ use Rattle.iss_rebuilt.proofs.Entering.{quiet, step-rises}
 use Rattle.iss_rebuilt.proofs.Entries.{entry-read, past-same}
 use Rattle.iss_rebuilt.proofs.Heard.{log-read}
 use Rattle.iss_rebuilt.proofs.Regular.{Goes, IsGoodFrame, IsRegular, regular-open, slots-in}
-use Rattle.iss_rebuilt.proofs.Resting.{IsOpen, IsResting, no-early, step-goes, step-rests}
+use Rattle.iss_rebuilt.proofs.Resting.{IsResting, no-early, step-goes, step-rests}
 use Rattle.iss_rebuilt.proofs.Storing.{IsEntered, entering}
 use Rattle.iss_rebuilt.proofs.Waking.{AreSlim, each-slim}
 

@@ -18,7 +18,7 @@ use Rattle.iss_sb.specs.Evidence.{Module}
 use Rattle.iss_transfer.specs.Bodies.{parse_ask, parse_piece}
 use Rattle.iss_transfer.specs.declared.pieces.Piece.{Piece as Sent_piece}
 use Rattle.iss_transfer.proofs.PieceGrammar.{piece-table}
-use Rattle.iss_rules.specs.Formats.{formats_of, message_in, packet_as, parcel_in, parcel_of_kind, piece_in, vote_in, whole}
+use Rattle.iss_rules.specs.Formats.{formats_of, message_in, parcel_in, parcel_of_kind, piece_in, vote_in, whole}
 use Rattle.iss_rules.specs.Parcels.{Body, OfModule, OfPiece, OfVote, Parcel}
 use Rattle.iss_rules.proofs.FromNodes.{ask-sort, piece-sort, request-sort, sort_of, vote-sort}
 use Rattle.iss_snapshot.specs.Snapshots.{IsCertEntry, IsVoteEntry}

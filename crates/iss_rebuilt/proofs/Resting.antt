@@ -1,18 +1,14 @@
 -- A core between two events, and what an event does to it: the core stays in its epoch, or enters the next one as it
 -- would without early messages, and then takes these, which may end that epoch too.
-use Rattle.std.proofs.Common.{◌≡◌, ◌⊎◌, inl, inr, ℕ, suc, ◌≤◌, ◌<◌, ◌^◌, Bool, true, false, cond, eqb, List, [], ◌∷◌, ◌++◌, length, length-append, Option, Some, None, refl, sym, ap, ap₂, ◌∙◌, subst, arith, true≢false}
+use Rattle.std.proofs.Common.{◌≡◌, ◌⊎◌, inl, inr, ℕ, suc, ◌≤◌, ◌<◌, ◌^◌, Bool, true, false, cond, eqb, List, [], ◌∷◌, ◌++◌, length, length-append, Option, Some, None, refl, sym, ap, ap₂, ◌∙◌, subst, arith}
 use Rattle.iss_base.specs.Lists.{In, first_of}
 use Rattle.iss_base.proofs.Lists.{eqb-other, eqb-same, in_append, in_left}
-use Rattle.iss_checkpoint.specs.declared.votes.Vote.{Vote}
 use Rattle.iss_request.specs.Fields.{IsReadAgain}
-use Rattle.iss_request.specs.Formats.{requests_most}
 use Rattle.iss_request.specs.declared.ids.Slot.{Slot}
 use Rattle.iss_request.specs.declared.requests.Batch.{Batch}
-use Rattle.iss_request.specs.declared.requests.Request.{Request}
 use Rattle.iss_request.specs.declared.setups.Setup.{Setup}
 use Rattle.iss_sb.specs.declared.effects.Input.{Input}
 use Rattle.iss_sb.specs.declared.effects.Input.TheVariants.{Cast, Receive, Timeout}
-use Rattle.iss_sb.specs.declared.effects.Params.{Params}
 use Rattle.iss_sb.specs.Evidence.{Module}
 use Rattle.iss_transfer.specs.declared.pieces.Piece.{Piece as Sent_piece}
 use Rattle.iss_rules.specs.declared.events.NodeEvent.{NodeEvent}
@@ -21,16 +17,16 @@ use Rattle.iss_rules.specs.Parcels.{Body, Formats, OfModule, OfPiece, Parcel}
 use Rattle.iss_rules.specs.Past.{Past, is_complete}
 use Rattle.iss_rules.specs.Rules.{Rules}
 use Rattle.iss_rules.specs.Votes.{stable}
-use Rattle.iss_model.specs.Node.{Core, Dropped, Early, Stepped, Taken, Turn, adopts_piece, advance_epochs, asking, counted, early_most, ended, ends, finish_step, handing, initial_core, or_unchanged, step, step_unjudged, takes_each, takes_early, then_turn, try_step, unchanged}
+use Rattle.iss_model.specs.Node.{Core, Dropped, Early, Stepped, Taken, Turn, adopts_piece, advance_epochs, counted, early_most, ended, ends, finish_step, or_unchanged, step, step_unjudged, takes_each, takes_early, then_turn, try_step, unchanged}
 use Rattle.iss_model.specs.Sound.{carried}
-use Rattle.iss_model.proofs.Casts.{cast-fit, cast-read, casting-ready, early-ready, idle-ready, kept-ready, requested-ready}
+use Rattle.iss_model.proofs.Casts.{cast-fit, cast-read, casting-ready, early-ready, kept-ready, requested-ready}
 use Rattle.iss_model.proofs.Places.{FiledCore, step-keeps}
 use Rattle.iss_model.proofs.Ready.{IsReadyCore}
 use Rattle.iss_model.proofs.Rows.{IsFit}
-use Rattle.iss_model.proofs.Steps.{IsAdopted, IsCast, IsInput, IsKept, IsVoted, Took, adopted, asked, cast, casting, fired, handed, input-taken, kept, next_batch, received, sought, took, voted}
-use Rattle.iss_model.proofs.Told.{AreTold, took-told}
+use Rattle.iss_model.proofs.Steps.{IsAdopted, IsCast, IsInput, IsKept, Took, adopted, asked, cast, casting, fired, handed, input-taken, kept, next_batch, received, sought, took, voted}
+use Rattle.iss_model.proofs.Told.{AreTold}
 use Rattle.iss_rebuilt.specs.Stored.{early_parcel}
-use Rattle.iss_rebuilt.proofs.Ballots.{ballots-counted, counted-keeps, no-ballots}
+use Rattle.iss_rebuilt.proofs.Ballots.{ballots-counted, counted-keeps}
 use Rattle.iss_rebuilt.proofs.Entering.{advance-ends, advance-enters, advance-stays, cast-step, entered_last, input-passes, message-step, piece-step, quiet, quiet-adopted, quiet-ends, quiet-input}
 use Rattle.iss_rebuilt.proofs.Regular.{Goes, IsFresh, IsGoodFrame, IsRegular, MayTake, adopts-fresh, adopts-goes, adopts-regular, ends-fresh, ends-goes, ends-regular, goes-refl, goes-trans, input-goes, input-regular, input-spare, regular-open, slots-in}
 

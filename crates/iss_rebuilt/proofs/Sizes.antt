@@ -1,5 +1,5 @@
 -- A snapshot that is not too long has few elements: each takes a byte at least.
-use Rattle.std.proofs.Common.{◌≡◌, inl, inr, ℕ, suc, ◌-◌, ◌+◌, ◌≤◌, ◌<◌, ◌^◌, true, List, [], ◌∷◌, ◌++◌, length, length-append, refl, sym, ap, ◌∙◌, subst, arith, le_trans}
+use Rattle.std.proofs.Common.{◌≡◌, inl, inr, ℕ, ◌-◌, ◌≤◌, ◌<◌, ◌^◌, true, List, [], ◌∷◌, ◌++◌, length, length-append, refl, sym, subst, arith, le_trans}
 use Rattle.std.specs.Int.{to_be_bytes, w16, w32, w64}
 use Rattle.std.specs.List.{flat_map, list_all}
 use Rattle.std.proofs.lemmas.Bool.{lt-ltb}
@@ -10,12 +10,12 @@ use Rattle.iss_checkpoint.specs.Certificates.{spell_cert}
 use Rattle.iss_checkpoint.specs.declared.votes.Cert.{Cert}
 use Rattle.iss_checkpoint.specs.declared.votes.Vote.{Vote}
 use Rattle.iss_journal.specs.Frames.{max_entry}
-use Rattle.iss_request.specs.Formats.{HasSpelling, request_bytes, spell_request}
+use Rattle.iss_request.specs.Formats.{HasSpelling, spell_request}
 use Rattle.iss_request.specs.declared.requests.Request.{Request}
-use Rattle.iss_request.proofs.ParserLemmas.{wide32, wide64}
+use Rattle.iss_request.proofs.ParserLemmas.{wide64}
 use Rattle.iss_snapshot.specs.declared.snapshots.Snapshot.{Snapshot}
 use Rattle.iss_snapshot.specs.Snapshots.{body_bytes, cert_entry, counted, fits, head_bytes, is_short, packet_entry, snapshot_row, spell_values, vote_entry}
-use Rattle.iss_snapshot.proofs.SnapshotGrammar.{Fitting, is-fitting}
+use Rattle.iss_snapshot.proofs.SnapshotGrammar.{is-fitting}
 
 -- ---- parts of a list of bytes
 

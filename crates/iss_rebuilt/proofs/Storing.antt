@@ -1,6 +1,6 @@
 -- A core that has just entered an epoch is storable. It is the one that a step shows, and woken it is the core after the
 -- step.
-use Rattle.std.proofs.Common.{◌≡◌, ◌⊎◌, inl, inr, ℕ, suc, ◌≤◌, ◌<◌, Bool, true, false, cond, eqb, List, [], ◌∷◌, ◌++◌, length, Option, Some, None, refl, sym, ap, ap₂, ◌∙◌, subst, arith}
+use Rattle.std.proofs.Common.{◌≡◌, ◌⊎◌, inl, inr, ℕ, suc, ◌≤◌, ◌<◌, List, [], ◌∷◌, length, Option, Some, None, refl, sym, ap, ap₂, ◌∙◌, subst, arith}
 use Rattle.iss_base.specs.Lists.{In, first_of}
 use Rattle.iss_base.proofs.Lists.{in_left}
 use Rattle.iss_request.specs.declared.ids.Slot.{Slot}
@@ -12,7 +12,7 @@ use Rattle.iss_rules.specs.Parcels.{Formats}
 use Rattle.iss_rules.specs.Rules.{Rules}
 use Rattle.iss_rules.proofs.Ids.{ids-left, in-ids}
 use Rattle.iss_model.specs.Frames.{Frame}
-use Rattle.iss_model.specs.Node.{Core, Dropped, Early, Stepped, Taken, Turn, early_most, step, takes_each}
+use Rattle.iss_model.specs.Node.{Core, Early, Taken, Turn, early_most, step, takes_each}
 use Rattle.iss_model.specs.Sound.{carried}
 use Rattle.iss_model.proofs.Casts.{early-ready}
 use Rattle.iss_model.proofs.Places.{FiledCore, step-keeps}

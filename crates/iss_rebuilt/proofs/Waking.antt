@@ -1,5 +1,5 @@
 -- Cores with equal slim parts take the same early messages alike: each is taken as the packet that it came in.
-use Rattle.std.proofs.Common.{◌≡◌, ◌≢◌, ◌⊎◌, inl, inr, ℕ, suc, Bool, true, false, cond, nat_le, List, [], ◌∷◌, length, Option, Some, refl, sym, ap, ap₂, ◌∙◌, subst}
+use Rattle.std.proofs.Common.{◌≡◌, ◌≢◌, ◌⊎◌, inl, inr, ℕ, suc, Bool, true, false, cond, nat_le, List, [], ◌∷◌, length, Some, refl, sym, ap, ap₂, ◌∙◌, subst}
 use Rattle.iss_base.specs.Lists.{In}
 use Rattle.iss_base.proofs.Lists.{same_or_not}
 use Rattle.iss_request.specs.declared.requests.Value.{Value}
@@ -8,7 +8,7 @@ use Rattle.iss_sb.specs.Evidence.{Module}
 use Rattle.iss_rules.specs.declared.events.NodeEvent.{NodeEvent}
 use Rattle.iss_rules.specs.declared.events.NodeEvent.TheVariants.{Packet as On_packet}
 use Rattle.iss_rules.specs.Parcels.{Formats}
-use Rattle.iss_rules.specs.Past.{is_complete, log_of, start_of}
+use Rattle.iss_rules.specs.Past.{is_complete, start_of}
 use Rattle.iss_rules.specs.Rules.{Rules}
 use Rattle.iss_model.specs.Node.{Core, Dropped, Early, Stepped, Taken, Turn, ended, ends, finish_step, or_unchanged, step, takes_each, takes_early, then_turn, try_step, unchanged}
 use Rattle.iss_model.specs.Slims.{IsPlaced, IsSameStep, SlimCore, slim}
