@@ -7,3 +7,6 @@ mod Resting
 mod Reading
 mod SomeReading
 mod TailLemmas
+pub mod Retaining
+mod RetainedLemmas
+mod Over

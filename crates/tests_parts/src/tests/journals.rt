@@ -1,6 +1,6 @@
 //! Journals, on a disk in memory and over a file of the operating system.
 use iss_disk::{Disk, FileDisk, MemoryDisk};
-use iss_journal::{AttachError, Journal, Part};
+use iss_journal::{AttachError, Journal};
 use iss_request::Bytes;
 use std::alloc::Global;
 use std::fs;
@@ -48,9 +48,12 @@ fn an_append_writes_a_frame(rt: HostRuntime) -> Result<(), Fail> {
     {
         let mut journal = Journal::over(rt.alloc(), &mut disk);
         journal.attach()?;
-        journal.append(&[0xaa])?;
+        journal.append(&[0xaa], Bytes::new(rt.alloc()))?;
         assert_eq!(rt; journal.entries().len(), 1);
-        assert_eq!(rt; journal.entries().get(0).0, [0xaa].as_slice());
+        assert_eq!(rt;
+            journal.entries().get(rt.alloc(), 0)?.as_slice(),
+            [0xaa].as_slice()
+        );
         assert_eq!(rt; journal.gate_of(0), 0);
     }
     assert_file(&rt, &mut disk, &[1, 0, 0, 0, 1, 0xaa, 0])
@@ -64,13 +67,19 @@ fn a_shared_part_is_of_the_entry(rt: HostRuntime) -> Result<(), Fail> {
         let mut journal = Journal::over(alloc, &mut disk);
         journal.attach()?;
         let shared = Bytes::shared(Vec::from_slice(alloc, b"wo")?)?;
-        journal.append_parts(b"t", Part::Shared(shared))?;
-        journal.append(b"x")?;
+        journal.append(b"t", shared)?;
+        journal.append(b"x", Bytes::new(alloc))?;
         assert_eq!(rt; journal.entries().len(), 2);
-        assert_eq!(rt; journal.entries().get(0), (b"t".as_slice(), b"wo".as_slice()));
+        assert_eq!(rt;
+            journal.entries().get(alloc, 0)?.as_slice(),
+            b"two".as_slice()
+        );
         assert_eq!(rt; journal.gate_of(1), 8);
         journal.attach()?;
-        assert_eq!(rt; journal.entries().get(0).0, b"two".as_slice());
+        assert_eq!(rt;
+            journal.entries().get(alloc, 0)?.as_slice(),
+            b"two".as_slice()
+        );
         assert_eq!(rt; journal.gate_of(1), 8);
     }
     assert_file(&rt, &mut disk, b"\x01\0\0\0\x03two\x01\0\0\0\x01x\0")
@@ -115,11 +124,14 @@ fn a_file_is_attached_anew(rt: HostRuntime) -> Result<(), Fail> {
         disk.attach(name)?;
         let mut journal = Journal::over(rt.alloc(), disk);
         journal.attach()?;
-        journal.append(b"kept")?;
+        journal.append(b"kept", Bytes::new(rt.alloc()))?;
     }
     let journal = file_journal(&rt, name)?;
     fs::remove_file(&rt, name)?;
     assert_eq!(rt; journal.entries().len(), 1);
-    assert_eq!(rt; journal.entries().get(0).0, b"kept".as_slice());
+    assert_eq!(rt;
+        journal.entries().get(rt.alloc(), 0)?.as_slice(),
+        b"kept".as_slice()
+    );
     Ok(())
 }
