@@ -93,7 +93,8 @@ impl<D: Disk> Journal<D> {
         self.disk.reserve(4, 1)?;
         self.disk.sync()?;
         let all = load(self.alloc, &mut self.disk)?;
-        self.kept = Retained::of(self.alloc, &all)?;
+        let kept = Retained::of(self.alloc, &all)?;
+        self.kept = kept;
         self.attached = true;
         Ok(())
     }
