@@ -16,7 +16,8 @@ const SOME_ENTRIES: u64 = 64;
 
 const SOME_BYTES: u64 = 4096;
 
-/// A list of entries in the current file of a disk. Each entry is durable before its `append` returns Ok.
+/// A list of entries in the current file of a disk. Each entry is durable before its `append` returns Ok. The file keeps
+/// all entries, and the journal those that stay: the snapshots, whose first byte is 5, and all that follows the last.
 #[derive(Drop)]
 pub struct Journal<D: Disk> {
     alloc: Global,
@@ -32,7 +33,7 @@ impl<D: Disk> Journal<D> {
     ghost use Rattle.iss_disk.specs.File.{settled};
     ghost use Rattle.iss_disk.specs.Calls.{IfTold, Stays, StaysHere, HasCause, Runs};
     ghost use Rattle.iss_journal.specs.Frames.{max_entry, Reads, damaged};
-    ghost use Rattle.iss_journal.specs.Retained.{retained};
+    ghost use Rattle.iss_journal.specs.Retained.{is_snapshot, retained};
     ghost use Rattle.iss_journal.specs.Promises.{OnlyLeaves, LeavesWithOrWithout, LosesNothing, ComesToRest, EndsClosed, Shows, Works};
     ghost use Rattle.iss_journal.specs.SharedViews.{shared_in};
     ghost use Rattle.iss_journal.specs.Sound.{disk_of, entries_of, gates_of, is_attached, reserved_of, IsRead, IsSound, NothingChanged};
@@ -198,14 +199,17 @@ impl<D: Disk> Journal<D> {
     }
 
     /// Appends an entry, given in two parts. `head` is copied. `body` is kept as it is: in memory the journal shares it.
-    /// After Ok, every crash image holds the entry. After `NoMemory` nothing has changed. After `Failed` the journal
-    /// must be attached again; the entry is then in it or not.
+    /// A snapshot takes the place of the entries that follow the snapshot before it; the file keeps these. After Ok,
+    /// every crash image holds the entry. After `NoMemory` nothing has changed. After `Failed` the journal must be
+    /// attached again; the entry is then in it or not.
     #[inline(always)]
     pub fn append(&mut self, head: &[u8], body: Bytes) -> Result<(), EndError>
         requires sound { IsSound D.history D.room self.old }
         requires attached { is_attached self.old ≡ true }
         requires short { length (head.now ++ body) ≤ max_entry }
         ensures entries { OnOk result (entries_of self.new ≡ retained (entries_of self.old ++ (head.now ++ body) ∷ [])) }
+        ensures event { is_snapshot (head.now ++ body) ≡ false →
+            OnOk result (entries_of self.new ≡ entries_of self.old ++ (head.now ++ body) ∷ []) }
         ensures err { OnErr result (entries_of self.new ≡ entries_of self.old) }
         ensures file { OnOk result (IfTold (D.history (disk_of self.new)) (EndsClosed (entries_of self.new))) }
         ensures attached { OnOk result (is_attached self.new ≡ true) }

@@ -149,11 +149,14 @@ impl Retained {
     }
 
     // Adds an entry. A snapshot takes the place of all that follows the one before it.
+    // rule: Journal: Of the entries stay the snapshots, and all that follows the last of them
     #[inline(always)]
     pub(crate) fn add(&mut self, head: &[u8], body: Bytes)
         requires short { length (head.now ++ body) ≤ max_entry }
         requires room { TakesMore 1 (length (head.now ++ body)) self.old }
         ensures entries { shown_in self.new ≡ retained (shown_in self.old ++ (head.now ++ body) ∷ []) }
+        ensures event { is_snapshot (head.now ++ body) ≡ false →
+            shown_in self.new ≡ shown_in self.old ++ (head.now ++ body) ∷ [] }
         ensures retains { (all : List (List ℕ)) → Retains all self.old → Retains (all ++ (head.now ++ body) ∷ []) self.new }
         ensures grown { HasGrown (5 + length (head.now ++ body)) self.old self.new }
     {
@@ -170,6 +173,7 @@ impl Retained {
         requires short { length (head.now ++ body) ≤ max_entry }
         requires room { TakesMore 1 (length (head.now ++ body)) self.old }
         ensures entries { shown_in self.new ≡ retained (shown_in self.old ++ (head.now ++ body) ∷ []) }
+        ensures last { shown_in self.new ≡ shown_in self.old ++ (head.now ++ body) ∷ [] }
         ensures retains { (all : List (List ℕ)) → Retains all self.old → Retains (all ++ (head.now ++ body) ∷ []) self.new }
         ensures grown { HasGrown (5 + length (head.now ++ body)) self.old self.new }
     {
