@@ -1,5 +1,6 @@
 // Recovery: a node is rebuilt by replaying the entries of its journal.
-ghost use Rattle.std.specs.Prelude.{◌≡◌, ◌<◌, ◌++◌, ℕ, true, IfOk, IsErrOf, OnOk};
+ghost use Rattle.std.specs.Prelude.{◌≡◌, ◌<◌, ℕ, [], true, length, slice_index_or, IfOk, IsErrOf, OnOk};
+ghost use Rattle.iss_journal.specs.SharedViews.{shared_in};
 ghost use Rattle.iss_journal.specs.Sound.{IsSound, disk_of, entries_of, is_attached};
 ghost use Rattle.iss_keep.specs.Cores.{StopsAt};
 ghost use Rattle.iss_keep.specs.Internal.Replays.{GoesTo, IsOf, IsReplayed};
@@ -11,7 +12,7 @@ ghost use Rattle.iss_node.specs.State.{RefinesCore};
 
 use crate::entries::decode_entry;
 use iss_disk::Disk;
-use iss_journal::{AttachError, Journal};
+use iss_journal::{AttachError, Journal, SharedEntries};
 use iss_keys::SharedDirectory;
 use iss_node::{Answer, Node};
 use iss_request::{NoMemory, NodeId, Setup};
@@ -58,33 +59,23 @@ fn replay_entry<M: Sequenced>(
     }
 }
 
-// Replays an entry that is given in two parts.
-fn replay_parts<M: Sequenced>(
+// Replays entry `k`, as `replay_entry` does.
+fn replay_at<M: Sequenced>(
     alloc: Global,
     n: u32,
     node: &mut Node<M>,
-    head: &[u8],
-    tail: &[u8],
+    entries: &SharedEntries,
+    k: usize,
 ) -> Result<bool, NoMemory>
-    requires { n ≡ node.old.state.setup.n }
+    requires n { n ≡ node.old.state.setup.n }
+    requires k { k < length (shared_in entries.now) }
     ensures goes { IfOk result (λ taken. (c : Core M.Msg) → RefinesCore M.spec M.refines node.old c →
-        GoesTo node.old.state.setup M.spec M.refines node.old.state.me.0 c (head.now ++ tail.now) node.new taken) }
+        GoesTo node.old.state.setup M.spec M.refines node.old.state.me.0 c (slice_index_or (shared_in entries.now) k [])
+        node.new taken) }
     ensures same { (node.new.state.setup ≡ node.old.state.setup) × (node.new.state.me ≡ node.old.state.me) }
 {
-    if tail.is_empty() {
-        return replay_entry(alloc, n, node, head);
-    }
-    let entry = joined(alloc, head, tail)?;
+    let entry = entries.get(alloc, k)?;
     replay_entry(alloc, n, node, &entry)
-}
-
-// Both lists of bytes as one.
-fn joined(alloc: Global, head: &[u8], tail: &[u8]) -> Result<Vec<u8>, NoMemory>
-    ensures { IfOk result (λ all. all.items ≡ head.now ++ tail.now) }
-{
-    let mut all = head.to_vec(alloc)?;
-    all.extend_from_slice(tail)?;
-    Ok(all)
 }
 
 // Replays all entries of the journal. `Damaged` has the gate offset of the first entry that does not decode or is
@@ -114,8 +105,7 @@ fn replay<M: Sequenced, D: Disk>(
     };
     let entries = journal.entries();
     for k in 0..entries.len() {
-        let (head, tail) = entries.get(k);
-        let Ok(taken) = replay_parts(alloc, setup.n, &mut node, head, tail) else {
+        let Ok(taken) = replay_at(alloc, setup.n, &mut node, entries, k) else {
             return Err(AttachError::NoMemory);
         };
         if !taken {

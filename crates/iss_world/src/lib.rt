@@ -10,7 +10,7 @@ mod shown;
 pub mod simulation;
 mod stepping;
 pub mod strings;
-pub mod texts;
+mod texts;
 pub mod world;
 
 pub use world::{EventResult, World};

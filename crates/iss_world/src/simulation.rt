@@ -78,7 +78,7 @@ impl<M: Sequenced> Simulation<M> {
             nodes: start_cores(alloc, setup, &directory)?,
             network: Network::new(alloc, cores_of(setup))?,
             signed: Claims::new(alloc),
-            hashed: Strings::new(alloc, setup.version)?,
+            hashed: Strings::new(alloc)?,
             directory,
         })
     }

@@ -1,6 +1,6 @@
 //! One event at a core. First the signatures that it claims are tested, then the core takes it. What the step made is
 //! then tested, recorded and posted.
-ghost use Rattle.std.specs.Prelude.{◌≡◌, ◌<◌, ◌≤◌, ℕ, drop, false, IfOk, List, None, Some, length, option_map, slice_get};
+ghost use Rattle.std.specs.Prelude.{◌≡◌, ◌<◌, ◌≤◌, ℕ, false, IfOk, List, None, Some, length, option_map, slice_get};
 ghost use Rattle.iss_base.specs.Lists.{push_all};
 ghost use Rattle.iss_rules.specs.Books.{Signed};
 ghost use Rattle.iss_rules.specs.declared.events.NodeEvent.{NodeEvent as ModelEvent};
@@ -58,6 +58,14 @@ fn savepoint_of<M: Sequenced>(node: &Kept<M, MemoryDisk>) -> (usize, Epoch)
     (node.log().entries().len(), node.epoch())
 }
 
+// The values of a node's log from this slot on.
+fn values_from<M: Sequenced>(node: &Kept<M, MemoryDisk>, slots: usize) -> &[Value] {
+    match node.log().entries().get(slots..) {
+        Some(values) => values,
+        None => &[],
+    }
+}
+
 // Steps a kept node. Also returns its number of slots and its epoch from before the event, to which it can retreat.
 fn take_with_savepoint<M: Sequenced>(
     node: &mut Kept<M, MemoryDisk>,
@@ -74,23 +82,6 @@ fn take_with_savepoint<M: Sequenced>(
     (node.take(event), slots, epoch)
 }
 
-// The values of a node's log from this slot on.
-fn values_from<M: Sequenced>(node: &Kept<M, MemoryDisk>, slots: usize) -> &[Value]
-    ensures { result.now ≡ drop slots node.now.node.state.log.entries }
-{
-    match node.log().entries().get(slots..) {
-        Some(values) => values,
-        None => &[],
-    }
-}
-
-// What a step made: its outcome, and the values that joined the log.
-#[derive(Clone, Copy, Drop)]
-struct Made<'a> {
-    outcome: &'a Outcome,
-    values: &'a [Value],
-}
-
 // The evidence that a step reveals, if any: a forged claim in a message that arrived early, or a collision. Without
 // evidence, the step's strings are recorded as hashed.
 fn ends(
@@ -99,19 +90,19 @@ fn ends(
     directory: &Directory,
     signed: &Claims,
     hashed: &mut Strings,
-    made: Made,
+    outcome: &Outcome,
 ) -> Result<Option<Evidence>, NoMemory>
     requires { directory.now ≡ keys_of setup.now }
     ensures told { IfOk result (λ end. (claims : List Signed) (strings : List (List ℕ)) → AreSigned signed.now claims →
         AreHashed hashed.old strings →
-        option_map end_of end ≡ ends_by setup.now claims strings made.outcome.now.early made.outcome.now.hashed) }
+        option_map end_of end ≡ ends_by setup.now claims strings outcome.now.early outcome.now.hashed) }
     ensures booked { IfOk result (λ end. (strings : List (List ℕ)) → AreHashed hashed.old strings → end ≡ None →
-        AreHashed hashed.new (push_all made.outcome.now.hashed strings)) }
+        AreHashed hashed.new (push_all outcome.now.hashed strings)) }
 {
-    let early = made.outcome.early.as_slice();
+    let early = outcome.early.as_slice();
     match signed.first_forged(alloc, setup, directory, early)? {
         Some(claim) => Ok(Some(Evidence::Forged(claim))),
-        None => hashed.book(directory, made.outcome.hashed.as_slice(), made.values),
+        None => hashed.book(directory, outcome.hashed.as_slice()),
     }
 }
 
@@ -217,10 +208,7 @@ impl<M: Sequenced> Simulation<M> {
             directory,
             &self.signed,
             &mut self.hashed,
-            Made {
-                outcome,
-                values: values_from(&self.nodes[core as usize], slots),
-            },
+            outcome,
         )?;
         match ended {
             Some(end) => {
@@ -228,6 +216,8 @@ impl<M: Sequenced> Simulation<M> {
                 Ok(EventOutcome::Ended(end))
             }
             None => {
+                let values = values_from(&self.nodes[core as usize], slots);
+                self.hashed.share(self.setup.version, directory, values)?;
                 let own = outcome.own.as_slice();
                 book_own(alloc, &self.setup, core, own, &mut self.signed)?;
                 post_all(

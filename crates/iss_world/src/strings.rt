@@ -1,5 +1,5 @@
 //! The strings that were hashed, to detect collisions.
-ghost use Rattle.std.specs.Prelude.{◌≡◌, ◌∷◌, [], ℕ, List, None, IfOk, option_map};
+ghost use Rattle.std.specs.Prelude.{◌≡◌, ◌∷◌, [], ℕ, List, None, IfOk, OnOk, option_map};
 ghost use Rattle.iss_base.specs.Lists.{push_all, same_bytes};
 ghost use Rattle.iss_model.specs.Run.{collision_in, collision_with};
 ghost use Rattle.iss_request.specs.Digest.{digest};
@@ -7,18 +7,17 @@ ghost use Rattle.iss_world.specs.Books.{AreHashed, difference};
 ghost use Rattle.iss_world.specs.Refines.{end_of};
 
 use crate::ends::Evidence;
-use crate::texts::{Text, kept};
+use crate::texts::Text;
 use iss_keys::Directory;
-use iss_request::{Bytes, NoMemory, Value};
+use iss_request::{Bytes, NoMemory, Value, value_string};
 use std::alloc::Global;
 use std::collections::BTreeMap;
 use std::marker::Model;
 
-/// The hashed strings, by digest, in one version of the formats.
+/// The hashed strings, by digest.
 #[derive(Drop)]
 pub struct Strings {
     alloc: Global,
-    version: u8,
     all: BTreeMap<[u8; 32], Text>,
 }
 
@@ -42,26 +41,16 @@ fn digest(directory: &Directory, string: &[u8]) -> [u8; 32]
 
 impl Strings {
     /// Holds only the empty string. The only error is out of memory.
-    pub fn new(alloc: Global, version: u8) -> Result<Strings, NoMemory>
+    pub fn new(alloc: Global) -> Result<Strings, NoMemory>
         ensures { IfOk result (λ v. AreHashed v ([] ∷ [])) }
     {
         let mut all = BTreeMap::new(alloc);
-        all.insert([0; 32], Text::of_bytes(&Bytes::new(alloc))?)?;
-        Ok(Strings {
-            alloc,
-            version,
-            all,
-        })
+        all.insert([0; 32], Text::of_bytes(Bytes::new(alloc)))?;
+        Ok(Strings { alloc, all })
     }
 
-    // Adds a string, which is kept as `text`. Returns the collision if another string has the same digest.
-    fn add(
-        &mut self,
-        directory: &Directory,
-        string: &Bytes,
-        text: Text,
-    ) -> Result<Option<Evidence>, NoMemory>
-        requires { text ≡ string.now }
+    // Adds a string. Returns the collision if another string has the same digest.
+    fn add(&mut self, directory: &Directory, string: &Bytes) -> Result<Option<Evidence>, NoMemory>
         ensures told { IfOk result
             (λ end. (book : List (List ℕ)) → AreHashed self.old book →
             option_map end_of end ≡ collision_with string.now book) }
@@ -72,18 +61,16 @@ impl Strings {
         if let Some(first) = self.all.get(&digest) {
             return collision(self.alloc, first, string);
         }
-        self.all.insert(digest, text)?;
+        self.all.insert(digest, Text::of_bytes(string.copy()?))?;
         Ok(None)
     }
 
-    /// Adds the strings of a step, in order. Stops at the first that collides, and returns the collision. Strings of
-    /// `values`, in their order, share their requests.
+    /// Adds the strings of a step, in order. Stops at the first that collides, and returns the collision.
     // rule: Evidence: Two strings of one digest end the run, and the earlier one is named first
     pub fn book(
         &mut self,
         directory: &Directory,
         strings: &[Bytes],
-        values: &[Value],
     ) -> Result<Option<Evidence>, NoMemory>
         ensures told { IfOk result
             (λ end. (book : List (List ℕ)) → AreHashed self.old book →
@@ -91,16 +78,47 @@ impl Strings {
         ensures booked { IfOk result (λ end. (book : List (List ℕ)) → AreHashed self.old book → end ≡ None →
             AreHashed self.new (push_all strings.now book)) }
     {
-        let mut values = values;
         for string in strings {
-            let text = kept(self.alloc, self.version, string, values)?;
-            values = text.left_of(values);
-            let end = self.add(directory, string, text)?;
+            let end = self.add(directory, string)?;
             if end.is_some() {
                 return Ok(end);
             }
         }
         Ok(None)
+    }
+
+    // Keeps the string of a value, if it is here, as the value.
+    fn share_one(
+        &mut self,
+        version: u8,
+        directory: &Directory,
+        value: &Value,
+    ) -> Result<(), NoMemory>
+        ensures { OnOk result ((book : List (List ℕ)) → AreHashed self.old book → AreHashed self.new book) }
+    {
+        let string = value_string(self.alloc, version, value)?;
+        let digest = digest(directory, string.as_slice());
+        match self.all.get(&digest) {
+            Some(text) if text.copies(string.as_slice()) => (),
+            _ => return Ok(()),
+        }
+        self.all.insert(digest, Text::of_value(version, value)?)?;
+        Ok(())
+    }
+
+    /// Keeps the strings of these values, if they are here, as the values. The same strings are hashed as before.
+    pub fn share(
+        &mut self,
+        version: u8,
+        directory: &Directory,
+        values: &[Value],
+    ) -> Result<(), NoMemory>
+        ensures { OnOk result ((book : List (List ℕ)) → AreHashed self.old book → AreHashed self.new book) }
+    {
+        for value in values {
+            self.share_one(version, directory, value)?;
+        }
+        Ok(())
     }
 }
 
@@ -112,11 +130,7 @@ fn same(a: &[u8], b: &[u8]) -> bool
 }
 
 // The collision of two strings with one digest, if they differ.
-fn collision(
-    alloc: Global,
-    first: &Text,
-    second: &Bytes,
-) -> Result<Option<Evidence>, NoMemory>
+fn collision(alloc: Global, first: &Text, second: &Bytes) -> Result<Option<Evidence>, NoMemory>
     ensures { IfOk result (λ end. option_map end_of end ≡ difference first.now second.now) }
 {
     let first = first.bytes(alloc)?;

@@ -1,5 +1,5 @@
-//! A hashed string, as the book keeps it. Most of the bytes that a cluster hashes are of values, which the logs hold
-//! anyway: the book shares the value's requests with them.
+//! A hashed string, as the book of strings keeps it. Most of the bytes that a cluster hashes are of values, which the
+//! logs hold anyway: as a value a string shares its requests with them.
 ghost use Rattle.std.specs.Prelude.{◌≡◌, IfOk, IsTrue};
 ghost use Rattle.iss_request.specs.Formats.{value_string};
 
@@ -11,14 +11,14 @@ use std::marker::Model;
 #[derive(Drop)]
 enum Held {
     // all of it
-    Bytes(Bytes),
+    Copy(Bytes),
     // the value whose string it is, in a version of the formats
-    Value { version: u8, value: Value },
+    Shared { version: u8, value: Value },
 }
 
 /// A hashed string, which contracts see as its bytes.
 #[derive(Drop)]
-pub struct Text {
+pub(crate) struct Text {
     held: Held,
 }
 
@@ -32,74 +32,44 @@ impl Model for Text {
 }
 
 impl Text {
-    /// This string, kept as its bytes.
-    pub fn of_bytes(string: &Bytes) -> Result<Text, NoMemory>
-        ensures { IfOk result (λ t. t ≡ string.now) }
+    /// The string with these bytes.
+    pub(crate) fn of_bytes(string: Bytes) -> Text
+        ensures { result ≡ string }
     {
-        Ok(Text {
-            held: Held::Bytes(string.copy()?),
-        })
+        Text {
+            held: Held::Copy(string),
+        }
     }
 
-    /// The string of this value, kept as the value.
-    pub fn of_value(version: u8, value: &Value) -> Result<Text, NoMemory>
+    /// The string of a value.
+    pub(crate) fn of_value(version: u8, value: &Value) -> Result<Text, NoMemory>
         ensures { IfOk result (λ t. t ≡ value_string version value.now) }
     {
         Ok(Text {
-            held: Held::Value {
+            held: Held::Shared {
                 version,
                 value: value.copy()?,
             },
         })
     }
 
-    /// The values that are left to be kept: without the first of these if this text is that one.
-    pub fn left_of<'a>(&self, values: &'a [Value]) -> &'a [Value] {
-        match (&self.held, values) {
-            (Held::Value { .. }, [_, rest @ ..]) => rest,
-            _ => values,
+    /// Whether these bytes are kept as they are.
+    pub(crate) fn copies(&self, bytes: &[u8]) -> bool
+        ensures { IsTrue result → self.now ≡ bytes.now }
+    {
+        match &self.held {
+            Held::Copy(all) => all.as_slice() == bytes,
+            Held::Shared { .. } => false,
         }
     }
 
-    /// The bytes of the string.
-    pub fn bytes(&self, alloc: Global) -> Result<Bytes, NoMemory>
+    /// The bytes.
+    pub(crate) fn bytes(&self, alloc: Global) -> Result<Bytes, NoMemory>
         ensures { IfOk result (λ b. b ≡ self.now) }
     {
         match &self.held {
-            Held::Bytes(bytes) => bytes.copy(),
-            Held::Value { version, value } => value_string(alloc, *version, value),
+            Held::Copy(bytes) => bytes.copy(),
+            Held::Shared { version, value } => value_string(alloc, *version, value),
         }
     }
-}
-
-// Whether this is the string of the value.
-fn is_string_of(
-    alloc: Global,
-    version: u8,
-    string: &Bytes,
-    value: &Value,
-) -> Result<bool, NoMemory>
-    ensures { IfOk result (λ is. IsTrue is → string.now ≡ value_string version value.now) }
-{
-    let other = value_string(alloc, version, value)?;
-    Ok(string.as_slice() == other.as_slice())
-}
-
-/// The string as the book keeps it: as the first of these values if it is the string of that one, and otherwise as its
-/// bytes.
-pub fn kept(
-    alloc: Global,
-    version: u8,
-    string: &Bytes,
-    values: &[Value],
-) -> Result<Text, NoMemory>
-    ensures { IfOk result (λ t. t ≡ string.now) }
-{
-    let [value, ..] = values else {
-        return Text::of_bytes(string);
-    };
-    if is_string_of(alloc, version, string, value)? {
-        return Text::of_value(version, value);
-    }
-    Text::of_bytes(string)
 }

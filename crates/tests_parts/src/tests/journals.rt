@@ -60,7 +60,7 @@ fn an_append_writes_a_frame(rt: HostRuntime) -> Result<(), Fail> {
 }
 
 #[test]
-fn a_shared_part_is_of_the_entry(rt: HostRuntime) -> Result<(), Fail> {
+fn a_shared_body_is_of_the_entry(rt: HostRuntime) -> Result<(), Fail> {
     let alloc = rt.alloc();
     let mut disk = MemoryDisk::new(alloc)?;
     {
@@ -68,17 +68,20 @@ fn a_shared_part_is_of_the_entry(rt: HostRuntime) -> Result<(), Fail> {
         journal.attach()?;
         let shared = Bytes::shared(Vec::from_slice(alloc, b"wo")?)?;
         journal.append(b"t", shared)?;
+        assert_eq!(rt;
+            journal.entries().get(alloc, 0)?.as_slice(),
+            b"two".as_slice()
+        );
+        journal.attach()?;
         journal.append(b"x", Bytes::new(alloc))?;
         assert_eq!(rt; journal.entries().len(), 2);
         assert_eq!(rt;
             journal.entries().get(alloc, 0)?.as_slice(),
             b"two".as_slice()
         );
-        assert_eq!(rt; journal.gate_of(1), 8);
-        journal.attach()?;
         assert_eq!(rt;
-            journal.entries().get(alloc, 0)?.as_slice(),
-            b"two".as_slice()
+            journal.entries().get(alloc, 1)?.as_slice(),
+            b"x".as_slice()
         );
         assert_eq!(rt; journal.gate_of(1), 8);
     }
