@@ -98,7 +98,7 @@ split_at bytes count last k book lt =
     ∙ append_assoc before (frame entry ++ frames (drop (suc k) entries)) (drop last bytes)
     ∙ ap (λ (l : List ℕ). before ++ l) (append_assoc (frame entry) (frames (drop (suc k) entries)) (drop last bytes))
 
-short_at : (entries : List (List ℕ)) (k : ℕ) → k < length entries → AreShort entries →
+pub short_at : (entries : List (List ℕ)) (k : ℕ) → k < length entries → AreShort entries →
     length (get_or entries k []) ≤ max_entry
 short_at [] k lt short = absurd (omega (arith, lt))
 short_at (e ∷ entries) zero lt short = short.0

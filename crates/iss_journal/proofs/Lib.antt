@@ -8,5 +8,6 @@ mod Reading
 mod SomeReading
 mod TailLemmas
 pub mod Retaining
+pub mod Showing
 mod RetainedLemmas
 mod Over

@@ -41,9 +41,6 @@ no-places at [] h = refl
 no-places at (x ∷ xs) h =
     go (is_snapshot x) (has_snapshot xs) h (no-places (at + length (frame x)) xs)
   where
-    rest : List ℕ
-    rest = snapshot_places (at + length (frame x)) xs
-
     go : (a b : Bool) → (a || b) ≡ false → (b ≡ false → snapshot_places (at + length (frame x)) xs ≡ []) →
         cond a (at ∷ snapshot_places (at + length (frame x)) xs) (snapshot_places (at + length (frame x)) xs) ≡ []
     go true b h ih = absurd (cc)
@@ -67,24 +64,20 @@ pub gates-split : (at start : ℕ) (all : List (List ℕ)) →
     start + length (frames (behind all)) ≡ at + length (frames all) →
     gates_from at all ≡ snapshot_places at all ++ places start (behind all)
 gates-split at start [] h = refl
-gates-split at start (x ∷ xs) h = go (is_snapshot x) (has_snapshot xs) refl h
+gates-split at start (x ∷ xs) h =
+    go (is_snapshot x) (has_snapshot xs) refl (gates-split (at + length (frame x)) start xs) h
   where
-    next : ℕ
-    next = at + length (frame x)
-
-    on : start + length (frames (behind xs)) ≡ at + length (frame x ++ frames xs) →
-        gates_from (at + length (frame x)) xs
-        ≡ snapshot_places (at + length (frame x)) xs ++ places start (behind xs)
-    on h = gates-split (at + length (frame x)) start xs (omega (arith, h, length-append (frame x) (frames xs)))
-
     go : (a b : Bool) → has_snapshot xs ≡ b →
+        (start + length (frames (behind xs)) ≡ at + length (frame x) + length (frames xs) →
+        gates_from (at + length (frame x)) xs
+        ≡ snapshot_places (at + length (frame x)) xs ++ places start (behind xs)) →
         start + length (frames (cond (a || b) (behind xs) (x ∷ xs))) ≡ at + length (frame x ++ frames xs) →
         cond (a || not b) (at ∷ gates_from (at + length (frame x)) xs) (gates_from (at + length (frame x)) xs)
         ≡ cond a (at ∷ snapshot_places (at + length (frame x)) xs) (snapshot_places (at + length (frame x)) xs)
         ++ places start (cond (a || b) (behind xs) (x ∷ xs))
-    go true b q h = ap (λ (l : List ℕ). at ∷ l) (on h)
-    go false true q h = on h
-    go false false q h =
+    go true b q on h = ap (λ (l : List ℕ). at ∷ l) (on (omega (arith, h, length-append (frame x) (frames xs))))
+    go false true q on h = on (omega (arith, h, length-append (frame x) (frames xs)))
+    go false false q on h =
         let here : at ≡ start = omega (arith, h) in
         ap (λ (l : List ℕ). at ∷ l) (all-places (at + length (frame x)) xs q)
         ∙ ap (λ (n : ℕ). n ∷ places (n + length (frame x)) xs) here

@@ -44,28 +44,30 @@ row x has rest = cond (is_snapshot x || not has) (x ∷ rest) rest
 
 pub retained-again : (xs ys : List (List ℕ)) → retained (retained xs ++ ys) ≡ retained (xs ++ ys)
 retained-again [] ys = refl
-retained-again (x ∷ xs) ys = go (is_snapshot x) refl (has_snapshot xs) refl
+retained-again (x ∷ xs) ys = go (is_snapshot x) refl (has_snapshot xs) refl (retained-again xs ys)
   where
     same : has_snapshot (retained xs ++ ys) ≡ has_snapshot (xs ++ ys)
     same = has-append (retained xs) ys ∙ (ap (λ (b : Bool). b || has_snapshot ys) (has-retained xs)
         ∙ sym (has-append xs ys))
 
-    kept : retained (x ∷ (retained xs ++ ys)) ≡ retained (x ∷ (xs ++ ys))
-    kept = ap₂ (λ (b : Bool) (t : List (List ℕ)). row x b t) same (retained-again xs ys)
+    kept : retained (retained xs ++ ys) ≡ retained (xs ++ ys) →
+        retained (x ∷ (retained xs ++ ys)) ≡ retained (x ∷ (xs ++ ys))
+    kept ih = ap₂ (λ (b : Bool) (t : List (List ℕ)). row x b t) same ih
 
     dropped : is_snapshot x ≡ false → has_snapshot xs ≡ true →
+        retained (retained xs ++ ys) ≡ retained (xs ++ ys) →
         retained (retained xs ++ ys) ≡ retained (x ∷ (xs ++ ys))
-    dropped q h =
+    dropped q h ih =
         let late : has_snapshot (xs ++ ys) ≡ true = has-append xs ys
         ∙ ap (λ (b : Bool). b || has_snapshot ys) h in
-        retained-again xs ys
-        ∙ sym (ap₂ (λ (a b : Bool). cond (a || not b) (x ∷ retained (xs ++ ys)) (retained (xs ++ ys))) q late)
+        ih ∙ sym (ap₂ (λ (a b : Bool). cond (a || not b) (x ∷ retained (xs ++ ys)) (retained (xs ++ ys))) q late)
 
     go : (a : Bool) → is_snapshot x ≡ a → (b : Bool) → has_snapshot xs ≡ b →
+        retained (retained xs ++ ys) ≡ retained (xs ++ ys) →
         retained (cond (a || not b) (x ∷ retained xs) (retained xs) ++ ys) ≡ retained (x ∷ (xs ++ ys))
-    go true q b h = kept
-    go false q true h = dropped q h
-    go false q false h = kept
+    go true q b h ih = kept ih
+    go false q true h ih = dropped q h ih
+    go false q false h ih = kept ih
 
 -- what stays, stays
 pub retained-twice : (xs : List (List ℕ)) → retained (retained xs) ≡ retained xs
@@ -143,15 +145,14 @@ filter-retained (x ∷ xs) = go (is_snapshot x) refl (has_snapshot xs) (filter-r
 
 pub behind-retained : (xs : List (List ℕ)) → behind (retained xs) ≡ behind xs
 behind-retained [] = refl
-behind-retained (x ∷ xs) = go (is_snapshot x) refl (has_snapshot xs) refl
+behind-retained (x ∷ xs) = go (is_snapshot x) refl (has_snapshot xs) refl (behind-retained xs)
   where
-    go : (a : Bool) → is_snapshot x ≡ a → (b : Bool) → has_snapshot xs ≡ b →
+    go : (a : Bool) → is_snapshot x ≡ a → (b : Bool) → has_snapshot xs ≡ b → behind (retained xs) ≡ behind xs →
         behind (cond (a || not b) (x ∷ retained xs) (retained xs)) ≡ cond (a || b) (behind xs) (x ∷ xs)
-    go true q b h =
-        ap (λ (c : Bool). cond (c || has_snapshot (retained xs)) (behind (retained xs)) (x ∷ retained xs)) q
-        ∙ behind-retained xs
-    go false q true h = behind-retained xs
-    go false q false h =
+    go true q b h ih =
+        ap (λ (c : Bool). cond (c || has_snapshot (retained xs)) (behind (retained xs)) (x ∷ retained xs)) q ∙ ih
+    go false q true h ih = ih
+    go false q false h ih =
         ap₂ (λ (c d : Bool). cond (c || d) (behind (retained xs)) (x ∷ retained xs)) q (has-retained xs ∙ h)
         ∙ ap (λ (t : List (List ℕ)). x ∷ t) (none-dropped xs h)
 

@@ -28,6 +28,10 @@ pub record Shows (entries : List (List ℕ)) (bytes : List ℕ) : Type 0 where
 abbrev pub HoldsWithOrWithout : List (List ℕ) → List ℕ → List ℕ → Type 0
 HoldsWithOrWithout all entry bytes = Reads bytes (holds all) ⊎ Reads bytes (holds (all ++ entry ∷ []))
 
+-- what this list shows, or what it shows with one more entry
+abbrev pub ShowsWithOrWithout : List (List ℕ) → List ℕ → List ℕ → Type 0
+ShowsWithOrWithout entries entry bytes = Shows entries bytes ⊎ Shows (retained (entries ++ entry ∷ [])) bytes
+
 -- Of the entries of the file stay these. At each moment of a call every crash image holds all of them, with or without
 -- this new one.
 abbrev pub LeavesWithOrWithout : List (List ℕ) → List ℕ → List File → List File → Type 0

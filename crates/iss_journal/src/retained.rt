@@ -123,8 +123,8 @@ impl Retained {
     {
         let wanted = bytes.checked_add(6).ok_or(AllocError)?;
         let _end = self.end.checked_add(wanted).ok_or(AllocError)?;
-        self.entries.reserve(entries, bytes)?;
-        self.gates.reserve(entries)
+        self.gates.reserve(entries)?;
+        self.entries.reserve(entries, bytes)
     }
 
     // Puts an entry given in two parts after what is kept of the others: its length, its bytes and a closed gate.

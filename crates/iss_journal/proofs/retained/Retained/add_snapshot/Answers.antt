@@ -1,4 +1,4 @@
-use Rattle.std.proofs.Common.{arith, ℕ, ◌≡◌, ◌∙◌, ◌+◌, ◌++◌, [], ◌∷◌, List, length, length-append, take, ap, sym, subst}
+use Rattle.std.proofs.Common.{rules, arith, ℕ, ◌≡◌, ◌∙◌, ◌+◌, ◌≤◌, true, ◌++◌, [], ◌∷◌, List, length, length-append, take, ap, sym, subst}
 use Rattle.std.specs.List.{filter}
 use Rattle.iss_journal.specs.Retained.{is_snapshot, retained}
 use Rattle.iss_journal.specs.SharedViews.{HasSpace, shared_in}
@@ -23,8 +23,8 @@ counted gates now new gate is h = ap length is ∙ h
 pub keep_first-requires : goal.keep_first-requires
 keep_first-requires c =
     let now = c.args.self.now in
-    subst (λ (n : ℕ). n ≤ length (shared_in now.entries)) (sym c.len-2.ensures)
-    (first-within (shared_in now.entries) (length now.gates.items) now.kept now.count)
+    let many : c.len-2.result ≡ length now.gates.items = search rules in
+    first-within (shared_in now.entries) c.len-2.result now.kept (many ∙ now.count)
 
 pub add-requires : goal.add-requires
 add-requires c =
@@ -41,7 +41,8 @@ invariant_of-self c =
     let es = shared_in now.entries in
     let new = shared_in c.add.new.self in
     let entry = c.args.head.now ++ c.args.body in
-    let is = added es (shared_in c.keep_first.new.self) new (length now.gates.items) entry now.kept now.count
+    let many : c.len-2.result ≡ length now.gates.items = search rules in
+    let is = added es (shared_in c.keep_first.new.self) new c.len-2.result entry now.kept (many ∙ now.count)
     c.requires.snapshot c.keep_first.ensures.entries c.add.ensures.entries in
     record {
       kept = kept-after es new entry is;
@@ -53,8 +54,9 @@ invariant_of-self c =
 pub returns-clause-entries : goal.returns-clause-entries
 returns-clause-entries c =
     let now = c.args.self.now in
-    added (shared_in now.entries) (shared_in c.keep_first.new.self) (shared_in c.add.new.self)
-    (length now.gates.items) (c.args.head.now ++ c.args.body) now.kept now.count c.requires.snapshot
+    let many : c.len-2.result ≡ length now.gates.items = search rules in
+    added (shared_in now.entries) (shared_in c.keep_first.new.self) (shared_in c.add.new.self) c.len-2.result
+    (c.args.head.now ++ c.args.body) now.kept (many ∙ now.count) c.requires.snapshot
     c.keep_first.ensures.entries c.add.ensures.entries
 
 pub returns-clause-retains : goal.returns-clause-retains
@@ -63,7 +65,8 @@ returns-clause-retains c = λ all r.
     let es = shared_in now.entries in
     let new = shared_in c.add.new.self in
     let entry = c.args.head.now ++ c.args.body in
-    let is = added es (shared_in c.keep_first.new.self) new (length now.gates.items) entry now.kept now.count
+    let many : c.len-2.result ≡ length now.gates.items = search rules in
+    let is = added es (shared_in c.keep_first.new.self) new c.len-2.result entry now.kept (many ∙ now.count)
     c.requires.snapshot c.keep_first.ensures.entries c.add.ensures.entries in
     record {
       shown = shown-after es new entry is all r.shown;

@@ -1,4 +1,4 @@
-use Rattle.std.proofs.Common.{arith, ℕ, ◌≡◌, ◌∙◌, ◌<◌, ◌≤◌, ◌+◌, ◌-◌, ◌++◌, suc, [], List, length, length-append, take, get_or, ap, sym}
+use Rattle.std.proofs.Common.{rules, refl, subst, arith, ℕ, ◌≡◌, ◌∙◌, ◌<◌, ◌≤◌, ◌+◌, ◌-◌, ◌++◌, suc, [], List, length, length-append, take, get_or, ap, sym}
 use Rattle.std.specs.List.{filter}
 use Rattle.std.proofs.lemmas.List.{get_or-append_right}
 use Rattle.iss_journal.specs.Frames.{frames}
@@ -88,3 +88,13 @@ loop-i-preserved c =
       lies = next (shown_in now) (length now.gates.items) now.kept now.count c.loop-i.i now.start c.loop-i.gate
           c.parts.result.0.now c.parts.result.1.now c.loop-i.invariant.from lt c.loop-i.invariant.lies c.parts.ensures;
     }
+
+pub returns : goal.returns
+returns c =
+    let now = c.args.self.now in
+    let last : c.loop-i.i ≡ c.args.k = search rules in
+    found (shown_in now) (length now.gates.items) now.kept now.count now.gates.items c.args.k now.start c.loop-i.gate refl
+    c.requires.late c.requires.within
+    (subst (λ (i : ℕ). c.loop-i.gate
+    ≡ now.start + length (frames (take (i - length now.gates.items) (behind (shown_in now))))) last
+    c.loop-i.invariant.lies)

@@ -22,8 +22,8 @@ long entry body none = ap (λ (l : List ℕ). length (entry ++ l)) none ∙ ap l
 pub add-requires : goal.add-requires
 add-requires c =
     let all = c.args.all.now in
-    let lt : c.loop-k.k < length (entries_in all) = omega (arith, c.len.ensures, c.loop-k-test.true) in
-    let same = long c.get-entry.result.now c.new-2.result c.new-2.ensures in
+    let lt : c.loop-k.k < length (entries_in all) = omega (arith, c.len-k-end.ensures, c.loop-k-test.true) in
+    let same = long c.get-entry.result.now c.new.result c.new.ensures in
     record {
       short = omega (arith, same, ap length c.get-entry.ensures, short_at (entries_in all) c.loop-k.k lt all.book.short);
       room = subst (λ (n : ℕ). TakesMore 1 n c.reserve.new.self) (sym same) c.in_ok-reserve.ensures.room;
@@ -32,13 +32,13 @@ add-requires c =
 pub loop-k-preserved : goal.loop-k-preserved
 loop-k-preserved c =
     let es = entries_in c.args.all.now in
-    let lt : c.loop-k.k < length es = omega (arith, c.len.ensures, c.loop-k-test.true) in
-    one es c.loop-k.k c.get-entry.result.now c.new-2.result c.add.new.self lt c.get-entry.ensures c.new-2.ensures
+    let lt : c.loop-k.k < length es = omega (arith, c.len-k-end.ensures, c.loop-k-test.true) in
+    one es c.loop-k.k c.get-entry.result.now c.new.result c.add.new.self lt c.get-entry.ensures c.new.ensures
     (c.add.ensures.retains (take c.loop-k.k es)
     (same_retains (take c.loop-k.k es) _ c.reserve.new.self c.reserve.ensures.same c.loop-k.invariant))
 
 pub returns : goal.returns
 returns c =
     let es = entries_in c.args.all.now in
-    subst (λ (l : List (List ℕ)). Retains l c.loop-k.kept) (take_all c.loop-k.k es (omega (arith, c.len.ensures, c.loop-k-test.false)))
+    subst (λ (l : List (List ℕ)). Retains l c.loop-k.kept) (take_all c.loop-k.k es (omega (arith, c.len-k-end.ensures, c.loop-k-test.false)))
     c.loop-k.invariant
