@@ -1,19 +1,18 @@
 -- An append to a file at rest, of whose entries some stay in memory.
-use Rattle.std.proofs.Common.{arith, ◌≡◌, ℕ, ◌+◌, ◌<◌, ◌≤◌, Bool, true, false, List, [], ◌∷◌, ◌++◌, length, refl, sym, ap, ◌∙◌, subst}
-use Rattle.iss_disk.specs.File.{File, settled, synced, wrote}
+use Rattle.std.proofs.Common.{arith, ◌≡◌, ℕ, ◌+◌, ◌≤◌, Bool, true, false, List, [], ◌∷◌, ◌++◌, length, refl, sym, ap, ◌∙◌, subst}
+use Rattle.iss_disk.specs.File.{File, synced, wrote}
 use Rattle.iss_disk.specs.Calls.{IfTold, Moves}
-use Rattle.iss_journal.specs.Frames.{frames, max_entry, AreShort, Reads, holds}
+use Rattle.iss_journal.specs.Frames.{frames, max_entry, Reads, holds}
 use Rattle.iss_journal.specs.Internal.Additions.{RestsWith}
 use Rattle.iss_journal.specs.Promises.{EndsClosed, LeavesWithOrWithout, OnlyLeaves, RestsOn, Shows}
-use Rattle.iss_journal.specs.Retained.{retained}
 use Rattle.iss_journal.specs.RetainedViews.{IsSame, Retains, gates_over, shown_in}
 use Rattle.iss_journal.specs.Sound.{IsRead, RestsOver}
 use Rattle.iss_journal.specs.declared.retained.Retained.{Retained}
-use Rattle.iss_journal.proofs.Crash.{body, reads_closed}
+use Rattle.iss_journal.proofs.Crash.{body}
 use Rattle.iss_journal.proofs.FrameLemmas.{short-push}
 use Rattle.iss_journal.proofs.Reading.{rests_durable, rests_start, told_so}
 use Rattle.iss_journal.proofs.RetainedLemmas.{gates_are, same_retains}
-use Rattle.iss_journal.proofs.Steps.{Appended, Interrupted, IsClosed, exit1, exit2, exit3, exit4, finish, first_within, same_write, second_within, untold}
+use Rattle.iss_journal.proofs.Steps.{Appended, Interrupted, exit1, exit2, exit3, exit4, finish, first_within, same_write, second_within, untold}
 
 -- what is promised if a call fails
 pub record Broken (kept : Retained) (entry : List ℕ) (old new : List File) : Type 0 where
@@ -80,7 +79,8 @@ module _ (kept : Retained) (entry : List ℕ) (fits : length entry ≤ max_entry
   pub over2 : (h0 h1 h2 : List File) → IfTold h0 (RestsOver kept) → Moves write true h0 h1 → Moves synced false h1 h2 →
       Broken kept entry h0 h2
   over2 [] h1 h2 over w s = none h1 h2 w (untold synced false h1 h2 w s)
-  over2 (file ∷ past) h1 h2 over w s = broken file past over h2 (exit2 over.all entry fits (file ∷ past) h1 h2 over.rests
+  over2 (file ∷ past) h1 h2 over w s =
+      broken file past over h2 (exit2 over.all entry fits (file ∷ past) h1 h2 over.rests
       (writes file past over true (file ∷ past) h1 w) s)
 
   pub over3 : (h0 h1 h2 h3 : List File) → IfTold h0 (RestsOver kept) → Moves write true h0 h1 →
@@ -169,7 +169,8 @@ same_over old new same h over = told_so _ _ h over
     (λ file r. record { all = r.all; retains = same_retains r.all old new same r.retains; rests = r.rests })
 
 -- attached anew
-pub is_read : (h : List File) (all : List (List ℕ)) (kept : Retained) → IfTold h (λ file. Reads file.content (holds all)) →
+pub is_read : (h : List File) (all : List (List ℕ)) (kept : Retained) →
+    IfTold h (λ file. Reads file.content (holds all)) →
     Retains all kept → IsRead (shown_in kept) (gates_over kept) h
 is_read h all kept read retains =
     record { all = all; read = read; stay = retains.shown; lie = gates_are all kept retains }

@@ -1,11 +1,10 @@
 -- Attaching keeps a file's reading at each moment.
-use Rattle.std.proofs.Common.{◌≡◌, inl, inr, ℕ, zero, suc, Some, Result, Ok, Err, OnOk, ◌+◌, ◌<◌, ◌≤◌, true, false, List, [], ◌∷◌, ◌++◌, length, take, refl, sym, ◌∙◌, ap, subst, arith, append_assoc, vec_len, vec_capacity}
+use Rattle.std.proofs.Common.{◌≡◌, inl, inr, ℕ, zero, suc, Some, Result, Ok, Err, OnOk, ◌+◌, ◌<◌, ◌≤◌, true, false, List, [], ◌∷◌, ◌++◌, length, take, refl, sym, ◌∙◌, ap, subst, arith, append_assoc}
 use Rattle.iss_disk.specs.File.{File, Image, settled, synced}
 use Rattle.iss_disk.specs.Calls.{IfTold, EachState, Moves, Place, Stays, Room, Takes}
 use Rattle.iss_journal.specs.Frames.{frames, ClosesAfter, Reading, Reads, holds}
 use Rattle.iss_journal.specs.Promises.{OnlyLeaves, LeavesOnly, LeavesReading, LosesNothing, HoldsFirst, HoldsWithOrWithout, RestsOn, ComesToRest}
 use Rattle.iss_journal.proofs.Crash.{only_settled, reads_closed}
-use Rattle.iss_journal.specs.EntryViews.{entries_in}
 use Rattle.iss_journal.specs.RetainedViews.{HasGrown, IsSame, TakesMore}
 use Rattle.iss_journal.specs.declared.retained.Retained.{Retained}
 use Rattle.iss_journal.specs.Sound.{HasRoom, longest_of}

@@ -1,18 +1,16 @@
 -- What stays in memory of the entries of a file, and where its gates lie.
-use Rattle.std.proofs.Common.{arith, ◌≡◌, ℕ, zero, suc, ◌+◌, ◌-◌, ◌<◌, ◌≤◌, ◌||◌, Bool, true, false, not, cond, List, [], ◌∷◌, ◌++◌, length, length-append, take, get_or, refl, sym, ap, ap₂, ◌∙◌, subst}
+use Rattle.std.proofs.Common.{arith, ◌≡◌, ℕ, zero, suc, ◌+◌, ◌<◌, ◌≤◌, ◌||◌, Bool, true, false, not, cond, List, [], ◌∷◌, ◌++◌, length, length-append, take, get_or, refl, sym, ap, ◌∙◌}
 use Rattle.std.specs.List.{filter}
-use Rattle.std.proofs.lemmas.List.{append-nil, get_or-append_right, take_at}
+use Rattle.std.proofs.lemmas.List.{append-nil, take_at}
 use Rattle.std.proofs.lemmas.List.Elements.{filter-append}
 use Rattle.iss_journal.specs.EntryViews.{entries_in}
 use Rattle.iss_journal.specs.Frames.{frame, frames}
 use Rattle.iss_journal.specs.Retained.{behind, gates_from, gates_in, has_snapshot, is_snapshot, retained}
-use Rattle.iss_journal.specs.RetainedViews.{HasGrown, IsSame, Retains, TakesMore, gates_over, places, shown_in, snapshot_places}
+use Rattle.iss_journal.specs.RetainedViews.{IsSame, Retains, gates_over, places, shown_in, snapshot_places}
 use Rattle.iss_journal.specs.SharedViews.{AreFewer, HasSpace, IsLonger, shared_in}
-use Rattle.iss_journal.specs.Sound.{RestsOver}
 use Rattle.iss_journal.specs.Tails.{with_tails}
 use Rattle.iss_journal.specs.declared.retained.Retained.{Retained}
 use Rattle.iss_journal.specs.declared.shared.SharedEntries.{SharedEntries}
-use Rattle.iss_journal.proofs.Book.{length_more}
 use Rattle.iss_journal.proofs.FrameLemmas.{frames-push}
 use Rattle.iss_journal.proofs.Retaining.{behind-next, behind-retained, filter-retained, retained-again, retained-event, retained-next, retained-split, retained-twice}
 
@@ -261,7 +259,8 @@ module _ (es new : List (List ℕ)) (same : new ≡ es) where
   ends-same start end ends = omega (arith, ends, ap (λ (l : List (List ℕ)). length (frames (behind l))) same)
 
 -- shared entries with the same parts
-pub shared_same : (old new : SharedEntries) → entries_in new.own ≡ entries_in old.own → new.tails.items ≡ old.tails.items →
+pub shared_same : (old new : SharedEntries) → entries_in new.own ≡ entries_in old.own →
+    new.tails.items ≡ old.tails.items →
     shared_in new ≡ shared_in old
 shared_same old new own tails =
     ap (λ (es : List (List ℕ)). with_tails es new.tails.items) own

@@ -1,11 +1,9 @@
 -- What stays of entries suffices for later ones: of it and later entries stays what stays of all. The entries that stay
 -- are the snapshots, and those behind the last one.
-use Rattle.std.proofs.Common.{arith, ◌≡◌, ℕ, ◌+◌, ◌||◌, Bool, true, false, not, cond, List, [], ◌∷◌, ◌++◌, length, length-append, refl, sym, ap, ap₂, ◌∙◌, subst}
+use Rattle.std.proofs.Common.{◌≡◌, ℕ, ◌||◌, Bool, true, false, not, cond, List, [], ◌∷◌, ◌++◌, refl, sym, ap, ap₂, ◌∙◌}
 use Rattle.std.specs.List.{filter}
 use Rattle.std.proofs.lemmas.List.{append-nil}
-use Rattle.std.proofs.lemmas.List.Elements.{filter-append}
-use Rattle.iss_journal.specs.Frames.{frame, frames}
-use Rattle.iss_journal.specs.Retained.{behind, gates_from, has_snapshot, is_snapshot, retained, stays}
+use Rattle.iss_journal.specs.Retained.{behind, has_snapshot, is_snapshot, retained}
 
 or-group : (a b c : Bool) → ((a || b) || c) ≡ (a || (b || c))
 or-group true b c = refl

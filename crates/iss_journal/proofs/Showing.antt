@@ -1,6 +1,6 @@
 -- What a file shows, before and after an append.
 use Rattle.std.proofs.Common.{◌≡◌, ℕ, inl, inr, List, [], ◌∷◌, ◌++◌, sym, ap, ◌∙◌}
-use Rattle.iss_journal.specs.Frames.{Reads, holds}
+use Rattle.iss_journal.specs.Frames.{holds}
 use Rattle.iss_journal.specs.Promises.{HoldsWithOrWithout, Shows, ShowsWithOrWithout}
 use Rattle.iss_journal.specs.Retained.{retained}
 use Rattle.iss_journal.proofs.Grammar.{one_reading}

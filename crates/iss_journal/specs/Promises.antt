@@ -1,6 +1,7 @@
--- What a journal promises for every crash. The file keeps all entries, and the journal shows what stays of them. At each
--- moment of an append a crash leaves the entries of the file, or these and the new one. Attaching loses no entry that
--- every crash before it would have left. At rest the file is the frames of the entries and one closed gate, all synced.
+-- What a journal promises for every crash. The file keeps all entries, and the journal shows what stays of them. At
+-- each moment of an append a crash leaves the entries of the file, or these and the new one. Attaching loses no entry
+-- that every crash before it would have left. At rest the file is the frames of all entries and one closed gate, all of
+-- it synced.
 use Rattle.std.specs.Prelude.{◌≡◌, ◌≢◌, ◌⊎◌, ℕ, ◌+◌, ◌<◌, ◌≤◌, List, [], ◌∷◌, ◌++◌, length, take}
 use Rattle.iss_disk.specs.File.{File, Image, settled}
 use Rattle.iss_disk.specs.Calls.{EachState, Passes, script}

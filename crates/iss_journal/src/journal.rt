@@ -16,8 +16,9 @@ const SOME_ENTRIES: u64 = 64;
 
 const SOME_BYTES: u64 = 4096;
 
-/// A list of entries in the current file of a disk. Each entry is durable before its `append` returns Ok. The file keeps
-/// all entries, and the journal those that stay: the snapshots, whose first byte is 5, and all that follows the last.
+/// A list of entries in the current file of a disk. Each entry is durable before its `append` returns Ok. The file
+/// keeps all entries, and the journal those that stay: the snapshots, whose first byte is 5, and all that follows the
+/// last of them.
 #[derive(Drop)]
 pub struct Journal<D: Disk> {
     alloc: Global,
@@ -63,7 +64,8 @@ impl<D: Disk> Journal<D> {
     /// it is, byte for byte, so that it is damaged at each later call too.
     pub fn attach(&mut self) -> Result<(), AttachError>
         requires sound { IsSound D.history D.room self.old }
-        ensures entries { OnOk result (IsRead (entries_of self.new) (gates_of self.new) (D.history (disk_of self.old))) }
+        ensures entries { OnOk result
+            (IsRead (entries_of self.new) (gates_of self.new) (D.history (disk_of self.old))) }
         ensures damaged { (at : ℕ) → IsErrOf result (AttachError.Damaged at) → IfTold (D.history (disk_of self.old))
             (λ file. Reads file.content (damaged at)) }
         ensures damaged_stays { (at : ℕ) → IsErrOf result (AttachError.Damaged at) →
@@ -207,7 +209,8 @@ impl<D: Disk> Journal<D> {
         requires sound { IsSound D.history D.room self.old }
         requires attached { is_attached self.old ≡ true }
         requires short { length (head.now ++ body) ≤ max_entry }
-        ensures entries { OnOk result (entries_of self.new ≡ retained (entries_of self.old ++ (head.now ++ body) ∷ [])) }
+        ensures entries { OnOk result
+            (entries_of self.new ≡ retained (entries_of self.old ++ (head.now ++ body) ∷ [])) }
         ensures event { is_snapshot (head.now ++ body) ≡ false →
             OnOk result (entries_of self.new ≡ entries_of self.old ++ (head.now ++ body) ∷ []) }
         ensures err { OnErr result (entries_of self.new ≡ entries_of self.old) }

@@ -157,7 +157,8 @@ impl Retained {
         ensures entries { shown_in self.new ≡ retained (shown_in self.old ++ (head.now ++ body) ∷ []) }
         ensures event { is_snapshot (head.now ++ body) ≡ false →
             shown_in self.new ≡ shown_in self.old ++ (head.now ++ body) ∷ [] }
-        ensures retains { (all : List (List ℕ)) → Retains all self.old → Retains (all ++ (head.now ++ body) ∷ []) self.new }
+        ensures retains { (all : List (List ℕ)) → Retains all self.old →
+            Retains (all ++ (head.now ++ body) ∷ []) self.new }
         ensures grown { HasGrown (5 + length (head.now ++ body)) self.old self.new }
     {
         if begins_snapshot(head, body.as_slice()) {
@@ -174,7 +175,8 @@ impl Retained {
         requires room { TakesMore 1 (length (head.now ++ body)) self.old }
         ensures entries { shown_in self.new ≡ retained (shown_in self.old ++ (head.now ++ body) ∷ []) }
         ensures last { shown_in self.new ≡ shown_in self.old ++ (head.now ++ body) ∷ [] }
-        ensures retains { (all : List (List ℕ)) → Retains all self.old → Retains (all ++ (head.now ++ body) ∷ []) self.new }
+        ensures retains { (all : List (List ℕ)) → Retains all self.old →
+            Retains (all ++ (head.now ++ body) ∷ []) self.new }
         ensures grown { HasGrown (5 + length (head.now ++ body)) self.old self.new }
     {
         let next = self.end + (5 + (head.len() + body.len()));
@@ -188,7 +190,8 @@ impl Retained {
         requires short { length (head.now ++ body) ≤ max_entry }
         requires room { TakesMore 1 (length (head.now ++ body)) self.old }
         ensures entries { shown_in self.new ≡ retained (shown_in self.old ++ (head.now ++ body) ∷ []) }
-        ensures retains { (all : List (List ℕ)) → Retains all self.old → Retains (all ++ (head.now ++ body) ∷ []) self.new }
+        ensures retains { (all : List (List ℕ)) → Retains all self.old →
+            Retains (all ++ (head.now ++ body) ∷ []) self.new }
         ensures grown { HasGrown (5 + length (head.now ++ body)) self.old self.new }
     {
         let gate = self.end;

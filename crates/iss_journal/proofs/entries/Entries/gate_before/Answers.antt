@@ -1,5 +1,4 @@
-use Rattle.std.proofs.Common.{rules, arith, ◌≡◌, ◌<◌, ◌≤◌, ℕ, length}
-use Rattle.iss_journal.specs.EntryViews.{entries_in}
+use Rattle.std.proofs.Common.{arith}
 use Rattle.iss_journal.proofs.Book.{last_is}
 use Rattle.iss_journal.proofs.FrameLemmas.{length-entries}
 use Rattle.iss_journal.proofs.entries.Entries.gate_before.Goals as goal

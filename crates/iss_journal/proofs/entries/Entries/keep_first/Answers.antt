@@ -1,4 +1,4 @@
-use Rattle.std.proofs.Common.{rules, arith, min, ◌/◌, ◌%◌, ◌≡◌, ◌∙◌, ◌+◌, ◌*◌, ◌<◌, ◌≤◌, List, ℕ, length, take, ap, sym, subst}
+use Rattle.std.proofs.Common.{rules, arith, min, ◌/◌, ◌%◌, ◌≡◌, ◌+◌, ◌*◌, ◌<◌, ◌≤◌, List, ℕ, length, take, sym, subst}
 use Rattle.std.proofs.lemmas.Grind.{div_ceil_times}
 use Rattle.iss_journal.specs.EntryViews.{entries_in}
 use Rattle.iss_journal.specs.Frames.{frames}
@@ -24,7 +24,8 @@ pub invariant_of-self : goal.invariant_of-self
 invariant_of-self c =
     let now = c.args.self.now in
     let es = entries_in now in
-    let again = first now.bytes.items c.truncate.new.self.items now.count now.last c.args.count c.gate_before-gate.result
+    let again =
+    first now.bytes.items c.truncate.new.self.items now.count now.last c.args.count c.gate_before-gate.result
     now.book c.requires c.gate_before-gate.ensures c.truncate.ensures.items in
     let n = c.args.count / 8 + min 1 (c.args.count % 8) in
     let is : c.div_ceil.result ≡ n = search rules in
@@ -33,8 +34,8 @@ invariant_of-self c =
     (div_ceil_times c.args.count 8 (omega arith)) in
     record {
       book = again.book;
-      marked = marks now.marks.items c.truncate-2.new.self.items es _ c.args.count c.div_ceil.result now.marked c.requires few.0 few.1
-          c.truncate-2.ensures.items again.found;
+      marked = marks now.marks.items c.truncate-2.new.self.items es _ c.args.count c.div_ceil.result now.marked
+          c.requires few.0 few.1 c.truncate-2.ensures.items again.found;
     }
 
 pub returns-clause-entries : goal.returns-clause-entries

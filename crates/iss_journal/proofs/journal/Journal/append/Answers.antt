@@ -1,4 +1,4 @@
-use Rattle.std.proofs.Common.{◌++◌, sym, subst, List, ℕ}
+use Rattle.std.proofs.Common.{◌++◌, sym, subst, List}
 use Rattle.iss_disk.specs.File.{File}
 use Rattle.iss_journal.specs.Promises.{LeavesWithOrWithout}
 use Rattle.iss_journal.specs.RetainedViews.{shown_in}

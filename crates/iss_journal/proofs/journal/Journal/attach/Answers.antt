@@ -1,4 +1,4 @@
-use Rattle.std.proofs.Common.{rules, arith, ℕ, ◌≡◌, ◌∷◌, ◌∙◌, sym, subst, List, IsErrOf}
+use Rattle.std.proofs.Common.{rules, arith, ◌≡◌, ◌∷◌, ◌∙◌, sym, subst, List, IsErrOf}
 use Rattle.iss_disk.specs.File.{File, Image, settled}
 use Rattle.iss_disk.specs.Calls.{IfTold}
 use Rattle.iss_journal.specs.Frames.{Reads, damaged, holds}

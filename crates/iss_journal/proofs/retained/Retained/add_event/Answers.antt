@@ -1,4 +1,4 @@
-use Rattle.std.proofs.Common.{arith, ℕ, ◌≡◌, ◌+◌, ◌++◌, [], ◌∷◌, List, length, length-append}
+use Rattle.std.proofs.Common.{arith, ℕ, ◌≡◌, ◌+◌, ◌++◌, List, length, length-append}
 use Rattle.iss_journal.specs.SharedViews.{shared_in}
 use Rattle.iss_journal.proofs.RetainedLemmas.{count-event, end-after, ends-event, kept-after, shown-after, snapshots-event, with-event}
 use Rattle.iss_journal.proofs.retained.Retained.add_event.Goals as goal

@@ -1,7 +1,7 @@
-use Rattle.std.proofs.Common.{rules, arith, ℕ, ◌≡◌, ◌∙◌, ◌+◌, ◌≤◌, true, ◌++◌, [], ◌∷◌, List, length, length-append, take, ap, sym, subst}
+use Rattle.std.proofs.Common.{rules, arith, ℕ, ◌≡◌, ◌∙◌, ◌+◌, true, ◌++◌, [], ◌∷◌, List, length, length-append, take, ap}
 use Rattle.std.specs.List.{filter}
 use Rattle.iss_journal.specs.Retained.{is_snapshot, retained}
-use Rattle.iss_journal.specs.SharedViews.{HasSpace, shared_in}
+use Rattle.iss_journal.specs.SharedViews.{shared_in}
 use Rattle.iss_journal.proofs.RetainedLemmas.{count-snapshot, end-after, ends-snapshot, first-within, kept-after, longer_fewer, shown-after, snapshots-more, space_fewer, with-snapshot}
 use Rattle.iss_journal.proofs.retained.Retained.add_snapshot.Goals as goal
 

@@ -93,8 +93,8 @@ pub returns : goal.returns
 returns c =
     let now = c.args.self.now in
     let last : c.loop-i.i ≡ c.args.k = search rules in
-    found (shown_in now) (length now.gates.items) now.kept now.count now.gates.items c.args.k now.start c.loop-i.gate refl
-    c.requires.late c.requires.within
+    found (shown_in now) (length now.gates.items) now.kept now.count now.gates.items c.args.k now.start c.loop-i.gate
+    refl c.requires.late c.requires.within
     (subst (λ (i : ℕ). c.loop-i.gate
     ≡ now.start + length (frames (take (i - length now.gates.items) (behind (shown_in now))))) last
     c.loop-i.invariant.lies)

@@ -1,7 +1,6 @@
-use Rattle.std.proofs.Common.{arith, ℕ, ◌≡◌, ◌∙◌, ◌<◌, ◌≤◌, ◌+◌, ◌++◌, [], ◌∷◌, List, length, take, get_or, ap, sym, subst}
+use Rattle.std.proofs.Common.{arith, ℕ, ◌≡◌, ◌∙◌, ◌<◌, ◌+◌, ◌++◌, [], ◌∷◌, List, length, take, get_or, ap, sym, subst}
 use Rattle.std.proofs.lemmas.List.{append-nil, take_all, take_more}
 use Rattle.iss_journal.specs.EntryViews.{entries_in}
-use Rattle.iss_journal.specs.Frames.{max_entry}
 use Rattle.iss_journal.specs.RetainedViews.{Retains, TakesMore}
 use Rattle.iss_journal.specs.declared.retained.Retained.{Retained}
 use Rattle.iss_journal.proofs.Book.{short_at}
@@ -25,7 +24,8 @@ add-requires c =
     let lt : c.loop-k.k < length (entries_in all) = omega (arith, c.len-k-end.ensures, c.loop-k-test.true) in
     let same = long c.get-entry.result.now c.new.result c.new.ensures in
     record {
-      short = omega (arith, same, ap length c.get-entry.ensures, short_at (entries_in all) c.loop-k.k lt all.book.short);
+      short =
+          omega (arith, same, ap length c.get-entry.ensures, short_at (entries_in all) c.loop-k.k lt all.book.short);
       room = subst (λ (n : ℕ). TakesMore 1 n c.reserve.new.self) (sym same) c.in_ok-reserve.ensures.room;
     }
 
@@ -40,5 +40,5 @@ loop-k-preserved c =
 pub returns : goal.returns
 returns c =
     let es = entries_in c.args.all.now in
-    subst (λ (l : List (List ℕ)). Retains l c.loop-k.kept) (take_all c.loop-k.k es (omega (arith, c.len-k-end.ensures, c.loop-k-test.false)))
-    c.loop-k.invariant
+    let all : length es ≤ c.loop-k.k = omega (arith, c.len-k-end.ensures, c.loop-k-test.false) in
+    subst (λ (l : List (List ℕ)). Retains l c.loop-k.kept) (take_all c.loop-k.k es all) c.loop-k.invariant

@@ -18,7 +18,8 @@ invariant_of-self-2 c =
     let now = c.args.self.now in
     let es = shared_in now.entries in
     let new = shared_in c.reserve-2.new.self in
-    let same = shared_same now.entries c.reserve-2.new.self c.reserve-2.ensures.same.own c.reserve-2.ensures.same.tails in
+    let same =
+    shared_same now.entries c.reserve-2.new.self c.reserve-2.ensures.same.own c.reserve-2.ensures.same.tails in
     record {
       kept = kept-same es new same now.kept;
       count = count-same es new same now.gates.items c.reserve.new.self.items c.reserve.ensures.items now.count;

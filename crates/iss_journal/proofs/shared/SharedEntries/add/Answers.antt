@@ -1,4 +1,4 @@
-use Rattle.std.proofs.Common.{arith, ℕ, ◌≡◌, ◌≤◌, ◌+◌, ◌∙◌, ◌++◌, [], ◌∷◌, List, length, length-append, ap, vec_len, vec_capacity}
+use Rattle.std.proofs.Common.{arith, ℕ, ◌≡◌, ◌≤◌, ◌∙◌, ◌++◌, [], ◌∷◌, List, length, length-append, ap, vec_len, vec_capacity}
 use Rattle.iss_journal.specs.EntryViews.{entries_in}
 use Rattle.iss_journal.proofs.TailLemmas.{each_after, grown, longer_by}
 use Rattle.iss_journal.proofs.shared.SharedEntries.add.Goals as goal
@@ -13,7 +13,8 @@ invariant_of-self c =
     let es = entries_in now.own in
     let new = entries_in c.commit.new.self in
     let head = c.args.head.now in
-    let more = added es (entries_in c.stage.new.self) new (head ++ []) c.stage.ensures.entries c.commit.ensures.entries in
+    let more =
+    added es (entries_in c.stage.new.self) new (head ++ []) c.stage.ensures.entries c.commit.ensures.entries in
     record {
       each = each_after es new now.tails.items c.push_reserved.new.self.items (head ++ []) c.args.body now.each more
           c.push_reserved.ensures.items;
@@ -25,7 +26,8 @@ returns-clause-entries c =
     let es = entries_in now.own in
     let new = entries_in c.commit.new.self in
     let head = c.args.head.now in
-    let more = added es (entries_in c.stage.new.self) new (head ++ []) c.stage.ensures.entries c.commit.ensures.entries in
+    let more =
+    added es (entries_in c.stage.new.self) new (head ++ []) c.stage.ensures.entries c.commit.ensures.entries in
     grown es new now.tails.items c.push_reserved.new.self.items head c.args.body now.each more
     c.push_reserved.ensures.items
 
@@ -35,7 +37,8 @@ returns-clause-longer c =
     let es = entries_in now.own in
     let new = entries_in c.commit.new.self in
     let head = c.args.head.now in
-    let more = added es (entries_in c.stage.new.self) new (head ++ []) c.stage.ensures.entries c.commit.ensures.entries in
+    let more =
+    added es (entries_in c.stage.new.self) new (head ++ []) c.stage.ensures.entries c.commit.ensures.entries in
     let short : length (head ++ []) ≤ length (head ++ c.args.body) =
     omega (arith, length-append head [], length-append head c.args.body) in
     record {

@@ -1,4 +1,4 @@
-use Rattle.std.proofs.Common.{arith, ℕ, ◌≡◌, ◌∙◌, ◌≤◌, List, length, take, ap, sym, length-take, vec_len, vec_capacity}
+use Rattle.std.proofs.Common.{arith, ℕ, ◌≡◌, ◌∙◌, ◌≤◌, List, length, take, ap, length-take}
 use Rattle.iss_journal.specs.EntryViews.{entries_in}
 use Rattle.iss_journal.specs.Frames.{frames}
 use Rattle.iss_journal.specs.Tails.{with_tails}
