@@ -1,4 +1,4 @@
-use Rattle.std.proofs.Common.{arith, ℕ, ◌≡◌, ◌∙◌, ◌<◌, ◌+◌, ◌++◌, [], ◌∷◌, List, length, take, get_or, ap, sym, subst}
+use Rattle.std.proofs.Common.{arith, ℕ, ◌≡◌, ◌∙◌, ◌<◌, ◌≤◌, ◌+◌, ◌++◌, [], ◌∷◌, List, length, take, get_or, ap, sym, subst}
 use Rattle.std.proofs.lemmas.List.{append-nil, take_all, take_more}
 use Rattle.iss_journal.specs.EntryViews.{entries_in}
 use Rattle.iss_journal.specs.RetainedViews.{Retains, TakesMore}
