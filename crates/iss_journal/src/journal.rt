@@ -200,7 +200,7 @@ impl<D: Disk> Journal<D> {
         Ok(())
     }
 
-    /// Appends an entry, given in two parts. `head` is copied. `body` is kept as it is: in memory the journal shares it.
+    /// Appends an entry, given in two parts. `head` is copied. `body` is kept as it is, so its bytes may be shared.
     /// A snapshot takes the place of the entries that follow the snapshot before it; the file keeps these. After Ok,
     /// every crash image holds the entry. After `NoMemory` nothing has changed. After `Failed` the journal must be
     /// attached again; the entry is then in it or not.
