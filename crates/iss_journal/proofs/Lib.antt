@@ -6,3 +6,8 @@ mod Steps
 mod Resting
 mod Reading
 mod SomeReading
+mod TailLemmas
+pub mod Retaining
+pub mod Showing
+mod RetainedLemmas
+mod Over

@@ -15,9 +15,9 @@ pub(crate) const OPEN: u8 = 1;
 
 pub(crate) const CLOSED: u8 = 0;
 
-/// The entries of a journal, in the order in which they were appended.
+/// Entries, in the order in which they were appended.
 #[derive(Drop)]
-pub struct Entries {
+pub(crate) struct Entries {
     // The file's bytes up to its last gate, followed by the entry that is being appended.
     bytes: Vec<u8>,
     count: usize,
@@ -127,14 +127,14 @@ impl Entries {
     }
 
     /// The number of entries.
-    pub fn len(&self) -> usize
+    pub(crate) fn len(&self) -> usize
         ensures { result ≡ length (entries_in self.now) }
     {
         self.count
     }
 
     /// Entry `k`, counted from 0.
-    pub fn get(&self, k: usize) -> &[u8]
+    pub(crate) fn get(&self, k: usize) -> &[u8]
         requires { k < length (entries_in self.now) }
         ensures { result.now ≡ slice_index_or (entries_in self.now) k [] }
     {
@@ -144,7 +144,7 @@ impl Entries {
     }
 
     /// The offset in the file of the gate of entry `k`, counted from 0.
-    pub fn gate_of(&self, k: usize) -> u64
+    pub(crate) fn gate_of(&self, k: usize) -> u64
         requires { k < length (entries_in self.now) }
         ensures { result ≡ length (frames (take k (entries_in self.now))) }
     {
@@ -153,6 +153,32 @@ impl Entries {
             gate = end_of(&self.bytes, gate);
         }
         gate as u64
+    }
+
+    // Keeps the first `count` entries, and the bytes of no other.
+    pub(crate) fn keep_first(&mut self, count: usize)
+        requires { count ≤ length (entries_in self.old) }
+        ensures entries { entries_in self.new ≡ take count (entries_in self.old) }
+        ensures bytes { vec_capacity self.new.bytes ≡ vec_capacity self.old.bytes }
+        ensures marks { vec_len self.new.marks ≤ vec_len self.old.marks }
+        ensures marks_room { vec_capacity self.new.marks ≡ vec_capacity self.old.marks }
+    {
+        let gate = self.gate_before(count);
+        self.bytes.truncate(gate);
+        self.marks.truncate(count.div_ceil(8));
+        self.count = count;
+        self.last = gate;
+    }
+
+    // The offset of the gate behind the first `count` entries.
+    fn gate_before(&self, count: usize) -> usize
+        requires { count ≤ length (entries_in self.now) }
+        ensures { result ≡ length (frames (take count (entries_in self.now))) }
+    {
+        if count == self.count {
+            return self.last;
+        }
+        self.gate_of(count) as usize
     }
 
     // The offset of the next entry's gate.

@@ -9,10 +9,13 @@ mod keep;
 mod laws;
 mod load;
 mod reserved;
+mod retained;
 mod scan;
 mod settle;
+mod shared;
 
-pub use entries::{Entries, MAX_ENTRY};
+pub use entries::MAX_ENTRY;
 pub use errors::AttachError;
 pub use journal::Journal;
 pub use laws::a_file_has_one_reading;
+pub use shared::SharedEntries;

@@ -1,6 +1,7 @@
 // Recovery: a node is rebuilt by replaying the entries of its journal.
-ghost use Rattle.std.specs.Prelude.{◌≡◌, ◌<◌, ℕ, true, IfOk, IsErrOf, OnOk};
-ghost use Rattle.iss_journal.specs.Sound.{IsSound, disk_of, entries_of, is_attached};
+ghost use Rattle.std.specs.Prelude.{◌≡◌, ◌<◌, ℕ, [], true, length, slice_index_or, IfOk, IsErrOf, OnOk};
+ghost use Rattle.iss_journal.specs.SharedViews.{shared_in};
+ghost use Rattle.iss_journal.specs.Sound.{IsSound, disk_of, entries_of, gates_of, is_attached};
 ghost use Rattle.iss_keep.specs.Cores.{StopsAt};
 ghost use Rattle.iss_keep.specs.Internal.Replays.{GoesTo, IsOf, IsReplayed};
 ghost use Rattle.iss_keep.specs.Steps.{IsAttached, IsDamaged, IsLeft, LosesNone, sight};
@@ -11,7 +12,7 @@ ghost use Rattle.iss_node.specs.State.{RefinesCore};
 
 use crate::entries::decode_entry;
 use iss_disk::Disk;
-use iss_journal::{AttachError, Journal};
+use iss_journal::{AttachError, Journal, SharedEntries};
 use iss_keys::SharedDirectory;
 use iss_node::{Answer, Node};
 use iss_request::{NoMemory, NodeId, Setup};
@@ -58,6 +59,25 @@ fn replay_entry<M: Sequenced>(
     }
 }
 
+// Replays entry `k`, as `replay_entry` does.
+fn replay_at<M: Sequenced>(
+    alloc: Global,
+    n: u32,
+    node: &mut Node<M>,
+    entries: &SharedEntries,
+    k: usize,
+) -> Result<bool, NoMemory>
+    requires n { n ≡ node.old.state.setup.n }
+    requires k { k < length (shared_in entries.now) }
+    ensures goes { IfOk result (λ taken. (c : Core M.Msg) → RefinesCore M.spec M.refines node.old c →
+        GoesTo node.old.state.setup M.spec M.refines node.old.state.me.0 c (slice_index_or (shared_in entries.now) k [])
+        node.new taken) }
+    ensures same { (node.new.state.setup ≡ node.old.state.setup) × (node.new.state.me ≡ node.old.state.me) }
+{
+    let entry = entries.get(alloc, k)?;
+    replay_entry(alloc, n, node, &entry)
+}
+
 // Replays all entries of the journal. `Damaged` has the gate offset of the first entry that does not decode or is
 // dropped.
 // rule: Persistence: A reopened node is that of its entries, with its next leaf
@@ -77,7 +97,7 @@ fn replay<M: Sequenced, D: Disk>(
     ensures refines { IfOk result (IsReplayed setup.now M.spec M.refines me.0 (entries_of journal.now)) }
     ensures same { IfOk result (IsOf setup.now me) }
     ensures damaged { (at : ℕ) → IsErrOf result (AttachError.Damaged at) →
-        StopsAt setup.now M.spec me.0 at (entries_of journal.now) }
+        StopsAt setup.now M.spec me.0 at (entries_of journal.now) (gates_of journal.now) }
     ensures sound { IsErrOf result AttachError.Failed → ⊥ }
 {
     let Ok(mut node) = start_fresh::<M>(alloc, setup, directory, me) else {
@@ -85,7 +105,7 @@ fn replay<M: Sequenced, D: Disk>(
     };
     let entries = journal.entries();
     for k in 0..entries.len() {
-        let Ok(taken) = replay_entry(alloc, setup.n, &mut node, entries.get(k)) else {
+        let Ok(taken) = replay_at(alloc, setup.n, &mut node, entries, k) else {
             return Err(AttachError::NoMemory);
         };
         if !taken {

@@ -239,6 +239,22 @@ hashed-more v w book x h none u =
       ];
     }
 
+kept-under : (v : List (List ℕ × List ℕ)) (d q x : List ℕ) (t : Bool) → same_bytes d q ≡ t → string_at v d ≡ Some x → cond t (Some x) (string_at v q) ≡ string_at v q
+kept-under v d q x true e at = sym at ∙ ap (λ (z : List ℕ). string_at v z) (same_bytes-is d q e)
+kept-under v d q x false e at = refl
+
+-- A string that is there is put under its digest once more.
+pub hashed-still : (v w : List (List ℕ × List ℕ)) (book : List (List ℕ)) (x : List ℕ) → AreHashed v book → string_at v (digest x) ≡ Some x →
+    ((q : List ℕ) → string_at w q ≡ cond (is_eq (slice_cmp nat_cmp (digest x) q)) (Some x) (string_at v q)) → AreHashed w book
+hashed-still v w book x h at u =
+    let same : (q : List ℕ) → string_at w q ≡ string_at v q =
+    λ q. at-key (digest x) q (same_bytes (digest x) q) (Some x) (string_at v q) (string_at w q) (same_list (digest x) q) (u q)
+    ∙ kept-under v (digest x) q x (same_bytes (digest x) q) refl at in
+    record {
+      found = λ y i. same (digest y) ∙ h.found y i;
+      only = λ d y e. h.only d y (sym (same d) ∙ e);
+    }
+
 -- Only the empty string is there.
 pub hashed-first : (w : List (List ℕ × List ℕ)) (value : List ℕ) → value ≡ [] →
     ((q : List ℕ) → string_at w q ≡ cond (is_eq (slice_cmp nat_cmp (digest []) q)) (Some value) None) → AreHashed w ([] ∷ [])

@@ -10,6 +10,7 @@ mod shown;
 pub mod simulation;
 mod stepping;
 pub mod strings;
+mod texts;
 pub mod world;
 
 pub use world::{EventResult, World};

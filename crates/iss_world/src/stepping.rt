@@ -28,7 +28,7 @@ use iss_disk::MemoryDisk;
 use iss_keep::{Answer, Kept};
 use iss_keys::Directory;
 use iss_node::Outcome;
-use iss_request::{Epoch, NoMemory, Seq, Setup};
+use iss_request::{Epoch, NoMemory, Seq, Setup, Value};
 use iss_rules::{NodeEvent, Why};
 use iss_sb::{Claim, Sequenced};
 use std::alloc::Global;
@@ -56,6 +56,14 @@ fn savepoint_of<M: Sequenced>(node: &Kept<M, MemoryDisk>) -> (usize, Epoch)
     ensures epoch { result.1.0 ≡ node.now.node.state.epoch }
 {
     (node.log().entries().len(), node.epoch())
+}
+
+// The values of a node's log from this slot on.
+fn values_from<M: Sequenced>(node: &Kept<M, MemoryDisk>, slots: usize) -> &[Value] {
+    match node.log().entries().get(slots..) {
+        Some(values) => values,
+        None => &[],
+    }
 }
 
 // Steps a kept node. Also returns its number of slots and its epoch from before the event, to which it can retreat.
@@ -208,6 +216,8 @@ impl<M: Sequenced> Simulation<M> {
                 Ok(EventOutcome::Ended(end))
             }
             None => {
+                let values = values_from(&self.nodes[core as usize], slots);
+                self.hashed.share(self.setup.version, directory, values)?;
                 let own = outcome.own.as_slice();
                 book_own(alloc, &self.setup, core, own, &mut self.signed)?;
                 post_all(

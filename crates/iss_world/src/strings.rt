@@ -1,5 +1,5 @@
 //! The strings that were hashed, to detect collisions.
-ghost use Rattle.std.specs.Prelude.{◌≡◌, ◌∷◌, [], ℕ, List, None, IfOk, option_map};
+ghost use Rattle.std.specs.Prelude.{◌≡◌, ◌∷◌, [], ℕ, List, None, IfOk, OnOk, option_map};
 ghost use Rattle.iss_base.specs.Lists.{push_all, same_bytes};
 ghost use Rattle.iss_model.specs.Run.{collision_in, collision_with};
 ghost use Rattle.iss_request.specs.Digest.{digest};
@@ -7,8 +7,9 @@ ghost use Rattle.iss_world.specs.Books.{AreHashed, difference};
 ghost use Rattle.iss_world.specs.Refines.{end_of};
 
 use crate::ends::Evidence;
+use crate::texts::Text;
 use iss_keys::Directory;
-use iss_request::{Bytes, NoMemory};
+use iss_request::{Bytes, NoMemory, Value, value_string};
 use std::alloc::Global;
 use std::collections::BTreeMap;
 use std::marker::Model;
@@ -16,7 +17,8 @@ use std::marker::Model;
 /// The hashed strings, by digest.
 #[derive(Drop)]
 pub struct Strings {
-    all: BTreeMap<[u8; 32], Bytes>,
+    alloc: Global,
+    all: BTreeMap<[u8; 32], Text>,
 }
 
 impl Model for Strings {
@@ -43,8 +45,8 @@ impl Strings {
         ensures { IfOk result (λ v. AreHashed v ([] ∷ [])) }
     {
         let mut all = BTreeMap::new(alloc);
-        all.insert([0; 32], Bytes::new(alloc))?;
-        Ok(Strings { all })
+        all.insert([0; 32], Text::of_bytes(Bytes::new(alloc)))?;
+        Ok(Strings { alloc, all })
     }
 
     // Adds a string. Returns the collision if another string has the same digest.
@@ -57,9 +59,9 @@ impl Strings {
     {
         let digest = digest(directory, string.as_slice());
         if let Some(first) = self.all.get(&digest) {
-            return collision(first, string);
+            return collision(self.alloc, first, string);
         }
-        self.all.insert(digest, string.copy()?)?;
+        self.all.insert(digest, Text::of_bytes(string.copy()?))?;
         Ok(None)
     }
 
@@ -84,6 +86,40 @@ impl Strings {
         }
         Ok(None)
     }
+
+    // Keeps the string of a value, if it is here, as the value.
+    fn share_one(
+        &mut self,
+        version: u8,
+        directory: &Directory,
+        value: &Value,
+    ) -> Result<(), NoMemory>
+        ensures { OnOk result ((book : List (List ℕ)) → AreHashed self.old book → AreHashed self.new book) }
+    {
+        let string = value_string(self.alloc, version, value)?;
+        let digest = digest(directory, string.as_slice());
+        match self.all.get(&digest) {
+            Some(text) if text.copies(string.as_slice()) => (),
+            _ => return Ok(()),
+        }
+        self.all.insert(digest, Text::of_value(version, value)?)?;
+        Ok(())
+    }
+
+    /// Keeps the strings of these values, if they are here, as the values. The same strings are hashed as before.
+    pub fn share(
+        &mut self,
+        version: u8,
+        directory: &Directory,
+        values: &[Value],
+    ) -> Result<(), NoMemory>
+        ensures { OnOk result ((book : List (List ℕ)) → AreHashed self.old book → AreHashed self.new book) }
+    {
+        for value in values {
+            self.share_one(version, directory, value)?;
+        }
+        Ok(())
+    }
 }
 
 // Whether the strings are equal.
@@ -94,14 +130,15 @@ fn same(a: &[u8], b: &[u8]) -> bool
 }
 
 // The collision of two strings with one digest, if they differ.
-fn collision(first: &Bytes, second: &Bytes) -> Result<Option<Evidence>, NoMemory>
+fn collision(alloc: Global, first: &Text, second: &Bytes) -> Result<Option<Evidence>, NoMemory>
     ensures { IfOk result (λ end. option_map end_of end ≡ difference first.now second.now) }
 {
+    let first = first.bytes(alloc)?;
     if same(first.as_slice(), second.as_slice()) {
         return Ok(None);
     }
     Ok(Some(Evidence::Collision {
-        first: first.copy()?,
+        first,
         second: second.copy()?,
     }))
 }

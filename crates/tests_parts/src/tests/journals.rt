@@ -1,6 +1,7 @@
 //! Journals, on a disk in memory and over a file of the operating system.
 use iss_disk::{Disk, FileDisk, MemoryDisk};
 use iss_journal::{AttachError, Journal};
+use iss_request::Bytes;
 use std::alloc::Global;
 use std::fs;
 use std::process::Abort;
@@ -47,12 +48,44 @@ fn an_append_writes_a_frame(rt: HostRuntime) -> Result<(), Fail> {
     {
         let mut journal = Journal::over(rt.alloc(), &mut disk);
         journal.attach()?;
-        journal.append(&[0xaa])?;
+        journal.append(&[0xaa], Bytes::new(rt.alloc()))?;
         assert_eq!(rt; journal.entries().len(), 1);
-        assert_eq!(rt; journal.entries().get(0), [0xaa].as_slice());
+        assert_eq!(rt;
+            journal.entries().get(rt.alloc(), 0)?.as_slice(),
+            [0xaa].as_slice()
+        );
         assert_eq!(rt; journal.gate_of(0), 0);
     }
     assert_file(&rt, &mut disk, &[1, 0, 0, 0, 1, 0xaa, 0])
+}
+
+#[test]
+fn a_shared_body_is_of_the_entry(rt: HostRuntime) -> Result<(), Fail> {
+    let alloc = rt.alloc();
+    let mut disk = MemoryDisk::new(alloc)?;
+    {
+        let mut journal = Journal::over(alloc, &mut disk);
+        journal.attach()?;
+        let shared = Bytes::shared(Vec::from_slice(alloc, b"wo")?)?;
+        journal.append(b"t", shared)?;
+        assert_eq!(rt;
+            journal.entries().get(alloc, 0)?.as_slice(),
+            b"two".as_slice()
+        );
+        journal.attach()?;
+        journal.append(b"x", Bytes::new(alloc))?;
+        assert_eq!(rt; journal.entries().len(), 2);
+        assert_eq!(rt;
+            journal.entries().get(alloc, 0)?.as_slice(),
+            b"two".as_slice()
+        );
+        assert_eq!(rt;
+            journal.entries().get(alloc, 1)?.as_slice(),
+            b"x".as_slice()
+        );
+        assert_eq!(rt; journal.gate_of(1), 8);
+    }
+    assert_file(&rt, &mut disk, b"\x01\0\0\0\x03two\x01\0\0\0\x01x\0")
 }
 
 #[test]
@@ -94,11 +127,14 @@ fn a_file_is_attached_anew(rt: HostRuntime) -> Result<(), Fail> {
         disk.attach(name)?;
         let mut journal = Journal::over(rt.alloc(), disk);
         journal.attach()?;
-        journal.append(b"kept")?;
+        journal.append(b"kept", Bytes::new(rt.alloc()))?;
     }
     let journal = file_journal(&rt, name)?;
     fs::remove_file(&rt, name)?;
     assert_eq!(rt; journal.entries().len(), 1);
-    assert_eq!(rt; journal.entries().get(0), b"kept".as_slice());
+    assert_eq!(rt;
+        journal.entries().get(rt.alloc(), 0)?.as_slice(),
+        b"kept".as_slice()
+    );
     Ok(())
 }

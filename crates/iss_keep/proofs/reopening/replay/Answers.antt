@@ -1,5 +1,6 @@
-use Rattle.std.proofs.Common.{rules, ◌≡◌, ◌∙◌, ◌<◌, ◌≤◌, Bool, true, false, Ok, ap, sym, length, [], get_or}
-use Rattle.iss_journal.specs.Sound.{entries_of}
+use Rattle.std.proofs.Common.{rules, ◌≡◌, ◌∙◌, ◌<◌, ◌≤◌, Bool, true, false, Ok, ap, sym, length, ℕ, List, [], get_or}
+use Rattle.iss_journal.specs.SharedViews.{shared_in}
+use Rattle.iss_journal.specs.Sound.{entries_of, gates_of}
 use Rattle.iss_model.specs.Node.{Core}
 use Rattle.iss_node.specs.State.{RefinesCore}
 use Rattle.iss_request.specs.declared.setups.Setup.{Setup}
@@ -13,37 +14,41 @@ loop-k-init g c = (
   record { cluster = c.in-Ok.ensures.same.0; number = c.in-Ok.ensures.same.1 },
 )
 
-pub replay_entry-requires : goal.replay_entry-requires
-replay_entry-requires g c = sym (ap (λ (s : Setup). s.n) c.loop-k.invariant.1.cluster)
+pub replay_at-requires-clause-n : goal.replay_at-requires-clause-n
+replay_at-requires-clause-n g c = sym (ap (λ (s : Setup). s.n) c.loop-k.invariant.1.cluster)
 
 pub loop-k-preserved : goal.loop-k-preserved
 loop-k-preserved g c =
     let lt : c.loop-k.k < length (entries_of c.args.journal.now) = search rules in
-    let entry : c.get.result.now ≡ get_or (entries_of c.args.journal.now) c.loop-k.k [] = search rules in
-    let took : c.replay_entry.result ≡ Ok true = search rules in
+    let read = get_or (shared_in c.entries-entries.result.now) c.loop-k.k [] in
+    let entry : read ≡ get_or (entries_of c.args.journal.now) c.loop-k.k [] =
+    ap (λ (es : List (List ℕ)). get_or es c.loop-k.k []) c.entries-entries.ensures in
+    let took : c.replay_at.result ≡ Ok true = search rules in
     let old = c.loop-k.node in (
-      replay-on c.args.setup.now g.M.Sequenced.spec g.M.Sequenced.refines c.args.me (entries_of c.args.journal.now) c.loop-k.k lt old c.replay_entry.new.node c.get.result.now entry
+      replay-on c.args.setup.now g.M.Sequenced.spec g.M.Sequenced.refines c.args.me (entries_of c.args.journal.now) c.loop-k.k lt old c.replay_at.new.node read entry
           c.loop-k.invariant.1 c.loop-k.invariant.0
-          (went c.replay_entry.result true
+          (went c.replay_at.result true
           (λ (b : Bool). (d : Core g.row.M-Msg.Denot) → RefinesCore g.M.Sequenced.spec g.M.Sequenced.refines old d →
-          GoesTo old.state.setup g.M.Sequenced.spec g.M.Sequenced.refines old.state.me.0 d c.get.result.now c.replay_entry.new.node b)
-          took c.replay_entry.ensures.goes),
-      still-of c.args.setup.now c.args.me old c.replay_entry.new.node c.loop-k.invariant.1 c.replay_entry.ensures.same,
+          GoesTo old.state.setup g.M.Sequenced.spec g.M.Sequenced.refines old.state.me.0 d read c.replay_at.new.node b)
+          took c.replay_at.ensures.goes),
+      still-of c.args.setup.now c.args.me old c.replay_at.new.node c.loop-k.invariant.1 c.replay_at.ensures.same,
     )
 
 pub returns-then-not-taken-clause-damaged : goal.returns-then-not-taken-clause-damaged
 returns-then-not-taken-clause-damaged g c = λ at is.
     let lt : c.loop-k.k < length (entries_of c.args.journal.now) = search rules in
-    let entry : c.get.result.now ≡ get_or (entries_of c.args.journal.now) c.loop-k.k [] = search rules in
-    let took : c.replay_entry.result ≡ Ok false = search rules in
+    let read = get_or (shared_in c.entries-entries.result.now) c.loop-k.k [] in
+    let entry : read ≡ get_or (entries_of c.args.journal.now) c.loop-k.k [] =
+    ap (λ (es : List (List ℕ)). get_or es c.loop-k.k []) c.entries-entries.ensures in
+    let took : c.replay_at.result ≡ Ok false = search rules in
     let old = c.loop-k.node in
-    replay-stops c.args.setup.now g.M.Sequenced.spec g.M.Sequenced.refines c.args.me (entries_of c.args.journal.now) c.loop-k.k lt old c.replay_entry.new.node c.get.result.now entry
+    replay-stops c.args.setup.now g.M.Sequenced.spec g.M.Sequenced.refines c.args.me (entries_of c.args.journal.now) c.loop-k.k lt old c.replay_at.new.node read entry
     c.loop-k.invariant.1 c.loop-k.invariant.0
-    (went c.replay_entry.result false
+    (went c.replay_at.result false
     (λ (b : Bool). (d : Core g.row.M-Msg.Denot) → RefinesCore g.M.Sequenced.spec g.M.Sequenced.refines old d →
-    GoesTo old.state.setup g.M.Sequenced.spec g.M.Sequenced.refines old.state.me.0 d c.get.result.now c.replay_entry.new.node b)
-    took c.replay_entry.ensures.goes)
-    at (same-gate _ at is ∙ c.gate_of.ensures)
+    GoesTo old.state.setup g.M.Sequenced.spec g.M.Sequenced.refines old.state.me.0 d read c.replay_at.new.node b)
+    took c.replay_at.ensures.goes)
+    (gates_of c.args.journal.now) at (same-gate _ at is ∙ c.gate_of.ensures)
 
 pub returns-clause-refines : goal.returns-clause-refines
 returns-clause-refines g c =

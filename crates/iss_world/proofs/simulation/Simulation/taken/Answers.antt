@@ -1,5 +1,6 @@
 use Rattle.std.proofs.Common.{◌<◌, ◌∙◌, ◌++◌, List, ℕ, length, arith, ap, refl, subst}
 use Rattle.std.proofs.lemmas.Option.{slice_get_read}
+use Rattle.iss_base.specs.Lists.{push_all}
 use Rattle.iss_model.specs.Run.{booked, cores_of, posted_all}
 use Rattle.iss_sb.specs.declared.effects.Claim.{Claim}
 use Rattle.iss_sb.specs.declared.effects.To.{To}
@@ -43,9 +44,10 @@ returns-in_ok-post_all-in-None-clause-happened g c =
     let v : SimulationState g.row.M.Denot g.row.M-Msg.Denot = record { setup = c.self.inside.setup; nodes = c.self.inside.nodes.items; network = c.self.inside.network; signed = c.self.inside.signed; hashed = c.self.inside.hashed } in
     let lt : c.args.core < length c.self.inside.nodes.items = omega (arith, ap (λ (z : SimulationState _ _). cores_of z.setup) c.self.view_is, c.self.invariant.0.count) in
     rw (← c.self.view_is) (λ w event t b made.
-    turn-refines g.M.Sequenced.spec g.M.Sequenced.refines v c.args.core c.self.invariant.0 lt w event t c.args.slots c.args.epoch.0 b c.args.outcome.now c.post_all.new.network c.book_own.new.signed c.ends.new.hashed made
+    turn-refines g.M.Sequenced.spec g.M.Sequenced.refines v c.args.core c.self.invariant.0 lt w event t c.args.slots c.args.epoch.0 b c.args.outcome.now c.post_all.new.network c.book_own.new.signed c.share.new.self made
     (no-end c.in_ok-ended.ended (ends_by c.self.inside.setup w.held.signed w.held.hashed c.args.outcome.now.early c.args.outcome.now.hashed)
     c.in-None.is (c.in_ok-ended.ensures.told w.held.signed w.held.hashed b.signed b.hashed))
     (c.in_ok-post_all-in-None.ensures.posted ∙ ap (λ (xs : List (To × List ℕ)). posted_all c.self.inside.setup c.self.inside.network c.args.core xs) c.as_slice.ensures)
     (subst (λ (cs : List Claim). AreSigned c.book_own.new.signed (booked c.self.inside.setup c.args.core cs ++ w.held.signed)) c.as_slice-own.ensures (c.in_ok-book_own-in-None.ensures w.held.signed b.signed))
-    (c.in_ok-ended.ensures.booked w.held.hashed b.hashed c.in-None.is))
+    (c.in_ok-share-in-None.ensures (push_all c.args.outcome.now.hashed w.held.hashed)
+    (c.in_ok-ended.ensures.booked w.held.hashed b.hashed c.in-None.is)))

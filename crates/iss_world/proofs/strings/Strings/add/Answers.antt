@@ -29,5 +29,5 @@ returns-clause-booked c =
     let v = c.self.inside.all.entries in
     let at = at-digest v c.digest-digest.result c.args.string.now c.as_slice.result.now None c.digest-digest.ensures c.as_slice.ensures c.in_default.ensures.value in
     rw (← c.self.view_is) (λ book h none. hashed-more v c.insert.new.self.entries book c.args.string.now h at
-    (put-digest v c.insert.new.self.entries c.digest-digest.result c.args.string.now c.as_slice.result.now c.in_ok-copy.field-0 c.digest-digest.ensures c.as_slice.ensures c.in_ok-copy.ensures
+    (put-digest v c.insert.new.self.entries c.digest-digest.result c.args.string.now c.as_slice.result.now c.of_bytes.result c.digest-digest.ensures c.as_slice.ensures (c.of_bytes.ensures ∙ c.in_ok-copy.ensures)
     c.in_ok-insert.ensures.updates.0))
