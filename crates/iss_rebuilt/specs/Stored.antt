@@ -1,6 +1,6 @@
 -- What a replica's journal holds: its events, and instead of each event that ended an epoch the replica as it entered
 -- its newest epoch, before it took the messages that came early. An event whose snapshot would be too long is kept
--- itself. Of a journal stay its snapshots and what follows the last of them.
+-- itself.
 use Rattle.std.specs.Prelude.{ℕ, zero, suc, ◌-◌, ◌==◌, ◌||◌, nat_le, cond, Bool, false, is_some, List, [], ◌∷◌, ◌++◌, length, reverse, Option, Some, None}
 use Rattle.std.specs.List.{filter}
 use Rattle.iss_base.specs.Lists.{below}
@@ -126,14 +126,3 @@ stored W spell me [] = record { entries = []; saved = nothing_saved; core = init
 stored W spell me (x ∷ xs) =
     let s = stored W spell me xs in
     stored_by W spell me s x (step_in W me s.core x)
-
--- ---- what stays of entries
-
-abbrev pub is_snapshot : List ℕ → Bool
-is_snapshot [] = false
-is_snapshot (b ∷ bytes) = b == 5
-
--- The snapshots, and all that follows the last of them; newest first.
-abbrev pub retained : List (List ℕ) → List (List ℕ)
-retained [] = []
-retained (x ∷ xs) = x ∷ cond (is_snapshot x) (filter is_snapshot xs) (retained xs)
