@@ -26,7 +26,7 @@ use Rattle.iss_snapshot.proofs.SnapshotGrammar.{spelled-row}
 use Rattle.iss_rebuilt.specs.Laws.{HasEntry, IsRecovered}
 use Rattle.iss_rebuilt.specs.Reading.{Rebuilt, core_of_step, reads_entry, rebuilt, recovered, replayed, replays, woken, woken_of}
 use Rattle.iss_rebuilt.specs.Storable.{IsBehind}
-use Rattle.iss_rebuilt.specs.Stored.{Kept, Saved, Stored, entered_at, nothing_saved, or_event, saved_after, snapshot_kept, snapshot_of, stored, stored_by}
+use Rattle.iss_rebuilt.specs.Stored.{Kept, Saved, Stored, nothing_saved, or_event, saved_after, snapshot_kept, snapshot_of, stored, stored_by}
 use Rattle.iss_rebuilt.proofs.Ballots.{no-ballots}
 use Rattle.iss_rebuilt.proofs.Encodable.{IsWritable, snapshot-fits}
 use Rattle.iss_rebuilt.proofs.Entering.{quiet, step-rises}
@@ -127,9 +127,9 @@ module _ {Msg : Type 0} (W : Frame Msg) (P : IsGoodFrame W.setup W.formats W.rul
   flip-slim a b h = record { placed = h.other; other = h.placed; slims = sym h.slims }
 
   -- a core with the slim part of an entered one wakes as that does
-  woken-slim : (c : Core Msg) (event : NodeEvent) (t : Turn Msg) (e : IsEntered W P me c event t) (next : Core Msg) → IsSlim next e.core →
+  woken-slim : (c : Core Msg) (t : Turn Msg) (e : IsEntered W P me c t) (next : Core Msg) → IsSlim next e.core →
       IsSlim (woken W me next).core t.core
-  woken-slim c event t e next h =
+  woken-slim c t e next h =
       let d : Core Msg = e.core in
       let epoch : d.past.epoch ≡ next.past.epoch = ap (λ (z : SlimCore Msg). z.epoch) (sym h.slims) in
       let early : d.early ≡ next.early = ap (λ (z : SlimCore Msg). z.early) (sym h.slims) in
@@ -251,7 +251,7 @@ module _ {Msg : Type 0} (W : Frame Msg) (P : IsGoodFrame W.setup W.formats W.rul
             slims = too.slims;
           }
 
-      module _ (e : IsEntered W P me st.core event t) (last : t.core.past.epoch < 2 ^ 64) where
+      module _ (e : IsEntered W P me st.core t) (last : t.core.past.epoch < 2 ^ 64) where
         abbrev d : Core Msg
         d = e.core
 
@@ -300,7 +300,7 @@ module _ {Msg : Type 0} (W : Frame Msg) (P : IsGoodFrame W.setup W.formats W.rul
               found = record next { core = (woken W me next.core).core };
               found_is = first ∙ ap (λ (o : Option (Rebuilt Msg)). woken_of W me o) front_read;
               found_saved = read.0.saved;
-              slims = woken-slim st.core event t e next.core (record { placed = read.0.placed; other = e.storable.placed; slims = read.0.slims });
+              slims = woken-slim st.core t e next.core (record { placed = read.0.placed; other = e.storable.placed; slims = read.0.slims });
             }
 
         entered-stored : IsStored (stored_by W spell me st event (Taken t))
@@ -318,7 +318,7 @@ module _ {Msg : Type 0} (W : Frame Msg) (P : IsGoodFrame W.setup W.formats W.rul
             go true k = snapshot-stored (leb-true (length (snapshot_row s.version snap)) max_entry k)
             go false k = subst (λ (m : Saved). IsStored (record { entries = spell event ∷ st.entries; saved = m; core = t.core })) (sym h.front_saved) event-stored
 
-      stayed-stored : entered_at W me st.core event ≡ None → IsStored (stored_by W spell me st event (Taken t))
+      stayed-stored : t.entered ≡ None → IsStored (stored_by W spell me st event (Taken t))
       stayed-stored none = subst (λ (o : Option (Core Msg)). IsStored (put (or_event (snapshot_kept W me st.saved o) (spell event) st.saved))) (sym none) event-stored
         where
           put : Kept → Stored Msg

@@ -1,10 +1,10 @@
 -- What stays of entries, oldest first, is what stays of them newest first: the newest entry, and of the others the
 -- snapshots if it is one.
-use Rattle.std.proofs.Common.{◌≡◌, ℕ, Bool, true, false, cond, not, ◌||◌, List, [], ◌∷◌, ◌++◌, reverse, refl, sym, ap, ap₂, ◌∙◌}
+use Rattle.std.proofs.Common.{◌≡◌, ℕ, Bool, true, false, cond, not, ◌||◌, List, [], ◌∷◌, ◌++◌, reverse, refl, ap, ap₂, ◌∙◌}
 use Rattle.std.specs.List.{filter}
 use Rattle.std.proofs.lemmas.List.{reverse-append}
 use Rattle.std.proofs.lemmas.List.Elements.{filter-append}
-use Rattle.iss_journal.specs.Retained.{has_snapshot, is_snapshot, retained, stays}
+use Rattle.iss_journal.specs.Retained.{has_snapshot, is_snapshot, retained}
 
 abbrev pub newest_stay : List (List ℕ) → List (List ℕ)
 newest_stay [] = []
