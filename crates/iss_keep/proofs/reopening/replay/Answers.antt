@@ -1,6 +1,6 @@
 use Rattle.std.proofs.Common.{rules, ◌≡◌, ◌∙◌, ◌<◌, ◌≤◌, Bool, true, false, Ok, ap, sym, length, ℕ, List, [], get_or}
 use Rattle.iss_journal.specs.SharedViews.{shared_in}
-use Rattle.iss_journal.specs.Sound.{entries_of}
+use Rattle.iss_journal.specs.Sound.{entries_of, gates_of}
 use Rattle.iss_model.specs.Node.{Core}
 use Rattle.iss_node.specs.State.{RefinesCore}
 use Rattle.iss_request.specs.declared.setups.Setup.{Setup}
@@ -48,7 +48,7 @@ returns-then-not-taken-clause-damaged g c = λ at is.
     (λ (b : Bool). (d : Core g.row.M-Msg.Denot) → RefinesCore g.M.Sequenced.spec g.M.Sequenced.refines old d →
     GoesTo old.state.setup g.M.Sequenced.spec g.M.Sequenced.refines old.state.me.0 d read c.replay_at.new.node b)
     took c.replay_at.ensures.goes)
-    at (same-gate _ at is ∙ c.gate_of.ensures)
+    (gates_of c.args.journal.now) at (same-gate _ at is ∙ c.gate_of.ensures)
 
 pub returns-clause-refines : goal.returns-clause-refines
 returns-clause-refines g c =

@@ -1,17 +1,11 @@
-use Rattle.std.proofs.Common.{arith, ℕ, ◌≡◌, ◌≤◌, ◌+◌, ◌∙◌, ◌++◌, [], ◌∷◌, List, length, length-append, ap, vec_len, vec_capacity}
+use Rattle.std.proofs.Common.{arith, ℕ, ◌≡◌, ◌≤◌, ◌∙◌, ◌++◌, [], ◌∷◌, List, length, length-append, ap, vec_len, vec_capacity}
 use Rattle.iss_journal.specs.EntryViews.{entries_in}
-use Rattle.iss_journal.specs.SharedViews.{shared_in}
-use Rattle.iss_journal.proofs.TailLemmas.{each_after, end_after, grown, longer_by}
-use Rattle.iss_journal.proofs.shared.SharedEntries.commit.Goals as goal
+use Rattle.iss_journal.proofs.TailLemmas.{each_after, grown, longer_by}
+use Rattle.iss_journal.proofs.shared.SharedEntries.add.Goals as goal
 
 added : (old staged new : List (List ℕ)) (entry : List ℕ) → staged ≡ old → new ≡ staged ++ entry ∷ [] →
     new ≡ old ++ entry ∷ []
 added old staged new entry same is = is ∙ ap (λ (l : List (List ℕ)). l ++ entry ∷ []) same
-
--- the offset after an entry in two parts
-past : (end len : ℕ) (head body : List ℕ) → len ≡ length body →
-    end + (5 + (length head + len)) ≡ end + (5 + length (head ++ body))
-past end len head body is = omega (arith, is, length-append head body)
 
 pub invariant_of-self : goal.invariant_of-self
 invariant_of-self c =
@@ -19,14 +13,11 @@ invariant_of-self c =
     let es = entries_in now.own in
     let new = entries_in c.commit.new.self in
     let head = c.args.head.now in
-    let more = added es (entries_in c.stage.new.self) new (head ++ []) c.stage.ensures.entries c.commit.ensures.entries in
+    let more =
+    added es (entries_in c.stage.new.self) new (head ++ []) c.stage.ensures.entries c.commit.ensures.entries in
     record {
-      each = each_after es new now.read now.tails.items c.push_reserved.new.self.items (head ++ []) c.args.body now.each
-          more c.push_reserved.ensures.items;
-      ends = end_after (shared_in now) _ (head ++ c.args.body) now.end _ now.ends
-          (grown es new now.read now.tails.items c.push_reserved.new.self.items head c.args.body now.each more
-          c.push_reserved.ensures.items)
-          (past now.end c.len.result head c.args.body c.len.ensures);
+      each = each_after es new now.tails.items c.push_reserved.new.self.items (head ++ []) c.args.body now.each more
+          c.push_reserved.ensures.items;
     }
 
 pub returns-clause-entries : goal.returns-clause-entries
@@ -35,8 +26,9 @@ returns-clause-entries c =
     let es = entries_in now.own in
     let new = entries_in c.commit.new.self in
     let head = c.args.head.now in
-    let more = added es (entries_in c.stage.new.self) new (head ++ []) c.stage.ensures.entries c.commit.ensures.entries in
-    grown es new now.read now.tails.items c.push_reserved.new.self.items head c.args.body now.each more
+    let more =
+    added es (entries_in c.stage.new.self) new (head ++ []) c.stage.ensures.entries c.commit.ensures.entries in
+    grown es new now.tails.items c.push_reserved.new.self.items head c.args.body now.each more
     c.push_reserved.ensures.items
 
 pub returns-clause-longer : goal.returns-clause-longer
@@ -45,7 +37,8 @@ returns-clause-longer c =
     let es = entries_in now.own in
     let new = entries_in c.commit.new.self in
     let head = c.args.head.now in
-    let more = added es (entries_in c.stage.new.self) new (head ++ []) c.stage.ensures.entries c.commit.ensures.entries in
+    let more =
+    added es (entries_in c.stage.new.self) new (head ++ []) c.stage.ensures.entries c.commit.ensures.entries in
     let short : length (head ++ []) ≤ length (head ++ c.args.body) =
     omega (arith, length-append head [], length-append head c.args.body) in
     record {
@@ -55,5 +48,4 @@ returns-clause-longer c =
       marks_room = omega (arith, c.commit.ensures.no_less, ap (λ v. vec_capacity v) c.stage.ensures.marks);
       tails = omega (arith, c.push_reserved.ensures.len);
       tails_room = omega (arith, c.push_reserved.ensures.capacity);
-      end = past now.end c.len.result head c.args.body c.len.ensures;
     }
