@@ -1,9 +1,11 @@
-//! The orders that run nodes, over links and disks in memory, some of which fail, and over UDP. The expected logs follow
-//! from the rules: node 0 alone casts a slot in its first turn, and its own Commit fills the slot in the second.
+//! The orders that run nodes, over links and disks in memory, some of which fail, and over UDP and a file. The expected
+//! logs follow from the rules: node 0 alone casts a slot in its first turn, and its own Commit fills the slot in the
+//! second.
 use crate::tests::calls::{Call, answer, call_over, check_over};
-use iss_disk::{Disk, MemoryDisk};
+use iss_disk::{Disk, FileDisk, MemoryDisk};
 use iss_links::{FailingLinks, MemoryLinks, UdpLinks};
 use std::alloc::{AllocError, Global};
+use std::fs;
 use std::process::Abort;
 use std::test::Fail;
 
@@ -33,6 +35,12 @@ const TWO_TURNS: &str =
 const MOST_BYTES: usize = 16_777_216;
 
 const NODE: &str = "node 0 20000 journal";
+
+// The file of a node over UDP.
+const JOURNAL: &str = "journal_over_udp";
+
+// The system hands out no port from here on.
+const FREE_PORT: u16 = 61_000;
 
 // What a node prints after two turns over a new journal, and after two more over what each run left.
 const LOGS: [&str; 3] = [
@@ -105,27 +113,27 @@ fn a_node_goes_on_from_its_journal(rt: HostRuntime) -> Result<(), Fail> {
     Ok(())
 }
 
-// The answer of node 0 over UDP with end 0 at this port.
+// The answer of node 0 over UDP with end 0 at this port, and its journal in a file.
 fn answer_over_udp(
     rt: &HostRuntime,
     port: u32,
     config: &[u8],
-    disk: &mut MemoryDisk,
 ) -> Result<(u8, Vec<u8>), AllocError> {
-    let line = format!(in rt.alloc(); "node 0 {port} journal")?;
+    let line = format!(in rt.alloc(); "node 0 {port} {JOURNAL}")?;
     let mut links = UdpLinks::new(rt, rt.alloc());
-    call_over(rt.alloc(), &line, config, &mut links, disk)
+    let mut disk = FileDisk::new(rt, rt.alloc());
+    call_over(rt.alloc(), &line, config, &mut links, &mut disk)
 }
 
-// The answer at the first port that is free.
+// The answer at the first port that is free of this one and every second one behind it.
 fn answer_over_free_port(
     rt: &HostRuntime,
     abort: &impl Abort,
+    port: u16,
     config: &[u8],
-    disk: &mut MemoryDisk,
 ) -> Result<Vec<u8>, AllocError> {
     for i in 0..1000u32 {
-        let (status, text) = answer_over_udp(rt, 20_000 + 31 * i, config, disk)?;
+        let (status, text) = answer_over_udp(rt, u32::from(port) + 2 * i, config)?;
         if status != 8 {
             assert_eq!(abort; status, 0);
             return Ok(text);
@@ -134,28 +142,28 @@ fn answer_over_free_port(
     panic!(abort; "no port is free");
 }
 
-// What one node prints over UDP after these turns. It has leaves for a thousand turns: a turn in which it waits for a
-// frame in vain takes some milliseconds.
+// What one node prints over UDP after these turns.
 fn printed_over_udp(
     rt: &HostRuntime,
     abort: &impl Abort,
+    port: u16,
     turns: u32,
-    disk: &mut MemoryDisk,
 ) -> Result<Vec<u8>, AllocError> {
     let config = format!(in rt.alloc();
         "module = \"pbft\"\nf = 0\nepoch = 1\nbuckets = 1\nbatch = 4\nwindow = 8\n\
-        policy = \"simple\"\nclients = 1\nkeys = 10\nrequests = 0\nturns = {turns}\n"
+        policy = \"simple\"\nclients = 1\nkeys = 8\nrequests = 0\nturns = {turns}\n"
     )?;
-    answer_over_free_port(rt, abort, config.as_bytes(), disk)
+    answer_over_free_port(rt, abort, port, config.as_bytes())
 }
 
-// No slot is filled in one turn. So what the second run prints is what its journal holds.
+// A turn in which the node waits for a frame in vain takes a millisecond or more. No slot is filled in one turn, and no
+// frame of the first run arrives at the ports of the second. So what the second run prints is what its journal holds.
 #[test]
 fn a_node_over_udp_fills_slots_and_goes_on(rt: HostRuntime) -> Result<(), Fail> {
-    let mut disk = MemoryDisk::new(rt.alloc())?;
-    let text = printed_over_udp(&rt, &rt, 1000, &mut disk)?;
+    let text = printed_over_udp(&rt, &rt, FREE_PORT, 100)?;
     assert_eq!(rt; str::from_utf8(&text)?.lines().nth(1), Some("0 0 0"));
-    let again = printed_over_udp(&rt, &rt, 1, &mut disk)?;
+    let again = printed_over_udp(&rt, &rt, FREE_PORT + 1, 1)?;
+    fs::remove_file(&rt, JOURNAL)?;
     assert_eq!(rt; again, text);
     Ok(())
 }
