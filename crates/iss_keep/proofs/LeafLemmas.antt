@@ -1,5 +1,5 @@
 -- Every entry uses its own leaves, and appending entries does not change what earlier entries produced.
-use Rattle.std.proofs.Common.{arith, ◌≡◌, ◌⊎◌, inl, inr, ℕ, suc, ◌≤◌, List, [], ◌∷◌, ◌++◌, Option, Some, None, refl, sym, ap, ◌∙◌, subst}
+use Rattle.std.proofs.Common.{arith, ◌≡◌, ◌⊎◌, inl, inr, ℕ, suc, ◌≤◌, List, [], ◌∷◌, ◌++◌, Option, Some, None, refl, ap, ◌∙◌, subst, sym}
 use Rattle.iss_journal.proofs.Showing.{shown_once}
 use Rattle.iss_journal.specs.Promises.{Shows, ShowsWithOrWithout}
 use Rattle.iss_journal.specs.Retained.{retained}

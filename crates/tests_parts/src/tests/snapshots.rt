@@ -250,8 +250,9 @@ fn assert_crash(rt: &impl Abort, alloc: Global, before: &[u8], calls: u64) -> Re
         after.pop();
         after.extend_from_slice(&[1, 0, 0, 0, 2, 5, 6, 0])?;
     }
-    assert_read(rt, alloc, &bytes_of(alloc, &mut disk)?)?;
-    assert_left(rt, alloc, &after, &bytes_of(alloc, &mut disk)?)
+    let torn = bytes_of(alloc, &mut disk)?;
+    assert_read(rt, alloc, &torn)?;
+    assert_left(rt, alloc, &torn, &after)
 }
 
 #[test]

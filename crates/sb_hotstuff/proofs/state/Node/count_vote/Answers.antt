@@ -2,7 +2,7 @@ use Rattle.std.proofs.Common.{ℕ, ◌≡◌, ◌==◌, true, refl, sym, subst}
 use Rattle.iss_base.proofs.Lists.{eqb-other}
 use Rattle.sb_hotstuff.specs.Rules.{with_vote}
 use Rattle.sb_hotstuff.proofs.Refinement.InputRefines.{vote-kept, vote-led, vote-shown, voted-for}
-use Rattle.sb_hotstuff.proofs.state.Node.take_vote.Goals as goal
+use Rattle.sb_hotstuff.proofs.state.Node.count_vote.Goals as goal
 
 pub returns-then-not-is_reached : goal.returns-then-not-is_reached
 returns-then-not-is_reached c s h =
