@@ -1,4 +1,4 @@
-use Rattle.std.proofs.Common.{rules, ◌≡◌, IsErrOf, inr}
+use Rattle.std.proofs.Common.{rules, IsErrOf, inr}
 use Rattle.iss_disk.specs.Calls.{IfTold}
 use Rattle.iss_journal.specs.Promises.{ComesToRest}
 use Rattle.iss_journal.specs.Sound.{IsRead, disk_of, entries_of, gates_of}
