@@ -1,13 +1,13 @@
--- The effect of a vote, of a certificate and of a new epoch on the state, and on the lists that it refines.
-use Rattle.std.proofs.Common.{arith, inl, inr, ◌≡◌, ◌≢◌, ◌⊎◌, ℕ, zero, suc, ◌<◌, Bool, true, false, ◌||◌, ◌==◌, cond, not, List, [], ◌∷◌, ◌++◌, Option, Some, None, Result, Ok, Err, IfOk, is_some, length, slice_get, slice_set, refl, sym, ap, ◌∙◌, subst, true≢false}
-use Rattle.std.specs.Prelude.{OnErr}
-use Rattle.iss_request.specs.declared.errors.NoMemory.{NoMemory}
-use Rattle.iss_base.proofs.Lists.{eqb-other, eqb-same, none-some, same_or_not, some-injective}
-use Rattle.iss_ballots.specs.Ballots.{AreKept, AreOpen, BallotsState, IsCountedAt, IsOpenAt, IsTaken, IsTakenAt, cert_in, closed_by, is_held, is_true, settled_by, stable_by, vote_in}
-use Rattle.iss_ballots.specs.declared.ballots.Ballot.{Ballot}
-use Rattle.iss_ballots.specs.declared.ballots.Ballot.TheVariants.{Open, Stable}
-use Rattle.iss_ballots.specs.declared.ballots.Taking.{Taking}
-use Rattle.iss_ballots.specs.declared.ballots.Taking.TheVariants.{BadSignature, Counted, Known}
+-- The effect of a vote and of a certificate on the state, and on the lists that it refines.
+use Rattle.std.proofs.Common.{inl, inr, ◌≡◌, ◌≢◌, ◌⊎◌, ℕ, Bool, true, false, ◌||◌, ◌&&◌, ◌==◌, cond, not, List, [], ◌∷◌, ◌++◌, Option, Some, None, Result, Ok, Err, is_some, length, reverse, refl, sym, ap, ◌∙◌, subst, true≢false}
+use Rattle.std.specs.List.{filter}
+use Rattle.std.specs.Prelude.{OnOk}
+use Rattle.std.specs.Ordering.{is_eq, nat_cmp}
+use Rattle.std.proofs.lemmas.List.{append-nil, reverse-append}
+use Rattle.std.proofs.lemmas.List.Elements.{filter-append}
+use Rattle.iss_base.proofs.Lists.{eqb-other, eqb-same, none-some, same_number, same_or_not, some-injective}
+use Rattle.iss_ballots.specs.Ballots.{AreKept, AreTallies, BallotsState, HasTally, IsCertified, IsTaken, IsUntallied, cert_at, is_held, is_true, refused, tally_at, tally_or, vote_in}
+use Rattle.iss_ballots.specs.declared.ballots.Taking.TheVariants.{Counted, Known}
 use Rattle.iss_checkpoint.proofs.TallyLemmas.{below-same}
 use Rattle.iss_checkpoint.specs.Tallies.{IsCounted, TallyState, certificate, certificate_by, refusal, vote_at, with_vote}
 use Rattle.iss_checkpoint.specs.Votes.{Voters, is_signed, statement_of}
@@ -16,86 +16,26 @@ use Rattle.iss_checkpoint.specs.declared.tallies.Refusal.TheVariants.{BadSignatu
 use Rattle.iss_checkpoint.specs.declared.votes.Cert.{Cert}
 use Rattle.iss_sb.specs.declared.signers.Signed.{Signed}
 use Rattle.iss_checkpoint.specs.declared.votes.Vote.{Vote}
-use Rattle.iss_rules.specs.Votes.{cert_on, keeping, vote_by}
+use Rattle.iss_rules.specs.Votes.{cert_on, is_open, keeping, vote_by}
+use Rattle.iss_rules.proofs.OpenVotes.{filter-both, open-behind}
 
--- ---- indices
+-- ---- a map, with one entry set or taken out
 
--- An index of the longer list is the last one, or was there before.
-pub place-more : {A : Type 0} (xs : List A) (x : A) (e : ℕ) → ((slice_get (xs ++ x ∷ []) e ≡ Some x) × (slice_get xs e ≡ None) × (e ≡ length xs)) ⊎ (slice_get (xs ++ x ∷ []) e ≡ slice_get xs e)
-place-more [] x zero = inl (refl, refl, refl)
-place-more [] x (suc e) = inr refl
-place-more (y ∷ xs) x zero = inr refl
-place-more (y ∷ xs) x (suc e) = elim (place-more xs x e) [ inl h ↦ inl (h.0, h.1, ap suc h.2) | inr h ↦ inr h ]
+-- what an update says, by the test of the keys
+pub at-number : {A : Type 0} (k d : ℕ) (x y : A) → cond (is_eq (nat_cmp k d)) x y ≡ cond (k == d) x y
+at-number k d x y = ap (λ (b : Bool). cond b x y) (same_number k d)
 
-pub set-here : {A : Type 0} (xs : List A) (e : ℕ) (x : A) → e < length xs → slice_get (slice_set xs e x) e ≡ Some x
-set-here [] e x lt = absurd (omega (arith, lt))
-set-here (y ∷ xs) zero x lt = refl
-set-here (y ∷ xs) (suc e) x lt = set-here xs e x (omega (arith, lt))
+at-same : {A : Type 0} (k d : ℕ) (x y : A) → k ≡ d → cond (k == d) x y ≡ x
+at-same k d x y q = ap (λ (b : Bool). cond b x y) (ap (λ (n : ℕ). n == d) q ∙ eqb-same d)
 
-pub set-there : {A : Type 0} (xs : List A) (e d : ℕ) (x : A) → d ≢ e → slice_get (slice_set xs e x) d ≡ slice_get xs d
-set-there [] e d x ne = refl
-set-there (y ∷ xs) zero zero x ne = absurd (ne refl)
-set-there (y ∷ xs) zero (suc d) x ne = refl
-set-there (y ∷ xs) (suc e) zero x ne = refl
-set-there (y ∷ xs) (suc e) (suc d) x ne = set-there xs e d x (λ q. ne (ap suc q))
+at-other : {A : Type 0} (k d : ℕ) (x y : A) → d ≢ k → cond (k == d) x y ≡ y
+at-other k d x y ne = ap (λ (b : Bool). cond b x y) (eqb-other k d (λ q. ne (sym q)))
 
--- ---- a new epoch without votes
-
-pub reached-tallied : (w : Voters) (all : List Ballot) (t : TallyState) → AreOpen w all → t.voters ≡ w → t.epoch ≡ length all → AreOpen w (all ++ Open t ∷ [])
-reached-tallied w all t tallied voters epoch e b h = elim (place-more all (Open t) e) [
-  | inl k ↦
-      let same : Open t ≡ b = some-injective (Open t) b (sym k.0 ∙ h) in
-      subst (λ (z : Ballot). IsOpenAt w e z) same (voters, epoch ∙ sym k.2)
-  | inr k ↦ tallied e b (sym k ∙ h)
-]
-
-pub reached-kept : (v : BallotsState) (t : TallyState) (votes : List Vote) (certs : List Cert) → t.votes ≡ [] → AreKept v votes certs → AreKept (record v { all = v.all ++ Open t ∷ [] }) votes certs
-reached-kept v t votes certs none h = record {
-  certs_are = λ e. elim (place-more v.all (Open t) e) [
-    | inl k ↦ ap (λ (o : Option Ballot). cert_in o) k.0 ∙ sym (ap (λ (o : Option Ballot). cert_in o) k.1) ∙ h.certs_are e
-    | inr k ↦ ap (λ (o : Option Ballot). cert_in o) k ∙ h.certs_are e
-  ];
-  votes_are = λ e n c. elim (place-more v.all (Open t) e) [
-    | inl k ↦ ap (λ (o : Option Ballot). vote_in o n) k.0 ∙ ap (λ (xs : List (ℕ × Vote)). vote_at xs n) none ∙ sym (ap (λ (o : Option Ballot). vote_in o n) k.1) ∙ h.votes_are e n c
-    | inr k ↦ ap (λ (o : Option Ballot). vote_in o n) k ∙ h.votes_are e n c
-  ];
-}
-
--- ---- the state of one epoch changes
-
-pub set-tallied : (w : Voters) (all : List Ballot) (e : ℕ) (now : Ballot) → e < length all → AreOpen w all → IsOpenAt w e now → AreOpen w (slice_set all e now)
-set-tallied w all e now lt tallied here d b h = elim (same_or_not d e) [
-  | inl q ↦
-      let same : now ≡ b = some-injective now b (sym (set-here all e now lt) ∙ ap (λ (k : ℕ). slice_get (slice_set all e now) k) (sym q) ∙ h) in
-      subst (λ (z : Ballot). IsOpenAt w d z) same (subst (λ (k : ℕ). IsOpenAt w k now) (sym q) here)
-  | inr ne ↦ tallied d b (sym (set-there all e d now ne) ∙ h)
-]
-
--- If the lists do not change for this epoch, the state still refines them.
-pub set-kept : (v : BallotsState) (e : ℕ) (now : Ballot) (votes more : List Vote) (certs others : List Cert) → e < length v.all → AreKept v votes certs →
-    ((d : ℕ) → d ≢ e → cert_on others d ≡ cert_on certs d) → ((d k : ℕ) → d ≢ e → vote_by more d k ≡ vote_by votes d k) →
-    cert_in (Some now) ≡ cert_on others e → ((k : ℕ) → cert_on others e ≡ None → vote_in (Some now) k ≡ vote_by more e k) →
-    AreKept (record v { all = slice_set v.all e now }) more others
-set-kept v e now votes more certs others lt h certs_stay votes_stay cert_here votes_here = record {
-  certs_are = λ d. elim (same_or_not d e) [
-    | inl q ↦ subst (λ (k : ℕ). cert_in (slice_get (slice_set v.all e now) k) ≡ cert_on others k) (sym q) (ap (λ (o : Option Ballot). cert_in o) (set-here v.all e now lt) ∙ cert_here)
-    | inr ne ↦ ap (λ (o : Option Ballot). cert_in o) (set-there v.all e d now ne) ∙ h.certs_are d ∙ sym (certs_stay d ne)
-  ];
-  votes_are = λ d n c. elim (same_or_not d e) [
-    | inl q ↦
-        let none : cert_on others e ≡ None = subst (λ (k : ℕ). cert_on others k ≡ None) q c in
-        subst (λ (k : ℕ). vote_in (slice_get (slice_set v.all e now) k) n ≡ vote_by more k n) (sym q) (ap (λ (o : Option Ballot). vote_in o n) (set-here v.all e now lt) ∙ votes_here n none)
-    | inr ne ↦ ap (λ (o : Option Ballot). vote_in o n) (set-there v.all e d now ne) ∙ h.votes_are d n (sym (certs_stay d ne) ∙ c) ∙ sym (votes_stay d n ne)
-  ];
-}
+pub is-none : {A : Type 0} (o : Option A) → is_some o ≡ false → o ≡ None
+is-none None h = refl
+is-none (Some x) h = absurd (true≢false h)
 
 -- ---- one more vote or certificate in the lists
-
-cert-here : (c : Cert) (certs : List Cert) → cert_on (c ∷ certs) c.epoch.0 ≡ Some c
-cert-here c certs = let q = eqb-same c.epoch.0 in rw q refl
-
-cert-there : (c : Cert) (certs : List Cert) (d : ℕ) → d ≢ c.epoch.0 → cert_on (c ∷ certs) d ≡ cert_on certs d
-cert-there c certs d ne = let q = eqb-other c.epoch.0 d (λ e. ne (sym e)) in rw q refl
 
 vote-here : (v : Vote) (votes : List Vote) (tally : List (ℕ × Vote)) (k : ℕ) → vote_at tally k ≡ vote_by votes v.epoch.0 k → with_vote tally v k ≡ vote_by (v ∷ votes) v.epoch.0 k
 vote-here v votes tally k h = let q = eqb-same v.epoch.0 in rw q (ap (λ (o : Option Vote). cond (v.by.0 == k) (Some v) o) h)
@@ -159,161 +99,271 @@ unsigned-of t v same h = go (v.epoch.0 == t.epoch) own (is_signed t.voters (stat
     go true qe true qs true (inl r) = let q = some-injective Twice Refusal_bad_signature r in absurd (cc)
     go true qe true qs true (inr r) = let q = some-injective Twice OtherEpoch r in absurd (cc)
 
--- ---- the results of a count
+pub on-ok : {A E : Type 0} (r : Result A E) (P Q : Type 0) → OnOk r P → (P → Q) → OnOk r Q
+on-ok (Ok x) P Q h f = f h
+on-ok (Err e) P Q h f = tt
 
-pub counted-so : (t u : TallyState) (v : Vote) → IsCounted t v u → length (certificate u v).signers ≢ t.voters.quorum → IsCountedAt t v (Open u)
-counted-so t u v h few =
-    let voters : u.voters ≡ t.voters = ap (λ (z : TallyState). z.voters) h.others in
-    let test : (length (certificate u v).signers == u.voters.quorum) ≡ false = eqb-other _ _ (λ q. few (q ∙ ap (λ (w : Voters). w.quorum) voters)) in
-    record { tally = u; counted = h; is = rw test refl }
+-- ---- tallies stay of their epochs
 
-pub stable-so : (t u : TallyState) (v : Vote) (c : Cert) → IsCounted t v u → length (certificate u v).signers ≡ t.voters.quorum → c ≡ certificate u v → IsCountedAt t v (Stable c)
-stable-so t u v c h many is =
-    let voters : u.voters ≡ t.voters = ap (λ (z : TallyState). z.voters) h.others in
-    let test : (length (certificate u v).signers == u.voters.quorum) ≡ true = ap (λ (k : ℕ). length (certificate u v).signers == k) (sym (many ∙ sym (ap (λ (w : Voters). w.quorum) voters))) ∙ eqb-same _ in
-    record { tally = u; counted = h; is = rw test (ap (λ (z : Cert). Stable z) is) }
+pub untallied-tallies : (w : Voters) (tallies less : List (ℕ × TallyState)) (e : ℕ) → AreTallies w tallies →
+    ((d : ℕ) → tally_at less d ≡ cond (e == d) None (tally_at tallies d)) → AreTallies w less
+untallied-tallies w tallies less e all at d t h = elim (same_or_not d e) [
+  | inl q ↦ absurd (none-some t (sym (at d ∙ at-same e d None (tally_at tallies d) (sym q)) ∙ h))
+  | inr ne ↦ all d t (sym (at d ∙ at-other e d None (tally_at tallies d) ne) ∙ h)
+]
 
--- ---- the state of an epoch keeps its epoch
+pub tallied-tallies : (w : Voters) (tallies more : List (ℕ × TallyState)) (e : ℕ) (t : TallyState) → AreTallies w tallies → t.voters ≡ w → t.epoch ≡ e →
+    ((d : ℕ) → tally_at more d ≡ cond (e == d) (Some t) (tally_at tallies d)) → AreTallies w more
+tallied-tallies w tallies more e t all voters epoch at d u h = elim (same_or_not d e) [
+  | inl q ↦
+      let same : t ≡ u = some-injective t u (sym (at d ∙ at-same e d (Some t) (tally_at tallies d) (sym q)) ∙ h) in
+      subst (λ (z : TallyState). (z.voters ≡ w) × (z.epoch ≡ d)) same (voters, epoch ∙ sym q)
+  | inr ne ↦ all d u (sym (at d ∙ at-other e d (Some t) (tally_at tallies d) ne) ∙ h)
+]
 
-module _ (b : BallotsState) (v : Vote) (lt : v.epoch.0 < length b.all) (tallied : AreOpen b.voters b.all) where
-  counted-tallied : (t u : TallyState) → slice_get b.all v.epoch.0 ≡ Some (Open t) → IsCounted t v u → (now : Ballot) → now ≡ settled_by u v → IsOpenAt b.voters v.epoch.0 now
-  counted-tallied t u at counted now is = subst (λ (z : Ballot). IsOpenAt b.voters v.epoch.0 z) (sym is) (go (length (certificate u v).signers == u.voters.quorum))
+-- ---- the open votes
+
+reverse-more : (v : Vote) (vs : List Vote) → reverse (v ∷ vs) ≡ reverse vs ++ v ∷ []
+reverse-more v vs = reverse-append (v ∷ []) vs
+
+filter-reverse : (p : Vote → Bool) (vs : List Vote) → filter p (reverse vs) ≡ reverse (filter p vs)
+filter-reverse p [] = refl
+filter-reverse p (v ∷ vs) =
+    ap (λ (xs : List Vote). filter p xs) (reverse-more v vs)
+    ∙ (filter-append p (reverse vs) (v ∷ [])
+    ∙ (ap (λ (xs : List Vote). xs ++ filter p (v ∷ [])) (filter-reverse p vs) ∙ go (p v)))
+  where
+    go : (b : Bool) → reverse (filter p vs) ++ cond b (v ∷ []) [] ≡ reverse (cond b (v ∷ filter p vs) (filter p vs))
+    go true = sym (reverse-more v (filter p vs))
+    go false = append-nil (reverse (filter p vs))
+
+-- Behind one more certificate the votes of other epochs stay open.
+pub open-with : (c : Cert) (certs : List Cert) (vs : List Vote) (counted : List Vote) → counted ≡ reverse (filter (is_open certs) vs) →
+    filter (λ (v : Vote). not (v.epoch.0 == c.epoch.0)) counted ≡ reverse (filter (is_open (c ∷ certs)) vs)
+open-with c certs vs counted is =
+    ap (λ (xs : List Vote). filter (λ (v : Vote). not (v.epoch.0 == c.epoch.0)) xs) is
+    ∙ (filter-reverse (λ (v : Vote). not (v.epoch.0 == c.epoch.0)) (filter (is_open certs) vs)
+    ∙ ap (λ (xs : List Vote). reverse xs)
+    (sym (filter-both (is_open (c ∷ certs)) (λ (v : Vote). not (v.epoch.0 == c.epoch.0)) (is_open certs)
+    (λ v. open-behind (c ∷ []) certs v ∙ ap (λ (b : Bool). b && is_open certs v) (alone v)) vs)))
+  where
+    alone : (v : Vote) → is_open (c ∷ []) v ≡ not (v.epoch.0 == c.epoch.0)
+    alone v = elim (same_or_not v.epoch.0 c.epoch.0) [
+      | inl q ↦
+          ap (λ (o : Option Cert). not (is_some o)) (at-same c.epoch.0 v.epoch.0 (Some c) None (sym q))
+          ∙ ap (λ (b : Bool). not b) (sym (ap (λ (n : ℕ). n == c.epoch.0) q ∙ eqb-same c.epoch.0))
+      | inr ne ↦
+          ap (λ (o : Option Cert). not (is_some o)) (at-other c.epoch.0 v.epoch.0 (Some c) None ne)
+          ∙ ap (λ (b : Bool). not b) (sym (eqb-other v.epoch.0 c.epoch.0 ne))
+    ]
+
+-- a vote of an epoch that has its certificate is not open
+shut-here : (c : Cert) (certs : List Cert) (v : Vote) (votes : List Vote) → v.epoch.0 ≡ c.epoch.0 → filter (is_open (c ∷ certs)) (v ∷ votes) ≡ filter (is_open (c ∷ certs)) votes
+shut-here c certs v votes q =
+    ap (λ (b : Bool). cond b (v ∷ filter (is_open (c ∷ certs)) votes) (filter (is_open (c ∷ certs)) votes))
+    (ap (λ (o : Option Cert). not (is_some o)) (at-same c.epoch.0 v.epoch.0 (Some c) (cert_on certs v.epoch.0) (sym q)))
+
+open-here : (certs : List Cert) (v : Vote) (votes : List Vote) → cert_on certs v.epoch.0 ≡ None → filter (is_open certs) (v ∷ votes) ≡ v ∷ filter (is_open certs) votes
+open-here certs v votes none =
+    ap (λ (o : Option Cert). cond (not (is_some o)) (v ∷ filter (is_open certs) votes) (filter (is_open certs) votes)) none
+
+-- ---- a certificate
+
+-- The epoch has no tally, and a certificate. More votes of this epoch do not matter.
+certified-kept : (b mid new : BallotsState) (c : Cert) (votes more : List Vote) (certs : List Cert) → AreKept b votes certs → IsUntallied c.epoch.0 b mid → IsCertified c mid new →
+    ((d k : ℕ) → d ≢ c.epoch.0 → vote_by more d k ≡ vote_by votes d k) → filter (is_open (c ∷ certs)) more ≡ filter (is_open (c ∷ certs)) votes → AreKept new more (c ∷ certs)
+certified-kept b mid new c votes more certs kept gone put others same = record {
+  certs_are = λ d. elim (same_or_not d c.epoch.0) [
+    | inl q ↦
+        put.certs d ∙ at-same c.epoch.0 d (Some c) (cert_at mid.certs d) (sym q)
+        ∙ sym (at-same c.epoch.0 d (Some c) (cert_on certs d) (sym q))
+    | inr ne ↦
+        put.certs d ∙ at-other c.epoch.0 d (Some c) (cert_at mid.certs d) ne
+        ∙ ap (λ (z : BallotsState). cert_at z.certs d) gone.rest ∙ kept.certs_are d
+        ∙ sym (at-other c.epoch.0 d (Some c) (cert_on certs d) ne)
+  ];
+  votes_are = λ d k none. elim (same_or_not d c.epoch.0) [
+    | inl q ↦ absurd (none-some c (sym none ∙ at-same c.epoch.0 d (Some c) (cert_on certs d) (sym q)))
+    | inr ne ↦
+        ap (λ (z : BallotsState). vote_in (tally_at z.tallies d) k) put.rest
+        ∙ ap (λ (o : Option TallyState). vote_in o k) (gone.tallies d ∙ at-other c.epoch.0 d None (tally_at b.tallies d) ne)
+        ∙ kept.votes_are d k (sym (at-other c.epoch.0 d (Some c) (cert_on certs d) ne) ∙ none)
+        ∙ sym (others d k ne)
+  ];
+  counted_are =
+      put.counted ∙ ap (λ (z : BallotsState). filter (λ (v : Vote). not (v.epoch.0 == c.epoch.0)) z.counted) gone.rest
+      ∙ open-with c certs votes b.counted kept.counted_are ∙ ap (λ (xs : List Vote). reverse xs) (sym same);
+}
+
+pub puts-kept : (b mid new : BallotsState) (c : Cert) → IsUntallied c.epoch.0 b mid → IsCertified c mid new → (votes : List Vote) (certs : List Cert) → AreKept b votes certs → AreKept new votes (c ∷ certs)
+puts-kept b mid new c gone put votes certs kept = certified-kept b mid new c votes votes certs kept gone put (λ d k ne. refl) refl
+
+-- a certificate of an epoch that has none
+pub keeps-new : (b new : BallotsState) (c : Cert) → is_some (cert_at b.certs c.epoch.0) ≡ false → ((votes : List Vote) (certs : List Cert) → AreKept b votes certs → AreKept new votes (c ∷ certs)) →
+    (votes : List Vote) (certs : List Cert) → AreKept b votes certs → AreKept new votes (keeping certs c (cert_on certs c.epoch.0))
+keeps-new b new c none put votes certs kept =
+    subst (λ (o : Option Cert). AreKept new votes (keeping certs c o))
+    (sym (is-none (cert_on certs c.epoch.0) (ap (λ (o : Option Cert). is_some o) (sym (kept.certs_are c.epoch.0)) ∙ none)))
+    (put votes certs kept)
+
+-- a certificate of an epoch that has one
+pub keeps-old : (b : BallotsState) (c : Cert) → is_some (cert_at b.certs c.epoch.0) ≡ true → (votes : List Vote) (certs : List Cert) →
+    AreKept b votes certs → AreKept b votes (keeping certs c (cert_on certs c.epoch.0))
+keeps-old b c there votes certs kept = go (cert_on certs c.epoch.0) (ap (λ (o : Option Cert). is_some o) (sym (kept.certs_are c.epoch.0)) ∙ there)
+  where
+    go : (o : Option Cert) → is_some o ≡ true → AreKept b votes (keeping certs c o)
+    go None h = absurd (true≢false (sym h))
+    go (Some x) h = kept
+
+-- the votes are forgotten
+pub forgets-kept : (b new : BallotsState) (votes : List Vote) (certs : List Cert) → new ≡ record b { tallies = []; counted = [] } → AreKept b votes certs → AreKept new [] certs
+forgets-kept b new votes certs is kept = subst (λ (z : BallotsState). AreKept z [] certs) (sym is) (record {
+  certs_are = kept.certs_are;
+  votes_are = λ d k none. refl;
+  counted_are = refl;
+})
+
+-- ---- a vote on an epoch without a certificate
+
+or-tally : (b : BallotsState) (e : ℕ) → AreTallies b.voters b.tallies → ((tally_or b.voters e (tally_at b.tallies e)).voters ≡ b.voters) × ((tally_or b.voters e (tally_at b.tallies e)).epoch ≡ e)
+or-tally b e all = go (tally_at b.tallies e) refl
+  where
+    go : (o : Option TallyState) → tally_at b.tallies e ≡ o → ((tally_or b.voters e o).voters ≡ b.voters) × ((tally_or b.voters e o).epoch ≡ e)
+    go None q = (refl, refl)
+    go (Some t) q = all e t q
+
+-- The tally may be put back.
+pub put-fits : (b mid : BallotsState) (e : ℕ) (t u : TallyState) → AreTallies b.voters b.tallies → IsUntallied e b mid → t ≡ tally_or b.voters e (tally_at b.tallies e) → u.voters ≡ t.voters → u.epoch ≡ t.epoch →
+    (u.voters ≡ mid.voters) × (u.epoch ≡ e)
+put-fits b mid e t u all gone is voters epoch =
+    let own = or-tally b e all in (
+      voters ∙ (ap (λ (z : TallyState). z.voters) is ∙ (own.0 ∙ sym (ap (λ (z : BallotsState). z.voters) gone.rest))),
+      epoch ∙ (ap (λ (z : TallyState). z.epoch) is ∙ own.1),
+    )
+
+module _ (b mid new : BallotsState) (v : Vote) (votes : List Vote) (certs : List Cert) (kept : AreKept b votes certs)
+    (none : cert_at b.certs v.epoch.0 ≡ None) (all : AreTallies b.voters b.tallies) (gone : IsUntallied v.epoch.0 b mid) where
+  abbrev tally : TallyState
+  tally = tally_or b.voters v.epoch.0 (tally_at b.tallies v.epoch.0)
+
+  no-cert : cert_on certs v.epoch.0 ≡ None
+  no-cert = sym (kept.certs_are v.epoch.0) ∙ none
+
+  tally-of : (tally.voters ≡ b.voters) × (tally.epoch ≡ v.epoch.0)
+  tally-of = or-tally b v.epoch.0 all
+
+  votes-at : (k : ℕ) → vote_at tally.votes k ≡ vote_by votes v.epoch.0 k
+  votes-at k = go (tally_at b.tallies v.epoch.0) ∙ kept.votes_are v.epoch.0 k no-cert
     where
-      own : IsOpenAt b.voters v.epoch.0 (Open t)
-      own = tallied v.epoch.0 (Open t) at
+      go : (o : Option TallyState) → vote_at (tally_or b.voters v.epoch.0 o).votes k ≡ vote_in o k
+      go None = refl
+      go (Some t) = refl
 
-      go : (q : Bool) → IsOpenAt b.voters v.epoch.0 (cond q (Stable (certificate u v)) (Open u))
-      go true = tt
-      go false = (ap (λ (z : TallyState). z.voters) counted.others ∙ own.0, ap (λ (z : TallyState). z.epoch) counted.others ∙ own.1)
+  by-voters : (s : Bool) → new.voters ≡ b.voters → is_signed tally.voters (statement_of tally.voters v) v.by.0 v.sig ≡ s → is_true new.voters v ≡ s
+  by-voters s same h = ap (λ (w : Voters). is_true w v) (same ∙ sym tally-of.0) ∙ h
 
-  still-tallied : (old now : Ballot) (k : Taking) → slice_get b.all v.epoch.0 ≡ Some old → IsTakenAt old v now k → AreOpen b.voters (slice_set b.all v.epoch.0 now)
-  still-tallied (Stable c) now Known at h = set-tallied b.voters b.all v.epoch.0 now lt tallied (subst (λ (z : Ballot). IsOpenAt b.voters v.epoch.0 z) (sym h) tt)
-  still-tallied (Stable c) now Counted at h = absurd h
-  still-tallied (Stable c) now BadSignature at h = absurd h
-  still-tallied (Open t) now Known at h = set-tallied b.voters b.all v.epoch.0 now lt tallied (subst (λ (z : Ballot). IsOpenAt b.voters v.epoch.0 z) (sym h.1) (tallied v.epoch.0 (Open t) at))
-  still-tallied (Open t) now BadSignature at h = set-tallied b.voters b.all v.epoch.0 now lt tallied (subst (λ (z : Ballot). IsOpenAt b.voters v.epoch.0 z) (sym h.1) (tallied v.epoch.0 (Open t) at))
-  still-tallied (Open t) now Counted at h = set-tallied b.voters b.all v.epoch.0 now lt tallied (counted-tallied t h.tally at h.counted now h.is)
+  held-is : (s : Bool) → is_some (vote_at tally.votes v.by.0) ≡ s → is_held votes certs v ≡ s
+  held-is s h = ap (λ (o : Option Cert). is_some o || is_some (vote_by votes v.epoch.0 v.by.0)) no-cert ∙ (ap (λ (o : Option Vote). is_some o) (sym (votes-at v.by.0)) ∙ h)
 
-  -- The same for each result of a count.
-  pub any-tallied : (old now : Ballot) (r : Result Taking NoMemory) → slice_get b.all v.epoch.0 ≡ Some old → IfOk r (IsTakenAt old v now) → OnErr r (now ≡ old) → AreOpen b.voters (slice_set b.all v.epoch.0 now)
-  any-tallied old now (Ok k) at h e = still-tallied old now k at h
-  any-tallied old now (Err x) at h e = set-tallied b.voters b.all v.epoch.0 now lt tallied (subst (λ (z : Ballot). IsOpenAt b.voters v.epoch.0 z) (sym e) (tallied v.epoch.0 old at))
+  -- The tally is put back.
+  module _ (put : BallotsState) (u : TallyState) (epoch : u.epoch ≡ v.epoch.0) (has : HasTally u mid put) where
+    back-voters : put.voters ≡ b.voters
+    back-voters = ap (λ (z : BallotsState). z.voters) has.rest ∙ ap (λ (z : BallotsState). z.voters) gone.rest
 
--- ---- a vote on its epoch
+    back-kept : (more counted : List Vote) → ((k : ℕ) → vote_at u.votes k ≡ vote_by more v.epoch.0 k) → ((d k : ℕ) → d ≢ v.epoch.0 → vote_by more d k ≡ vote_by votes d k) →
+        counted ≡ reverse (filter (is_open certs) more) → AreKept (record put { counted = counted }) more certs
+    back-kept more counted here others is = record {
+      certs_are = λ d. ap (λ (z : BallotsState). cert_at z.certs d) has.rest ∙ (ap (λ (z : BallotsState). cert_at z.certs d) gone.rest ∙ kept.certs_are d);
+      votes_are = λ d k c. elim (same_or_not d v.epoch.0) [
+        | inl q ↦
+            ap (λ (o : Option TallyState). vote_in o k) (has.tallies d ∙ at-same u.epoch d (Some u) (tally_at mid.tallies d) (epoch ∙ sym q))
+            ∙ (here k ∙ ap (λ (n : ℕ). vote_by more n k) (sym q))
+        | inr ne ↦
+            ap (λ (o : Option TallyState). vote_in o k)
+            (has.tallies d ∙ (at-other u.epoch d (Some u) (tally_at mid.tallies d) (λ q. ne (q ∙ epoch))
+            ∙ (gone.tallies d ∙ at-other v.epoch.0 d None (tally_at b.tallies d) ne)))
+            ∙ (kept.votes_are d k c ∙ sym (others d k ne))
+      ];
+      counted_are = is;
+    }
 
-module _ (b : BallotsState) (v : Vote) (votes : List Vote) (certs : List Cert) (kept : AreKept b votes certs) (lt : v.epoch.0 < length b.all) (tallied : AreOpen b.voters b.all) where
-  abbrev pub set-at : Ballot → BallotsState
-  set-at now = record b { all = slice_set b.all v.epoch.0 now }
+    back-counted : put.counted ≡ b.counted
+    back-counted = ap (λ (z : BallotsState). z.counted) has.rest ∙ ap (λ (z : BallotsState). z.counted) gone.rest
 
-  -- Nothing changes.
-  same-kept : (now : Ballot) → slice_get b.all v.epoch.0 ≡ Some now → AreKept (set-at now) votes certs
-  same-kept now at = set-kept b v.epoch.0 now votes votes certs certs lt kept (λ d ne. refl) (λ d k ne. refl)
-      (sym (ap (λ (o : Option Ballot). cert_in o) at) ∙ kept.certs_are v.epoch.0)
-      (λ k none. sym (ap (λ (o : Option Ballot). vote_in o k) at) ∙ kept.votes_are v.epoch.0 k none)
+  pub refused-taken : (u : TallyState) (cause : Refusal) → refusal tally v ≡ Some cause → u ≡ tally → HasTally u mid new → IsTaken votes certs v new (refused cause)
+  refused-taken u cause why is has = go cause why
+    where
+      same : AreKept new votes certs
+      same = back-kept new u (ap (λ (t : TallyState). t.epoch) is ∙ tally-of.1) has votes new.counted
+          (λ k. ap (λ (t : TallyState). vote_at t.votes k) is ∙ votes-at k) (λ d k ne. refl) (back-counted new u (ap (λ (t : TallyState). t.epoch) is ∙ tally-of.1) has ∙ kept.counted_are)
 
-  pub stable-known : (c : Cert) → slice_get b.all v.epoch.0 ≡ Some (Stable c) → is_true b.voters v ≡ true → IsTaken votes certs v (set-at (Stable c)) Known
-  stable-known c at signed =
-      let there : cert_on certs v.epoch.0 ≡ Some c = sym (kept.certs_are v.epoch.0) ∙ ap (λ (o : Option Ballot). cert_in o) at in
-      (signed, rw there refl, same-kept (Stable c) at)
+      voters : new.voters ≡ b.voters
+      voters = back-voters new u (ap (λ (t : TallyState). t.epoch) is ∙ tally-of.1) has
 
-  module _ (t : TallyState) (at : slice_get b.all v.epoch.0 ≡ Some (Open t)) where
-    tally : IsOpenAt b.voters v.epoch.0 (Open t)
-    tally = tallied v.epoch.0 (Open t) at
+      go : (x : Refusal) → refusal tally v ≡ Some x → IsTaken votes certs v new (refused x)
+      go Twice h = let k = twice-of tally v h in (by-voters true voters k.signed, held-is true k.there, same)
+      go Refusal_bad_signature h = (by-voters false voters (unsigned-of tally v (sym tally-of.1) (inl h)), same)
+      go OtherEpoch h = (by-voters false voters (unsigned-of tally v (sym tally-of.1) (inr h)), same)
 
-    no-cert : cert_on certs v.epoch.0 ≡ None
-    no-cert = sym (kept.certs_are v.epoch.0) ∙ ap (λ (o : Option Ballot). cert_in o) at
+  module _ (u : TallyState) (counted : IsCounted tally v u) where
+    with-it : (k : ℕ) → vote_at u.votes k ≡ vote_by (v ∷ votes) v.epoch.0 k
+    with-it k = counted.votes k ∙ vote-here v votes tally.votes k (votes-at k)
 
-    votes-at : (k : ℕ) → vote_at t.votes k ≡ vote_by votes v.epoch.0 k
-    votes-at k = sym (ap (λ (o : Option Ballot). vote_in o k) at) ∙ kept.votes_are v.epoch.0 k no-cert
+    voters-are : u.voters ≡ b.voters
+    voters-are = ap (λ (z : TallyState). z.voters) counted.others ∙ tally-of.0
 
-    by-voters : (s : Bool) → is_signed t.voters (statement_of t.voters v) v.by.0 v.sig ≡ s → is_true b.voters v ≡ s
-    by-voters s h = ap (λ (w : Voters). is_true w v) (sym tally.0) ∙ h
+    pub epoch-is : u.epoch ≡ v.epoch.0
+    epoch-is = ap (λ (z : TallyState). z.epoch) counted.others ∙ tally-of.1
 
-    pub tallied-unsigned : (refusal t v ≡ Some Refusal_bad_signature) ⊎ (refusal t v ≡ Some OtherEpoch) → IsTaken votes certs v (set-at (Open t)) BadSignature
-    tallied-unsigned h = (by-voters false (unsigned-of t v (sym tally.1) h), same-kept (Open t) at)
+    cert-is : (w : Voters) → w ≡ b.voters → certificate u v ≡ certificate_by (vote_by (v ∷ votes) v.epoch.0) v w.n
+    cert-is w q =
+        ap (λ (z : Voters). certificate_by (vote_at u.votes) v z.n) (voters-are ∙ sym q)
+        ∙ ap (λ (xs : List Signed). let c : Cert = record { epoch = v.epoch; chain = v.chain; requests = v.requests; signers = xs } in c)
+        (below-same (vote_at u.votes) (vote_by (v ∷ votes) v.epoch.0) v with-it w.n)
 
-    held-is : (s : Bool) → is_some (vote_at t.votes v.by.0) ≡ s → is_held votes certs v ≡ s
-    held-is s h = ap (λ (o : Option Cert). is_some o || is_some (vote_by votes v.epoch.0 v.by.0)) no-cert ∙ ap (λ (o : Option Vote). is_some o) (sym (votes-at v.by.0)) ∙ h
+    -- whether they are a quorum
+    quorum-is : (w : Voters) (q : Bool) → w ≡ b.voters → (length (certificate u v).signers == tally.voters.quorum) ≡ q →
+        (length (certificate_by (vote_by (v ∷ votes) v.epoch.0) v w.n).signers == w.quorum) ≡ q
+    quorum-is w q same h =
+        ap (λ (c : Cert). length c.signers == w.quorum) (sym (cert-is w same))
+        ∙ (ap (λ (z : Voters). length (certificate u v).signers == z.quorum) (same ∙ sym tally-of.0) ∙ h)
 
-    pub tallied-twice : refusal t v ≡ Some Twice → IsTaken votes certs v (set-at (Open t)) Known
-    tallied-twice h = let k = twice-of t v h in (by-voters true k.signed, held-is true k.there, same-kept (Open t) at)
+    pub counted-taken : (put : BallotsState) → HasTally u mid put → length (certificate u v).signers ≢ tally.voters.quorum → new ≡ record put { counted = put.counted ++ v ∷ [] } →
+        IsTaken votes certs v new Counted
+    counted-taken put has few is =
+        let free = free-of tally v counted.sound in
+        let same : new.voters ≡ b.voters = ap (λ (z : BallotsState). z.voters) is ∙ back-voters put u epoch-is has in
+        let test = quorum-is new.voters false same (eqb-other _ _ few) in
+        let after : AreKept (record put { counted = put.counted ++ v ∷ [] }) (v ∷ votes) certs =
+        back-kept put u epoch-is has (v ∷ votes) (put.counted ++ v ∷ []) with-it (λ d k ne. vote-there v votes d k ne)
+        (ap (λ (xs : List Vote). xs ++ v ∷ []) (back-counted put u epoch-is has ∙ kept.counted_are)
+        ∙ (sym (reverse-more v (filter (is_open certs) votes)) ∙ ap (λ (xs : List Vote). reverse xs) (sym (open-here certs v votes no-cert)))) in (
+          by-voters true same free.signed,
+          held-is false free.free,
+          subst (λ (q : Bool). AreKept new (v ∷ votes) (cond q (certificate_by (vote_by (v ∷ votes) v.epoch.0) v new.voters.n ∷ []) [] ++ certs)) (sym test)
+              (subst (λ (z : BallotsState). AreKept z (v ∷ votes) certs) (sym is) after),
+        )
 
-    module _ (u : TallyState) (counted : IsCounted t v u) where
-      with-it : (k : ℕ) → vote_at u.votes k ≡ vote_by (v ∷ votes) v.epoch.0 k
-      with-it k = counted.votes k ∙ vote-here v votes t.votes k (votes-at k)
+    pub stable-taken : (c : Cert) → c ≡ certificate u v → length (certificate u v).signers ≡ tally.voters.quorum → IsCertified c mid new → IsTaken votes certs v new Counted
+    stable-taken c is many put =
+        let free = free-of tally v counted.sound in
+        let same : new.voters ≡ b.voters = ap (λ (z : BallotsState). z.voters) put.rest ∙ ap (λ (z : BallotsState). z.voters) gone.rest in
+        let test = quorum-is new.voters true same (ap (λ (k : ℕ). length (certificate u v).signers == k) (sym many) ∙ eqb-same _) in
+        let epoch : v.epoch.0 ≡ c.epoch.0 = ap (λ (x : Cert). x.epoch.0) (sym is) in
+        let after : AreKept new (v ∷ votes) (c ∷ certs) =
+        certified-kept b mid new c votes (v ∷ votes) certs kept (subst (λ (n : ℕ). IsUntallied n b mid) epoch gone) put
+        (λ d k ne. vote-there v votes d k (λ q. ne (q ∙ epoch))) (shut-here c certs v votes epoch) in (
+          by-voters true same free.signed,
+          held-is false free.free,
+          subst (λ (q : Bool). AreKept new (v ∷ votes) (cond q (certificate_by (vote_by (v ∷ votes) v.epoch.0) v new.voters.n ∷ []) [] ++ certs)) (sym test)
+              (subst (λ (z : Cert). AreKept new (v ∷ votes) (z ∷ certs)) (is ∙ cert-is new.voters same) after),
+        )
 
-      voters-are : u.voters ≡ b.voters
-      voters-are = ap (λ (z : TallyState). z.voters) counted.others ∙ tally.0
+-- ---- a vote on an epoch with a certificate
 
-      abbrev theirs : Cert
-      theirs = certificate_by (vote_by (v ∷ votes) v.epoch.0) v b.voters.n
-
-      cert-is : certificate u v ≡ theirs
-      cert-is =
-          ap (λ (w : Voters). certificate_by (vote_at u.votes) v w.n) voters-are
-          ∙ ap (λ (xs : List Signed). let c : Cert = record { epoch = v.epoch; chain = v.chain; requests = v.requests; signers = xs } in c)
-          (below-same (vote_at u.votes) (vote_by (v ∷ votes) v.epoch.0) v with-it b.voters.n)
-
-      test-is : (length (certificate u v).signers == u.voters.quorum) ≡ (length theirs.signers == b.voters.quorum)
-      test-is = ap (λ (c : Cert). length c.signers == u.voters.quorum) cert-is ∙ ap (λ (w : Voters). length theirs.signers == w.quorum) voters-are
-
-      after : (q : Bool) → (length theirs.signers == b.voters.quorum) ≡ q → AreKept (set-at (cond q (Stable theirs) (Open u))) (v ∷ votes) (cond q (theirs ∷ []) [] ++ certs)
-      after true q = set-kept b v.epoch.0 (Stable theirs) votes (v ∷ votes) certs (theirs ∷ certs) lt kept (λ d ne. cert-there theirs certs d ne) (λ d k ne. vote-there v votes d k ne)
-          (sym (cert-here theirs certs)) (λ k none. absurd (none-some theirs (sym none ∙ cert-here theirs certs)))
-      after false q = set-kept b v.epoch.0 (Open u) votes (v ∷ votes) certs certs lt kept (λ d ne. refl) (λ d k ne. vote-there v votes d k ne)
-          (sym no-cert) (λ k none. with-it k)
-
-      now-is : settled_by u v ≡ cond (length theirs.signers == b.voters.quorum) (Stable theirs) (Open u)
-      now-is = ap (λ (q : Bool). cond q (Stable (certificate u v)) (Open u)) test-is ∙ ap (λ (c : Cert). cond (length theirs.signers == b.voters.quorum) (Stable c) (Open u)) cert-is
-
-      pub tallied-counted : (now : Ballot) → now ≡ settled_by u v → IsTaken votes certs v (set-at now) Counted
-      tallied-counted now is =
-          let k = free-of t v counted.sound in (
-            by-voters true k.signed,
-            held-is false k.free,
-            subst (λ (z : Ballot). AreKept (set-at z) (v ∷ votes) (stable_by b.voters (v ∷ votes) v ++ certs)) (sym (is ∙ now-is)) (after (length theirs.signers == b.voters.quorum) refl),
-          )
-
-  -- The effect on the epoch gives the effect on the lists.
-  pub taken-so : (old now : Ballot) (k : Taking) → slice_get b.all v.epoch.0 ≡ Some old → (is_some (cert_in (Some old)) ≡ true → is_true b.voters v ≡ true) → IsTakenAt old v now k → IsTaken votes certs v (set-at now) k
-  taken-so (Stable c) now Known at signed h = subst (λ (z : Ballot). IsTaken votes certs v (set-at z) Known) (sym h) (stable-known c at (signed refl))
-  taken-so (Stable c) now Counted at signed h = absurd h
-  taken-so (Stable c) now BadSignature at signed h = absurd h
-  taken-so (Open t) now Known at signed h = subst (λ (z : Ballot). IsTaken votes certs v (set-at z) Known) (sym h.1) (tallied-twice t at h.0)
-  taken-so (Open t) now BadSignature at signed h = subst (λ (z : Ballot). IsTaken votes certs v (set-at z) BadSignature) (sym h.1) (tallied-unsigned t at h.0)
-  taken-so (Open t) now Counted at signed h = tallied-counted t at h.tally h.counted now h.is
-
--- The same for each result of a count, after the vector was extended.
-pub any-taken : (first b : BallotsState) (v : Vote) (old now : Ballot) (r : Result Taking NoMemory) → v.epoch.0 < length b.all → AreOpen b.voters b.all → ((votes : List Vote) (certs : List Cert) → AreKept first votes certs → AreKept b votes certs) →
-    slice_get b.all v.epoch.0 ≡ Some old → (is_some (cert_in (Some old)) ≡ true → is_true b.voters v ≡ true) → IfOk r (IsTakenAt old v now) →
-    IfOk r (λ (t : Taking). (votes : List Vote) (certs : List Cert) → AreKept first votes certs → IsTaken votes certs v (record b { all = slice_set b.all v.epoch.0 now }) t)
-any-taken first b v old now (Ok k) lt tallied kept at signed h = λ votes certs was. taken-so b v votes certs (kept votes certs was) lt tallied old now k at signed h
-any-taken first b v old now (Err x) lt tallied kept at signed h = tt
-
--- ---- a certificate for an epoch that has none
-
-keeps-none : (b : BallotsState) (c : Cert) (t : TallyState) (votes : List Vote) (certs : List Cert) → c.epoch.0 < length b.all → slice_get b.all c.epoch.0 ≡ Some (Open t) → AreKept b votes certs →
-    AreKept (record b { all = slice_set b.all c.epoch.0 (Stable c) }) votes (keeping certs c (cert_on certs c.epoch.0))
-keeps-none b c t votes certs lt at kept =
-    let none : cert_on certs c.epoch.0 ≡ None = sym (kept.certs_are c.epoch.0) ∙ ap (λ (o : Option Ballot). cert_in o) at in
-    subst (λ (o : Option Cert). AreKept (record b { all = slice_set b.all c.epoch.0 (Stable c) }) votes (keeping certs c o)) (sym none)
-    (set-kept b c.epoch.0 (Stable c) votes votes certs (c ∷ certs) lt kept (λ d ne. cert-there c certs d ne) (λ d k ne. refl) (sym (cert-here c certs)) (λ k gone. absurd (none-some c (sym gone ∙ cert-here c certs))))
-
-keeps-other : (b : BallotsState) (c other : Cert) (votes : List Vote) (certs : List Cert) → c.epoch.0 < length b.all → slice_get b.all c.epoch.0 ≡ Some (Stable other) → AreKept b votes certs →
-    AreKept (record b { all = slice_set b.all c.epoch.0 (Stable other) }) votes (keeping certs c (cert_on certs c.epoch.0))
-keeps-other b c other votes certs lt at kept =
-    let there : cert_on certs c.epoch.0 ≡ Some other = sym (kept.certs_are c.epoch.0) ∙ ap (λ (o : Option Ballot). cert_in o) at in
-    subst (λ (o : Option Cert). AreKept (record b { all = slice_set b.all c.epoch.0 (Stable other) }) votes (keeping certs c o)) (sym there)
-    (set-kept b c.epoch.0 (Stable other) votes votes certs certs lt kept (λ d ne. refl) (λ d k ne. refl)
-    (sym (ap (λ (o : Option Ballot). cert_in o) at) ∙ kept.certs_are c.epoch.0) (λ k none. sym (ap (λ (o : Option Ballot). vote_in o k) at) ∙ kept.votes_are c.epoch.0 k none))
-
-pub keeps-so : (b : BallotsState) (c : Cert) (old now : Ballot) (votes : List Vote) (certs : List Cert) → c.epoch.0 < length b.all → slice_get b.all c.epoch.0 ≡ Some old → now ≡ closed_by old c → AreKept b votes certs →
-    AreKept (record b { all = slice_set b.all c.epoch.0 now }) votes (keeping certs c (cert_on certs c.epoch.0))
-keeps-so b c (Open t) now votes certs lt at is kept =
-    subst (λ (z : Ballot). AreKept (record b { all = slice_set b.all c.epoch.0 z }) votes (keeping certs c (cert_on certs c.epoch.0))) (sym is) (keeps-none b c t votes certs lt at kept)
-keeps-so b c (Stable other) now votes certs lt at is kept =
-    subst (λ (z : Ballot). AreKept (record b { all = slice_set b.all c.epoch.0 z }) votes (keeping certs c (cert_on certs c.epoch.0))) (sym is) (keeps-other b c other votes certs lt at kept)
-
-pub closed-tallied : (b : BallotsState) (c : Cert) (old now : Ballot) → c.epoch.0 < length b.all → now ≡ closed_by old c → AreOpen b.voters b.all → AreOpen b.voters (slice_set b.all c.epoch.0 now)
-closed-tallied b c (Open t) now lt is tallied = set-tallied b.voters b.all c.epoch.0 now lt tallied (subst (λ (z : Ballot). IsOpenAt b.voters c.epoch.0 z) (sym is) tt)
-closed-tallied b c (Stable other) now lt is tallied = set-tallied b.voters b.all c.epoch.0 now lt tallied (subst (λ (z : Ballot). IsOpenAt b.voters c.epoch.0 z) (sym is) tt)
+pub known-taken : (b : BallotsState) (v : Vote) → is_some (cert_at b.certs v.epoch.0) ≡ true → is_true b.voters v ≡ true → (votes : List Vote) (certs : List Cert) → AreKept b votes certs → IsTaken votes certs v b Known
+known-taken b v there signed votes certs kept = (
+  signed,
+  ap (λ (t : Bool). t || is_some (vote_by votes v.epoch.0 v.by.0)) (ap (λ (o : Option Cert). is_some o) (sym (kept.certs_are v.epoch.0)) ∙ there),
+  kept,
+)

@@ -143,6 +143,13 @@ impl Pending {
     {
         Ok(Seq::of(self.shelf.identities(alloc)?))
     }
+
+    /// Copies of the waiting requests in order of arrival. The only error is out of memory.
+    pub fn requests(&self, alloc: Global) -> Result<Seq<Request>, NoMemory>
+        ensures { IfOk result (λ rs. rs ≡ self.now) }
+    {
+        Ok(Seq::of(self.shelf.copies(alloc)?))
+    }
 }
 
 // Adds a request that does not wait at the end. If its queue runs out of memory, all queues are discarded; the next cut

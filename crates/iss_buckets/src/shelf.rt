@@ -122,4 +122,15 @@ impl Shelf {
         }
         Ok(found)
     }
+
+    /// Copies of the requests in order of arrival.
+    pub(crate) fn copies(&self, alloc: Global) -> Result<Vec<Request>, NoMemory>
+        ensures { IfOk result (λ rs. rs.items ≡ values_of self.now) }
+    {
+        let mut found = Vec::new(alloc);
+        for request in self.requests.values() {
+            found.push(request.copy()?)?;
+        }
+        Ok(found)
+    }
 }

@@ -9,8 +9,9 @@ use Rattle.iss_config.specs.Configs.{setup_of}
 use Rattle.iss_config.specs.declared.configs.Config.{Config}
 use Rattle.iss_disk.specs.Calls.{EachState, HasCause, IfTold}
 use Rattle.iss_disk.specs.File.{File}
-use Rattle.iss_journal.specs.Frames.{Reads, holds}
-use Rattle.iss_journal.specs.Promises.{HoldsWithOrWithout, LeavesOnly, OnlyLeaves}
+use Rattle.iss_journal.proofs.Showing.{shows_either}
+use Rattle.iss_journal.specs.Promises.{HoldsWithOrWithout, LeavesOnly, LeavesWithOrWithout, OnlyLeaves, Shows, ShowsWithOrWithout}
+use Rattle.iss_journal.specs.Retained.{retained}
 use Rattle.iss_journal.specs.declared.errors.AttachError.{AttachError}
 use Rattle.iss_keep.proofs.EntryLemmas.{spelled-read}
 use Rattle.iss_keep.specs.Cores.{core_of, step_of}
@@ -101,6 +102,17 @@ told-now P (file ∷ past) now moment =
     let here : LeavesOnly P (file ∷ past) now = moment in
     subst (λ (h : List File). IfTold h (OnlyLeaves P)) (sym here.1) (told-there P file past here.0 here.2 here.3)
 
+each-shows : (entries all : List (List ℕ)) (entry : List ℕ) → entries ≡ retained all → (now : List File) → IfTold now (OnlyLeaves (HoldsWithOrWithout all entry)) →
+    IfTold now (OnlyLeaves (ShowsWithOrWithout entries entry))
+each-shows entries all entry stay [] h = tt
+each-shows entries all entry stay (file ∷ past) h = λ c image. shows_either entries all entry c stay (h c image)
+
+-- after an append that failed, too, each crash image shows the entries, with or without the new one
+left-now : (entries : List (List ℕ)) (entry : List ℕ) (before now : List File) → LeavesWithOrWithout entries entry before now →
+    IfTold now (OnlyLeaves (ShowsWithOrWithout entries entry))
+left-now entries entry [] now is = subst (λ (h : List File). IfTold h (OnlyLeaves (ShowsWithOrWithout entries entry))) (sym is) tt
+left-now entries entry (file ∷ past) now (all, stay, leaves) = each-shows entries all entry stay now (told-now (HoldsWithOrWithout all entry) (file ∷ past) now leaves)
+
 module _ {M Msg D : Type 0} (m : Module Msg) (refines : Relation M Msg) (history : D → List File) where
   abbrev does : KeptState M Msg D → NodeBehavior
   does v = node_behavior_of v.setup m v.me.0
@@ -162,10 +174,10 @@ module _ {M Msg D : Type 0} (m : Module Msg) (refines : Relation M Msg) (history
       pub taken-step : IsStep (does old) (did old) event (did new) (Step_taken outcome.sends)
       taken-step = (ap is_taken (step-is _ turn.step_is), taken-did, turn.made.sends ∙ sym (ap sends_of (step-is _ turn.step_is)))
 
-      pub taken-opened : IfTold (history new.disk) (OnlyLeaves (λ bytes. Reads bytes (holds (old.entries ++ spell_event event ∷ [])))) → IsOpen m refines history new
+      pub taken-opened : IfTold (history new.disk) (OnlyLeaves (Shows (old.entries ++ spell_event event ∷ []))) → IsOpen m refines history new
       taken-opened durable = record {
         core = (turn.turn.core, turn.refined (of-nodes old.setup.n event names) opened.core.1);
-        durable = subst (λ (es : List (List ℕ)). IfTold (history new.disk) (OnlyLeaves (λ bytes. Reads bytes (holds es)))) (sym added) durable;
+        durable = subst (λ (es : List (List ℕ)). IfTold (history new.disk) (OnlyLeaves (Shows es))) (sym added) durable;
       }
 
       pub taken-stays : new.stale ≡ false → StaysOpen (does old) (does new) (did old) (did new) new.stale
@@ -182,8 +194,8 @@ module _ {M Msg D : Type 0} (m : Module Msg) (refines : Relation M Msg) (history
       pub dropped-opened : history new.disk ≡ history old.disk → IsOpen m refines history new
       dropped-opened file = record {
         core = (opened.core.0, drop.refined opened.core.1);
-        durable = subst (λ (h : List File). IfTold h (OnlyLeaves (λ bytes. Reads bytes (holds new.entries)))) (sym file)
-            (subst (λ (es : List (List ℕ)). IfTold (history old.disk) (OnlyLeaves (λ bytes. Reads bytes (holds es)))) (sym kept) opened.durable);
+        durable = subst (λ (h : List File). IfTold h (OnlyLeaves (Shows new.entries))) (sym file)
+            (subst (λ (es : List (List ℕ)). IfTold (history old.disk) (OnlyLeaves (Shows es))) (sym kept) opened.durable);
       }
 
       pub dropped-stays : new.stale ≡ false → StaysOpen (does old) (does new) (did old) (did new) new.stale
@@ -204,8 +216,8 @@ module _ {M Msg D : Type 0} (m : Module Msg) (refines : Relation M Msg) (history
               subst (λ (s : Setup). core_of s m new.me.0 (entries_of (did old)) ≡ Some (core_after s m new.me.0 (did old))) (sym same.setup)
               (subst (λ (i : NodeId). core_of old.setup m i.0 (entries_of (did old)) ≡ Some (core_after old.setup m i.0 (did old))) (sym same.me)
               (subst (λ (es : List (List ℕ)). core_of old.setup m old.me.0 es ≡ Some (core_now old)) (entries-are old opened) (leads-there old opened)));
-          left = subst (λ (es : List (List ℕ)). IfTold (history new.disk) (OnlyLeaves (HoldsWithOrWithout es (spell_event event)))) (entries-are old opened)
-              (told-now (HoldsWithOrWithout old.entries (spell_event event)) (history old.disk) (history new.disk) written.0);
+          left = subst (λ (es : List (List ℕ)). IfTold (history new.disk) (OnlyLeaves (ShowsWithOrWithout es (spell_event event)))) (entries-are old opened)
+              (left-now old.entries (spell_event event) (history old.disk) (history new.disk) written.0);
         };
       }
 
@@ -295,7 +307,7 @@ module _ {M Msg D : Type 0} (m : Module Msg) (refines : Relation M Msg) (history
         → new.stale ≡ false → IsOpen m refines history new
     reopened-opened (Ok x) is core attached fresh = record {
       core = core;
-      durable = subst (λ (h : List File). IfTold h (OnlyLeaves (λ bytes. Reads bytes (holds new.entries)))) seen attached.durable;
+      durable = subst (λ (h : List File). IfTold h (OnlyLeaves (Shows new.entries))) seen attached.durable;
     }
     reopened-opened (Err e) is core attached fresh = absurd (true≢false (sym is ∙ fresh))
 
@@ -306,7 +318,7 @@ module _ {M Msg D : Type 0} (m : Module Msg) (refines : Relation M Msg) (history
     pub opens : (r : Result (Unit {0}) AttachError) → OnOk r ((c : Core Msg) × RefinesEntries m refines new c) → OnOk r (IsAttached before now new.entries) → OnOk r (IsOpen m refines history new)
     opens (Ok x) core attached = record {
       core = core;
-      durable = subst (λ (h : List File). IfTold h (OnlyLeaves (λ bytes. Reads bytes (holds new.entries)))) seen attached.durable;
+      durable = subst (λ (h : List File). IfTold h (OnlyLeaves (Shows new.entries))) seen attached.durable;
     }
     opens (Err e) core attached = tt
 
@@ -362,8 +374,8 @@ module _ {M Msg D : Type 0} (m : Module Msg) (refines : Relation M Msg) (history
       node-ran before printed read loops is = record {
         held = did mid;
         taken = more.0;
-        read = subst (λ (entries : List (List ℕ)). IfTold before (λ file. Reads file.content (holds entries))) (entries-are mid opened) read.read;
-        kept = subst (λ (entries : List (List ℕ)). IfTold (history end.disk) (OnlyLeaves (λ bytes. Reads bytes (holds entries)))) end-entries later.durable;
+        read = subst (λ (entries : List (List ℕ)). IfTold before (λ file. Shows entries file.content)) (entries-are mid opened) read.read;
+        kept = subst (λ (entries : List (List ℕ)). IfTold (history end.disk) (OnlyLeaves (Shows entries))) end-entries later.durable;
         accepted = end-leads;
         loops = λ there told.
             subst (λ (events : List NodeEvent). HasRun (node_loop_of (node_behavior_of (setup_of c) m me) 200000 64 c.turns (did mid) there) events ends_now) more.1
@@ -397,7 +409,7 @@ module _ {M Msg D : Type 0} (m : Module Msg) (refines : Relation M Msg) (history
         held = did mid;
         taken = cut-more.0;
         failed = cut.failed;
-        read = subst (λ (entries : List (List ℕ)). IfTold before (λ file. Reads file.content (holds entries))) (entries-are mid opened) read.read;
+        read = subst (λ (entries : List (List ℕ)). IfTold before (λ file. Shows entries file.content)) (entries-are mid opened) read.read;
         fails = subst (λ (events : List NodeEvent). is_taken (step_of (setup_of c) m me (core_after (setup_of c) m me events) cut.failed) ≡ true) cut-more.1
             (subst (λ (b : NodeBehavior). b.accepts cut.kept cut.failed ≡ true) cut-does cut.fails.accepted);
         kept = subst (λ (events : List NodeEvent). leaves_at (setup_of c) me events cut.failed) cut-more.1

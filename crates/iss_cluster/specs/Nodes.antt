@@ -5,8 +5,7 @@ use Rattle.iss_config.specs.Configs.{setup_of}
 use Rattle.iss_config.specs.declared.configs.Config.{Config}
 use Rattle.iss_disk.specs.Calls.{IfTold}
 use Rattle.iss_disk.specs.File.{File}
-use Rattle.iss_journal.specs.Frames.{Reads, holds}
-use Rattle.iss_journal.specs.Promises.{HoldsWithOrWithout, LosesNothing, OnlyLeaves}
+use Rattle.iss_journal.specs.Promises.{LosesNothing, OnlyLeaves, Shows, ShowsWithOrWithout}
 use Rattle.iss_keep.specs.Cores.{step_of, core_of as core_of_entries}
 use Rattle.iss_keep.specs.Entries.{event_in, spell_event}
 use Rattle.iss_keep.specs.State.{KeptState, RefinesEntries}
@@ -86,8 +85,8 @@ pub record IsNodeRun {Msg : Type 0} (M : Module Msg) (c : Config) (me : ℕ) (en
     (before now : List File) (printed : List ℕ) : Type 0 where
   pub held : List NodeEvent
   pub taken : List NodeEvent
-  pub read : IfTold before (λ file. Reads file.content (holds (entries_of held)))
-  pub kept : IfTold now (OnlyLeaves (λ bytes. Reads bytes (holds (entries_of (held ++ taken)))))
+  pub read : IfTold before (λ file. Shows (entries_of held) file.content)
+  pub kept : IfTold now (OnlyLeaves (Shows (entries_of (held ++ taken))))
   pub accepted : core_of_entries (setup_of c) M me (entries_of (held ++ taken))
       ≡ Some (core_after (setup_of c) M me (held ++ taken))
   pub loops : (there : List End) → ends ≡ Some there →
@@ -99,7 +98,7 @@ pub record IsNodeRun {Msg : Type 0} (M : Module Msg) (c : Config) (me : ℕ) (en
 pub record Leaves {Msg : Type 0} (M : Module Msg) (s : Setup) (me : ℕ) (file : List File) (events : List NodeEvent)
     (event : NodeEvent) : Type 0 where
   pub accepted : core_of_entries s M me (entries_of events) ≡ Some (core_after s M me events)
-  pub left : IfTold file (OnlyLeaves (HoldsWithOrWithout (entries_of events) (spell_event event)))
+  pub left : IfTold file (OnlyLeaves (ShowsWithOrWithout (entries_of events) (spell_event event)))
 
 -- A node ran until its disk failed at an event. Its journal held some events; it holds these and behind them those that
 -- the node took, in order, and perhaps the one at which the disk failed. Over links that record their frames the node
@@ -110,7 +109,7 @@ pub record IsCutShort {Msg : Type 0} (M : Module Msg) (c : Config) (me : ℕ) (e
   pub held : List NodeEvent
   pub taken : List NodeEvent
   pub failed : NodeEvent
-  pub read : IfTold before (λ file. Reads file.content (holds (entries_of held)))
+  pub read : IfTold before (λ file. Shows (entries_of held) file.content)
   pub fails : is_taken (step_of (setup_of c) M me (core_after (setup_of c) M me (held ++ taken)) failed) ≡ true
   pub kept : Leaves M (setup_of c) me now (held ++ taken) failed
   pub sent : (there : List End) → ends ≡ Some there →
@@ -143,13 +142,13 @@ as_step NoMemory_kept = Err NoMemory
 -- The file held these entries, and the node that has read them need not be reopened.
 pub record HasRead (before : List File) (stale : Bool) (entries : List (List ℕ)) : Type 0 where
   pub fresh : stale ≡ false
-  pub read : IfTold before (λ file. Reads file.content (holds entries))
+  pub read : IfTold before (λ file. Shows entries file.content)
 
 -- The node is at the core of its journal's entries, and every crash image of its file holds them.
 pub record IsOpen {M Msg D : Type 0} (m : Module Msg) (refines : Relation M Msg) (history : D → List File)
     (v : KeptState M Msg D) : Type 0 where
   pub core : (c : Core Msg) × RefinesEntries m refines v c
-  pub durable : IfTold (history v.disk) (OnlyLeaves (λ bytes. Reads bytes (holds v.entries)))
+  pub durable : IfTold (history v.disk) (OnlyLeaves (Shows v.entries))
 
 -- A running node knows its identity and how many nodes there are. Unless it has to be reopened, it is open.
 pub record IsRunning {M Msg D : Type 0} (m : Module Msg) (refines : Relation M Msg) (history : D → List File)

@@ -1,6 +1,6 @@
 -- Entries laid out in the bytes of a file.
 use Rattle.std.proofs.Common.{◌≡◌, ◌≢◌, inl, inr, lit<, length-drop, length-take-le, ℕ, zero, suc, ◌+◌, ◌-◌, ◌*◌, ◌<◌, ◌≤◌, List, [], ◌∷◌, ◌++◌, length, take, drop, get_or, refl, sym, ◌∙◌, ap, subst, arith, append_assoc, length-append, length-take, take-append-drop}
-use Rattle.std.proofs.lemmas.List.{take_at, drop_at, drop-drop, get_or_append_left, get_or-append_right, get_or-take, get_or-drop, get_or_past, drop_more, take-append-le}
+use Rattle.std.proofs.lemmas.List.{append-nil, take_all, take_at, drop_at, drop-drop, get_or_append_left, get_or-append_right, get_or-take, get_or-drop, get_or_past, drop_more, take-append-le}
 use Rattle.std.proofs.lemmas.Bool.{cases_lt}
 use Rattle.std.proofs.lemmas.Nat.{be_bytes_4}
 use Rattle.std.specs.Int.{w32, to_be_bytes, from_be_bytes}
@@ -98,7 +98,7 @@ split_at bytes count last k book lt =
     ∙ append_assoc before (frame entry ++ frames (drop (suc k) entries)) (drop last bytes)
     ∙ ap (λ (l : List ℕ). before ++ l) (append_assoc (frame entry) (frames (drop (suc k) entries)) (drop last bytes))
 
-short_at : (entries : List (List ℕ)) (k : ℕ) → k < length entries → AreShort entries →
+pub short_at : (entries : List (List ℕ)) (k : ℕ) → k < length entries → AreShort entries →
     length (get_or entries k []) ≤ max_entry
 short_at [] k lt short = absurd (omega (arith, lt))
 short_at (e ∷ entries) zero lt short = short.0
@@ -285,3 +285,71 @@ marked marks entries entry gate are reached is_gate =
   where
     nothing : (i n : ℕ) → i ≡ n → i - n ≡ 0
     nothing i n is = omega (arith, is)
+
+-- ---- the first entries
+
+pub frames_parts : (es : List (List ℕ)) (k : ℕ) → frames es ≡ frames (take k es) ++ frames (drop k es)
+frames_parts [] zero = refl
+frames_parts [] (suc k) = refl
+frames_parts (e ∷ es) zero = refl
+frames_parts (e ∷ es) (suc k) = ap (λ (l : List ℕ). frame e ++ l) (frames_parts es k)
+    ∙ sym (append_assoc (frame e) (frames (take k es)) (frames (drop k es)))
+
+short_first : (es : List (List ℕ)) (k : ℕ) → AreShort es → AreShort (take k es)
+short_first [] zero short = tt
+short_first [] (suc k) short = tt
+short_first (e ∷ es) zero short = tt
+short_first (e ∷ es) (suc k) short = (short.0, short_first es k short.1)
+
+pub fewer_bytes : (es : List (List ℕ)) (k : ℕ) → length (frames (take k es)) ≤ length (frames es)
+fewer_bytes es k =
+    omega (arith, ap length (frames_parts es k), length-append (frames (take k es)) (frames (drop k es)))
+
+-- a book that ends behind its first k entries
+pub book_first : (bytes : List ℕ) (count last k gate : ℕ) → IsBook bytes count last →
+    k ≤ length (entries_at bytes count) → gate ≡ length (frames (take k (entries_at bytes count))) →
+    Rebuilt (take gate bytes) k gate (take k (entries_at bytes count))
+book_first bytes count last k gate book le is_gate =
+    let es = entries_at bytes count in
+    let tail = frames (drop k es) ++ drop last bytes in
+    let split : bytes ≡ frames (take k es) ++ tail = begins bytes count last book
+    ∙ ap (λ (l : List ℕ). l ++ drop last bytes) (frames_parts es k)
+    ∙ append_assoc (frames (take k es)) (frames (drop k es)) (drop last bytes) in
+    let front : take gate bytes ≡ frames (take k es) = ap (take gate) split
+    ∙ take_at (frames (take k es)) tail gate (sym is_gate) in
+    rebuilt (take gate bytes) k gate (take k es) [] (front ∙ sym (append-nil (frames (take k es))))
+    (sym (length-take-le k es le)) is_gate (short_first es k book.short)
+
+take_within : (es : List (List ℕ)) (k n : ℕ) → n ≤ k → take n (take k es) ≡ take n es
+take_within [] k zero le = refl
+take_within [] zero (suc n) le = refl
+take_within [] (suc k) (suc n) le = refl
+take_within (e ∷ es) k zero le = refl
+take_within (e ∷ es) zero (suc n) le = absurd (omega (arith, le))
+take_within (e ∷ es) (suc k) (suc n) le =
+    ap (λ (l : List (List ℕ)). e ∷ l) (take_within es k n (omega (arith, le)))
+
+pub marks_first : (marks : List ℕ) (es : List (List ℕ)) (k n : ℕ) → AreMarks marks es → k ≤ length es → k ≤ 8 * n →
+    8 * n ≤ k + 7 → AreMarks (take n marks) (take k es)
+marks_first marks es k n are le enough no_more =
+    let long : n ≤ length marks = omega (arith, are.enough, le, no_more) in
+    let many : length (take n marks) ≡ n = length-take-le n marks long in
+    let few : length (take k es) ≡ k = length-take-le k es le in
+    record {
+      lies = λ i lt. lies i (omega (arith, lt, many)) long;
+      enough = omega (arith, many, few, enough);
+      no_more = omega (arith, many, few, no_more);
+    }
+  where
+    lies : (i : ℕ) → i < n → n ≤ length marks →
+        get_or (take n marks) i 0 ≡ length (frames (take (8 * i) (take k es)))
+    lies i lt long =
+        get_or-take n marks i 0 lt ∙ are.lies i (omega (arith, lt, long))
+        ∙ ap (λ (l : List (List ℕ)). length (frames l)) (sym (take_within es k (8 * i) (omega (arith, lt, no_more))))
+
+-- where the entry behind the first k ones begins
+pub last_is : (bytes : List ℕ) (count last k : ℕ) → IsBook bytes count last → k ≡ count →
+    last ≡ length (frames (take k (entries_at bytes count)))
+last_is bytes count last k book is =
+    book.end ∙ ap (λ (l : List (List ℕ)). length (frames l))
+    (sym (take_all k (entries_at bytes count) (omega (arith, is, length-entries 0 bytes count))))

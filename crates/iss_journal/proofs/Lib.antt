@@ -7,3 +7,7 @@ mod Resting
 mod Reading
 mod SomeReading
 mod TailLemmas
+pub mod Retaining
+pub mod Showing
+mod RetainedLemmas
+mod Over

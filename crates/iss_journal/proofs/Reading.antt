@@ -5,10 +5,8 @@ use Rattle.iss_disk.specs.Calls.{IfTold, EachState, Moves, Place, Stays, Room, T
 use Rattle.iss_journal.specs.Frames.{frames, ClosesAfter, Reading, Reads, holds}
 use Rattle.iss_journal.specs.Promises.{OnlyLeaves, LeavesOnly, LeavesReading, LosesNothing, HoldsFirst, HoldsWithOrWithout, RestsOn, ComesToRest}
 use Rattle.iss_journal.proofs.Crash.{only_settled, reads_closed}
-use Rattle.iss_journal.specs.EntryViews.{entries_in}
-use Rattle.iss_journal.specs.SharedViews.{AreSame, HasSpace, IsLonger, shared_in}
-use Rattle.iss_journal.specs.Tails.{with_tails}
-use Rattle.iss_journal.specs.declared.shared.SharedEntries.{SharedEntries}
+use Rattle.iss_journal.specs.RetainedViews.{HasGrown, IsSame, TakesMore}
+use Rattle.iss_journal.specs.declared.retained.Retained.{Retained}
 use Rattle.iss_journal.specs.Sound.{HasRoom, longest_of}
 use Rattle.iss_journal.specs.declared.reserved.Reserved.{Reserved}
 use Rattle.iss_journal.proofs.Grammar.{one_reading}
@@ -56,20 +54,21 @@ whole_reads h bytes entries told long ends =
     told_so _ _ h told (λ file is. subst (λ (b : List ℕ). Reads b (holds entries)) is (inr (long, ends)))
 
 -- what attaching leaves of a file of at most one byte
-pub brief_rests : (h new : List File) (bytes : List ℕ) (entries : List (List ℕ)) →
+pub brief_rests : (h new : List File) (bytes : List ℕ) →
     IfTold h (λ file. bytes ≡ file.content) → length bytes ≤ 1 → IfTold new (λ file. file ≡ settled (0 ∷ [])) →
-    IfTold h (λ file. IfTold new (ComesToRest entries file.content))
-brief_rests h new bytes entries told brief made =
+    IfTold h (λ file. IfTold new (ComesToRest file.content))
+brief_rests h new bytes told brief made =
     told_so _ _ h told (λ file is. told_so _ _ new made
     (λ now e. inl (subst (λ (b : List ℕ). length b ≤ 1) is brief, e)))
 
 pub whole_rests : (h new : List File) (bytes : List ℕ) (entries : List (List ℕ)) →
-    IfTold h (λ file. bytes ≡ file.content) → 1 < length bytes →
+    IfTold h (λ file. bytes ≡ file.content) → ClosesAfter entries bytes → 1 < length bytes →
     IfTold new (λ file. file ≡ settled (take (length (frames entries) + 1) bytes)) →
-    IfTold h (λ file. IfTold new (ComesToRest entries file.content))
-whole_rests h new bytes entries told long made =
+    IfTold h (λ file. IfTold new (ComesToRest file.content))
+whole_rests h new bytes entries told ends long made =
     told_so _ _ h told (λ file is.
-    subst (λ (b : List ℕ). IfTold new (ComesToRest entries b)) is (told_so _ _ new made (λ now e. inr (long, e))))
+    subst (λ (b : List ℕ). IfTold new (ComesToRest b)) is
+    (told_so _ _ new made (λ now e. inr (entries, ends, long, e))))
 
 -- the first sync, and what follows it
 keeps_first : (entries : List (List ℕ)) (file : File) → Image file file.content → OnlyLeaves (HoldsFirst entries) file →
@@ -143,64 +142,83 @@ pub history_same : (h0 h1 : List File) (f0 f1 : List ℕ → List File) (n0 n1 :
 history_same h0 h1 f0 f1 n0 n1 is0 is1 stays = is1 ∙ ap (λ (n : Place). f1 n.name) stays.place ∙ stays.all n0.name ∙ sym is0
 
 -- room that was added does not matter for whether there is room
-pub room_more : (spare : Reserved) (old new : SharedEntries) (room now : Room) → HasRoom spare old room →
-    AreSame old new → Takes 0 0 room now → HasRoom spare new now
+pub room_more : (spare : Reserved) (old new : Retained) (room now : Room) → HasRoom spare old room →
+    IsSame old new → Takes 0 0 room now → HasRoom spare new now
 room_more spare old new room now has same takes =
-    let own = ap (λ (es : List (List ℕ)). length (frames es)) same.own in
+    let own = ap (λ (es : List (List ℕ)). length (frames es)) same.entries.own in
     record {
       some = has.some;
-      in_memory = omega (arith, has.in_memory, same.bytes, own);
-      for_marks = omega (arith, has.for_marks, same.marks_room, same.marks);
-      for_tails = omega (arith, has.for_tails, same.tails_room, same.few);
-      in_file = omega (arith, has.in_file, same.end);
+      in_memory = omega (arith, has.in_memory, same.entries.bytes, own);
+      for_marks = omega (arith, has.for_marks, same.entries.marks_room, same.entries.marks);
+      for_tails = omega (arith, has.for_tails, same.entries.tails_room, same.entries.few);
+      for_gates = omega (arith, has.for_gates, same.gates_room, same.few);
+      in_file = omega (arith, has.in_file, same.last);
       calls = omega (arith, has.calls, takes.calls_left);
       on_disk = omega (arith, has.on_disk, takes.bytes_left);
     }
 
 -- room that is reserved is there for one entry
-pub space_of : (spare : Reserved) (entries : SharedEntries) (room : Room) (bytes : ℕ) → HasRoom spare entries room →
-    bytes < spare.limit → HasSpace 1 bytes entries
-space_of spare entries room bytes has below = record {
-  in_memory = omega (arith, has.in_memory, below);
-  for_marks = omega (arith, has.for_marks, has.some);
-  for_tails = omega (arith, has.for_tails, has.some);
+pub space_of : (spare : Reserved) (kept : Retained) (room : Room) (bytes : ℕ) → HasRoom spare kept room →
+    bytes < spare.limit → TakesMore 1 bytes kept
+space_of spare kept room bytes has below = record {
+  space = record {
+    in_memory = omega (arith, has.in_memory, below);
+    for_marks = omega (arith, has.for_marks, has.some);
+    for_tails = omega (arith, has.for_tails, has.some);
+  };
+  for_gates = omega (arith, has.for_gates, has.some);
   in_file = omega (arith, has.in_file, below);
 }
 
 -- and still there once the entry is staged
-pub space_same : (some bytes : ℕ) (old new : SharedEntries) → HasSpace some bytes old → AreSame old new →
-    HasSpace some bytes new
+pub space_same : (some bytes : ℕ) (old new : Retained) → TakesMore some bytes old → IsSame old new →
+    TakesMore some bytes new
 space_same some bytes old new has same =
-    let own = ap (λ (es : List (List ℕ)). length (frames es)) same.own in
+    let own = ap (λ (es : List (List ℕ)). length (frames es)) same.entries.own in
     record {
-      in_memory = omega (arith, has.in_memory, same.bytes, own);
-      for_marks = omega (arith, has.for_marks, same.marks_room, same.marks);
-      for_tails = omega (arith, has.for_tails, same.tails_room, same.few);
-      in_file = omega (arith, has.in_file, same.end);
+      space = record {
+        in_memory = omega (arith, has.space.in_memory, same.entries.bytes, own);
+        for_marks = omega (arith, has.space.for_marks, same.entries.marks_room, same.entries.marks);
+        for_tails = omega (arith, has.space.for_tails, same.entries.tails_room, same.entries.few);
+      };
+      for_gates = omega (arith, has.for_gates, same.gates_room, same.few);
+      in_file = omega (arith, has.in_file, same.last);
     }
 
 -- the room that is left after an entry
-pub room_after : (spare left : Reserved) (old staged new : SharedEntries) (room now : Room) (bytes : ℕ) →
-    HasRoom spare old room → AreSame old staged → IsLonger (5 + bytes) staged new → Takes 4 (bytes + 6) room now →
+pub room_after : (spare left : Reserved) (old staged new : Retained) (room now : Room) (bytes : ℕ) →
+    HasRoom spare old room → IsSame old staged → HasGrown (5 + bytes) staged new → Takes 4 (bytes + 6) room now →
     spare.entries ≡ left.entries + 1 → 1 ≤ left.entries → spare.limit ≡ left.limit + 6 + bytes →
     HasRoom left new now
-room_after spare left old staged new room now bytes has same longer takes is_entries some is_limit =
-    let own = ap (λ (es : List (List ℕ)). length (frames es)) same.own in
+room_after spare left old staged new room now bytes has same grown takes is_entries some is_limit =
+    let own = ap (λ (es : List (List ℕ)). length (frames es)) same.entries.own in
+    let longer = grown.entries in
     record {
       some = some;
-      in_memory = omega (arith, has.in_memory, same.bytes, own, longer.own, longer.bytes, is_limit);
-      for_marks = omega (arith, has.for_marks, same.marks_room, same.marks, longer.marks, longer.marks_room, is_entries);
-      for_tails = omega (arith, has.for_tails, same.tails_room, same.few, longer.tails, longer.tails_room, is_entries);
-      in_file = omega (arith, has.in_file, same.end, longer.end, is_limit);
+      in_memory = omega (arith, has.in_memory, same.entries.bytes, own, longer.own, longer.bytes, is_limit);
+      for_marks = omega (
+        arith,
+        has.for_marks,
+        same.entries.marks_room,
+        same.entries.marks,
+        longer.marks,
+        longer.marks_room,
+        is_entries,
+      );
+      for_tails = omega (
+        arith,
+        has.for_tails,
+        same.entries.tails_room,
+        same.entries.few,
+        longer.tails,
+        longer.tails_room,
+        is_entries,
+      );
+      for_gates = omega (arith, has.for_gates, same.gates_room, same.few, grown.gates, grown.gates_room, is_entries);
+      in_file = omega (arith, has.in_file, same.last, grown.last, is_limit);
       calls = omega (arith, has.calls, takes.calls_left, is_entries);
       on_disk = omega (arith, has.on_disk, takes.bytes_left, is_limit);
     }
-
--- the same entries rest on the same file
-pub same_entries : (old new : SharedEntries) → AreSame old new → shared_in new ≡ shared_in old
-same_entries old new same = ap (λ (es : List (List ℕ)). with_tails es new.read new.tails.items) same.own
-    ∙ ap (λ (n : ℕ). with_tails (entries_in old.own) n new.tails.items) same.read
-    ∙ ap (λ (ts : List (List ℕ)). with_tails (entries_in old.own) old.read ts) same.tails
 
 -- room for every entry below a limit is room for a longest entry
 pub longest_below : (below bytes : ℕ) → bytes < below → (most : ℕ) × (longest_of below ≡ Some most) × (bytes ≤ most)

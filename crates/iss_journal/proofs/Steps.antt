@@ -5,7 +5,7 @@ use Rattle.std.proofs.lemmas.Bool.{true≢false, false≢true}
 use Rattle.iss_disk.specs.File.{File, Image, settled, wrote, synced}
 use Rattle.iss_disk.specs.Calls.{EachState, IfTold, IsBetween, Moves, Place, StaysHere, Stays, HasCause, Passes, outcome, next, AtOutcome, Runs}
 use Rattle.iss_journal.specs.Frames.{frame, frames, max_entry, Reads, holds}
-use Rattle.iss_journal.specs.Promises.{OnlyLeaves, LeavesOnly, HoldsWithOrWithout, RestsOn, EndsClosed}
+use Rattle.iss_journal.specs.Promises.{OnlyLeaves, LeavesOnly, HoldsWithOrWithout, RestsOn}
 use Rattle.iss_journal.proofs.Crash as crash
 
 -- Passes
@@ -105,6 +105,10 @@ goes_on P file past h new change passed now before so_far is here there moves =
 
 -- An append
 
+-- the file is these entries and a closed gate, all synced
+abbrev pub IsClosed : List (List ℕ) → File → Type 0
+IsClosed entries file = file ≡ settled (frames entries ++ 0 ∷ [])
+
 -- what is promised if a call fails
 pub record Interrupted (entries : List (List ℕ)) (entry : List ℕ) (old new : List File) : Type 0 where
   pub moment : LeavesOnly (HoldsWithOrWithout entries entry) old new
@@ -114,7 +118,7 @@ pub record Interrupted (entries : List (List ℕ)) (entry : List ℕ) (old new :
 pub record Appended (entries : List (List ℕ)) (entry : List ℕ) (old new : List File) : Type 0 where
   pub moment : LeavesOnly (HoldsWithOrWithout entries entry) old new
   pub rests : IfTold new (RestsOn (entries ++ entry ∷ []))
-  pub file : IfTold new (EndsClosed (entries ++ entry ∷ []))
+  pub file : IfTold new (IsClosed (entries ++ entry ∷ []))
 
 module _ (entries : List (List ℕ)) (entry : List ℕ) (fits : length entry ≤ max_entry) where
   abbrev last : ℕ
@@ -167,7 +171,7 @@ module _ (entries : List (List ℕ)) (entry : List ℕ) (fits : length entry ≤
     is_appended = subst (λ (f : File). RestsOn (entries ++ entry ∷ []) (synced (open_gate f))) (sym is_staged)
         (crash.rests entries entry rests.gate rests.short fits rests.closed)
 
-    is_closed : EndsClosed (entries ++ entry ∷ []) (synced (open_gate (synced (write file))))
+    is_closed : IsClosed (entries ++ entry ∷ []) (synced (open_gate (synced (write file))))
     is_closed = ap (λ (f : File). synced (open_gate f)) is_staged
         ∙ ap settled (crash.opened entries entry rests.gate rests.short fits rests.closed)
 
@@ -296,12 +300,12 @@ module _ (entries : List (List ℕ)) (entry : List ℕ) (fits : length entry ≤
       record {
         moment = none;
         rests = subst (λ (l : List File). IfTold l (RestsOn (entries ++ entry ∷ []))) (sym none) tt;
-        file = subst (λ (l : List File). IfTold l (EndsClosed (entries ++ entry ∷ []))) (sym none) tt;
+        file = subst (λ (l : List File). IfTold l (IsClosed (entries ++ entry ∷ []))) (sym none) tt;
       }
   finish (file ∷ past) h1 h2 h3 h4 rests w s o t = record {
     moment = told4 file past rests true h1 h2 h3 h4 w s o t;
     rests = after4 file past rests (RestsOn (entries ++ entry ∷ [])) h1 h2 h3 h4 w s o t (is_appended file past rests);
-    file = after4 file past rests (EndsClosed (entries ++ entry ∷ [])) h1 h2 h3 h4 w s o t (is_closed file past rests);
+    file = after4 file past rests (IsClosed (entries ++ entry ∷ [])) h1 h2 h3 h4 w s o t (is_closed file past rests);
   }
 
   -- the writes begin within the file

@@ -1,2 +1,3 @@
 -- Relations that only private contracts of this crate use: nobody above it reads them.
 pub mod Scans
+pub mod Additions

@@ -1,8 +1,10 @@
 pub mod Frames
+pub mod Retained
 pub mod Internal
 pub mod Views
 pub mod EntryViews
 pub mod Tails
 pub mod SharedViews
+pub mod RetainedViews
 pub mod Promises
 pub mod Sound

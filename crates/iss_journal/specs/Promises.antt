@@ -1,10 +1,12 @@
--- What a journal promises for every crash. At each moment of an append a crash leaves these entries, or these and the
--- new one. Attaching loses no entry that every crash before it would have left. At rest the file is the frames of the
--- entries and one closed gate, all of it synced.
+-- What a journal promises for every crash. The file keeps all entries, and the journal shows what stays of them. At
+-- each moment of an append a crash leaves the entries of the file, or these and the new one. Attaching loses no entry
+-- that every crash before it would have left. At rest the file is the frames of all entries and one closed gate, all of
+-- it synced.
 use Rattle.std.specs.Prelude.{◌≡◌, ◌≢◌, ◌⊎◌, ℕ, ◌+◌, ◌<◌, ◌≤◌, List, [], ◌∷◌, ◌++◌, length, take}
 use Rattle.iss_disk.specs.File.{File, Image, settled}
 use Rattle.iss_disk.specs.Calls.{EachState, Passes, script}
-use Rattle.iss_journal.specs.Frames.{frames, AreShort, Reading, Reads, holds}
+use Rattle.iss_journal.specs.Frames.{ClosesAfter, frames, AreShort, Reading, Reads, holds}
+use Rattle.iss_journal.specs.Retained.{retained}
 
 -- P holds for every crash image
 abbrev pub OnlyLeaves : (List ℕ → Type 0) → File → Type 0
@@ -16,10 +18,27 @@ LeavesOnly P [] new = new ≡ []
 LeavesOnly P (file ∷ past) new = (added : List File) × (new ≡ added ++ file ∷ past) × OnlyLeaves P file
     × EachState (OnlyLeaves P) added
 
+-- of the entries of the file stay these
+pub record Shows (entries : List (List ℕ)) (bytes : List ℕ) : Type 0 where
+  pub all : List (List ℕ)
+  pub read : Reads bytes (holds all)
+  pub stay : entries ≡ retained all
+
 -- the file holds these entries, or these and one more
 -- rule: Journal: An append writes its entry, syncs, opens the gate, and syncs
 abbrev pub HoldsWithOrWithout : List (List ℕ) → List ℕ → List ℕ → Type 0
-HoldsWithOrWithout entries entry bytes = Reads bytes (holds entries) ⊎ Reads bytes (holds (entries ++ entry ∷ []))
+HoldsWithOrWithout all entry bytes = Reads bytes (holds all) ⊎ Reads bytes (holds (all ++ entry ∷ []))
+
+-- what this list shows, or what it shows with one more entry
+abbrev pub ShowsWithOrWithout : List (List ℕ) → List ℕ → List ℕ → Type 0
+ShowsWithOrWithout entries entry bytes = Shows entries bytes ⊎ Shows (retained (entries ++ entry ∷ [])) bytes
+
+-- Of the entries of the file stay these. At each moment of a call every crash image holds all of them, with or without
+-- this new one.
+abbrev pub LeavesWithOrWithout : List (List ℕ) → List ℕ → List File → List File → Type 0
+LeavesWithOrWithout entries entry [] new = new ≡ []
+LeavesWithOrWithout entries entry (file ∷ past) new = (all : List (List ℕ)) × (entries ≡ retained all)
+    × LeavesOnly (HoldsWithOrWithout all entry) (file ∷ past) new
 
 -- these entries are a prefix of those that the file holds
 abbrev pub HoldsFirst : List (List ℕ) → List ℕ → Type 0
@@ -39,16 +58,18 @@ pub record RestsOn (entries : List (List ℕ)) (file : File) : Type 0 where
   pub is : file ≡ settled (frames entries ++ gate ∷ [])
   pub short : AreShort entries
 
--- What attaching leaves of a file that holds these entries, all synced. A file of at most one byte becomes a closed
--- gate. Any other file is cut after its last gate, whose byte may be any closed one.
-abbrev pub ComesToRest : List (List ℕ) → List ℕ → File → Type 0
-ComesToRest entries bytes now =
+-- What attaching leaves of a file with these bytes, all synced. A file of at most one byte becomes a closed gate. Any
+-- other file is cut after its last gate, whose byte may be any closed one.
+abbrev pub ComesToRest : List ℕ → File → Type 0
+ComesToRest bytes now =
     ((length bytes ≤ 1) × (now ≡ settled (0 ∷ [])))
-    ⊎ ((1 < length bytes) × (now ≡ settled (take (length (frames entries) + 1) bytes)))
+    ⊎ ((all : List (List ℕ)) × ClosesAfter all bytes × (1 < length bytes)
+    × (now ≡ settled (take (length (frames all) + 1) bytes)))
 
--- what an append leaves: the entries and a gate of 0, all synced
+-- what an append leaves: entries of which these stay, and a gate of 0, all synced
 abbrev pub EndsClosed : List (List ℕ) → File → Type 0
-EndsClosed entries file = file ≡ settled (frames entries ++ 0 ∷ [])
+EndsClosed entries file =
+    (all : List (List ℕ)) × (file ≡ settled (frames all ++ 0 ∷ [])) × (entries ≡ retained all)
 
 -- every crash image has this reading
 abbrev pub OnlyReads : Reading → File → Type 0

@@ -1,5 +1,5 @@
--- What a journal's entries show, and what its small steps change in them.
-use Rattle.std.specs.Prelude.{◌≡◌, ℕ, ◌+◌, ◌≤◌, ◌<◌, ◌^◌, List, length, vec_len, vec_capacity}
+-- What entries show whose ends are shared, and what small steps change in them.
+use Rattle.std.specs.Prelude.{◌≡◌, ℕ, ◌+◌, ◌≤◌, List, length, vec_len, vec_capacity}
 use Rattle.iss_journal.specs.EntryViews.{entries_in}
 use Rattle.iss_journal.specs.Frames.{frames}
 use Rattle.iss_journal.specs.Tails.{with_tails}
@@ -7,28 +7,25 @@ use Rattle.iss_journal.specs.declared.shared.SharedEntries.{SharedEntries}
 
 -- the entries, oldest first
 abbrev pub shared_in : SharedEntries → List (List ℕ)
-shared_in entries = with_tails (entries_in entries.own) entries.read entries.tails.items
+shared_in entries = with_tails (entries_in entries.own) entries.tails.items
 
 -- room for some entries, of `bytes` bytes in all
 pub record HasSpace (some bytes : ℕ) (entries : SharedEntries) : Type 0 where
   pub in_memory : length (frames (entries_in entries.own)) + bytes + 6 ≤ vec_capacity entries.own.bytes
   pub for_marks : vec_len entries.own.marks + some ≤ vec_capacity entries.own.marks
   pub for_tails : vec_len entries.tails + some ≤ vec_capacity entries.tails
-  pub in_file : entries.end + bytes + 6 < 2 ^ 64
 
 -- the same entries, with no less room
 pub record AreSame (old new : SharedEntries) : Type 0 where
   pub own : entries_in new.own ≡ entries_in old.own
-  pub read : new.read ≡ old.read
   pub tails : new.tails.items ≡ old.tails.items
-  pub end : new.end ≡ old.end
   pub bytes : vec_capacity old.own.bytes ≤ vec_capacity new.own.bytes
   pub marks : vec_len new.own.marks ≡ vec_len old.own.marks
   pub marks_room : vec_capacity old.own.marks ≤ vec_capacity new.own.marks
   pub few : vec_len new.tails ≡ vec_len old.tails
   pub tails_room : vec_capacity old.tails ≤ vec_capacity new.tails
 
--- an entry of `more` bytes, its frame included, was added within the room
+-- `more` bytes were added, or fewer, and at most one entry, within the room
 pub record IsLonger (more : ℕ) (old new : SharedEntries) : Type 0 where
   pub own : length (frames (entries_in new.own)) ≤ length (frames (entries_in old.own)) + more
   pub bytes : vec_capacity old.own.bytes ≤ vec_capacity new.own.bytes
@@ -36,4 +33,12 @@ pub record IsLonger (more : ℕ) (old new : SharedEntries) : Type 0 where
   pub marks_room : vec_capacity old.own.marks ≤ vec_capacity new.own.marks
   pub tails : vec_len new.tails ≤ vec_len old.tails + 1
   pub tails_room : vec_capacity old.tails ≤ vec_capacity new.tails
-  pub end : new.end ≡ old.end + more
+
+-- entries were dropped, and their room is there
+pub record AreFewer (old new : SharedEntries) : Type 0 where
+  pub own : length (frames (entries_in new.own)) ≤ length (frames (entries_in old.own))
+  pub bytes : vec_capacity old.own.bytes ≤ vec_capacity new.own.bytes
+  pub marks : vec_len new.own.marks ≤ vec_len old.own.marks
+  pub marks_room : vec_capacity old.own.marks ≤ vec_capacity new.own.marks
+  pub tails : vec_len new.tails ≤ vec_len old.tails
+  pub tails_room : vec_capacity old.tails ≤ vec_capacity new.tails

@@ -155,6 +155,32 @@ impl Entries {
         gate as u64
     }
 
+    // Keeps the first `count` entries, and the bytes of no other.
+    pub(crate) fn keep_first(&mut self, count: usize)
+        requires { count ≤ length (entries_in self.old) }
+        ensures entries { entries_in self.new ≡ take count (entries_in self.old) }
+        ensures bytes { vec_capacity self.new.bytes ≡ vec_capacity self.old.bytes }
+        ensures marks { vec_len self.new.marks ≤ vec_len self.old.marks }
+        ensures marks_room { vec_capacity self.new.marks ≡ vec_capacity self.old.marks }
+    {
+        let gate = self.gate_before(count);
+        self.bytes.truncate(gate);
+        self.marks.truncate(count.div_ceil(8));
+        self.count = count;
+        self.last = gate;
+    }
+
+    // The offset of the gate behind the first `count` entries.
+    fn gate_before(&self, count: usize) -> usize
+        requires { count ≤ length (entries_in self.now) }
+        ensures { result ≡ length (frames (take count (entries_in self.now))) }
+    {
+        if count == self.count {
+            return self.last;
+        }
+        self.gate_of(count) as usize
+    }
+
     // The offset of the next entry's gate.
     pub(crate) fn last(&self) -> usize
         ensures field { result ≡ self.now.last }

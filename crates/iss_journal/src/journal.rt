@@ -1,11 +1,11 @@
 // A journal over a disk.
 ghost use Rattle.std.specs.Prelude.{◌≡◌, ◌≤◌, ◌<◌, ◌++◌, ℕ, [], ◌∷◌, true, false, Some, List, length, is_ok, OnOk, OnErr, IsErr, IsErrOf};
 
-use crate::entries::Entries;
 use crate::errors::AttachError;
 use crate::keep::keep_entry;
 use crate::load::load;
 use crate::reserved::{Reserved, left_behind};
+use crate::retained::Retained;
 use crate::shared::SharedEntries;
 use iss_disk::{Disk, EndError, Fused, NoMemory};
 use iss_request::Bytes;
@@ -16,25 +16,28 @@ const SOME_ENTRIES: u64 = 64;
 
 const SOME_BYTES: u64 = 4096;
 
-/// A list of entries in the current file of a disk. Each entry is durable before its `append` returns Ok.
+/// A list of entries in the current file of a disk. Each entry is durable before its `append` returns Ok. The file
+/// keeps all entries, and the journal those that stay: the snapshots, whose first byte is 5, and all that follows the
+/// last of them.
 #[derive(Drop)]
 pub struct Journal<D: Disk> {
     alloc: Global,
     disk: D,
-    entries: SharedEntries,
+    kept: Retained,
     attached: bool,
     // The entries for which there is room.
     reserved: Reserved,
 }
 
 impl<D: Disk> Journal<D> {
-    ghost use Rattle.std.specs.Prelude.{take};
+    ghost use Rattle.std.specs.Prelude.{get_or};
     ghost use Rattle.iss_disk.specs.File.{settled};
     ghost use Rattle.iss_disk.specs.Calls.{IfTold, Stays, StaysHere, HasCause, Runs};
-    ghost use Rattle.iss_journal.specs.Frames.{frames, max_entry, Reads, holds, damaged};
-    ghost use Rattle.iss_journal.specs.Promises.{OnlyLeaves, LeavesOnly, HoldsWithOrWithout, LosesNothing, ComesToRest, EndsClosed, Works};
+    ghost use Rattle.iss_journal.specs.Frames.{max_entry, Reads, damaged};
+    ghost use Rattle.iss_journal.specs.Retained.{is_snapshot, retained};
+    ghost use Rattle.iss_journal.specs.Promises.{OnlyLeaves, LeavesWithOrWithout, LosesNothing, ComesToRest, EndsClosed, Shows, Works};
     ghost use Rattle.iss_journal.specs.SharedViews.{shared_in};
-    ghost use Rattle.iss_journal.specs.Sound.{disk_of, entries_of, is_attached, reserved_of, IsSound, NothingChanged};
+    ghost use Rattle.iss_journal.specs.Sound.{disk_of, entries_of, gates_of, is_attached, reserved_of, IsRead, IsSound, NothingChanged};
 
     /// A journal over the current file of a disk. It is not attached yet.
     pub fn over(alloc: Global, disk: D) -> Self
@@ -46,7 +49,7 @@ impl<D: Disk> Journal<D> {
         Journal {
             alloc,
             disk,
-            entries: SharedEntries::of(alloc, Entries::new(alloc)),
+            kept: Retained::new(alloc),
             attached: false,
             reserved: Reserved {
                 entries: 0,
@@ -61,8 +64,8 @@ impl<D: Disk> Journal<D> {
     /// it is, byte for byte, so that it is damaged at each later call too.
     pub fn attach(&mut self) -> Result<(), AttachError>
         requires sound { IsSound D.history D.room self.old }
-        ensures entries { OnOk result (IfTold (D.history (disk_of self.old))
-            (λ file. Reads file.content (holds (entries_of self.new)))) }
+        ensures entries { OnOk result
+            (IsRead (entries_of self.new) (gates_of self.new) (D.history (disk_of self.old))) }
         ensures damaged { (at : ℕ) → IsErrOf result (AttachError.Damaged at) → IfTold (D.history (disk_of self.old))
             (λ file. Reads file.content (damaged at)) }
         ensures damaged_stays { (at : ℕ) → IsErrOf result (AttachError.Damaged at) →
@@ -71,12 +74,12 @@ impl<D: Disk> Journal<D> {
         ensures err { OnErr result (entries_of self.new ≡ entries_of self.old) }
         ensures attached { is_attached self.new ≡ is_ok result }
         ensures file { OnOk result (IfTold (D.history (disk_of self.old)) (λ before.
-            IfTold (D.history (disk_of self.new)) (ComesToRest (entries_of self.new) before.content))) }
+            IfTold (D.history (disk_of self.new)) (ComesToRest before.content))) }
 
         // From then on every crash image holds the entries that were read. A crash at any moment of the call loses no
         // entry that every crash image held before it.
         ensures durable { OnOk result
-            (IfTold (D.history (disk_of self.new)) (OnlyLeaves (λ bytes. Reads bytes (holds (entries_of self.new))))) }
+            (IfTold (D.history (disk_of self.new)) (OnlyLeaves (Shows (entries_of self.new)))) }
         ensures any_moment { LosesNothing (D.history (disk_of self.old)) (D.history (disk_of self.new)) }
 
         ensures others { StaysHere (D.current (disk_of self.old)) (D.current (disk_of self.new))
@@ -92,8 +95,9 @@ impl<D: Disk> Journal<D> {
         // A sync, a cut, a write and a sync.
         self.disk.reserve(4, 1)?;
         self.disk.sync()?;
-        let found = load(self.alloc, &mut self.disk)?;
-        self.entries = SharedEntries::of(self.alloc, found);
+        let all = load(self.alloc, &mut self.disk)?;
+        let kept = Retained::of(self.alloc, &all)?;
+        self.kept = kept;
         self.attached = true;
         Ok(())
     }
@@ -116,15 +120,15 @@ impl<D: Disk> Journal<D> {
     pub fn entries(&self) -> &SharedEntries
         ensures { shared_in result.now ≡ entries_of self.now }
     {
-        &self.entries
+        self.kept.entries()
     }
 
     /// The offset in the file of the gate of entry `k`, counted from 0.
     pub fn gate_of(&self, k: usize) -> u64
         requires { k < length (entries_of self.now) }
-        ensures { result ≡ length (frames (take k (entries_of self.now))) }
+        ensures { result ≡ get_or (gates_of self.now) k 0 }
     {
-        self.entries.gate_of(k)
+        self.kept.gate_of(k)
     }
 
     /// Makes the room that appending an entry of `bytes` bytes needs, in memory and on the disk. Nothing else changes.
@@ -187,8 +191,7 @@ impl<D: Disk> Journal<D> {
     {
         let longest = bytes.checked_add(SOME_BYTES).ok_or(NoMemory)?;
         let frames = longest.checked_add(6).ok_or(NoMemory)?;
-        self.entries
-            .reserve(SOME_ENTRIES as usize, longest as usize)?;
+        self.kept.reserve(SOME_ENTRIES as usize, longest as usize)?;
         self.disk.reserve(4 * SOME_ENTRIES, frames)?;
         self.reserved = Reserved {
             entries: SOME_ENTRIES,
@@ -197,29 +200,33 @@ impl<D: Disk> Journal<D> {
         Ok(())
     }
 
-    /// Appends an entry, given in two parts. `head` is copied. `body` is kept as it is: in memory the journal shares it.
-    /// After Ok, every crash image holds the entry. After `NoMemory` nothing has changed. After `Failed` the journal
-    /// must be attached again; the entry is then in it or not.
+    /// Appends an entry, given in two parts. `head` is copied. `body` is kept as it is, so its bytes may be shared.
+    /// A snapshot takes the place of the entries that follow the snapshot before it; the file keeps these. After Ok,
+    /// every crash image holds the entry. After `NoMemory` nothing has changed. After `Failed` the journal must be
+    /// attached again; the entry is then in it or not.
     #[inline(always)]
     pub fn append(&mut self, head: &[u8], body: Bytes) -> Result<(), EndError>
         requires sound { IsSound D.history D.room self.old }
         requires attached { is_attached self.old ≡ true }
         requires short { length (head.now ++ body) ≤ max_entry }
-        ensures entries { OnOk result (entries_of self.new ≡ entries_of self.old ++ (head.now ++ body) ∷ []) }
+        ensures entries { OnOk result
+            (entries_of self.new ≡ retained (entries_of self.old ++ (head.now ++ body) ∷ [])) }
+        ensures event { is_snapshot (head.now ++ body) ≡ false →
+            OnOk result (entries_of self.new ≡ entries_of self.old ++ (head.now ++ body) ∷ []) }
         ensures err { OnErr result (entries_of self.new ≡ entries_of self.old) }
         ensures file { OnOk result (IfTold (D.history (disk_of self.new)) (EndsClosed (entries_of self.new))) }
         ensures attached { OnOk result (is_attached self.new ≡ true) }
         ensures failed { IsErrOf result EndError.Failed → is_attached self.new ≡ false }
 
         // A crash at any moment of the call leaves the entries with or without the new one; after Ok, with it.
-        ensures any_moment { LeavesOnly (HoldsWithOrWithout (entries_of self.old) (head.now ++ body))
+        ensures any_moment { LeavesWithOrWithout (entries_of self.old) (head.now ++ body)
             (D.history (disk_of self.old)) (D.history (disk_of self.new)) }
         ensures durable { OnOk result
-            (IfTold (D.history (disk_of self.new)) (OnlyLeaves (λ bytes. Reads bytes (holds (entries_of self.new))))) }
+            (IfTold (D.history (disk_of self.new)) (OnlyLeaves (Shows (entries_of self.new)))) }
 
         // If the device failed, what was synced holds the entries without the new one.
         ensures kept { IsErrOf result EndError.Failed → IfTold (D.history (disk_of self.new))
-            (λ file. Reads file.kept (holds (entries_of self.old))) }
+            (λ file. Shows (entries_of self.old) file.kept) }
 
         // It takes four calls of the device.
         ensures device { (IsErrOf result EndError.NoMemory → ⊥) →
@@ -238,9 +245,9 @@ impl<D: Disk> Journal<D> {
         let left = left_behind(self.reserved, bytes);
         self.reserved.limit = 0;
         self.attached = false;
-        self.entries.stage(head, &body);
-        keep_entry(&mut self.disk, &self.entries, head, &body)?;
-        self.entries.commit(head, body);
+        self.kept.stage(head, &body);
+        keep_entry(&mut self.disk, &self.kept, head, &body)?;
+        self.kept.add(head, body);
         self.attached = true;
         self.reserved = left;
         Ok(())

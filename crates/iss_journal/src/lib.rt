@@ -9,6 +9,7 @@ mod keep;
 mod laws;
 mod load;
 mod reserved;
+mod retained;
 mod scan;
 mod settle;
 mod shared;

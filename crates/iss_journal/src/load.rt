@@ -47,7 +47,7 @@ pub(crate) fn load<D: Disk>(alloc: Global, disk: &mut D) -> Result<Entries, Atta
         (λ entries. IfTold (D.history disk.old) (λ file. Reads file.content (holds (entries_in entries)))) }
     ensures rests { IfOk result (λ entries. IfTold (D.history disk.new) (RestsOn (entries_in entries))) }
     ensures file { IfOk result (λ entries. IfTold (D.history disk.old)
-        (λ before. IfTold (D.history disk.new) (ComesToRest (entries_in entries) before.content))) }
+        (λ before. IfTold (D.history disk.new) (ComesToRest before.content))) }
     ensures damaged { (at : ℕ) → IsErrOf result (AttachError.Damaged at) → IfTold (D.history disk.old)
         (λ file. Reads file.content (damaged at)) }
     ensures damaged_stays { (at : ℕ) → IsErrOf result (AttachError.Damaged at) →

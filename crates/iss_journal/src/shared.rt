@@ -1,45 +1,34 @@
 // The entries of a journal, whose bytes may be shared with others.
-ghost use Rattle.std.specs.Prelude.{◌≡◌, ◌+◌, length};
+ghost use Rattle.std.specs.Prelude.{◌≡◌, length};
 ghost use Rattle.iss_journal.specs.EntryViews.{entries_in};
-ghost use Rattle.iss_journal.specs.Frames.{frames};
-ghost use Rattle.iss_journal.specs.Tails.{with_tails};
 
 use crate::entries::Entries;
 use iss_request::Bytes;
 use std::alloc::{AllocError, Global};
 
-/// The entries of a journal, in the order in which they were appended.
+/// Entries of a journal, in the order in which they were appended.
 #[derive(Drop)]
 pub struct SharedEntries {
     // Each entry without its shared end.
     own: Entries,
-    // How many entries were read from the file: the first ones, which share nothing.
-    read: usize,
-    // The shared ends of all later entries.
+    // The shared ends of the entries.
     tails: Vec<Bytes>,
-    // The offset in the file of the last gate, which has no entry yet.
-    end: usize,
-    ghost each: { read + length tails.items ≡ length (entries_in own) },
-    ghost ends: { end ≡ length (frames (with_tails (entries_in own) read tails.items)) },
+    ghost each: { length tails.items ≡ length (entries_in own) },
 }
 
 impl SharedEntries {
     ghost use Rattle.std.specs.Prelude.{◌≡◌, ◌+◌, ◌<◌, ◌≤◌, ◌++◌, [], ◌∷◌, length, take, drop, slice_index_or, IfOk, OnOk};
     ghost use Rattle.iss_journal.specs.Frames.{frame, frames, max_entry};
     ghost use Rattle.iss_journal.specs.EntryViews.{entries_in};
-    ghost use Rattle.iss_journal.specs.SharedViews.{AreSame, HasSpace, IsLonger, shared_in};
+    ghost use Rattle.iss_journal.specs.SharedViews.{AreFewer, AreSame, HasSpace, IsLonger, shared_in};
 
-    /// These entries, none of which shares anything.
-    pub(crate) fn of(alloc: Global, own: Entries) -> SharedEntries
-        ensures { shared_in result ≡ entries_in own }
+    /// No entries.
+    pub(crate) fn new(alloc: Global) -> SharedEntries
+        ensures { shared_in result ≡ [] }
     {
-        let read = own.len();
-        let end = own.last();
         SharedEntries {
-            own,
-            read,
+            own: Entries::new(alloc),
             tails: Vec::new(alloc),
-            end,
         }
     }
 
@@ -62,37 +51,21 @@ impl SharedEntries {
     }
 
     // Entry `k` in two parts, the second of which is shared with others.
-    fn parts(&self, k: usize) -> (&[u8], &[u8])
+    pub(crate) fn parts(&self, k: usize) -> (&[u8], &[u8])
         requires { k < length (shared_in self.now) }
         ensures { result.0.now ++ result.1.now ≡ slice_index_or (shared_in self.now) k [] }
     {
-        let head = self.own.get(k);
-        if k < self.read {
-            return (head, &[]);
-        }
-        (head, self.tails[k - self.read].as_slice())
+        (self.own.get(k), self.tails[k].as_slice())
     }
 
-    /// The offset in the file of the gate of entry `k`, counted from 0.
-    pub fn gate_of(&self, k: usize) -> u64
-        requires { k < length (shared_in self.now) }
-        ensures { result ≡ length (frames (take k (shared_in self.now))) }
+    // Keeps the first `count` entries, and the bytes of no other.
+    pub(crate) fn keep_first(&mut self, count: usize)
+        requires { count ≤ length (shared_in self.old) }
+        ensures entries { shared_in self.new ≡ take count (shared_in self.old) }
+        ensures fewer { AreFewer self.old self.new }
     {
-        let _end = self.end;
-        let mut gate = 0;
-        for i in 0..k {
-            let (head, tail) = self.parts(i);
-            gate += 5 + head.len() + tail.len();
-        }
-        gate as u64
-    }
-
-    // The offset in the file of the next entry's gate.
-    pub(crate) fn last(&self) -> usize
-        ensures offset { result ≡ length (frames (shared_in self.now)) }
-        ensures field { result ≡ self.now.end }
-    {
-        self.end
+        self.own.keep_first(count);
+        self.tails.truncate(count);
     }
 
     // Makes room for `entries` entries, of `bytes` bytes in all with their frames.
@@ -100,8 +73,6 @@ impl SharedEntries {
         ensures same { AreSame self.old self.new }
         ensures room { OnOk result (HasSpace entries bytes self.new) }
     {
-        let wanted = bytes.checked_add(6).ok_or(AllocError)?;
-        let _end = self.end.checked_add(wanted).ok_or(AllocError)?;
         self.own.reserve(entries, bytes)?;
         self.tails.reserve(entries)
     }
@@ -126,18 +97,16 @@ impl SharedEntries {
         self.own.staged()
     }
 
-    // The staged entry becomes the last one. Of its body no copy stays.
+    // Adds an entry. Its head is copied, its body is kept.
     #[inline(always)]
-    pub(crate) fn commit(&mut self, head: &[u8], body: Bytes)
+    pub(crate) fn add(&mut self, head: &[u8], body: Bytes)
         requires short { length (head.now ++ body) ≤ max_entry }
         requires space { HasSpace 1 (length (head.now ++ body)) self.old }
         ensures entries { shared_in self.new ≡ shared_in self.old ++ (head.now ++ body) ∷ [] }
         ensures longer { IsLonger (5 + length (head.now ++ body)) self.old self.new }
     {
-        let more = 5 + (head.len() + body.len());
         self.own.stage(head, &[]);
         self.own.commit(head, &[]);
         self.tails.push_reserved(body);
-        self.end += more;
     }
 }

@@ -36,8 +36,8 @@ module _ {Msg : Type 0} (s : Setup) (m : Module Msg) (me : ℕ) where
   no-core : (c : Core Msg) → None ≡ Some c → ⊥
   no-core c h = cc
 
-  pub stops-not : (entries : List (List ℕ)) (c : Core Msg) (at : ℕ) → core_of s m me entries ≡ Some c → StopsAt s m me at entries → ⊥
-  stops-not entries c at leads stops =
+  pub stops-not : (entries : List (List ℕ)) (gates : List ℕ) (c : Core Msg) (at : ℕ) → core_of s m me entries ≡ Some c → StopsAt s m me at entries gates → ⊥
+  stops-not entries gates c at leads stops =
       let rest : Core Msg → Option (Core Msg) = core_from s m me stops.behind in
       let none : core_of s m me entries ≡ None =
       ap (λ (es : List (List ℕ)). core_of s m me es) stops.is

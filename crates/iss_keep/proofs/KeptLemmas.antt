@@ -2,8 +2,7 @@
 use Rattle.std.proofs.Common.{arith, append_assoc, inl, inr, ◌≡◌, ◌⊎◌, ℕ, ◌<◌, ◌≤◌, Bool, true, false, List, [], ◌∷◌, ◌++◌, length, Option, Some, refl, sym, ap, ◌∙◌, subst, true≢false}
 use Rattle.iss_disk.specs.Calls.{IfTold, Room}
 use Rattle.iss_disk.specs.File.{File}
-use Rattle.iss_journal.specs.Frames.{Reads, holds}
-use Rattle.iss_journal.specs.Promises.{OnlyLeaves}
+use Rattle.iss_journal.specs.Promises.{OnlyLeaves, Shows}
 use Rattle.iss_journal.specs.Sound.{IsSound, disk_of, entries_of, is_attached}
 use Rattle.iss_journal.specs.declared.journal.Journal.{Journal}
 use Rattle.iss_keys.specs.Directories.{AreKeysOf, DirectoryView, directory_of, node_secret}
@@ -110,7 +109,7 @@ module _ {M Msg D : Type 0} (m : Module Msg) (refines : Relation M Msg) (history
   -- The invariant of a node that refines the core of its entries.
   pub fresh-kept : (journal : Journal D) (v : KeptState M Msg D) (c : Core Msg) → IsSetupOf m v.setup → v.me.0 < v.setup.n → directory ≡ keys_of v.setup →
       v.node.state.setup ≡ v.setup → v.node.state.me ≡ v.me → IsSound history room journal → is_attached journal ≡ true →
-      IfTold (history v.disk) (OnlyLeaves (λ bytes. Reads bytes (holds v.entries))) → KeptRefinesCore m refines v c → LeadsTo m v c → IsKept m refines history room directory journal v
+      IfTold (history v.disk) (OnlyLeaves (Shows v.entries)) → KeptRefinesCore m refines v c → LeadsTo m v c → IsKept m refines history room directory journal v
   fresh-kept journal v c good member keys cluster number sound attached durable at leads = record {
     good = good;
     member = member;
@@ -221,7 +220,7 @@ module _ {M Msg D : Type 0} (m : Module Msg) (refines : Relation M Msg) (history
       answers NoMemory stepped added c at = tt
 
       fresh-after : (c : Core Msg) → IsSound history room journal → is_attached journal ≡ true →
-          IfTold (history (disk_of journal)) (OnlyLeaves (λ bytes. Reads bytes (holds (entries_of journal)))) → KeptRefinesCore m refines (state_over old.setup old.me node journal false) c →
+          IfTold (history (disk_of journal)) (OnlyLeaves (Shows (entries_of journal))) → KeptRefinesCore m refines (state_over old.setup old.me node journal false) c →
           LeadsTo m (state_over old.setup old.me node journal false) c → IsKept m refines history room directory journal (state_over old.setup old.me node journal false)
       fresh-after c sound attached durable at leads =
           fresh-kept journal (state_over old.setup old.me node journal false) c kept.good kept.member kept.keys (setup ∙ kept.cluster) (me ∙ kept.number) sound attached durable at leads
@@ -230,10 +229,10 @@ module _ {M Msg D : Type 0} (m : Module Msg) (refines : Relation M Msg) (history
       stale-after sound =
           stale-kept journal (state_over old.setup old.me node journal true) kept.good kept.member kept.keys (setup ∙ kept.cluster) (me ∙ kept.number) sound refl
 
-      durable-with : (es : List (List ℕ)) → entries_of journal ≡ es → IfTold (history (disk_of journal)) (OnlyLeaves (λ bytes. Reads bytes (holds es))) →
-          IfTold (history (disk_of journal)) (OnlyLeaves (λ bytes. Reads bytes (holds (entries_of journal))))
+      durable-with : (es : List (List ℕ)) → entries_of journal ≡ es → IfTold (history (disk_of journal)) (OnlyLeaves (Shows es)) →
+          IfTold (history (disk_of journal)) (OnlyLeaves (Shows (entries_of journal)))
       durable-with es added told =
-          subst (λ (xs : List (List ℕ)). IfTold (history (disk_of journal)) (OnlyLeaves (λ bytes. Reads bytes (holds xs)))) (sym added) told
+          subst (λ (xs : List (List ℕ)). IfTold (history (disk_of journal)) (OnlyLeaves (Shows xs))) (sym added) told
 
       pub kept-after : (answer : Answer) → HasStepped m refines event old.node node answer → entries_of journal ≡ entries_after old.entries (spell_event event) answer →
           Writes old.entries (spell_event event) (history old.disk) (history (disk_of journal)) answer → IsSound history room journal →
@@ -245,8 +244,8 @@ module _ {M Msg D : Type 0} (m : Module Msg) (refines : Relation M Msg) (history
           (took-leads outcome stepped journal added h.0 t.turn t.step_is h.2)
       kept-after (Kept_dropped why) stepped added wrote sound attached =
           let h = its-core before old kept fresh in
-          let told : IfTold (history (disk_of journal)) (OnlyLeaves (λ bytes. Reads bytes (holds old.entries))) =
-          subst (λ (f : List File). IfTold f (OnlyLeaves (λ bytes. Reads bytes (holds old.entries)))) (sym wrote) (kept.durable fresh) in
+          let told : IfTold (history (disk_of journal)) (OnlyLeaves (Shows old.entries)) =
+          subst (λ (f : List File). IfTold f (OnlyLeaves (Shows old.entries))) (sym wrote) (kept.durable fresh) in
           fresh-after h.0 sound (attached refl) (durable-with old.entries added told) (dropped-turn why stepped journal added h.0 h.1).at
           (subst (λ (es : List (List ℕ)). (core_of old.setup m old.me.0 es ≡ Some h.0) ⊎ AsksNobody old.setup.n es) (sym added) h.2)
       kept-after Failed stepped added wrote sound attached = stale-after sound
@@ -285,7 +284,7 @@ module _ {M Msg D : Type 0} (m : Module Msg) (refines : Relation M Msg) (history
   module _ (journal : Journal D) (s : Setup) (i : NodeId) (node : NodeView M Msg) (good : IsSetupOf m s) (member : i.0 < s.n) (keys : directory ≡ keys_of s)
       (sound : IsSound history room journal) where
     pub reopened-kept : IsReplayed s m refines i.0 (entries_of journal) node → IsOf s i node → is_attached journal ≡ true →
-        IfTold (history (disk_of journal)) (OnlyLeaves (λ bytes. Reads bytes (holds (entries_of journal)))) →
+        IfTold (history (disk_of journal)) (OnlyLeaves (Shows (entries_of journal))) →
         IsKept m refines history room directory journal (state_over s i node journal false)
     reopened-kept h own attached durable =
         fresh-kept journal (state_over s i node journal false) h.0 good member keys own.cluster own.number sound attached durable

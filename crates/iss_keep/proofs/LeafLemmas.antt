@@ -1,7 +1,8 @@
 -- Every entry uses its own leaves, and appending entries does not change what earlier entries produced.
-use Rattle.std.proofs.Common.{arith, ◌≡◌, ◌⊎◌, inl, inr, ℕ, suc, ◌≤◌, List, [], ◌∷◌, ◌++◌, Option, Some, None, refl, ap, ◌∙◌, subst}
-use Rattle.iss_journal.specs.Frames.{Reading, Reads, holds}
-use Rattle.iss_journal.specs.Promises.{HoldsWithOrWithout}
+use Rattle.std.proofs.Common.{arith, ◌≡◌, ◌⊎◌, inl, inr, ℕ, suc, ◌≤◌, List, [], ◌∷◌, ◌++◌, Option, Some, None, refl, ap, ◌∙◌, subst, sym}
+use Rattle.iss_journal.proofs.Showing.{shown_once}
+use Rattle.iss_journal.specs.Promises.{Shows, ShowsWithOrWithout}
+use Rattle.iss_journal.specs.Retained.{retained}
 use Rattle.iss_model.proofs.Rows.{each-holds, settles-holds}
 use Rattle.iss_model.proofs.Steps.{Took, adopted, asked, cast, fired, handed, kept, received, sought, took, voted}
 use Rattle.iss_rules.specs.Concrete.{rules_of}
@@ -16,7 +17,7 @@ use Rattle.iss_keep.specs.Cores.{core_after, core_from, core_of, core_with, from
 use Rattle.iss_keep.specs.Entries.{event_in}
 use Rattle.iss_keep.specs.Internal.Makings.{AreApart, Making, made_on, makings_from, makings_of, turn_in, turn_with}
 use Rattle.iss_keep.proofs.CoreLemmas.{one-more}
-use Rattle.iss_keep.proofs.DiskLemmas.{same-held}
+use Rattle.iss_keep.proofs.RetainLemmas.{events-stay}
 
 -- ---- a step never reuses a leaf
 
@@ -95,16 +96,20 @@ module _ {Msg : Type 0} (s : Setup) (m : Module Msg) (me : ℕ) where
 
   -- ---- a crash
 
-  module _ (one : (file : List ℕ) (r q : Reading) → Reads file r → Reads file q → r ≡ q) (c : Core Msg) (event : NodeEvent) (t : Turn Msg)
+  module _ (c : Core Msg) (event : NodeEvent) (t : Turn Msg)
       (entries : List (List ℕ)) (entry : List ℕ) (before : core_of s m me entries ≡ Some c) (read : event_in s.n entry ≡ Some event)
       (taken : step_of s m me c event ≡ Taken t) where
     with-entry : core_of s m me (entries ++ entry ∷ []) ≡ Some t.core
     with-entry = one-more s m me entries entry c t.core before (ap (λ (o : Option NodeEvent). core_with s m me c o) read ∙ ap core_after taken)
 
-    pub before-or-after : (bytes : List ℕ) (found : List (List ℕ)) → HoldsWithOrWithout entries entry bytes → Reads bytes (holds found) →
+    -- The entries are events, so none of them is dropped.
+    grown : retained (entries ++ entry ∷ []) ≡ entries ++ entry ∷ []
+    grown = events-stay s m me (entries ++ entry ∷ []) t.core with-entry
+
+    pub before-or-after : (bytes : List ℕ) (found : List (List ℕ)) → ShowsWithOrWithout entries entry bytes → Shows found bytes →
         (core_of s m me found ≡ Some c) ⊎ (core_of s m me found ≡ Some t.core)
     before-or-after bytes found (inl h) reads =
-        inl (subst (λ (es : List (List ℕ)). core_of s m me es ≡ Some c) (same-held entries found (one bytes (holds entries) (holds found) h reads)) before)
+        inl (subst (λ (es : List (List ℕ)). core_of s m me es ≡ Some c) (shown_once entries found bytes h reads) before)
     before-or-after bytes found (inr h) reads =
         inr (subst (λ (es : List (List ℕ)). core_of s m me es ≡ Some t.core)
-        (same-held (entries ++ entry ∷ []) found (one bytes (holds (entries ++ entry ∷ [])) (holds found) h reads)) with-entry)
+        (sym grown ∙ shown_once (retained (entries ++ entry ∷ [])) found bytes h reads) with-entry)

@@ -1,6 +1,7 @@
 pub mod CoreLemmas
 pub mod DiskLemmas
 pub mod EntryLemmas
+mod RetainLemmas
 pub mod KeptLemmas
 pub mod LeafLemmas
 pub mod ReplayLemmas

@@ -1,8 +1,7 @@
 -- A node that replays the entries of its journal.
-use Rattle.std.proofs.Common.{◌≡◌, ℕ, ◌+◌, ◌<◌, ◌≤◌, true, false, List, [], ◌++◌, length, take, drop, get_or, Option, Some, None, Bool, Result, Ok, Err, IfOk, refl, sym, ap, ◌∙◌, subst, take-append-drop}
+use Rattle.std.proofs.Common.{arith, length-take-le, ◌≡◌, ℕ, ◌+◌, ◌<◌, ◌≤◌, true, false, List, [], ◌++◌, length, take, drop, get_or, Option, Some, None, Bool, Result, Ok, Err, IfOk, refl, sym, ap, ◌∙◌, subst, take-append-drop}
 use Rattle.std.proofs.lemmas.List.{drop_more, reverse-reverse, take_all, take_more}
 use Rattle.std.specs.Prelude.{reverse}
-use Rattle.iss_journal.specs.Frames.{frames}
 use Rattle.iss_journal.specs.declared.errors.AttachError.{AttachError}
 use Rattle.iss_journal.specs.declared.errors.AttachError.TheVariants.{Damaged}
 use Rattle.iss_rules.proofs.Logs.{newborn-log}
@@ -43,13 +42,13 @@ module _ {M Msg : Type 0} (s : Setup) (m : Module Msg) (refines : Relation M Msg
     replayed-more d then =
         ap (λ (es : List (List ℕ)). core_of s m me es) (take_more entries k [] lt) ∙ one-more s m me (take k entries) (get_or entries k []) c d before then
 
-    pub stops-here : (at : ℕ) → at ≡ length (frames (take k entries)) → core_with s m me c (event_in s.n (get_or entries k [])) ≡ None → StopsAt s m me at entries
-    stops-here at offset none = record {
+    pub stops-here : (gates : List ℕ) (at : ℕ) → at ≡ get_or gates k 0 → core_with s m me c (event_in s.n (get_or entries k [])) ≡ None → StopsAt s m me at entries gates
+    stops-here gates at offset none = record {
       front = take k entries;
       entry = get_or entries k [];
       behind = drop (k + 1) entries;
       is = sym (take-append-drop k entries) ∙ ap (λ (es : List (List ℕ)). take k entries ++ es) (drop_more entries k [] lt);
-      offset = offset;
+      offset = offset ∙ ap (λ (i : ℕ). get_or gates i 0) (sym (length-take-le k entries (omega (arith, lt))));
       core = c;
       before = before;
       none = none;
@@ -81,8 +80,8 @@ module _ {M Msg : Type 0} (s : Setup) (m : Module Msg) (refines : Relation M Msg
         (g.0, g.1, replayed-more s m refines me.0 entries k lt before.0 before.2 g.0 (here (Some g.0) g.2))
 
     pub replay-stops : ((c : Core Msg) → RefinesCore m refines old c → GoesTo old.state.setup m refines old.state.me.0 c entry new false) →
-        (at : ℕ) → at ≡ length (frames (take k entries)) → StopsAt s m me.0 at entries
-    replay-stops goes at offset = stops-here s m refines me.0 entries k lt before.0 before.2 at offset (here None (goes before.0 before.1))
+        (gates : List ℕ) (at : ℕ) → at ≡ get_or gates k 0 → StopsAt s m me.0 at entries gates
+    replay-stops goes gates at offset = stops-here s m refines me.0 entries k lt before.0 before.2 gates at offset (here None (goes before.0 before.1))
 
 -- The node keeps its set-up and identity.
 pub still-of : {M Msg : Type 0} (s : Setup) (me : NodeId) (old new : NodeView M Msg) → IsOf s me old → (new.state.setup ≡ old.state.setup) × (new.state.me ≡ old.state.me) →

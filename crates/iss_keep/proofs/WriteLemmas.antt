@@ -1,8 +1,10 @@
 -- What an answer says about the journal's disk.
-use Rattle.std.proofs.Common.{◌≡◌, inl, ℕ, List, [], ◌∷◌, Result, Ok, Err}
+use Rattle.std.proofs.Common.{◌≡◌, inl, inr, OnOk, ℕ, List, [], ◌∷◌, Result, Ok, Err}
 use Rattle.iss_disk.specs.Calls.{HasCause, IfTold}
 use Rattle.iss_disk.specs.File.{File, settled}
 use Rattle.iss_journal.specs.Frames.{Reads, damaged}
+use Rattle.iss_journal.specs.Promises.{ComesToRest, Shows}
+use Rattle.iss_journal.specs.Sound.{IsRead}
 use Rattle.iss_keep.specs.Steps.{IsLeft, LosesNone, Sight}
 
 -- The cause of one failure is the cause of every failure that implies it.
@@ -28,3 +30,19 @@ pub left-damaged : (entries : List (List ℕ)) (before now : List File) (at : �
     IfTold before (λ from. IfTold now (λ file. file ≡ settled from.content)) → IsLeft entries before now at
 left-damaged entries [] now at damage stays = tt
 left-damaged entries (file ∷ past) now at damage stays = inl (damage, stays)
+
+-- ---- a journal that was read
+
+pub read-shows : (entries : List (List ℕ)) (gates : List ℕ) (before : List File) → IsRead entries gates before →
+    IfTold before (λ file. Shows entries file.content)
+read-shows entries gates [] h = tt
+read-shows entries gates (file ∷ past) h = record { all = h.all; read = h.read; stay = h.stay }
+
+pub left-read : (entries : List (List ℕ)) (gates : List ℕ) (before now : List File) (at : ℕ) → IsRead entries gates before →
+    IfTold before (λ from. IfTold now (ComesToRest from.content)) → IsLeft entries before now at
+left-read entries gates [] now at h rest = tt
+left-read entries gates (file ∷ past) now at h rest = inr (record { all = h.all; read = h.read; stay = h.stay }, rest)
+
+pub when-ok : {A E : Type 0} (r : Result A E) (P : Type 0) → P → OnOk r P
+when-ok (Ok x) P h = h
+when-ok (Err e) P h = tt

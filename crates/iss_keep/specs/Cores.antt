@@ -1,8 +1,7 @@
 -- The core of a list of entries: the model's step over their events in turn, from a core that has taken nothing. There
 -- is none where an entry is no event, or one that the core before it drops. The first such entry is named by the
 -- offset of its gate.
-use Rattle.std.specs.Prelude.{◌≡◌, ℕ, List, [], ◌∷◌, ◌++◌, length, Option, Some, None}
-use Rattle.iss_journal.specs.Frames.{frames}
+use Rattle.std.specs.Prelude.{◌≡◌, ℕ, List, [], ◌∷◌, ◌++◌, length, get_or, Option, Some, None}
 use Rattle.iss_rules.specs.Concrete.{rules_of}
 use Rattle.iss_rules.specs.Formats.{formats_of}
 use Rattle.iss_model.specs.Node.{Core, Dropped, Stepped, Taken, initial_core, step}
@@ -37,15 +36,15 @@ core_from s m me (entry ∷ entries) c = from_core (core_with s m me c (event_in
 abbrev pub core_of : {Msg : Type 0} → Setup → Module Msg → ℕ → List (List ℕ) → Option (Core Msg)
 core_of s m me entries = core_from s m me entries initial_core
 
--- The first entry that does not decode, or that the node would drop at that point. `at` is the byte offset of its gate.
+-- The first entry that does not decode, or that the node would drop at that point. `at` is the offset of its gate.
 -- rule: Persistence: An entry that is no event of its node is damage, at the offset of its gate
 pub record StopsAt {Msg : Type 0} (s : Setup) (m : Module Msg) (me : ℕ) (at : ℕ)
-    (entries : List (List ℕ)) : Type 0 where
+    (entries : List (List ℕ)) (gates : List ℕ) : Type 0 where
   pub front : List (List ℕ)
   pub entry : List ℕ
   pub behind : List (List ℕ)
   pub is : entries ≡ front ++ entry ∷ behind
-  pub offset : at ≡ length (frames front)
+  pub offset : at ≡ get_or gates (length front) 0
   pub core : Core Msg
   pub before : core_of s m me front ≡ Some core
   pub none : core_with s m me core (event_in s.n entry) ≡ None

@@ -5,8 +5,7 @@
 use Rattle.std.specs.Prelude.{◌≡◌, ◌⊎◌, ℕ, ◌<◌, ◌≤◌, Bool, true, false, List, ◌∷◌, ◌++◌, Some}
 use Rattle.iss_disk.specs.Calls.{IfTold, Room}
 use Rattle.iss_disk.specs.File.{File}
-use Rattle.iss_journal.specs.Frames.{Reads, holds}
-use Rattle.iss_journal.specs.Promises.{OnlyLeaves}
+use Rattle.iss_journal.specs.Promises.{OnlyLeaves, Shows}
 use Rattle.iss_journal.specs.Sound.{IsSound, disk_of, entries_of, is_attached}
 use Rattle.iss_journal.specs.declared.journal.Journal.{Journal}
 use Rattle.iss_keys.specs.Directories.{DirectoryView}
@@ -93,5 +92,5 @@ pub record IsKept {M Msg D : Type 0} (m : Module Msg) (refines : Relation M Msg)
   pub number : v.node.state.me ≡ v.me
   pub sound : IsSound history room journal
   pub attached : v.stale ≡ false → is_attached journal ≡ true
-  pub durable : v.stale ≡ false → IfTold (history v.disk) (OnlyLeaves (λ bytes. Reads bytes (holds v.entries)))
+  pub durable : v.stale ≡ false → IfTold (history v.disk) (OnlyLeaves (Shows v.entries))
   pub kept : (v.stale ≡ true) ⊎ ((c : Core Msg) × KeptRefinesCore m refines v c × LeadsTo m v c)

@@ -5,8 +5,9 @@
 use Rattle.std.specs.Prelude.{◌≡◌, ◌⊎◌, ℕ, Bool, true, false, List, [], ◌∷◌, ◌++◌}
 use Rattle.iss_disk.specs.Calls.{HasCause, IfTold, Passes, Place, Runs, StaysHere}
 use Rattle.iss_disk.specs.File.{File, settled}
-use Rattle.iss_journal.specs.Frames.{Reads, damaged, holds}
-use Rattle.iss_journal.specs.Promises.{ComesToRest, HoldsWithOrWithout, LeavesOnly, LosesNothing, OnlyLeaves, Works}
+use Rattle.iss_journal.specs.Frames.{Reads, damaged}
+use Rattle.iss_journal.specs.Promises.{ComesToRest, LeavesWithOrWithout, LosesNothing, OnlyLeaves, Shows, Works}
+use Rattle.iss_journal.specs.Sound.{IsRead}
 use Rattle.iss_model.specs.Node.{Core, Dropped as Step_dropped, Stepped, Taken as Step_taken, Turn}
 use Rattle.iss_rules.specs.declared.events.Why.{Why}
 use Rattle.iss_node.specs.Steps.{IsMade}
@@ -98,10 +99,10 @@ entries_after entries entry NoMemory = entries
 -- rule: Persistence: An event is kept before its outcome is handed out
 abbrev pub Writes : List (List ℕ) → List ℕ → List File → List File → Answer → Type 0
 Writes entries entry before now (Kept_taken outcome) =
-    LeavesOnly (HoldsWithOrWithout entries entry) before now
-    × IfTold now (OnlyLeaves (λ bytes. Reads bytes (holds (entries ++ entry ∷ []))))
+    LeavesWithOrWithout entries entry before now
+    × IfTold now (OnlyLeaves (Shows (entries ++ entry ∷ [])))
 Writes entries entry before now Failed =
-    LeavesOnly (HoldsWithOrWithout entries entry) before now × IfTold now (λ file. Reads file.kept (holds entries))
+    LeavesWithOrWithout entries entry before now × IfTold now (λ file. Shows entries file.kept)
 Writes entries entry before now (Kept_dropped why) = now ≡ before
 Writes entries entry before now Stale = now ≡ before
 Writes entries entry before now NoMemory = now ≡ before
@@ -129,9 +130,9 @@ pub record IsWritten (entries : List (List ℕ)) (entry : List ℕ) (before now 
 -- The journal was attached. It has the entries that the file held, the file's content is settled, and every crash image
 -- holds the entries from then on.
 pub record IsAttached (before now : Sight) (entries : List (List ℕ)) : Type 0 where
-  pub read : IfTold before.history (λ file. Reads file.content (holds entries))
-  pub rest : IfTold before.history (λ from. IfTold now.history (ComesToRest entries from.content))
-  pub durable : IfTold now.history (OnlyLeaves (λ bytes. Reads bytes (holds entries)))
+  pub read : IfTold before.history (λ file. Shows entries file.content)
+  pub rest : IfTold before.history (λ from. IfTold now.history (ComesToRest from.content))
+  pub durable : IfTold now.history (OnlyLeaves (Shows entries))
 
 -- Holds for every result: a crash at any moment of the call lost no entry, and the call failed only if the disk did.
 pub record LosesNone (before now : Sight) (failed : Type 0) : Type 0 where
@@ -144,7 +145,7 @@ pub record LosesNone (before now : Sight) (failed : Type 0) : Type 0 where
 abbrev pub IsDamaged : {Msg : Type 0} → Setup → Module Msg → ℕ → List (List ℕ) → List File → ℕ → Type 0
 IsDamaged s m me entries before at =
     IfTold before (λ file. Reads file.content (damaged at))
-    ⊎ (IfTold before (λ file. Reads file.content (holds entries)) × StopsAt s m me at entries)
+    ⊎ ((gates : List ℕ) × IsRead entries gates before × StopsAt s m me at entries gates)
 
 -- What a refusal at this offset leaves of the file. A damaged file stays byte for byte. A file that was read, and one
 -- of whose entries the node refuses, comes to rest: only what follows its last gate goes. So the next call finds the
@@ -153,7 +154,7 @@ IsDamaged s m me entries before at =
 abbrev pub IsLeft : List (List ℕ) → List File → List File → ℕ → Type 0
 IsLeft entries before now at = IfTold before (λ from.
     (Reads from.content (damaged at) × IfTold now (λ file. file ≡ settled from.content))
-    ⊎ (Reads from.content (holds entries) × IfTold now (ComesToRest entries from.content)))
+    ⊎ (Shows entries from.content × IfTold now (ComesToRest from.content)))
 
 -- ---- what does not change
 

@@ -1,6 +1,8 @@
 // One event of a node with an attached journal: reserve room for the entry, step the node, append the entry.
-ghost use Rattle.std.specs.Prelude.{◌≡◌, ◌≤◌, ◌∷◌, [], false, true, length, IfOk, OnOk};
+ghost use Rattle.std.specs.Prelude.{◌≡◌, ◌≤◌, ◌++◌, ◌∷◌, [], false, true, length, is_ok, IfOk, IsErrOf, OnErr, OnOk};
+ghost use Rattle.iss_disk.specs.Calls.{HasCause, IfTold, Runs, StaysHere};
 ghost use Rattle.iss_journal.specs.Frames.{max_entry};
+ghost use Rattle.iss_journal.specs.Retained.{is_snapshot};
 ghost use Rattle.iss_journal.specs.Sound.{IsSound, disk_of, entries_of, is_attached};
 ghost use Rattle.iss_keep.specs.Entries.{spell_event};
 ghost use Rattle.iss_keep.specs.Internal.Keeping.{HasEnded, HasStepped, released};
@@ -73,6 +75,7 @@ fn append_or_retreat<M: Sequenced, D: Disk>(
     requires sound { IsSound D.history D.room journal.old }
     requires attached { is_attached journal.old ≡ true }
     requires short { length (entry.kind ∷ entry.content) ≤ max_entry }
+    requires event { is_snapshot (entry.kind ∷ entry.content) ≡ false }
     requires slots { slots ≤ length node.old.state.log.entries }
     requires epoch { epoch.0 ≤ node.old.state.epoch }
     ensures written { (outcome : Outcome) → IsWritten (entries_of journal.old) (entry.kind ∷ entry.content)

@@ -2,8 +2,7 @@
 //! `ensures`.
 ghost use Rattle.std.specs.Prelude.{◌≡◌, ◌⊎◌, ◌∷◌, ◌++◌, [], ℕ, List, Some};
 ghost use Rattle.iss_base.specs.Lists.{Extends};
-ghost use Rattle.iss_journal.specs.Frames.{Reads, holds};
-ghost use Rattle.iss_journal.specs.Promises.{HoldsWithOrWithout};
+ghost use Rattle.iss_journal.specs.Promises.{Shows, ShowsWithOrWithout};
 ghost use Rattle.iss_keep.specs.Cores.{core_of, step_of};
 ghost use Rattle.iss_keep.specs.Deeds.{deeds_of};
 ghost use Rattle.iss_keep.specs.Entries.{event_in};
@@ -25,7 +24,7 @@ pub fn a_crash_leaves_one_of_two<M: Sequenced>()
     ensures { (s : Setup) (me : ℕ) (entries found : List (List ℕ)) (entry bytes : List ℕ) (c : Core M.Msg)
         (event : NodeEvent) (t : Turn M.Msg) →
         core_of s M.spec me entries ≡ Some c → event_in s.n entry ≡ Some event → step_of s M.spec me c event ≡ Taken t →
-        HoldsWithOrWithout entries entry bytes → Reads bytes (holds found) →
+        ShowsWithOrWithout entries entry bytes → Shows found bytes →
         (core_of s M.spec me found ≡ Some c) ⊎ (core_of s M.spec me found ≡ Some t.core) }
 {
     a_file_has_one_reading();

@@ -1,7 +1,7 @@
 // Recovery: a node is rebuilt by replaying the entries of its journal.
 ghost use Rattle.std.specs.Prelude.{◌≡◌, ◌<◌, ℕ, [], true, length, slice_index_or, IfOk, IsErrOf, OnOk};
 ghost use Rattle.iss_journal.specs.SharedViews.{shared_in};
-ghost use Rattle.iss_journal.specs.Sound.{IsSound, disk_of, entries_of, is_attached};
+ghost use Rattle.iss_journal.specs.Sound.{IsSound, disk_of, entries_of, gates_of, is_attached};
 ghost use Rattle.iss_keep.specs.Cores.{StopsAt};
 ghost use Rattle.iss_keep.specs.Internal.Replays.{GoesTo, IsOf, IsReplayed};
 ghost use Rattle.iss_keep.specs.Steps.{IsAttached, IsDamaged, IsLeft, LosesNone, sight};
@@ -97,7 +97,7 @@ fn replay<M: Sequenced, D: Disk>(
     ensures refines { IfOk result (IsReplayed setup.now M.spec M.refines me.0 (entries_of journal.now)) }
     ensures same { IfOk result (IsOf setup.now me) }
     ensures damaged { (at : ℕ) → IsErrOf result (AttachError.Damaged at) →
-        StopsAt setup.now M.spec me.0 at (entries_of journal.now) }
+        StopsAt setup.now M.spec me.0 at (entries_of journal.now) (gates_of journal.now) }
     ensures sound { IsErrOf result AttachError.Failed → ⊥ }
 {
     let Ok(mut node) = start_fresh::<M>(alloc, setup, directory, me) else {

@@ -1,5 +1,5 @@
 -- Placed cores with equal slims are alike, and the other way round.
-use Rattle.std.proofs.Common.{◌≡◌, ℕ, ◌+◌, ◌-◌, List, Option, length, refl, sym, ap, ◌∙◌, subst, arith}
+use Rattle.std.proofs.Common.{◌≡◌, ℕ, ◌+◌, ◌-◌, List, Option, Some, None, length, refl, sym, ap, ◌∙◌, subst, arith}
 use Rattle.std.specs.List.{filter}
 use mathlib.Core.Path.{fun_ext}
 use Rattle.iss_checkpoint.specs.declared.votes.Cert.{Cert}
@@ -17,15 +17,15 @@ use Rattle.iss_rules.specs.Parcels.{Formats}
 use Rattle.iss_rules.specs.Past.{log_of, initial_history}
 use Rattle.iss_rules.specs.Rules.{Rules}
 use Rattle.iss_rules.specs.Setups.{IsSetupOf}
-use Rattle.iss_rules.specs.Votes.{cert_on}
+use Rattle.iss_rules.specs.Votes.{cert_on, is_open}
 use Rattle.iss_rules.proofs.Ending.{HasSlots}
 use Rattle.iss_rules.proofs.Layouts.{sound-rules}
 use Rattle.iss_rules.proofs.Logs.{newborn-log}
 use Rattle.iss_model.specs.Node.{Core, Dropped, Early, Stepped, Taken, Turn, initial_core, step}
 use Rattle.iss_model.specs.Run.{claims_at}
-use Rattle.iss_model.specs.Slims.{IsPlaced, StepsRespectSlims, IsSameStep, SlimCore, StepsKeepPlaced, is_open, slim}
+use Rattle.iss_model.specs.Slims.{IsPlaced, StepsRespectSlims, IsSameEntered, IsSameStep, SlimCore, StepsKeepPlaced, slim}
 use Rattle.iss_model.proofs.AlikeLogs.{Placed, ap₃}
-use Rattle.iss_model.proofs.AlikeSteps.{AlikeCore, AlikeStep, claims-alike, step-alike}
+use Rattle.iss_model.proofs.AlikeSteps.{AlikeCore, AlikeEntered, AlikeStep, claims-alike, step-alike}
 
 module _ {Msg : Type 0} (F : Formats Msg) (R : Rules) (slots : HasSlots R) (M : Module Msg) (me : ℕ) where
   past-placed : (c : Core Msg) → IsPlaced R M me c → Placed R M me c.past
@@ -80,11 +80,24 @@ module _ {Msg : Type 0} (F : Formats Msg) (R : Rules) (slots : HasSlots R) (M : 
       ∙ ap₃ (λ (v : List Vote) (k : ℕ → Option Cert) (n : ℕ). made_of d.past.epoch (log_of R M me d.past) td d.waiting d.flight d.early v k n)
       a.voted.votes_are certs a.leaf)
 
+  same-entered : (o p : Option (Core Msg)) → AlikeEntered F R slots M me o p → IsSameEntered R M me o p
+  same-entered None None h = tt
+  same-entered None (Some d) h = absurd h
+  same-entered (Some c) None h = absurd h
+  same-entered (Some c) (Some d) h = alike-slims c d h
+
   same-step : (o p : Stepped Msg) → AlikeStep F R slots M me o p → IsSameStep R M me o p
   same-step (Dropped x) (Dropped y) h = h
   same-step (Dropped x) (Taken u) h = absurd h
   same-step (Taken t) (Dropped y) h = absurd h
-  same-step (Taken t) (Taken u) h = record { sends = h.sends; own = h.own; early = h.early; strings = h.strings; core = alike-slims t.core u.core h.core }
+  same-step (Taken t) (Taken u) h = record {
+    core = alike-slims t.core u.core h.core;
+    entered = same-entered t.entered u.entered h.entered;
+    sends = h.sends;
+    own = h.own;
+    early = h.early;
+    strings = h.strings;
+  }
 
   pub steps-same : (c d : Core Msg) → IsPlaced R M me c → IsPlaced R M me d → slim R M me c ≡ slim R M me d → (event : NodeEvent) →
       IsSameStep R M me (step F R M me c event) (step F R M me d event) × (claims_at F R M me c event ≡ claims_at F R M me d event)

@@ -1,5 +1,6 @@
 -- Cores that are alike take each event alike.
 use Rattle.std.proofs.Common.{◌≡◌, ℕ, suc, ◌+◌, Bool, true, false, cond, eqb, nat_lt, not, ◌&&◌, ◌||◌, List, [], ◌∷◌, ◌++◌, Option, Some, None, length, is_some, refl, ap, ap₂, ◌∙◌, subst, true≢false}
+use Rattle.iss_base.specs.Lists.{first_of}
 use Rattle.iss_base.proofs.Lists.{and-true, is-eq, not-false, or-false}
 use Rattle.iss_buckets.specs.Waiting.{absent, cut, uncut}
 use Rattle.iss_checkpoint.specs.declared.votes.Cert.{Cert}
@@ -44,8 +45,16 @@ module _ {Msg : Type 0} (F : Formats Msg) (R : Rules) (slots : HasSlots R) (M : 
     pub voted : SameVotes c.certs d.certs c.votes d.votes
     pub leaf : c.leaf ≡ d.leaf
 
+  -- the same epoch was entered alike, or none was
+  abbrev pub AlikeEntered : Option (Core Msg) → Option (Core Msg) → Type 0
+  AlikeEntered None None = Unit {0}
+  AlikeEntered None (Some d) = ⊥
+  AlikeEntered (Some c) None = ⊥
+  AlikeEntered (Some c) (Some d) = AlikeCore c d
+
   pub record AlikeTurn (t u : Turn Msg) : Type 0 where
     pub core : AlikeCore t.core u.core
+    pub entered : AlikeEntered t.entered u.entered
     pub sends : t.sends ≡ u.sends
     pub own : t.own ≡ u.own
     pub early : t.early ≡ u.early
@@ -73,11 +82,18 @@ module _ {Msg : Type 0} (F : Formats Msg) (R : Rules) (slots : HasSlots R) (M : 
       go false s t = t refl
 
   unchanged-alike : (c d : Core Msg) → AlikeCore c d → AlikeTurn (unchanged c) (unchanged d)
-  unchanged-alike c d a = record { core = a; sends = refl; own = refl; early = refl; strings = refl }
+  unchanged-alike c d a = record { core = a; entered = tt; sends = refl; own = refl; early = refl; strings = refl }
+
+  first-alike : (a b c d : Option (Core Msg)) → AlikeEntered a b → AlikeEntered c d → AlikeEntered (first_of a c) (first_of b d)
+  first-alike None None c d h k = k
+  first-alike None (Some y) c d h k = absurd h
+  first-alike (Some x) None c d h k = absurd h
+  first-alike (Some x) (Some y) c d h k = h
 
   then-alike : (t u : Turn Msg) → AlikeTurn t u → (f g : Core Msg → Turn Msg) → AlikeTurn (f t.core) (g u.core) → AlikeTurn (then_turn t f) (then_turn u g)
   then-alike t u a f g b = record {
     core = b.core;
+    entered = first-alike (f t.core).entered (g u.core).entered t.entered u.entered b.entered a.entered;
     sends = ap₂ (λ (x y : List (To × List ℕ)). x ++ y) a.sends b.sends;
     own = ap₂ (λ (x y : List Claim). x ++ y) a.own b.own;
     early = ap₂ (λ (x y : List Claim). x ++ y) a.early b.early;
@@ -116,6 +132,7 @@ module _ {Msg : Type 0} (F : Formats Msg) (R : Rules) (slots : HasSlots R) (M : 
         core = growth-alike c d a (takes R M me c.past l i c.leaf) (takes R M me d.past l j d.leaf) takes-both
             (c.leaf + (made_in R M me c.past l i c.leaf).used) (d.leaf + (made_in R M me d.past l j d.leaf).used)
             (ap₂ (λ (n : ℕ) (m : Made Msg). n + m.used) a.leaf made-same);
+        entered = tt;
         sends = ap₂ (λ (e : ℕ) (m : Made Msg). packed F me e l m.sends) a.past.epoch made-same;
         own = ap₂ (λ (p : Params) (m : Made Msg). own_claims M p me m.sends) (params-alike R M me c.past d.past a.past l) made-same;
         early = refl;
@@ -156,15 +173,11 @@ module _ {Msg : Type 0} (F : Formats Msg) (R : Rules) (slots : HasSlots R) (M : 
   ends-alike : (c d : Core Msg) → AlikeCore c d → is_complete R M me c.past ≡ true → AlikeTurn (ends F R M me c) (ends F R M me d)
   ends-alike c d a done =
       let vote : vote_on R M me c ≡ vote_on R M me d = ap₃ vote_from a.past.epoch a.past.log a.leaf in
+      let past = advanced-alike R M me slots c.past d.past a.past done in
+      let leaf = ap (λ (n : ℕ). suc n) a.leaf in
       record {
-        core = record {
-          past = advanced-alike R M me slots c.past d.past a.past done;
-          waiting = a.waiting;
-          flight = a.flight;
-          early = refl;
-          voted = a.voted;
-          leaf = ap (λ (n : ℕ). suc n) a.leaf;
-        };
+        core = record { past = past; waiting = a.waiting; flight = a.flight; early = refl; voted = a.voted; leaf = leaf };
+        entered = record { past = past; waiting = a.waiting; flight = a.flight; early = a.early; voted = a.voted; leaf = leaf };
         sends = ap₂ (λ (e : ℕ) (v : Vote). ◌∷◌ (To_all, F.wrap (record { from = me; epoch = e; body = OfVote v })) []) a.past.epoch vote;
         own = ap (λ (v : Vote). ◌∷◌ (claim_of_vote R v) []) vote;
         early = refl;
@@ -194,7 +207,7 @@ module _ {Msg : Type 0} (F : Formats Msg) (R : Rules) (slots : HasSlots R) (M : 
       let o = try_step F R M me c x.leader i in
       let p = try_step F R M me d x.leader i in
       let h = ended-alike (or_unchanged c o) (or_unchanged d p) (or-alike c d a o p (try-alike c d a x.leader i)) in
-      record { core = h.core; sends = h.sends; own = h.own; early = read-alike c d a x.from x.leader x.msg; strings = h.strings }
+      record { core = h.core; entered = h.entered; sends = h.sends; own = h.own; early = read-alike c d a x.from x.leader x.msg; strings = h.strings }
 
   each-alike : (e : ℕ) (xs : List (Early Msg)) (c d : Core Msg) → AlikeCore c d → AlikeTurn (takes_each F R M me e xs c) (takes_each F R M me e xs d)
   each-alike e [] c d a = unchanged-alike c d a
@@ -313,6 +326,7 @@ module _ {Msg : Type 0} (F : Formats Msg) (R : Rules) (slots : HasSlots R) (M : 
     handing-alike : (to e : ℕ) (cert : Cert) → AlikeTurn (handing F R M me c to e cert) (handing F R M me d to e cert)
     handing-alike to e cert = record {
       core = a;
+      entered = tt;
       sends = ap (λ (log : List Value). ◌∷◌ (To_one (record { 0 = to }), F.wrap (record { from = me; epoch = e; body = OfPiece (piece_from log e cert) })) []) a.past.log;
       own = refl;
       early = refl;
@@ -336,6 +350,7 @@ module _ {Msg : Type 0} (F : Formats Msg) (R : Rules) (slots : HasSlots R) (M : 
     asking-alike : (peer : _) → AlikeTurn (asking F me c peer) (asking F me d peer)
     asking-alike peer = record {
       core = a;
+      entered = tt;
       sends = ap (λ (e : ℕ). ◌∷◌ (To_one peer, F.wrap (record { from = me; epoch = e; body = OfAsk })) []) a.past.epoch;
       own = refl;
       early = refl;
@@ -356,6 +371,7 @@ module _ {Msg : Type 0} (F : Formats Msg) (R : Rules) (slots : HasSlots R) (M : 
         (kept-same c.certs d.certs c.votes d.votes a.voted p.cert (cert_on c.certs c.past.epoch)) in
         record {
           core = record { past = filed.past; waiting = filed.waiting; flight = filed.flight; early = refl; voted = voted; leaf = a.leaf };
+          entered = record { past = filed.past; waiting = filed.waiting; flight = filed.flight; early = a.early; voted = voted; leaf = a.leaf };
           sends = refl;
           own = refl;
           early = refl;

@@ -1,8 +1,8 @@
 -- A step is a sequence of small moves: inputs that are taken, and ends of epochs. What each of them keeps holds of the
 -- outcome.
-use Rattle.std.proofs.Common.{◌≡◌, inl, inr, ℕ, suc, Bool, true, false, cond, eqb, List, [], ◌∷◌, ◌++◌, None, refl, sym, ap, ◌∙◌, subst, append_assoc}
+use Rattle.std.proofs.Common.{◌≡◌, inl, inr, ℕ, suc, Bool, true, false, cond, eqb, List, [], ◌∷◌, ◌++◌, Option, Some, None, refl, sym, ap, ◌∙◌, subst, append_assoc}
 use Rattle.std.proofs.lemmas.List.{append-nil}
-use Rattle.iss_base.specs.Lists.{In}
+use Rattle.iss_base.specs.Lists.{In, first_of}
 use Rattle.iss_base.proofs.Lists.{in_left, in_right, is-eq}
 use Rattle.iss_sb.specs.declared.effects.Claim.{Claim}
 use Rattle.iss_sb.specs.declared.effects.Input.{Input}
@@ -17,26 +17,35 @@ use Rattle.iss_rules.specs.Past.{is_complete, leads_in, params_of}
 use Rattle.iss_rules.specs.Rules.{Rules}
 use Rattle.iss_model.proofs.Steps.{IsInput, input-taken}
 
-turn-same : {Msg : Type 0} (c : Core Msg) (a b : List (To × List ℕ)) (d e x y : List Claim) (f g : List (List ℕ)) → a ≡ b → d ≡ e → x ≡ y → f ≡ g →
-    ◌≡◌ {A = Turn Msg} (record { core = c; sends = a; own = d; early = x; strings = f }) (record { core = c; sends = b; own = e; early = y; strings = g })
-turn-same c a b d e x y f g p q o r =
-    ap (λ (z : List (To × List ℕ)). record { core = c; sends = z; own = d; early = x; strings = f }) p
-    ∙ (ap (λ (z : List Claim). record { core = c; sends = b; own = z; early = x; strings = f }) q
-    ∙ (ap (λ (z : List Claim). record { core = c; sends = b; own = e; early = z; strings = f }) o
-    ∙ ap (λ (z : List (List ℕ)). record { core = c; sends = b; own = e; early = y; strings = z }) r))
+turn-same : {Msg : Type 0} (c : Core Msg) (k l : Option (Core Msg)) (a b : List (To × List ℕ)) (d e x y : List Claim) (f g : List (List ℕ)) →
+    k ≡ l → a ≡ b → d ≡ e → x ≡ y → f ≡ g →
+    ◌≡◌ {A = Turn Msg} (record { core = c; entered = k; sends = a; own = d; early = x; strings = f })
+    (record { core = c; entered = l; sends = b; own = e; early = y; strings = g })
+turn-same c k l a b d e x y f g h p q o r =
+    ap (λ (z : Option (Core _)). record { core = c; entered = z; sends = a; own = d; early = x; strings = f }) h
+    ∙ (ap (λ (z : List (To × List ℕ)). record { core = c; entered = l; sends = z; own = d; early = x; strings = f }) p
+    ∙ (ap (λ (z : List Claim). record { core = c; entered = l; sends = b; own = z; early = x; strings = f }) q
+    ∙ (ap (λ (z : List Claim). record { core = c; entered = l; sends = b; own = e; early = z; strings = f }) o
+    ∙ ap (λ (z : List (List ℕ)). record { core = c; entered = l; sends = b; own = e; early = y; strings = z }) r)))
+
+first-assoc : {A : Type 0} (a b c : Option A) → first_of (first_of a b) c ≡ first_of a (first_of b c)
+first-assoc None b c = refl
+first-assoc (Some x) b c = refl
 
 -- a sequence may be cut anywhere
 pub onward-rests : {Msg : Type 0} (t : Turn Msg) → then_turn t unchanged ≡ t
 onward-rests t =
-    turn-same t.core (t.sends ++ []) t.sends (t.own ++ []) t.own (t.early ++ []) t.early (t.strings ++ []) t.strings
-    (append-nil t.sends) (append-nil t.own) (append-nil t.early) (append-nil t.strings)
+    turn-same t.core t.entered t.entered (t.sends ++ []) t.sends (t.own ++ []) t.own (t.early ++ []) t.early (t.strings ++ []) t.strings
+    refl (append-nil t.sends) (append-nil t.own) (append-nil t.early) (append-nil t.strings)
 
 pub onward-onward : {Msg : Type 0} (t : Turn Msg) (f g : Core Msg → Turn Msg) → then_turn t (λ c. then_turn (f c) g) ≡ then_turn (then_turn t f) g
 onward-onward t f g =
     let u = f t.core in
     let v = g u.core in
-    turn-same v.core (t.sends ++ (u.sends ++ v.sends)) ((t.sends ++ u.sends) ++ v.sends) (t.own ++ (u.own ++ v.own)) ((t.own ++ u.own) ++ v.own)
+    turn-same v.core (first_of (first_of v.entered u.entered) t.entered) (first_of v.entered (first_of u.entered t.entered))
+    (t.sends ++ (u.sends ++ v.sends)) ((t.sends ++ u.sends) ++ v.sends) (t.own ++ (u.own ++ v.own)) ((t.own ++ u.own) ++ v.own)
     (t.early ++ (u.early ++ v.early)) ((t.early ++ u.early) ++ v.early) (t.strings ++ (u.strings ++ v.strings)) ((t.strings ++ u.strings) ++ v.strings)
+    (first-assoc v.entered u.entered t.entered)
     (sym (append_assoc t.sends u.sends v.sends)) (sym (append_assoc t.own u.own v.own))
     (sym (append_assoc t.early u.early v.early)) (sym (append_assoc t.strings u.strings v.strings))
 

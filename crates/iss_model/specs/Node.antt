@@ -6,7 +6,7 @@
 use Rattle.std.specs.Prelude.{ℕ, suc, ◌+◌, ◌-◌, ◌==◌, nat_lt, cond, Bool, false, not, ◌&&◌, ◌||◌}
 use Rattle.std.specs.Prelude.{List, [], ◌∷◌, ◌++◌, Option, Some, None, length, is_some, reverse, take}
 use Rattle.iss_buckets.specs.Waiting.{absent, cut, uncut}
-use Rattle.iss_base.specs.Lists.{push_all}
+use Rattle.iss_base.specs.Lists.{first_of, push_all}
 use Rattle.iss_checkpoint.specs.declared.votes.Cert.{Cert}
 use Rattle.iss_checkpoint.specs.declared.votes.Vote.{Vote}
 use Rattle.iss_keys.specs.KeyStates.{left_of}
@@ -72,9 +72,11 @@ initial_core = record {
 }
 
 -- The outcome of a step: the new core, the packets to send (in order), the own claims in them, the claims in early
--- messages that were taken, and the strings hashed.
+-- messages that were taken, and the strings hashed. If the step entered an epoch, also the core as it entered the
+-- newest one, with the early messages that it took next.
 pub record Turn (Msg : Type 0) : Type 0 where
   pub core : Core Msg
+  pub entered : Option (Core Msg)
   pub sends : List (To × List ℕ)
   pub own : List Claim
   pub early : List Claim
@@ -141,6 +143,7 @@ abbrev pub step_unjudged : {Msg : Type 0} → Formats Msg → Rules → Module M
 step_unjudged F R M me c l input =
     let made = made_in R M me c.past l input c.leaf in
     record {
+      entered = None;
       core = after_growth R M me c (takes R M me c.past l input c.leaf) (c.leaf + made.used);
       sends = packed F me c.past.epoch l made.sends;
       own = own_claims M (params_of R M me c.past l) me made.sends;
@@ -182,7 +185,7 @@ claims_in R M me c from l msg = cond (leads_in R M me c l) (M.claims (params_of 
 
 -- the outcome that changes nothing
 abbrev pub unchanged : {Msg : Type 0} → Core Msg → Turn Msg
-unchanged c = record { core = c; sends = []; own = []; early = []; strings = [] }
+unchanged c = record { core = c; entered = None; sends = []; own = []; early = []; strings = [] }
 
 -- one outcome, then what follows from the core it leaves; effects in order
 abbrev pub then_turn : {Msg : Type 0} → Turn Msg → (Core Msg → Turn Msg) → Turn Msg
@@ -190,6 +193,7 @@ then_turn t more =
     let u = more t.core in
     record {
       core = u.core;
+      entered = first_of u.entered t.entered;
       sends = t.sends ++ u.sends;
       own = t.own ++ u.own;
       early = t.early ++ u.early;
@@ -217,8 +221,10 @@ vote_on R M me c =
 abbrev pub ends : {Msg : Type 0} → Formats Msg → Rules → Module Msg → ℕ → Core Msg → Turn Msg
 ends F R M me c =
     let v = vote_on R M me c in
+    let next = record (in_next_epoch c) { leaf = suc c.leaf } in
     record {
-      core = record (in_next_epoch c) { leaf = suc c.leaf };
+      core = next;
+      entered = Some (record next { early = c.early });
       sends = (To_all, F.wrap (record { from = me; epoch = c.past.epoch; body = OfVote v })) ∷ [];
       own = claim_of_vote R v ∷ [];
       early = [];
@@ -336,6 +342,7 @@ handing F R M me c to e cert =
     } in
     record {
       core = c;
+      entered = None;
       sends = (To_one (record { 0 = to }), F.wrap (record { from = me; epoch = e; body = OfPiece piece })) ∷ [];
       own = only_by me (claims_of_cert R cert);
       early = [];
@@ -358,6 +365,7 @@ abbrev pub asking : {Msg : Type 0} → Formats Msg → ℕ → Core Msg → Node
 asking F me c peer =
     record {
       core = c;
+      entered = None;
       sends = (To_one peer, F.wrap (record { from = me; epoch = c.past.epoch; body = OfAsk })) ∷ [];
       own = [];
       early = [];
@@ -379,11 +387,11 @@ abbrev pub adopts_piece : {Msg : Type 0} → Rules → Module Msg → ℕ → Co
 adopts_piece R M me c p =
     let past = adopts c.past (record { epoch = c.past.epoch; values = p.values }) in
     let before = before_own R M me c.past in
+    let certs = keeping c.certs p.cert (cert_on c.certs c.past.epoch) in
+    let next = record (after_growth R M me c past c.leaf) { early = []; certs = certs } in
     record {
-      core = record (after_growth R M me c past c.leaf) {
-        early = [];
-        certs = keeping c.certs p.cert (cert_on c.certs c.past.epoch);
-      };
+      core = next;
+      entered = Some (record next { early = c.early });
       sends = [];
       own = [];
       early = [];

@@ -1,7 +1,7 @@
 -- Old instances may be retired. The slim part of a core has the core's log in place of all that its log was made of in
 -- earlier epochs: the instances of these epochs, and the pieces that were adopted. It has no votes of epochs with a
 -- certificate. Cores with equal slim parts take each event alike, so a replica may forget the rest.
-use Rattle.std.specs.Prelude.{◌≡◌, ℕ, ◌+◌, ◌≤◌, ◌<◌, Bool, not, List, [], Option, Some, length, is_some}
+use Rattle.std.specs.Prelude.{◌≡◌, ℕ, ◌+◌, ◌≤◌, ◌<◌, Bool, not, List, [], Option, Some, None, length, is_some}
 use Rattle.std.specs.List.{filter}
 use Rattle.iss_checkpoint.specs.declared.votes.Cert.{Cert}
 use Rattle.iss_checkpoint.specs.declared.votes.Vote.{Vote}
@@ -16,7 +16,7 @@ use Rattle.iss_rules.specs.Concrete.{rules_of}
 use Rattle.iss_rules.specs.Formats.{formats_of}
 use Rattle.iss_rules.specs.Past.{adopted_at, log_of, start_of}
 use Rattle.iss_rules.specs.Rules.{Rules}
-use Rattle.iss_rules.specs.Votes.{cert_on}
+use Rattle.iss_rules.specs.Votes.{cert_on, is_open}
 use Rattle.iss_model.specs.Node.{Core, Dropped, Early, Stepped, Taken, Turn, initial_core, step}
 use Rattle.iss_model.specs.Run.{claims_at}
 
@@ -34,10 +34,6 @@ pub record SlimCore (Msg : Type 0) : Type 0 where
   -- by epoch: steps look certificates up, and their order is of no account
   pub certs : ℕ → Option Cert
   pub leaf : ℕ
-
--- whether the vote's epoch has no certificate
-abbrev pub is_open : List Cert → Vote → Bool
-is_open certs v = not (is_some (cert_on certs v.epoch.0))
 
 -- rule: Epochs: Of earlier epochs a node keeps the log, the certificates and what follows from these alone
 abbrev pub slim : {Msg : Type 0} → Rules → Module Msg → ℕ → Core Msg → SlimCore Msg
@@ -61,9 +57,17 @@ pub record IsPlaced {Msg : Type 0} (R : Rules) (M : Module Msg) (me : ℕ) (c : 
   pub settled : (e k : ℕ) (v : Value) → adopted_at c.past.adopted e k ≡ Some v → e < c.past.epoch
   pub unborn : (e l : ℕ) → c.past.epoch < e → c.past.evidence e l ≡ []
 
--- Two turns send, claim and hash the same, and leave cores with equal slim parts.
+-- The same epoch was entered with equal slim parts, or none was.
+abbrev pub IsSameEntered : {Msg : Type 0} → Rules → Module Msg → ℕ → Option (Core Msg) → Option (Core Msg) → Type 0
+IsSameEntered R M me None None = Unit {0}
+IsSameEntered R M me None (Some d) = ⊥
+IsSameEntered R M me (Some c) None = ⊥
+IsSameEntered R M me (Some c) (Some d) = slim R M me c ≡ slim R M me d
+
+-- Two turns send, claim and hash the same, and leave and enter with equal slim parts.
 pub record IsSameTurn {Msg : Type 0} (R : Rules) (M : Module Msg) (me : ℕ) (t u : Turn Msg) : Type 0 where
   pub core : slim R M me t.core ≡ slim R M me u.core
+  pub entered : IsSameEntered R M me t.entered u.entered
   pub sends : t.sends ≡ u.sends
   pub own : t.own ≡ u.own
   pub early : t.early ≡ u.early

@@ -1,7 +1,7 @@
 //! A node: its state, and whether it is stale.
-ghost use Rattle.std.specs.Prelude.{◌≡◌, ◌<◌, ◌≤◌, ◌↔◌, ℕ, true, IfOk, is_some, length, map, not, option_map, reverse, slice_get};
+ghost use Rattle.std.specs.Prelude.{◌≡◌, ◌<◌, ◌≤◌, ◌↔◌, ℕ, true, IfOk, is_some, length, map, not, option_map, reverse};
 ghost use Rattle.std.specs.List.{list_any};
-ghost use Rattle.iss_ballots.specs.Ballots.{cert_in};
+ghost use Rattle.iss_ballots.specs.Ballots.{cert_at};
 ghost use Rattle.iss_keys.specs.Directories.{AreKeysOf};
 ghost use Rattle.iss_log.specs.LogState.{value_at};
 ghost use Rattle.iss_rules.specs.Concrete.{keys_of, rules_of};
@@ -149,7 +149,7 @@ impl<M: Sequenced> Node<M> {
 
     /// The certificate of an epoch, if the node has it.
     pub fn cert_at(&self, epoch: Epoch) -> Option<&Cert>
-        ensures shown { option_map (λ c. c.now) result ≡ cert_in (slice_get self.now.state.ballots.all epoch.0) }
+        ensures shown { option_map (λ c. c.now) result ≡ cert_at self.now.state.ballots.certs epoch.0 }
         ensures is { (c : Core M.Msg) → RefinesCore M.spec M.refines self.now c →
             option_map (λ c. c.now) result ≡ cert_on c.certs epoch.0 }
     {

@@ -15,8 +15,7 @@ use Rattle.iss_request.specs.declared.setups.Setup.{Setup}
 use Rattle.iss_sb.specs.Signers.{AreSigners}
 use Rattle.iss_sb.specs.declared.signers.Signed.{Signed as Signature}
 use Rattle.iss_rules.specs.Rules.{Rules}
-use Rattle.iss_rules.specs.Votes.{all_verify, cert_on, claim_of_vote, is_true_cert, keeping, stable, vote_by}
-use Rattle.iss_model.specs.Slims.{is_open}
+use Rattle.iss_rules.specs.Votes.{all_verify, cert_on, claim_of_vote, is_open, is_true_cert, keeping, stable, vote_by}
 use Rattle.iss_model.proofs.AlikeVotes.{SameVotes, more-certs, stable-same, vote-same}
 use Rattle.iss_theorems.proofs.Checkpoints.KeptVotesAreValid.{IsVoteOf, below-true, cert-there, in-below, vote-there}
 use Rattle.iss_theorems.proofs.Refinement.DeliveryChecks.{each-verifies}

@@ -15,12 +15,11 @@ use Rattle.iss_request.specs.declared.requests.Value.{Value}
 use Rattle.iss_request.proofs.OneSpelling.{request_grammar, request_related}
 use Rattle.iss_sb.proofs.Read.{read-again}
 use Rattle.iss_rules.specs.Past.{Past, cut_at, log_of, start_of}
-use Rattle.iss_rules.specs.Votes.{cert_on}
+use Rattle.iss_rules.specs.Votes.{cert_on, is_open}
 use Rattle.iss_rules.proofs.Ending.{HasSlots}
 use Rattle.iss_rules.proofs.Epochs.{length-cut, start-mono}
 use Rattle.iss_model.specs.Frames.{Frame}
 use Rattle.iss_model.specs.Node.{Core, Early, joined, values_of}
-use Rattle.iss_model.specs.Slims.{is_open}
 use Rattle.iss_snapshot.specs.declared.snapshots.Snapshot.{Snapshot}
 use Rattle.iss_snapshot.specs.Snapshots.{AreEpochs, IsCertEntry, IsEncodable, IsVoteEntry, snapshot_row}
 use Rattle.iss_rebuilt.specs.Reading.{Rebuilt}

@@ -2,6 +2,7 @@
 -- messages, and then takes these.
 use Rattle.std.proofs.Common.{◌≡◌, inl, inr, ℕ, suc, ◌≤◌, Bool, true, false, cond, eqb, not, nat_lt, List, [], ◌∷◌, ◌++◌, Option, Some, refl, sym, ap, ◌∙◌, subst, arith}
 use Rattle.std.proofs.lemmas.Bool.Decides.{leb_tells}
+use Rattle.iss_base.specs.Lists.{first_of}
 use Rattle.iss_base.proofs.Lists.{both, eqb-same}
 use Rattle.iss_buckets.specs.Waiting.{cut, uncut}
 use Rattle.iss_request.specs.declared.ids.Slot.{Slot}
@@ -108,6 +109,10 @@ module _ {Msg : Type 0} (F : Formats Msg) (R : Rules) (M : Module Msg) (me : ℕ
   abbrev row : Bool → Turn Msg → Turn Msg
   row b w = cond b (then_turn (then_turn w (ends F R M me)) (takes_each F R M me (suc w.core.past.epoch) w.core.early)) w
 
+  -- the core that entered an epoch last, if d has just entered the one after e and takes these early messages next
+  abbrev pub entered_last : ℕ → List (Early Msg) → Core Msg → Option (Core Msg)
+  entered_last e xs d = first_of (takes_each F R M me (suc e) xs d).entered (Some (record d { early = xs }))
+
   pub advance-stays : (u : Turn Msg) → is_complete R M me u.core.past ≡ false → advance_epochs F R M me u ≡ u
   advance-stays u q = ap (λ (b : Bool). row b u) q
 
@@ -115,6 +120,11 @@ module _ {Msg : Type 0} (F : Formats Msg) (R : Rules) (M : Module Msg) (me : ℕ
   pub advance-ends : (u : Turn Msg) → is_complete R M me u.core.past ≡ true →
       (advance_epochs F R M me u).core ≡ (takes_each F R M me (suc u.core.past.epoch) u.core.early (ends F R M me u.core).core).core
   advance-ends u q = ap (λ (b : Bool). (row b u).core) q
+
+  -- with the core as it entered the next one
+  pub advance-enters : (u : Turn Msg) → is_complete R M me u.core.past ≡ true →
+      (advance_epochs F R M me u).entered ≡ entered_last u.core.past.epoch u.core.early (ends F R M me u.core).core
+  advance-enters u q = ap (λ (b : Bool). (row b u).entered) q
 
   -- without early messages it only ends
   pub quiet-ends : (u v : Turn Msg) → v.core ≡ quiet u.core → is_complete R M me u.core.past ≡ true → (advance_epochs F R M me v).core ≡ (ends F R M me u.core).core

@@ -1,10 +1,11 @@
 -- The entries that a replica stores lead back to it, and so do those of them that stay.
-use Rattle.std.proofs.Common.{◌≡◌, inl, inr, ℕ, ◌≤◌, ◌<◌, ◌^◌, Bool, true, false, cond, nat_le, List, [], ◌∷◌, length, Option, Some, None, refl, sym, ap, ap₂, ◌∙◌, subst, arith, le_trans}
+use Rattle.std.proofs.Common.{◌≡◌, inl, inr, ℕ, ◌≤◌, ◌<◌, ◌^◌, Bool, true, false, cond, nat_le, List, [], ◌∷◌, length, reverse, Option, Some, None, refl, sym, ap, ap₂, ◌∙◌, subst, arith, le_trans}
 use Rattle.std.specs.List.{filter}
 use Rattle.std.proofs.lemmas.Bool.{leb-true}
 use Rattle.iss_base.specs.Lists.{In}
 use Rattle.iss_base.proofs.Lists.{in_left}
 use Rattle.iss_journal.specs.Frames.{max_entry}
+use Rattle.iss_journal.specs.Retained.{is_snapshot, retained}
 use Rattle.iss_request.specs.declared.setups.Setup.{Setup}
 use Rattle.iss_sb.specs.Evidence.{Module}
 use Rattle.iss_rules.specs.declared.events.NodeEvent.{NodeEvent}
@@ -25,7 +26,7 @@ use Rattle.iss_snapshot.proofs.SnapshotGrammar.{spelled-row}
 use Rattle.iss_rebuilt.specs.Laws.{HasEntry, IsRecovered}
 use Rattle.iss_rebuilt.specs.Reading.{Rebuilt, core_of_step, reads_entry, rebuilt, recovered, replayed, replays, woken, woken_of}
 use Rattle.iss_rebuilt.specs.Storable.{IsBehind}
-use Rattle.iss_rebuilt.specs.Stored.{Kept, Saved, Stored, entered_at, is_snapshot, nothing_saved, or_event, retained, saved_after, snapshot_kept, snapshot_of, stored, stored_by}
+use Rattle.iss_rebuilt.specs.Stored.{Kept, Saved, Stored, nothing_saved, or_event, saved_after, snapshot_kept, snapshot_of, stored, stored_by}
 use Rattle.iss_rebuilt.proofs.Ballots.{no-ballots}
 use Rattle.iss_rebuilt.proofs.Encodable.{IsWritable, snapshot-fits}
 use Rattle.iss_rebuilt.proofs.Entering.{quiet, step-rises}
@@ -33,6 +34,7 @@ use Rattle.iss_rebuilt.proofs.Entries.{entry-read, past-same}
 use Rattle.iss_rebuilt.proofs.Heard.{log-read}
 use Rattle.iss_rebuilt.proofs.Regular.{Goes, IsGoodFrame, IsRegular, regular-open, slots-in}
 use Rattle.iss_rebuilt.proofs.Resting.{IsResting, no-early, step-goes, step-rests}
+use Rattle.iss_rebuilt.proofs.StaysTurned.{newest_stay, stays-turned}
 use Rattle.iss_rebuilt.proofs.Storing.{IsEntered, entering}
 use Rattle.iss_rebuilt.proofs.Waking.{AreSlim, each-slim}
 
@@ -51,18 +53,18 @@ filter-twice (x ∷ xs) = go (is_snapshot x) refl (filter-twice xs)
     go true q ih = ap (λ (b : Bool). cond b (x ∷ filter is_snapshot (filter is_snapshot xs)) (filter is_snapshot (filter is_snapshot xs))) q
         ∙ ap (λ (ys : List (List ℕ)). x ∷ ys) ih
 
-pub retained-recovers : {Msg : Type 0} (W : Frame Msg) (event_in : List ℕ → Option NodeEvent) (me : ℕ) (xs : List (List ℕ)) →
-    recovered W event_in me (retained xs) ≡ recovered W event_in me xs
-retained-recovers W event_in me [] = refl
-retained-recovers {Msg} W event_in me (x ∷ xs) = go (is_snapshot x) refl (retained-recovers W event_in me xs)
+pub newest-recovers : {Msg : Type 0} (W : Frame Msg) (event_in : List ℕ → Option NodeEvent) (me : ℕ) (xs : List (List ℕ)) →
+    recovered W event_in me (newest_stay xs) ≡ recovered W event_in me xs
+newest-recovers W event_in me [] = refl
+newest-recovers {Msg} W event_in me (x ∷ xs) = go (is_snapshot x) refl (newest-recovers W event_in me xs)
   where
     row : Bool → Option (Rebuilt Msg) → Option (Rebuilt Msg) → Option (Rebuilt Msg)
     row b first others = cond b (woken_of W me (reads_entry W me first x)) (replays W me (event_in x) others)
 
     tail : Bool → List (List ℕ)
-    tail b = cond b (filter is_snapshot xs) (retained xs)
+    tail b = cond b (filter is_snapshot xs) (newest_stay xs)
 
-    go : (b : Bool) → is_snapshot x ≡ b → recovered W event_in me (retained xs) ≡ recovered W event_in me xs →
+    go : (b : Bool) → is_snapshot x ≡ b → recovered W event_in me (newest_stay xs) ≡ recovered W event_in me xs →
         row (is_snapshot x) (rebuilt W me (filter is_snapshot (tail (is_snapshot x)))) (recovered W event_in me (tail (is_snapshot x)))
         ≡ row (is_snapshot x) (rebuilt W me (filter is_snapshot xs)) (recovered W event_in me xs)
     go true q ih =
@@ -125,9 +127,9 @@ module _ {Msg : Type 0} (W : Frame Msg) (P : IsGoodFrame W.setup W.formats W.rul
   flip-slim a b h = record { placed = h.other; other = h.placed; slims = sym h.slims }
 
   -- a core with the slim part of an entered one wakes as that does
-  woken-slim : (c : Core Msg) (event : NodeEvent) (t : Turn Msg) (e : IsEntered W P me c event t) (next : Core Msg) → IsSlim next e.core →
+  woken-slim : (c : Core Msg) (t : Turn Msg) (e : IsEntered W P me c t) (next : Core Msg) → IsSlim next e.core →
       IsSlim (woken W me next).core t.core
-  woken-slim c event t e next h =
+  woken-slim c t e next h =
       let d : Core Msg = e.core in
       let epoch : d.past.epoch ≡ next.past.epoch = ap (λ (z : SlimCore Msg). z.epoch) (sym h.slims) in
       let early : d.early ≡ next.early = ap (λ (z : SlimCore Msg). z.early) (sym h.slims) in
@@ -249,7 +251,7 @@ module _ {Msg : Type 0} (W : Frame Msg) (P : IsGoodFrame W.setup W.formats W.rul
             slims = too.slims;
           }
 
-      module _ (e : IsEntered W P me st.core event t) (last : t.core.past.epoch < 2 ^ 64) where
+      module _ (e : IsEntered W P me st.core t) (last : t.core.past.epoch < 2 ^ 64) where
         abbrev d : Core Msg
         d = e.core
 
@@ -298,7 +300,7 @@ module _ {Msg : Type 0} (W : Frame Msg) (P : IsGoodFrame W.setup W.formats W.rul
               found = record next { core = (woken W me next.core).core };
               found_is = first ∙ ap (λ (o : Option (Rebuilt Msg)). woken_of W me o) front_read;
               found_saved = read.0.saved;
-              slims = woken-slim st.core event t e next.core (record { placed = read.0.placed; other = e.storable.placed; slims = read.0.slims });
+              slims = woken-slim st.core t e next.core (record { placed = read.0.placed; other = e.storable.placed; slims = read.0.slims });
             }
 
         entered-stored : IsStored (stored_by W spell me st event (Taken t))
@@ -316,7 +318,7 @@ module _ {Msg : Type 0} (W : Frame Msg) (P : IsGoodFrame W.setup W.formats W.rul
             go true k = snapshot-stored (leb-true (length (snapshot_row s.version snap)) max_entry k)
             go false k = subst (λ (m : Saved). IsStored (record { entries = spell event ∷ st.entries; saved = m; core = t.core })) (sym h.front_saved) event-stored
 
-      stayed-stored : entered_at W me st.core event ≡ None → IsStored (stored_by W spell me st event (Taken t))
+      stayed-stored : t.entered ≡ None → IsStored (stored_by W spell me st event (Taken t))
       stayed-stored none = subst (λ (o : Option (Core Msg)). IsStored (put (or_event (snapshot_kept W me st.saved o) (spell event) st.saved))) (sym none) event-stored
         where
           put : Kept → Stored Msg
@@ -346,13 +348,13 @@ module _ {Msg : Type 0} (W : Frame Msg) (P : IsGoodFrame W.setup W.formats W.rul
             taken-stored st (before earlier) x (have x (inl refl)) t q last
 
     pub journals-recover : (events : List NodeEvent) → ((event : NodeEvent) → In event events → HasEntry spell event_in event) → (stored W spell me events).core.past.epoch < 2 ^ 64 →
-        IsRecovered W event_in me (retained (stored W spell me events).entries) (stored W spell me events)
+        IsRecovered W event_in me (reverse (retained (reverse (stored W spell me events).entries))) (stored W spell me events)
     journals-recover events have last =
         let st : Stored Msg = stored W spell me events in
         let h = all-stored events have last in
         record {
           found = h.found;
-          is = retained-recovers W event_in me st.entries ∙ h.found_is;
+          is = ap (λ (xs : List (List ℕ)). recovered W event_in me xs) (stays-turned st.entries) ∙ (newest-recovers W event_in me st.entries ∙ h.found_is);
           saved = h.found_saved;
           placed = h.slims.placed;
           slims = h.slims.slims;

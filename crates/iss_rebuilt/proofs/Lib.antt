@@ -12,6 +12,7 @@ pub mod Entering
 pub mod Resting
 pub mod Waking
 pub mod Storing
+pub mod StaysTurned
 pub mod Journals
 pub mod Frames
 mod RecoveryExample

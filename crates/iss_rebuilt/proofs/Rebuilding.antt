@@ -10,11 +10,11 @@ use Rattle.iss_checkpoint.specs.declared.votes.Vote.{Vote}
 use Rattle.iss_request.specs.Log.{log_ids}
 use Rattle.iss_request.specs.declared.requests.Value.{Value}
 use Rattle.iss_rules.specs.Past.{Past, adopted_at, before_own, cut_at, log_of}
-use Rattle.iss_rules.specs.Votes.{cert_on}
+use Rattle.iss_rules.specs.Votes.{cert_on, is_open}
 use Rattle.iss_rules.proofs.Ending.{HasSlots}
 use Rattle.iss_model.specs.Frames.{Frame}
 use Rattle.iss_model.specs.Node.{Core, Early, early_most}
-use Rattle.iss_model.specs.Slims.{IsPlaced, is_open, slim}
+use Rattle.iss_model.specs.Slims.{IsPlaced, slim}
 use Rattle.iss_model.proofs.AlikeSlims.{alike-slims}
 use Rattle.iss_snapshot.specs.declared.snapshots.Snapshot.{Snapshot}
 use Rattle.iss_rebuilt.specs.Storable.{IsBehind, IsReadBack, IsStorable, adopted_of, past_of}

@@ -1,8 +1,9 @@
 -- A computed journal: three nodes, epochs of three slots. Node 0 proposes, hears of three empty batches, which ends
 -- epoch 0, and counts two votes. The event that ended the epoch is stored as a snapshot.
-use Rattle.std.proofs.Common.{◌≡◌, ℕ, ◌==◌, cond, List, [], ◌∷◌, Option, Some, None, refl}
+use Rattle.std.proofs.Common.{◌≡◌, ℕ, ◌==◌, cond, List, [], ◌∷◌, Option, Some, None, reverse, refl}
 use Rattle.iss_checkpoint.specs.declared.votes.Cert.{Cert}
 use Rattle.iss_checkpoint.specs.declared.votes.Vote.{Vote}
+use Rattle.iss_journal.specs.Retained.{retained}
 use Rattle.iss_request.specs.Formats.{count_field, parse_batch, parse_count, parse_rest, parse_value, spell_batch, spell_count, spell_value}
 use Rattle.iss_request.specs.Parsing.{◌>>=◌, block, byte, done, number, such_that, times}
 use Rattle.iss_request.specs.declared.requests.Value.{Value}
@@ -16,7 +17,7 @@ use Rattle.iss_model.specs.Node.{Core}
 use Rattle.iss_model.proofs.Example.{Word, easy, plain, short, spell, telling}
 use Rattle.iss_snapshot.specs.Snapshots.{parse_body, parse_cert_entry, parse_counted, parse_epochs, parse_kind, parse_packet_entry, parse_snapshot, parse_span, parse_to, parse_vote_entry, spell_snapshot}
 use Rattle.iss_rebuilt.specs.Reading.{Rebuilt, recovered}
-use Rattle.iss_rebuilt.specs.Stored.{Stored, retained, stored}
+use Rattle.iss_rebuilt.specs.Stored.{Stored, stored}
 
 abbrev W : Frame Word
 W = record { setup = plain; formats = short; rules = easy; spec = telling }
@@ -54,7 +55,7 @@ snapshot =
     5 ∷ 0 ∷ 0 ∷ 0 ∷ 0 ∷ 0 ∷ 0 ∷ 0 ∷ 0 ∷ 0 ∷ 0 ∷ 0 ∷ 0 ∷ 0 ∷ 0 ∷ 0 ∷ 1 ∷ 1 ∷ 0 ∷ 1 ∷ 0 ∷ 1 ∷ 0 ∷ 0 ∷ 0 ∷ 0 ∷ 1 ∷ 0 ∷ 0 ∷ 0 ∷ 0
     ∷ 0 ∷ 0 ∷ 0 ∷ 0 ∷ 0 ∷ 0 ∷ 0 ∷ 0 ∷ 0 ∷ 0 ∷ []
 
-stays : retained journal.entries ≡ entry (vote 1) ∷ entry (vote 0) ∷ snapshot ∷ []
+stays : reverse (retained (reverse journal.entries)) ≡ entry (vote 1) ∷ entry (vote 0) ∷ snapshot ∷ []
 unfolding spell_snapshot spell_value spell_batch spell_count
 stays = refl
 
@@ -88,6 +89,6 @@ early = On_packet (spell 1 1 (OfModule 1 (record { 0 = 4 }, [])))
 abbrev ahead : Stored Word
 ahead = stored W entry 0 (word 2 ∷ early ∷ word 1 ∷ word 0 ∷ On_propose ∷ [])
 
-ahead_again : recovers (retained ahead.entries) ≡ Some (shown ahead.core)
+ahead_again : recovers (reverse (retained (reverse ahead.entries))) ≡ Some (shown ahead.core)
 unfolding spell_snapshot spell_value spell_batch spell_count parse_snapshot parse_span parse_kind parse_to parse_epochs parse_body parse_counted parse_cert_entry parse_vote_entry parse_packet_entry parse_value parse_batch parse_count parse_rest count_field ◌>>=◌ block byte done number such_that times
 ahead_again = refl

@@ -1,7 +1,7 @@
 -- A core between two events, and what an event does to it: the core stays in its epoch, or enters the next one as it
 -- would without early messages, and then takes these, which may end that epoch too.
-use Rattle.std.proofs.Common.{◌≡◌, ◌⊎◌, inl, inr, ℕ, suc, ◌≤◌, ◌<◌, ◌^◌, Bool, true, false, cond, eqb, List, [], ◌∷◌, ◌++◌, length, length-append, Some, refl, sym, ap, ap₂, ◌∙◌, subst, arith}
-use Rattle.iss_base.specs.Lists.{In}
+use Rattle.std.proofs.Common.{◌≡◌, ◌⊎◌, inl, inr, ℕ, suc, ◌≤◌, ◌<◌, ◌^◌, Bool, true, false, cond, eqb, List, [], ◌∷◌, ◌++◌, length, length-append, Option, Some, None, refl, sym, ap, ap₂, ◌∙◌, subst, arith}
+use Rattle.iss_base.specs.Lists.{In, first_of}
 use Rattle.iss_base.proofs.Lists.{eqb-other, eqb-same, in_append, in_left}
 use Rattle.iss_request.specs.Fields.{IsReadAgain}
 use Rattle.iss_request.specs.declared.ids.Slot.{Slot}
@@ -27,7 +27,7 @@ use Rattle.iss_model.proofs.Steps.{IsAdopted, IsCast, IsInput, IsKept, Took, ado
 use Rattle.iss_model.proofs.Told.{AreTold}
 use Rattle.iss_rebuilt.specs.Stored.{early_parcel}
 use Rattle.iss_rebuilt.proofs.Ballots.{ballots-counted, counted-keeps}
-use Rattle.iss_rebuilt.proofs.Entering.{advance-ends, advance-stays, cast-step, input-passes, message-step, piece-step, quiet, quiet-adopted, quiet-ends, quiet-input}
+use Rattle.iss_rebuilt.proofs.Entering.{advance-ends, advance-enters, advance-stays, cast-step, entered_last, input-passes, message-step, piece-step, quiet, quiet-adopted, quiet-ends, quiet-input}
 use Rattle.iss_rebuilt.proofs.Regular.{Goes, IsFresh, IsGoodFrame, IsRegular, MayTake, adopts-fresh, adopts-goes, adopts-regular, ends-fresh, ends-goes, ends-regular, goes-refl, goes-trans, input-goes, input-regular, input-spare, regular-open, slots-in}
 
 -- a message that a core may hear
@@ -70,25 +70,26 @@ module _ {Msg : Type 0} (s : Setup) (F : Formats Msg) (R : Rules) (M : Module Ms
 
   -- ---- early messages
 
-  -- a core in which early messages were tried
-  pub record IsTried (c d : Core Msg) : Type 0 where
+  -- core d, to which early messages led from core c, and the core that entered an epoch by them
+  pub record IsTried (c d : Core Msg) (entered : Option (Core Msg)) : Type 0 where
     pub regular : IsRegular s F R M P me d
     pub unfinished : IsOpen d
     pub early : d.early ≡ []
     pub goes : Goes R (slots-in s F R M P me) M me c d
-    pub stage : (d.past.epoch ≡ c.past.epoch) ⊎ ((d.past.epoch ≡ suc c.past.epoch) × IsFresh R (slots-in s F R M P me) M me d.past)
+    pub stage : ((d.past.epoch ≡ c.past.epoch) × (entered ≡ None))
+        ⊎ ((d.past.epoch ≡ suc c.past.epoch) × IsFresh R (slots-in s F R M P me) M me d.past × (entered ≡ Some d))
 
-  untried : (c : Core Msg) → IsRegular s F R M P me c → IsOpen c → c.early ≡ [] → IsTried c c
+  untried : (c : Core Msg) → IsRegular s F R M P me c → IsOpen c → c.early ≡ [] → IsTried c c None
   untried c h unfinished early =
-      record { regular = h; unfinished = unfinished; early = early; goes = goes-refl R (slots-in s F R M P me) M me c; stage = inl refl }
+      record { regular = h; unfinished = unfinished; early = early; goes = goes-refl R (slots-in s F R M P me) M me c; stage = inl (refl, refl) }
 
   -- a core after an input, and after the end of its epoch if it is over
   ended-tried : (c : Core Msg) (u : Turn Msg) → IsRegular s F R M P me u.core → u.core.leaf < 2 ^ s.keys → u.core.early ≡ [] → u.core.past.epoch ≡ c.past.epoch →
-      Goes R (slots-in s F R M P me) M me c u.core → IsTried c (ended F R M me u).core
-  ended-tried c u h spare early same goes = go (is_complete R M me u.core.past) refl
+      Goes R (slots-in s F R M P me) M me c u.core → u.entered ≡ None → IsTried c (ended F R M me u).core (ended F R M me u).entered
+  ended-tried c u h spare early same goes none = go (is_complete R M me u.core.past) refl
     where
-      go : (b : Bool) → is_complete R M me u.core.past ≡ b → IsTried c (cond b (then_turn u (ends F R M me)) u).core
-      go false q = record { regular = h; unfinished = q; early = early; goes = goes; stage = inl same }
+      go : (b : Bool) → is_complete R M me u.core.past ≡ b → IsTried c (cond b (then_turn u (ends F R M me)) u).core (cond b (then_turn u (ends F R M me)) u).entered
+      go false q = record { regular = h; unfinished = q; early = early; goes = goes; stage = inl (same, none) }
       go true q =
           let regular = ends-regular s F R M P me u.core h q spare in
           let fresh = ends-fresh s F R M P me u.core h q in
@@ -97,25 +98,31 @@ module _ {Msg : Type 0} (s : Setup) (F : Formats Msg) (R : Rules) (M : Module Ms
             unfinished = regular-open s F R M P me (ends F R M me u.core).core regular fresh;
             early = refl;
             goes = goes-trans R (slots-in s F R M P me) M me c u.core (ends F R M me u.core).core goes (ends-goes s F R M P me u.core h q);
-            stage = inr (ap (λ (n : ℕ). suc n) same, fresh);
+            stage = inr (
+              ap (λ (n : ℕ). suc n) same,
+              fresh,
+              ap (λ (xs : List (Early Msg)). Some (record (ends F R M me u.core).core { early = xs })) early,
+            );
           }
 
   pub early-tried : (c : Core Msg) (x : Early Msg) → IsRegular s F R M P me c → IsOpen c → c.early ≡ [] → IsTold s M x.from x.msg →
-      IsTried c (takes_early F R M me c x).core
+      IsTried c (takes_early F R M me c x).core (takes_early F R M me c x).entered
   early-tried c x h unfinished early told = go (try_step F R M me c x.leader (heard_of x)) refl
     where
-      go : (o : Stepped Msg) → try_step F R M me c x.leader (heard_of x) ≡ o → IsTried c (ended F R M me (or_unchanged c o)).core
+      go : (o : Stepped Msg) → try_step F R M me c x.leader (heard_of x) ≡ o →
+          IsTried c (ended F R M me (or_unchanged c o)).core (ended F R M me (or_unchanged c o)).entered
       go (Dropped why) q =
-          subst (λ (b : Bool). IsTried c (cond b (then_turn (unchanged c) (ends F R M me)) (unchanged c)).core) (sym unfinished) (untried c h unfinished early)
+          subst (λ (b : Bool). IsTried c (cond b (then_turn (unchanged c) (ends F R M me)) (unchanged c)).core
+          (cond b (then_turn (unchanged c) (ends F R M me)) (unchanged c)).entered) (sym unfinished) (untried c h unfinished early)
       go (Taken u) q =
           let i = input-taken F R M me c x.leader (heard_of x) u q in
           let fit : IsFit F R M me c x.leader (heard_of x) = record { leads = i.leads; claims = i.claims; leaves = i.leaves; judged = i.judged } in
           let may = may-hear s M x.from x.msg told in
-          subst (λ (w : Turn Msg). IsTried c (ended F R M me w).core) (sym i.is)
+          subst (λ (w : Turn Msg). IsTried c (ended F R M me w).core (ended F R M me w).entered) (sym i.is)
           (ended-tried c (step_unjudged F R M me c x.leader (heard_of x))
           (input-regular s F R M P me c x.leader (heard_of x) h fit may)
           (input-spare s F R M P me c x.leader (heard_of x) h fit may) early refl
-          (input-goes s F R M P me c x.leader (heard_of x) h fit may))
+          (input-goes s F R M P me c x.leader (heard_of x) h fit may) refl)
 
   -- in another epoch none is taken
   pub each-stops : (e : ℕ) (xs : List (Early Msg)) (c : Core Msg) → (c.past.epoch ≡ e → ⊥) → takes_each F R M me e xs c ≡ unchanged c
@@ -125,32 +132,37 @@ module _ {Msg : Type 0} (s : Setup) (F : Formats Msg) (R : Rules) (M : Module Ms
 
   -- the first is taken, and then the others
   pub each-next : (e : ℕ) (x : Early Msg) (xs : List (Early Msg)) (c : Core Msg) → c.past.epoch ≡ e →
-      (takes_each F R M me e (x ∷ xs) c).core ≡ (takes_each F R M me e xs (takes_early F R M me c x).core).core
+      takes_each F R M me e (x ∷ xs) c ≡ then_turn (takes_early F R M me c x) (takes_each F R M me e xs)
   each-next e x xs c q =
-      ap (λ (b : Bool). (cond b (then_turn (takes_early F R M me c x) (takes_each F R M me e xs)) (unchanged c)).core)
+      ap (λ (b : Bool). cond b (then_turn (takes_early F R M me c x) (takes_each F R M me e xs)) (unchanged c))
       (ap (λ (n : ℕ). eqb n e) q ∙ eqb-same e)
 
-  tried-then : (c d f : Core Msg) → IsTried c d → d.past.epoch ≡ c.past.epoch → IsTried d f → IsTried c f
-  tried-then c d f a same b = record {
+  tried-then : (c d f : Core Msg) (o p : Option (Core Msg)) → IsTried c d o → d.past.epoch ≡ c.past.epoch → o ≡ None → IsTried d f p →
+      IsTried c f (first_of p o)
+  tried-then c d f o p a same none b = record {
     regular = b.regular;
     unfinished = b.unfinished;
     early = b.early;
     goes = goes-trans R (slots-in s F R M P me) M me c d f a.goes b.goes;
-    stage = elim b.stage [ inl q ↦ inl (q ∙ same) | inr q ↦ inr (q.0 ∙ ap (λ (n : ℕ). suc n) same, q.1) ];
+    stage = elim b.stage [
+      | inl q ↦ inl (q.0 ∙ same, ap₂ (λ (x y : Option (Core Msg)). first_of x y) q.1 none)
+      | inr q ↦ inr (q.0 ∙ ap (λ (n : ℕ). suc n) same, q.1, ap (λ (x : Option (Core Msg)). first_of x o) q.2)
+    ];
   }
 
   pub each-tried : (e : ℕ) (xs : List (Early Msg)) (c : Core Msg) → c.past.epoch ≡ e → IsRegular s F R M P me c → IsOpen c → c.early ≡ [] →
-      ((x : Early Msg) → In x xs → IsTold s M x.from x.msg) → IsTried c (takes_each F R M me e xs c).core
+      ((x : Early Msg) → In x xs → IsTold s M x.from x.msg) → IsTried c (takes_each F R M me e xs c).core (takes_each F R M me e xs c).entered
   each-tried e [] c q h unfinished early told = untried c h unfinished early
   each-tried e (x ∷ xs) c q h unfinished early told =
       let d : Core Msg = (takes_early F R M me c x).core in
-      let first : IsTried c d = early-tried c x h unfinished early (told x (inl refl)) in
-      subst (λ (f : Core Msg). IsTried c f) (sym (each-next e x xs c q)) (elim first.stage [
+      let o : Option (Core Msg) = (takes_early F R M me c x).entered in
+      let first : IsTried c d o = early-tried c x h unfinished early (told x (inl refl)) in
+      subst (λ (w : Turn Msg). IsTried c w.core w.entered) (sym (each-next e x xs c q)) (elim first.stage [
         | inl same ↦
-            tried-then c d (takes_each F R M me e xs d).core first same
-            (each-tried e xs d (same ∙ q) first.regular first.unfinished first.early (λ y i. told y (inr i)))
+            tried-then c d (takes_each F R M me e xs d).core o (takes_each F R M me e xs d).entered first same.0 same.1
+            (each-tried e xs d (same.0 ∙ q) first.regular first.unfinished first.early (λ y i. told y (inr i)))
         | inr later ↦
-            subst (λ (w : Turn Msg). IsTried c w.core) (sym (each-stops e xs d (λ z. let l = later.0 in absurd (omega (arith, z, l, q))))) first
+            subst (λ (w : Turn Msg). IsTried c w.core (first_of w.entered o)) (sym (each-stops e xs d (λ z. let l = later.0 in absurd (omega (arith, z, l, q))))) first
       ])
 
   -- ---- events
@@ -166,9 +178,10 @@ module _ {Msg : Type 0} (s : Setup) (F : Formats Msg) (R : Rules) (M : Module Ms
   -- what an event leads to
   pub data Ends (c : Core Msg) (event : NodeEvent) (t : Turn Msg) : Type 0 where
     stays : IsRegular s F R M P me t.core → IsOpen t.core → t.core.past.epoch ≡ c.past.epoch → Goes R (slots-in s F R M P me) M me c t.core → AreEarly t.core →
-        Ends c event t
+        t.entered ≡ None → Ends c event t
     enters : (u : Turn Msg) → step F R M me (quiet c) event ≡ Taken u → IsBegun c u.core →
-        t.core ≡ (takes_each F R M me (suc c.past.epoch) c.early u.core).core → Ends c event t
+        t.core ≡ (takes_each F R M me (suc c.past.epoch) c.early u.core).core → t.entered ≡ entered_last F R M me c.past.epoch c.early u.core →
+        Ends c event t
 
   -- an input that core b takes, which is core c with a part of its waiting requests in flight
   module _ (c : Core Msg) (h : IsResting c) (event : NodeEvent) (t : Turn Msg) (b : Core Msg) (l : ℕ) (input : Input Msg) (regular : IsRegular s F R M P me b)
@@ -203,7 +216,7 @@ module _ {Msg : Type 0} (s : Setup) (F : Formats Msg) (R : Rules) (M : Module Ms
             }
 
         go : (b : Bool) → is_complete R M me u.core.past ≡ b → Ends c event t
-        go false z = subst (λ (w : Turn Msg). Ends c event w) (sym (q ∙ advance-stays F R M me u z)) (stays after z epoch on kept_early)
+        go false z = subst (λ (w : Turn Msg). Ends c event w) (sym (q ∙ advance-stays F R M me u z)) (stays after z epoch on kept_early refl)
         go true z =
             let begun : (advance_epochs F R M me v).core ≡ (ends F R M me u.core).core = quiet-ends F R M me u v same z in
             let next : Core Msg = (ends F R M me u.core).core in
@@ -219,6 +232,10 @@ module _ {Msg : Type 0} (s : Setup) (F : Formats Msg) (R : Rules) (M : Module Ms
             ∙ (advance-ends F R M me u z
             ∙ (ap₂ (λ (n : ℕ) (xs : List (Early Msg)). (takes_each F R M me (suc n) xs next).core) epoch early
             ∙ ap (λ (d : Core Msg). (takes_each F R M me (suc c.past.epoch) c.early d).core) (sym begun))))
+            (ap (λ (w : Turn Msg). w.entered) q
+            ∙ (advance-enters F R M me u z
+            ∙ (ap₂ (λ (n : ℕ) (xs : List (Early Msg)). entered_last F R M me n xs next) epoch early
+            ∙ ap (λ (d : Core Msg). entered_last F R M me c.past.epoch c.early d) (sym begun))))
 
   module _ (low : me < s.n) (c : Core Msg) (h : IsResting c) where
     own : Goes R (slots-in s F R M P me) M me c c
@@ -268,17 +285,17 @@ module _ {Msg : Type 0} (s : Setup) (F : Formats Msg) (R : Rules) (M : Module Ms
           epoch = refl;
           goes = adopts-goes s F R M P me c x h.regular (t, a) read entry;
         })
-        (ap (λ (w : Turn Msg). w.core) a.is)
+        (ap (λ (w : Turn Msg). w.core) a.is) (ap (λ (w : Turn Msg). w.entered) a.is)
 
     -- an event that ends no epoch
     still : (event : NodeEvent) (t : Turn Msg) (d : Core Msg) → t.core ≡ d → IsRegular s F R M P me d → d.past ≡ c.past →
-        Goes R (slots-in s F R M P me) M me c d → AreEarly d → Ends c event t
-    still event t d q regular past goes early =
+        Goes R (slots-in s F R M P me) M me c d → AreEarly d → t.entered ≡ None → Ends c event t
+    still event t d q regular past goes early none =
         stays (subst (λ (f : Core Msg). IsRegular s F R M P me f) (sym q) regular)
         (ap (λ (f : Core Msg). is_complete R M me f.past) q ∙ (ap (λ (z : Past Msg). is_complete R M me z) past ∙ h.unfinished))
         (ap (λ (f : Core Msg). f.past.epoch) q ∙ ap (λ (z : Past Msg). z.epoch) past)
         (subst (λ (f : Core Msg). Goes R (slots-in s F R M P me) M me c f) (sym q) goes)
-        (subst (λ (f : Core Msg). AreEarly f) (sym q) early)
+        (subst (λ (f : Core Msg). AreEarly f) (sym q) early) none
 
     -- early messages are not about the rest of a core
     same-early : (d : Core Msg) → d.early ≡ c.early → d.past ≡ c.past → AreEarly d
@@ -312,6 +329,7 @@ module _ {Msg : Type 0} (s : Setup) (F : Formats Msg) (R : Rules) (M : Module Ms
             | inr a ↦ elim a [ inl w ↦ rw w new | inr none ↦ absurd none ]
           ];
         })
+        (ap (λ (w : Turn Msg). w.entered) i.is)
       where
         parcel_on : Parcel Msg → ℕ → Body Msg → Parcel Msg
         parcel_on k n y = record { from = k.from; epoch = n; body = y }
@@ -330,7 +348,7 @@ module _ {Msg : Type 0} (s : Setup) (F : Formats Msg) (R : Rules) (M : Module Ms
           ballots = h.regular.ballots;
           leaves = h.regular.leaves;
         })
-        refl (record { epoch = own.epoch; logs = own.logs; certs = own.certs }) (same-early d refl refl)
+        refl (record { epoch = own.epoch; logs = own.logs; certs = own.certs }) (same-early d refl refl) (ap (λ (w : Turn Msg). w.entered) i.is)
     took-ends event t (cast slot u i q) = cast-ends t slot u i q
     took-ends event t (voted {bytes} k v un b i) =
         let d : Core Msg = counted R c v in
@@ -343,10 +361,11 @@ module _ {Msg : Type 0} (s : Setup) (F : Formats Msg) (R : Rules) (M : Module Ms
           leaves = old.leaves;
         })
         refl (record { epoch = own.epoch; logs = own.logs; certs = counted-keeps s R P.few c.past.epoch c.votes c.certs v i.near i.signed i.uncounted })
-        (same-early d refl refl)
-    took-ends event t (handed {bytes} k x un b i) = still (On_packet bytes) t c (ap (λ (w : Turn Msg). w.core) i.is) h.regular refl own h.early
+        (same-early d refl refl) (ap (λ (w : Turn Msg). w.entered) i.is)
+    took-ends event t (handed {bytes} k x un b i) =
+        still (On_packet bytes) t c (ap (λ (w : Turn Msg). w.core) i.is) h.regular refl own h.early (ap (λ (w : Turn Msg). w.entered) i.is)
     took-ends event t (adopted {bytes} k x un b a) = piece-ends bytes t k x un b a
-    took-ends event t (sought peer q) = still (On_ask peer) t c (ap (λ (w : Turn Msg). w.core) q) h.regular refl own h.early
+    took-ends event t (sought peer q) = still (On_ask peer) t c (ap (λ (w : Turn Msg). w.core) q) h.regular refl own h.early (ap (λ (w : Turn Msg). w.entered) q)
     took-ends event t (fired l u i q) = plain-ends (On_timeout l) t l.0 Timeout u i (λ p setup. (tt, tt)) q refl
 
     pub step-ends : (event : NodeEvent) (t : Turn Msg) → step F R M me c event ≡ Taken t → Ends c event t
@@ -360,8 +379,8 @@ module _ {Msg : Type 0} (s : Setup) (F : Formats Msg) (R : Rules) (M : Module Ms
         filed = (step-keeps R M me F P.segments P.law c event t h.filed q).filed
 
         go : Ends c event t → IsResting t.core
-        go (stays regular unfinished epoch goes early) = record { regular = regular; filed = filed; unfinished = unfinished; early = early }
-        go (enters u step_is b is) =
+        go (stays regular unfinished epoch goes early none) = record { regular = regular; filed = filed; unfinished = unfinished; early = early }
+        go (enters u step_is b is entered) =
             let tried = each-tried (suc c.past.epoch) c.early u.core b.epoch b.regular (regular-open s F R M P me u.core b.regular b.fresh) b.early
             (λ x i. h.early.told x i) in
             record {
@@ -375,8 +394,8 @@ module _ {Msg : Type 0} (s : Setup) (F : Formats Msg) (R : Rules) (M : Module Ms
     step-goes event t q = go (step-ends event t q)
       where
         go : Ends c event t → Goes R (slots-in s F R M P me) M me c t.core
-        go (stays regular unfinished epoch goes early) = goes
-        go (enters u step_is b is) =
+        go (stays regular unfinished epoch goes early none) = goes
+        go (enters u step_is b is entered) =
             let tried = each-tried (suc c.past.epoch) c.early u.core b.epoch b.regular (regular-open s F R M P me u.core b.regular b.fresh) b.early
             (λ x i. h.early.told x i) in
             subst (λ (f : Core Msg). Goes R (slots-in s F R M P me) M me c f) (sym is)

@@ -1,8 +1,8 @@
--- A core that has just entered an epoch is storable. It is the one that an event lets enter it, and woken it is the core
--- after the event.
-use Rattle.std.proofs.Common.{◌≡◌, ◌⊎◌, inl, inr, ℕ, suc, ◌≤◌, ◌<◌, Bool, cond, eqb, List, [], ◌∷◌, length, Some, None, refl, sym, ap, ap₂, ◌∙◌, subst, arith}
-use Rattle.iss_base.specs.Lists.{In}
-use Rattle.iss_base.proofs.Lists.{eqb-other, eqb-same, in_left}
+-- A core that has just entered an epoch is storable. It is the one that a step shows, and woken it is the core after the
+-- step.
+use Rattle.std.proofs.Common.{◌≡◌, ◌⊎◌, inl, inr, ℕ, suc, ◌≤◌, ◌<◌, List, [], ◌∷◌, length, Option, Some, None, refl, sym, ap, ap₂, ◌∙◌, subst, arith}
+use Rattle.iss_base.specs.Lists.{In, first_of}
+use Rattle.iss_base.proofs.Lists.{in_left}
 use Rattle.iss_request.specs.declared.ids.Slot.{Slot}
 use Rattle.iss_request.specs.declared.requests.Batch.{Batch}
 use Rattle.iss_request.specs.declared.setups.Setup.{Setup}
@@ -12,13 +12,13 @@ use Rattle.iss_rules.specs.Parcels.{Formats}
 use Rattle.iss_rules.specs.Rules.{Rules}
 use Rattle.iss_rules.proofs.Ids.{ids-left, in-ids}
 use Rattle.iss_model.specs.Frames.{Frame}
-use Rattle.iss_model.specs.Node.{Core, Dropped, Early, Stepped, Taken, Turn, early_most, step, takes_each}
+use Rattle.iss_model.specs.Node.{Core, Early, Taken, Turn, early_most, step, takes_each}
 use Rattle.iss_model.specs.Sound.{carried}
 use Rattle.iss_model.proofs.Casts.{early-ready}
 use Rattle.iss_model.proofs.Places.{FiledCore, step-keeps}
 use Rattle.iss_rebuilt.specs.Reading.{woken}
 use Rattle.iss_rebuilt.specs.Storable.{IsStorable}
-use Rattle.iss_rebuilt.specs.Stored.{early_parcel, entered_at, entered_by, entered_of}
+use Rattle.iss_rebuilt.specs.Stored.{early_parcel}
 use Rattle.iss_rebuilt.proofs.Ballots.{ballots-near, ballots-true}
 use Rattle.iss_rebuilt.proofs.Entering.{quiet}
 use Rattle.iss_rebuilt.proofs.Regular.{Goes, IsFresh, IsGoodFrame, IsRegular, fresh-exact, goes-refl, goes-trans, regular-open, slots-in}
@@ -75,14 +75,10 @@ module _ {Msg : Type 0} (W : Frame Msg) (P : IsGoodFrame W.setup W.formats W.rul
 
   -- ---- the core that an event lets enter an epoch
 
-  -- the event ends no epoch
-  abbrev StaysIn : Core Msg → NodeEvent → Turn Msg → Type 0
-  StaysIn c event t = entered_at W me c event ≡ None
-
-  -- the event lets core d enter an epoch
-  pub record IsEntered (c : Core Msg) (event : NodeEvent) (t : Turn Msg) : Type 0 where
+  -- the core that a step lets enter an epoch
+  pub record IsEntered (c : Core Msg) (t : Turn Msg) : Type 0 where
     pub core : Core Msg
-    pub entered : entered_at W me c event ≡ Some core
+    pub entered : t.entered ≡ Some core
     pub regular : IsRegular s F R M P me core
     pub storable : IsStorable W me core
     pub next : AreNext core
@@ -93,24 +89,12 @@ module _ {Msg : Type 0} (W : Frame Msg) (P : IsGoodFrame W.setup W.formats W.rul
     pub quietly : IsRegular s F R M P me (quiet core)
     pub wakes : (woken W me core).core ≡ t.core
 
-  entered-same : (c : Core Msg) (event : NodeEvent) (t : Turn Msg) → step F R M me c event ≡ Taken t → t.core.past.epoch ≡ c.past.epoch → StaysIn c event t
-  entered-same c event t q same = ap (λ (o : Stepped Msg). entered_of c o (step F R M me (quiet c) event)) q ∙ go (step F R M me (quiet c) event)
-    where
-      go : (o : Stepped Msg) → entered_of c (Taken t) o ≡ None
-      go (Dropped why) = refl
-      go (Taken u) =
-          ap (λ (b : Bool). cond b None (cond (eqb t.core.past.epoch (suc c.past.epoch)) (Some (record u.core { early = c.early })) (Some t.core)))
-          (ap (λ (n : ℕ). eqb n c.past.epoch) same ∙ eqb-same c.past.epoch)
-
   module _ (low : me < s.n) (c : Core Msg) (h : IsResting s F R M P me c) (event : NodeEvent) (t : Turn Msg) (q : step F R M me c event ≡ Taken t) where
-    by-turns : (u : Turn Msg) → step F R M me (quiet c) event ≡ Taken u → entered_at W me c event ≡ entered_by c t.core u.core
-    by-turns u k = ap₂ (λ (o p : Stepped Msg). entered_of c o p) q k
-
     -- the next epoch is entered, and not ended
     once : (u : Turn Msg) → step F R M me (quiet c) event ≡ Taken u → IsBegun s F R M P me c u.core →
         t.core ≡ (takes_each F R M me (suc c.past.epoch) c.early u.core).core → Goes R (slots-in s F R M P me) M me u.core t.core →
-        t.core.past.epoch ≡ suc c.past.epoch → IsEntered c event t
-    once u k b is on same =
+        t.entered ≡ Some (record u.core { early = c.early }) → IsEntered c t
+    once u k b is on entered =
         let d : Core Msg = record u.core { early = c.early } in
         let back : quiet d ≡ u.core = ap (λ (xs : List (Early Msg)). record u.core { early = xs }) (sym b.early) in
         let with_early : (xs : List (Early Msg)) → IsRegular s F R M P me (record u.core { early = xs }) =
@@ -121,13 +105,9 @@ module _ {Msg : Type 0} (W : Frame Msg) (P : IsGoodFrame W.setup W.formats W.rul
           told = h.early.told;
           again = λ x i. subst (λ (n : ℕ). F.unwrap (F.wrap (early_parcel n x)) ≡ Some (early_parcel n x)) (sym b.epoch) (h.early.again x i);
         } in
-        let is_next : entered_by c t.core u.core ≡ Some d =
-        ap (λ (z : Bool). cond z None (cond (eqb t.core.past.epoch (suc c.past.epoch)) (Some d) (Some t.core)))
-        (eqb-other t.core.past.epoch c.past.epoch (λ z. absurd (omega (arith, z, same))))
-        ∙ ap (λ (z : Bool). cond z (Some d) (Some t.core)) (ap (λ (n : ℕ). eqb n (suc c.past.epoch)) same ∙ eqb-same (suc c.past.epoch)) in
         record {
           core = d;
-          entered = by-turns u k ∙ is_next;
+          entered = entered;
           regular = with_early c.early;
           storable = storable-of d (with_early c.early) filed b.fresh next;
           next = next;
@@ -141,9 +121,9 @@ module _ {Msg : Type 0} (W : Frame Msg) (P : IsGoodFrame W.setup W.formats W.rul
         }
 
     -- it is entered and ended
-    twice : (u : Turn Msg) → step F R M me (quiet c) event ≡ Taken u → t.core.past.epoch ≡ suc (suc c.past.epoch) → IsRegular s F R M P me t.core →
-        t.core.early ≡ [] → Goes R (slots-in s F R M P me) M me c t.core → IsFresh R (slots-in s F R M P me) M me t.core.past → IsEntered c event t
-    twice u k same regular early goes fresh =
+    twice : t.core.past.epoch ≡ suc (suc c.past.epoch) → IsRegular s F R M P me t.core → t.core.early ≡ [] → Goes R (slots-in s F R M P me) M me c t.core →
+        IsFresh R (slots-in s F R M P me) M me t.core.past → t.entered ≡ Some t.core → IsEntered c t
+    twice same regular early goes fresh entered =
         let d : Core Msg = t.core in
         let filed : FiledCore R M me d = (step-keeps R M me F P.segments P.law c event t h.filed q).filed in
         let none : (x : Early Msg) → In x d.early → ⊥ = λ x i. subst (λ (xs : List (Early Msg)). In x xs) early i in
@@ -152,14 +132,9 @@ module _ {Msg : Type 0} (W : Frame Msg) (P : IsGoodFrame W.setup W.formats W.rul
           told = λ x i. absurd (none x i);
           again = λ x i. absurd (none x i);
         } in
-        let is_last : entered_by c t.core u.core ≡ Some d =
-        ap (λ (z : Bool). cond z None (cond (eqb t.core.past.epoch (suc c.past.epoch)) (Some (record u.core { early = c.early })) (Some t.core)))
-        (eqb-other t.core.past.epoch c.past.epoch (λ z. absurd (omega (arith, z, same))))
-        ∙ ap (λ (z : Bool). cond z (Some (record u.core { early = c.early })) (Some t.core))
-        (eqb-other t.core.past.epoch (suc c.past.epoch) (λ z. absurd (omega (arith, z, same)))) in
         record {
           core = d;
-          entered = by-turns u k ∙ is_last;
+          entered = entered;
           regular = regular;
           storable = storable-of d regular filed fresh next;
           next = next;
@@ -174,22 +149,25 @@ module _ {Msg : Type 0} (W : Frame Msg) (P : IsGoodFrame W.setup W.formats W.rul
               ∙ ap (λ (xs : List (Early Msg)). record d { early = xs }) (sym early);
         }
 
-    pub entering : StaysIn c event t ⊎ IsEntered c event t
+    -- a step stays in its epoch, or such a core enters the next one or the one after it
+    pub entering : (t.entered ≡ None) ⊎ IsEntered c t
     entering = go (step-ends s F R M P me low c h event t q)
       where
-        go : Ends s F R M P me c event t → StaysIn c event t ⊎ IsEntered c event t
-        go (stays regular unfinished epoch goes early) = inl (entered-same c event t q epoch)
-        go (enters u k b is) =
+        go : Ends s F R M P me c event t → (t.entered ≡ None) ⊎ IsEntered c t
+        go (stays regular unfinished epoch goes early none) = inl none
+        go (enters u k b is entered) =
             let f : Core Msg = (takes_each F R M me (suc c.past.epoch) c.early u.core).core in
             let tried = each-tried s F R M P me (suc c.past.epoch) c.early u.core b.epoch b.regular (regular-open s F R M P me u.core b.regular b.fresh) b.early
             (λ x i. h.early.told x i) in
             let on : Goes R (slots-in s F R M P me) M me u.core t.core =
             subst (λ (z : Core Msg). Goes R (slots-in s F R M P me) M me u.core z) (sym is) tried.goes in
+            let d : Core Msg = record u.core { early = c.early } in
             let epoch : t.core.past.epoch ≡ f.past.epoch = ap (λ (z : Core Msg). z.past.epoch) is in
             elim tried.stage [
-              | inl same ↦ inr (once u k b is on (epoch ∙ (same ∙ b.epoch)))
+              | inl same ↦ inr (once u k b is on (entered ∙ ap (λ (o : Option (Core Msg)). first_of o (Some d)) same.1))
               | inr later ↦
-                  inr (twice u k (epoch ∙ (later.0 ∙ ap (λ (n : ℕ). suc n) b.epoch)) (subst (λ (z : Core Msg). IsRegular s F R M P me z) (sym is) tried.regular)
+                  inr (twice (epoch ∙ (later.0 ∙ ap (λ (n : ℕ). suc n) b.epoch)) (subst (λ (z : Core Msg). IsRegular s F R M P me z) (sym is) tried.regular)
                   (ap (λ (z : Core Msg). z.early) is ∙ tried.early) (goes-trans R (slots-in s F R M P me) M me c u.core t.core b.goes on)
-                  (subst (λ (z : Core Msg). IsFresh R (slots-in s F R M P me) M me z.past) (sym is) later.1))
+                  (subst (λ (z : Core Msg). IsFresh R (slots-in s F R M P me) M me z.past) (sym is) later.1)
+                  (entered ∙ (ap (λ (o : Option (Core Msg)). first_of o (Some d)) later.2 ∙ ap (λ (z : Core Msg). Some z) (sym is))))
             ]

@@ -113,6 +113,6 @@ module _ {Msg : Type 0} (s : Setup) (F : Formats Msg) (R : Rules) (M : Module Ms
           let next : AreSlim c1 d1 =
           subst (λ (f : Core Msg). AreSlim f d1) (sym c_is)
           (subst (λ (f : Core Msg). AreSlim (after c (step F R M me c (event_of e x))) f) (sym d_is) (slim-after c d h (event_of e x))) in
-          subst (λ (f : Core Msg). AreSlim f (takes_each F R M me e (x ∷ xs) d).core) (sym (each-next s F R M P me e x xs c q))
-          (subst (λ (f : Core Msg). AreSlim (takes_each F R M me e xs c1).core f) (sym (each-next s F R M P me e x xs d (sym same ∙ q)))
+          subst (λ (w : Turn Msg). AreSlim w.core (takes_each F R M me e (x ∷ xs) d).core) (sym (each-next s F R M P me e x xs c q))
+          (subst (λ (w : Turn Msg). AreSlim (takes_each F R M me e xs c1).core w.core) (sym (each-next s F R M P me e x xs d (sym same ∙ q)))
           (others c1 d1 next tried.regular tried.unfinished tried.early))

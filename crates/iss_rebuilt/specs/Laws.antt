@@ -1,6 +1,7 @@
 -- That snapshots lead back to the core that wrote them.
-use Rattle.std.specs.Prelude.{◌≡◌, ℕ, ◌<◌, ◌^◌, false, List, Option, Some}
+use Rattle.std.specs.Prelude.{◌≡◌, ℕ, ◌<◌, ◌^◌, false, List, reverse, Option, Some}
 use Rattle.iss_base.specs.Lists.{In}
+use Rattle.iss_journal.specs.Retained.{is_snapshot, retained}
 use Rattle.iss_request.specs.declared.setups.Setup.{Setup}
 use Rattle.iss_rules.specs.Past.{log_of}
 use Rattle.iss_rules.specs.declared.events.NodeEvent.{NodeEvent}
@@ -11,7 +12,7 @@ use Rattle.iss_model.specs.Slims.{IsPlaced, slim}
 use Rattle.iss_snapshot.specs.Snapshots.{IsEncodable, spell_snapshot}
 use Rattle.iss_rebuilt.specs.Reading.{Rebuilt, reads_entry, recovered}
 use Rattle.iss_rebuilt.specs.Storable.{IsBehind, IsReadBack, IsStorable}
-use Rattle.iss_rebuilt.specs.Stored.{Stored, is_snapshot, retained, snapshot_of, stored}
+use Rattle.iss_rebuilt.specs.Stored.{Stored, snapshot_of, stored}
 
 -- The entry with the snapshot of a storable core is read, after the snapshots before it, as a core with the slim part
 -- of that one. The snapshot must have an encoding.
@@ -37,12 +38,12 @@ pub record IsRecovered {Msg : Type 0} (W : Frame Msg) (event_in : List ℕ → O
   pub placed : IsPlaced W.rules W.spec me found.core
   pub slims : slim W.rules W.spec me found.core ≡ slim W.rules W.spec me st.core
 
--- What stays of a replica's entries leads back to the replica. Its epoch is below 2^64: a number of eight bytes holds
--- no greater one.
+-- What stays of a replica's entries leads back to the replica. A journal has its entries oldest first. The replica's
+-- epoch is below 2^64: a number of eight bytes holds no greater one.
 abbrev pub JournalsRecover : {Msg : Type 0} → Setup → Module Msg → Type 0
 JournalsRecover {Msg} s M =
     let W = frame_of s M in
     (me : ℕ) → me < s.n → (spell : NodeEvent → List ℕ) (event_in : List ℕ → Option NodeEvent) →
     (events : List NodeEvent) → ((event : NodeEvent) → In event events → HasEntry spell event_in event) →
     let st = stored W spell me events in st.core.past.epoch < 2 ^ 64 →
-    IsRecovered W event_in me (retained st.entries) st
+    IsRecovered W event_in me (reverse (retained (reverse st.entries))) st

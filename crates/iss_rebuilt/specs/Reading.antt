@@ -5,6 +5,7 @@ use Rattle.std.specs.Prelude.{ℕ, suc, ◌^◌, ◌==◌, ◌&&◌, nat_le, not
 use Rattle.std.specs.List.{filter}
 use Rattle.iss_checkpoint.specs.declared.votes.Cert.{Cert}
 use Rattle.iss_checkpoint.specs.declared.votes.Vote.{Vote}
+use Rattle.iss_journal.specs.Retained.{is_snapshot}
 use Rattle.iss_request.specs.declared.requests.Request.{Request}
 use Rattle.iss_request.specs.declared.requests.Value.{Value}
 use Rattle.iss_rules.specs.declared.events.NodeEvent.{NodeEvent}
@@ -16,7 +17,7 @@ use Rattle.iss_model.specs.Frames.{Frame, step_in}
 use Rattle.iss_model.specs.Node.{Core, Dropped, Early, Stepped, Taken, Turn, early_most, initial_core, takes_each, takes_request, takes_vote}
 use Rattle.iss_snapshot.specs.Snapshots.{parse_snapshot}
 use Rattle.iss_snapshot.specs.declared.snapshots.Snapshot.{Snapshot}
-use Rattle.iss_rebuilt.specs.Stored.{Saved, is_snapshot, nothing_saved, saved_after}
+use Rattle.iss_rebuilt.specs.Stored.{Saved, nothing_saved, saved_after}
 
 -- a core, and what the snapshots that led to it saved
 pub record Rebuilt (Msg : Type 0) : Type 0 where

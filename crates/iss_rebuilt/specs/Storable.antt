@@ -9,10 +9,10 @@ use Rattle.iss_request.specs.declared.requests.Request.{Request}
 use Rattle.iss_request.specs.declared.requests.Value.{Value}
 use Rattle.iss_rules.specs.Past.{Past, Piece, before_own, cut_at, log_of}
 use Rattle.iss_rules.specs.Rules.{Rules}
-use Rattle.iss_rules.specs.Votes.{all_verify, cert_on, claim_of_vote, is_true_cert, stable, vote_by}
+use Rattle.iss_rules.specs.Votes.{all_verify, cert_on, claim_of_vote, is_open, is_true_cert, stable, vote_by}
 use Rattle.iss_model.specs.Frames.{Frame}
 use Rattle.iss_model.specs.Node.{Core, Early, early_most, values_of}
-use Rattle.iss_model.specs.Slims.{IsPlaced, is_open, slim}
+use Rattle.iss_model.specs.Slims.{IsPlaced, slim}
 use Rattle.iss_rebuilt.specs.Reading.{Rebuilt, reads_snapshot}
 use Rattle.iss_rebuilt.specs.Stored.{early_parcel, saved_after, snapshot_of}
 

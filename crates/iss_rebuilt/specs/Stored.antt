@@ -1,6 +1,6 @@
 -- What a replica's journal holds: its events, and instead of each event that ended an epoch the replica as it entered
 -- its newest epoch, before it took the messages that came early. An event whose snapshot would be too long is kept
--- itself. Of a journal stay its snapshots and what follows the last of them.
+-- itself.
 use Rattle.std.specs.Prelude.{ℕ, zero, suc, ◌-◌, ◌==◌, ◌||◌, nat_le, cond, Bool, false, is_some, List, [], ◌∷◌, ◌++◌, length, reverse, Option, Some, None}
 use Rattle.std.specs.List.{filter}
 use Rattle.iss_base.specs.Lists.{below}
@@ -10,10 +10,9 @@ use Rattle.iss_request.specs.declared.requests.Value.{Value}
 use Rattle.iss_rules.specs.declared.events.NodeEvent.{NodeEvent}
 use Rattle.iss_rules.specs.Parcels.{OfModule, Parcel}
 use Rattle.iss_rules.specs.Past.{log_of}
-use Rattle.iss_rules.specs.Votes.{cert_on}
+use Rattle.iss_rules.specs.Votes.{cert_on, is_open}
 use Rattle.iss_model.specs.Frames.{Frame, step_in}
 use Rattle.iss_model.specs.Node.{Core, Dropped, Early, Stepped, Taken, initial_core, values_of}
-use Rattle.iss_model.specs.Slims.{is_open}
 use Rattle.iss_snapshot.specs.Snapshots.{snapshot_row, spell_snapshot}
 use Rattle.iss_snapshot.specs.declared.snapshots.Snapshot.{Snapshot}
 
@@ -69,24 +68,6 @@ snapshot_of W me saved d =
 abbrev pub saved_after : Saved → Snapshot → Saved
 saved_after saved s = record { from = s.to.0; held = λ e. saved.held e || is_some (cert_on (reverse s.certs) e) }
 
--- ---- the core that an event lets enter an epoch
-
--- Of the core before an event, the core after it, and the core after it if no early messages were there. An event may
--- end two epochs, the second by early messages; then none are left.
-abbrev pub entered_by : {Msg : Type 0} → Core Msg → Core Msg → Core Msg → Option (Core Msg)
-entered_by c new quiet =
-    cond (new.past.epoch == c.past.epoch) None
-    (cond (new.past.epoch == suc c.past.epoch) (Some (record quiet { early = c.early })) (Some new))
-
-abbrev pub entered_of : {Msg : Type 0} → Core Msg → Stepped Msg → Stepped Msg → Option (Core Msg)
-entered_of c (Dropped why) quiet = None
-entered_of c (Taken t) (Dropped why) = None
-entered_of c (Taken t) (Taken u) = entered_by c t.core u.core
-
--- The core as it entered the newest epoch to which the event leads, with the early messages that it takes next.
-abbrev pub entered_at : {Msg : Type 0} → Frame Msg → ℕ → Core Msg → NodeEvent → Option (Core Msg)
-entered_at W me c event = entered_of c (step_in W me c event) (step_in W me (record c { early = [] }) event)
-
 -- ---- what is kept of an event
 
 -- an entry, and what is saved with it
@@ -117,7 +98,7 @@ abbrev pub stored_by : {Msg : Type 0} → Frame Msg → (NodeEvent → List ℕ)
     Stored Msg
 stored_by W spell me s event (Dropped why) = s
 stored_by W spell me s event (Taken t) =
-    let k = or_event (snapshot_kept W me s.saved (entered_at W me s.core event)) (spell event) s.saved in
+    let k = or_event (snapshot_kept W me s.saved t.entered) (spell event) s.saved in
     record { entries = k.entry ∷ s.entries; saved = k.saved; core = t.core }
 
 -- What is stored of events, newest first, with the core that they lead to. `spell` encodes an event as an entry.
@@ -126,14 +107,3 @@ stored W spell me [] = record { entries = []; saved = nothing_saved; core = init
 stored W spell me (x ∷ xs) =
     let s = stored W spell me xs in
     stored_by W spell me s x (step_in W me s.core x)
-
--- ---- what stays of entries
-
-abbrev pub is_snapshot : List ℕ → Bool
-is_snapshot [] = false
-is_snapshot (b ∷ bytes) = b == 5
-
--- The snapshots, and all that follows the last of them; newest first.
-abbrev pub retained : List (List ℕ) → List (List ℕ)
-retained [] = []
-retained (x ∷ xs) = x ∷ cond (is_snapshot x) (filter is_snapshot xs) (retained xs)

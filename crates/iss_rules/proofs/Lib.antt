@@ -13,3 +13,4 @@ pub mod Windows
 pub mod Written
 pub mod Checked
 pub mod FromNodes
+pub mod OpenVotes

@@ -1,6 +1,6 @@
 -- Votes and certificates that a node holds. A certificate is true if it has exactly a quorum of true signatures of
 -- strictly ascending nodes. It is made from votes that say the same as soon as they are exactly a quorum.
-use Rattle.std.specs.Prelude.{ℕ, suc, ◌==◌, nat_le, cond, Bool, true, ◌&&◌, List, [], ◌∷◌, Option, Some, None, length}
+use Rattle.std.specs.Prelude.{ℕ, suc, ◌==◌, nat_le, cond, Bool, true, not, is_some, ◌&&◌, List, [], ◌∷◌, Option, Some, None, length}
 use Rattle.std.specs.List.{list_all}
 use Rattle.iss_checkpoint.specs.Tallies.{certificate_by}
 use Rattle.iss_checkpoint.specs.declared.votes.Cert.{Cert}
@@ -26,6 +26,10 @@ vote_by (v ∷ vs) e k = cond ((v.epoch.0 == e) && (v.by.0 == k)) (Some v) (vote
 abbrev pub cert_on : List Cert → ℕ → Option Cert
 cert_on [] e = None
 cert_on (c ∷ cs) e = cond (c.epoch.0 == e) (Some c) (cert_on cs e)
+
+-- whether the vote's epoch has no certificate
+abbrev pub is_open : List Cert → Vote → Bool
+is_open certs v = not (is_some (cert_on certs v.epoch.0))
 
 -- the certificate of all votes equal to v, once they form a quorum
 -- rule: Checkpoints: The vote that completes a quorum gives the epoch's certificate; no later one does

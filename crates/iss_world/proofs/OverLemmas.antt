@@ -10,7 +10,8 @@ use Rattle.iss_disk.specs.MemoryLaws.{memory_here}
 use Rattle.iss_disk.specs.MemoryViews.{calls_of, current_of, faults_of, files_of}
 use Rattle.iss_disk.specs.StoredViews.{history_of}
 use Rattle.iss_disk.specs.declared.memory.MemoryDisk.{MemoryDisk}
-use Rattle.iss_journal.specs.Frames.{Reading, Reads, holds}
+use Rattle.iss_journal.specs.Frames.{Reading, Reads}
+use Rattle.iss_journal.specs.Promises.{Shows}
 use Rattle.iss_keep.proofs.DiskLemmas.{attached-same, attached-synced, never-damaged, new-read, reopens-well, restarted-read, runs-all, runs-failed, runs-passed, stays-here, stored-kept, stored-told, written-synced}
 use Rattle.iss_keep.proofs.TakenLemmas.{taken-goes-on, taken-later}
 use Rattle.iss_keep.specs.Cores.{core_of, step_of}
@@ -133,7 +134,7 @@ module _ {M Msg : Type 0} (m : Module Msg) (refines : Relation M Msg) where
       abbrev Written : Answer → Type 0
       Written answer = IsWritten old.entries (spell_event event) (seen old.disk) (seen new.disk) new.entries answer
 
-      synced-now : (answer : Answer) → Written answer → IfTold (history_of new.disk.file) (λ file. Reads file.kept (holds new.entries))
+      synced-now : (answer : Answer) → Written answer → IfTold (history_of new.disk.file) (λ file. Shows new.entries file.kept)
       synced-now answer w = written-synced old.entries (spell_event event) (seen old.disk) (seen new.disk) new.entries answer w (stored-kept new.disk.file) over.synced
 
       kept-turn : (outcome : Outcome) → IsOfNodes old.setup.n event → IsTurn m refines (IsOfNodes old.setup.n event) old c stepped new outcome →
@@ -235,8 +236,8 @@ module _ {M Msg : Type 0} (m : Module Msg) (refines : Relation M Msg) where
           entries = entries ∙ over.entries;
           leads = leads-still c entries over.leads;
           made = made-still d.kept c over.made;
-          synced = subst (λ (es : List (List ℕ)). IfTold (history_of new.disk.file) (λ file. Reads file.kept (holds es))) (sym entries)
-              (subst (λ (h : List File). IfTold h (λ file. Reads file.kept (holds old.entries))) (sym history) over.synced);
+          synced = subst (λ (es : List (List ℕ)). IfTold (history_of new.disk.file) (λ file. Shows es file.kept)) (sym entries)
+              (subst (λ (h : List File). IfTold h (λ file. Shows old.entries file.kept)) (sym history) over.synced);
           calls = passes;
         }
       where
@@ -259,7 +260,7 @@ module _ {M Msg : Type 0} (m : Module Msg) (refines : Relation M Msg) where
       entries = entries ∙ over.entries;
       leads = leads-still c entries over.leads;
       made = made-still d.kept c over.made;
-      read = subst (λ (es : List (List ℕ)). IfTold (history_of new.disk.file) (λ file. Reads file.content (holds es))) (sym entries)
+      read = subst (λ (es : List (List ℕ)). IfTold (history_of new.disk.file) (λ file. Shows es file.content)) (sym entries)
           (restarted-read old.entries (λ (x : MemoryDisk). history_of x.file) files_of current_of memory_here old.disk new.disk restarts current over.synced).0;
     }
 
@@ -269,7 +270,7 @@ module _ {M Msg : Type 0} (m : Module Msg) (refines : Relation M Msg) where
           LosesNone (seen old.disk) (seen new.disk) failed → RefinesMachine m refines new c (record { kept = events; passes = None; failed = false })
       reopened-over failed e works for attached loses =
           let told = stored-told old.disk.file in
-          let reads = read-told (λ file. Reads file.content (holds old.entries)) (history_of old.disk.file) told.0 told.1 told.2 leads.read in
+          let reads = read-told (λ file. Shows old.entries file.content) (history_of old.disk.file) told.0 told.1 told.2 leads.read in
           let found : new.entries ≡ old.entries = attached-same one (seen old.disk) (seen new.disk) old.entries new.entries told.0 told.1 told.2 reads attached in
           let lead : core_of new.setup m new.me.0 new.entries ≡ Some c = leads-still c found leads.leads in
           let is : e ≡ c = some-injective e c (sym for.core ∙ lead) in
@@ -286,7 +287,7 @@ module _ {M Msg : Type 0} (m : Module Msg) (refines : Relation M Msg) where
       pub not-damaged : (at : ℕ) → IsDamaged old.setup m old.me.0 new.entries (history_of old.disk.file) at → ⊥
       not-damaged at h =
           let told = stored-told old.disk.file in
-          let reads = read-told (λ file. Reads file.content (holds old.entries)) (history_of old.disk.file) told.0 told.1 told.2 leads.read in
+          let reads = read-told (λ file. Shows old.entries file.content) (history_of old.disk.file) told.0 told.1 told.2 leads.read in
           never-damaged one old.setup m old.me.0 old.entries new.entries c leads.leads at told.0 told.1 reads (history_of old.disk.file) told.2 h
 
   -- Over a new disk there are no entries, and the core has taken no event.
@@ -295,5 +296,5 @@ module _ {M Msg : Type 0} (m : Module Msg) (refines : Relation M Msg) where
     entries = entries;
     leads = ap (λ (es : List (List ℕ)). core_of g.setup m g.me.0 es) entries;
     made = refl;
-    read = subst (λ (es : List (List ℕ)). IfTold (history_of g.disk.file) (λ file. Reads file.content (holds es))) (sym entries) (new-read (history_of g.disk.file) history).0;
+    read = subst (λ (es : List (List ℕ)). IfTold (history_of g.disk.file) (λ file. Shows es file.content)) (sym entries) (new-read (history_of g.disk.file) history).0;
   }

@@ -8,7 +8,7 @@ use Rattle.iss_disk.specs.Calls.{IfTold, Passes, script, up_to}
 use Rattle.iss_disk.specs.MemoryViews.{calls_of}
 use Rattle.iss_disk.specs.StoredViews.{history_of}
 use Rattle.iss_disk.specs.declared.memory.MemoryDisk.{MemoryDisk}
-use Rattle.iss_journal.specs.Frames.{Reads, holds}
+use Rattle.iss_journal.specs.Promises.{Shows}
 use Rattle.iss_keep.specs.Cores.{core_of}
 use Rattle.iss_keep.specs.Entries.{spell_event}
 use Rattle.iss_keep.specs.State.{KeptRefinesCore, KeptState}
@@ -68,7 +68,7 @@ pub record RefinesMachine {M Msg : Type 0} (m : Module Msg) (refines : Relation 
   pub entries : g.entries ≡ spelled d.kept
   pub leads : core_of g.setup m g.me.0 g.entries ≡ Some c
   pub made : core_of_kept (formats_of g.setup m) (rules_of g.setup) m g.me.0 d.kept ≡ c
-  pub synced : IfTold (history_of g.disk.file) (λ file. Reads file.kept (holds g.entries))
+  pub synced : IfTold (history_of g.disk.file) (λ file. Shows g.entries file.kept)
   pub calls : calls_of g.disk ≡ calls_to_come d.passes
 
 -- The entries of its journal are these events, they lead to this core, and the file's content holds them.
@@ -77,7 +77,7 @@ pub record LeadsBy {M Msg : Type 0} (m : Module Msg) (g : KeptState M Msg Memory
   pub entries : g.entries ≡ spelled events
   pub leads : core_of g.setup m g.me.0 g.entries ≡ Some c
   pub made : core_of_kept (formats_of g.setup m) (rules_of g.setup) m g.me.0 events ≡ c
-  pub read : IfTold (history_of g.disk.file) (λ file. Reads file.content (holds g.entries))
+  pub read : IfTold (history_of g.disk.file) (λ file. Shows g.entries file.content)
 
 -- ---- all cores
 

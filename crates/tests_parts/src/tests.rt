@@ -7,6 +7,8 @@ mod journals;
 mod keys;
 mod links;
 mod schedules;
+mod snapshot_bytes;
+mod snapshots;
 mod tall_keys;
 mod vectors;
 mod versions;

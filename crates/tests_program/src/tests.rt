@@ -7,4 +7,3 @@ mod mutations;
 mod running;
 mod spelled;
 mod top;
-mod words;

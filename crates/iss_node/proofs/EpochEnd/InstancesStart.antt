@@ -193,7 +193,7 @@ module _ {M Msg : Type 0} (m : Module Msg) (refines : M → Params → ℕ → L
     (divided : (p : List Ended) → IsStanding s p standing → plan ≡ plan_by s 0 0 (conduct_of p)) (stood : IsStanding s [] standing)
     (noted : RefinesNoted windows none_noted) (width : windows.width ≡ s.window)
     (started : AreStarted refines s me 0 plan gs) (count : length gs ≡ s.n)
-    (version : chains.version ≡ s.version) (chained : IsChainOf chains []) (ballots_is : ballots ≡ record { voters = voters_of s (keys_of s); all = [] }) where
+    (version : chains.version ≡ s.version) (chained : IsChainOf chains []) (ballots_is : ballots ≡ record { voters = voters_of s (keys_of s); tallies = []; certs = []; counted = [] }) where
   abbrev pub begun : StateView M Msg
   begun = record {
     setup = t;
@@ -277,6 +277,6 @@ module _ {M Msg : Type 0} (m : Module Msg) (refines : M → Params → ℕ → L
     fresh = refl;
     held = record {
       state = record { core = refl; tied = subst (λ (xs : List Value). RefinesPastOver m refines begun initial_history xs) (sym before-none) (tied-first t t_is own) };
-      kept = subst (λ (b : BallotsState). AreKept b [] []) (sym ballots_is) (record { certs_are = λ e. refl; votes_are = λ e k h. refl });
+      kept = subst (λ (b : BallotsState). AreKept b [] []) (sym ballots_is) (record { certs_are = λ e. refl; votes_are = λ e k h. refl; counted_are = refl });
     };
   }

@@ -2,6 +2,7 @@
 use Rattle.std.proofs.Common.{arith, ◌≡◌, ℕ, suc, true, false, List, [], ◌∷◌, ◌++◌, eqb, Result, Ok, Err, IfOk, refl, sym, ap, ◌∙◌, subst, append_assoc}
 use Rattle.std.proofs.lemmas.Bool.Decides.{nat_tests}
 use Rattle.std.proofs.lemmas.List.{append-nil}
+use Rattle.iss_base.specs.Lists.{first_of}
 use Rattle.iss_model.proofs.Rows.{onward-onward, onward-rests}
 use Rattle.iss_rules.specs.Concrete.{rules_of}
 use Rattle.iss_rules.specs.Formats.{formats_of}
@@ -195,7 +196,7 @@ module _ {M Msg : Type 0} (m : Module Msg) (refines : M → Params → ℕ → L
       }
     where
       onward-at : (u : Turn Msg) (f g : Core Msg → Turn Msg) → f u.core ≡ g u.core → then_turn u f ≡ then_turn u g
-      onward-at u f g h = ap (λ (z : Turn Msg). let y : Turn Msg = record { core = z.core; sends = u.sends ++ z.sends; own = u.own ++ z.own; early = u.early ++ z.early; strings = u.strings ++ z.strings } in y) h
+      onward-at u f g h = ap (λ (z : Turn Msg). let y : Turn Msg = record { core = z.core; entered = first_of z.entered u.entered; sends = u.sends ++ z.sends; own = u.own ++ z.own; early = u.early ++ z.early; strings = u.strings ++ z.strings } in y) h
 
   -- No message is taken once the epoch is over.
   pub owes-none : (start now : StateView M Msg) (all : Outcome) (done : List (Early Msg)) (x : Early Msg) (t : Turn Msg) → eqb now.epoch start.epoch ≡ false →
@@ -220,4 +221,4 @@ module _ {M Msg : Type 0} (m : Module Msg) (refines : M → Params → ℕ → L
       }
     where
       onward-at : (u : Turn Msg) (f g : Core Msg → Turn Msg) → f u.core ≡ g u.core → then_turn u f ≡ then_turn u g
-      onward-at u f g h = ap (λ (z : Turn Msg). let y : Turn Msg = record { core = z.core; sends = u.sends ++ z.sends; own = u.own ++ z.own; early = u.early ++ z.early; strings = u.strings ++ z.strings } in y) h
+      onward-at u f g h = ap (λ (z : Turn Msg). let y : Turn Msg = record { core = z.core; entered = first_of z.entered u.entered; sends = u.sends ++ z.sends; own = u.own ++ z.own; early = u.early ++ z.early; strings = u.strings ++ z.strings } in y) h

@@ -306,7 +306,9 @@ same-on v w x h g = record { setup = g.setup ∙ h.setup; me = g.me ∙ h.me; lo
 
 -- The turn of a core without votes and certificates.
 abbrev bare_turn : {Msg : Type 0} → Rules → Module Msg → ℕ → Core Msg → Sent_piece → Turn Msg
-bare_turn R m me c p = let t = adopts_piece R m me c p in record t { core = bare t.core }
+bare_turn R m me c p =
+    let t = adopts_piece R m me c p in
+    record t { core = bare t.core; entered = Some (bare (record t.core { early = c.early })) }
 
 -- The next epoch starts behind the adopted one.
 module _ {M Msg : Type 0} (m : Module Msg) (refines : M → Params → ℕ → List (Item Msg) → Type 0)

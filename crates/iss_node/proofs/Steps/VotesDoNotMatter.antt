@@ -1,6 +1,7 @@
 -- A step that reads no votes does the same at a core with votes and certificates, and keeps them.
 use Rattle.std.proofs.Common.{◌≡◌, ℕ, suc, ◌==◌, Bool, true, false, cond, not, List, [], ◌∷◌, ◌++◌, Option, Some, None, refl, sym, ap, ◌∙◌, subst}
 use Rattle.std.specs.Prelude.{nat_lt, length}
+use Rattle.iss_base.specs.Lists.{first_of}
 use Rattle.iss_ballots.specs.Ballots.{AreKept, BallotsState}
 use Rattle.iss_checkpoint.specs.declared.votes.Cert.{Cert}
 use Rattle.iss_checkpoint.specs.declared.votes.Vote.{Vote}
@@ -30,8 +31,16 @@ use Rattle.iss_sb.specs.declared.effects.Input.TheVariants.{Receive, Timeout}
 use Rattle.iss_sb.specs.declared.effects.Params.{Params}
 
 module _ {Msg : Type 0} (F : Formats Msg) (R : Rules) (m : Module Msg) (me : ℕ) (votes : List Vote) (certs : List Cert) where
+  abbrev pub with_entered : Option (Core Msg) → Option (Core Msg)
+  with_entered None = None
+  with_entered (Some d) = Some (holding votes certs d)
+
   abbrev pub with_turn : Turn Msg → Turn Msg
-  with_turn t = record t { core = holding votes certs t.core }
+  with_turn t = record t { core = holding votes certs t.core; entered = with_entered t.entered }
+
+  first-held : (a b : Option (Core Msg)) → first_of (with_entered a) (with_entered b) ≡ with_entered (first_of a b)
+  first-held None b = refl
+  first-held (Some d) b = refl
 
   abbrev pub with_step : Stepped Msg → Stepped Msg
   with_step (Dropped why) = Dropped why
@@ -62,7 +71,10 @@ module _ {Msg : Type 0} (F : Formats Msg) (R : Rules) (m : Module Msg) (me : ℕ
 
   pub onward-held : (t : Turn Msg) (more : Core Msg → Turn Msg) → ((c : Core Msg) → more (holding votes certs c) ≡ with_turn (more c)) → then_turn (with_turn t) more ≡ with_turn (then_turn t more)
   onward-held t more h =
-      ap (λ (u : Turn Msg). let z : Turn Msg = record { core = u.core; sends = t.sends ++ u.sends; own = t.own ++ u.own; early = t.early ++ u.early; strings = t.strings ++ u.strings } in z) (h t.core)
+      let u : Turn Msg = more t.core in
+      ap (λ (u : Turn Msg). let z : Turn Msg = record { core = u.core; entered = first_of u.entered (with_entered t.entered); sends = t.sends ++ u.sends; own = t.own ++ u.own; early = t.early ++ u.early; strings = t.strings ++ u.strings } in z) (h t.core)
+      ∙ ap (λ (k : Option (Core Msg)). let z : Turn Msg = record { core = holding votes certs u.core; entered = k; sends = t.sends ++ u.sends; own = t.own ++ u.own; early = t.early ++ u.early; strings = t.strings ++ u.strings } in z)
+      (first-held u.entered t.entered)
 
   ended-held : (t : Turn Msg) → ended F R m me (with_turn t) ≡ with_turn (ended F R m me t)
   ended-held t = if-held (is_complete R m me t.core.past) (then_turn t (ends F R m me)) t

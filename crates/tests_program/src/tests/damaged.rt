@@ -35,8 +35,8 @@ fn directory_of(alloc: Global, setup: &Setup) -> Result<SharedDirectory, Fail>
     Ok(SharedDirectory::make(alloc, setup.n, setup.clients, setup.keys as u8)?)
 }
 
-// Node 1 over the file, as after a restart.
-fn restart(
+// What node 1 answers that reopens the file.
+fn reopen(
     alloc: Global,
     setup: &Setup,
     directory: &SharedDirectory,
@@ -46,9 +46,36 @@ fn restart(
     requires directory { directory.now ≡ keys_of setup.now }
     requires me { 1 < setup.now.n }
 {
-    disk.restart();
     let mut node = Kept::<Echo, &mut MemoryDisk>::over(alloc, setup, directory, NodeId(1), disk)?;
     Ok(node.reopen())
+}
+
+fn reopen_with_keys(
+    alloc: Global,
+    setup: &Setup,
+    disk: &mut MemoryDisk,
+) -> Result<Result<(), AttachError>, Fail>
+    requires good { IsSetupOf echo setup.now }
+    requires me { 1 < setup.now.n }
+{
+    let directory = directory_of(alloc, setup)?;
+    reopen(alloc, setup, &directory, disk)
+}
+
+// What node 1 answers after a restart over the file.
+fn restart(alloc: Global, disk: &mut MemoryDisk) -> Result<Result<(), AttachError>, Fail> {
+    disk.restart();
+    let setup = four_nodes(alloc)?;
+    reopen_with_keys(alloc, &setup, disk)
+}
+
+// Checks the file's bytes, which are at most 16.
+fn check_file(rt: &impl Abort, disk: &mut MemoryDisk, bytes: &[u8]) -> Result<(), Fail> {
+    let mut read = [0u8; 16];
+    let count = disk.read_at(0, &mut read)?;
+    assert!(rt; count <= 16);
+    assert_eq!(rt; &read[..count], bytes);
+    Ok(())
 }
 
 // Restarts the node twice over these bytes, and checks both answers and the file.
@@ -58,18 +85,12 @@ fn check_restarts(
     bytes: &[u8],
     expected: Result<(), AttachError>,
 ) -> Result<(), Fail> {
-    let setup = four_nodes(alloc)?;
-    let directory = directory_of(alloc, &setup)?;
     let mut disk = disk_with(alloc, bytes)?;
     for _ in 0..2 {
-        let answer = restart(alloc, &setup, &directory, &mut disk)?;
+        let answer = restart(alloc, &mut disk)?;
         assert_eq!(rt; answer, expected);
     }
-    let mut read = [0u8; 16];
-    let count = disk.read_at(0, &mut read)?;
-    assert!(rt; count <= 16);
-    assert_eq!(rt; &read[..count], bytes);
-    Ok(())
+    check_file(rt, &mut disk, bytes)
 }
 
 // Each byte of the second entry is changed in turn: its length, then an event of no kind, then of no node.

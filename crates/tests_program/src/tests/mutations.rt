@@ -2,9 +2,8 @@
 //! the formats, by the field of the byte.
 use crate::tests::four::{Four, Told, check};
 use crate::tests::spelled::{BEHIND_HEIGHT, batch, request, request_packet, word};
-use iss_request::{Bytes, NoMemory};
 use iss_rules::Why;
-use std::alloc::Global;
+use std::alloc::{AllocError, Global};
 use std::process::Abort;
 use std::test::Fail;
 
@@ -99,7 +98,7 @@ fn masks_at(part: Part, place: usize) -> &'static [u8] {
 }
 
 // The same bytes, with the bits of the mask changed at this place.
-fn changed(alloc: Global, bytes: &[u8], place: usize, mask: u8) -> Result<Vec<u8>, NoMemory> {
+fn changed(alloc: Global, bytes: &[u8], place: usize, mask: u8) -> Result<Vec<u8>, AllocError> {
     let mut all = Vec::from_slice(alloc, bytes)?;
     if let Some(byte) = all.get_mut(place) {
         *byte ^= mask;
@@ -117,8 +116,8 @@ fn try_mask(
     mask: u8,
 ) -> Result<(), Fail> {
     let packet = changed(alloc, packet, place, mask)?;
-    let told = four.take(alloc, 2, packet.as_slice())?;
-    let expected = expected(part_at(&WORD, place), packet.as_slice(), place);
+    let told = four.take(alloc, 2, &packet)?;
+    let expected = expected(part_at(&WORD, place), &packet, place);
     check(rt, told, expected, place);
     Ok(())
 }
@@ -155,7 +154,7 @@ fn try_parts(rt: &impl Abort, alloc: Global, four: &mut Four, packet: &[u8]) -> 
     }
     let mut longer = Vec::from_slice(alloc, packet)?;
     longer.push(0)?;
-    let told = four.take(alloc, 2, longer.as_slice())?;
+    let told = four.take(alloc, 2, &longer)?;
     check(rt, told, Told::Lost(Why::NotPacket), packet.len());
     Ok(())
 }
@@ -163,7 +162,7 @@ fn try_parts(rt: &impl Abort, alloc: Global, four: &mut Four, packet: &[u8]) -> 
 // Node 1 receives the request and proposes it.
 fn cast(rt: &impl Abort, alloc: Global, four: &mut Four, request: &[u8]) -> Result<(), Fail> {
     let packet = request_packet(alloc, request)?;
-    let told = four.take(alloc, 1, packet.as_slice())?;
+    let told = four.take(alloc, 1, &packet)?;
     check(rt, told, Told::Done, 0);
     check(rt, four.propose(alloc, 1), Told::Done, 1);
     Ok(())
@@ -178,20 +177,35 @@ fn goes_on(rt: &impl Abort, alloc: Global, four: &mut Four) {
     }
 }
 
-// All of this in one world, with the message that node 1 really sends on the batch with this request.
-fn try_word(rt: &impl Abort, alloc: Global, four: &mut Four, request: &[u8]) -> Result<(), Fail> {
-    cast(rt, alloc, four, request)?;
+// The message that node 1 really sends on the batch with this request.
+fn word_of(alloc: Global, request: &[u8]) -> Result<Vec<u8>, Fail> {
     let value = batch(alloc, request)?;
-    let word = word(alloc, 1, 0, value.as_slice())?;
-    try_parts(rt, alloc, four, word.as_slice())?;
-    try_each(rt, alloc, four, word.as_slice())?;
+    word(alloc, 1, 0, &value)
+}
+
+// All of this in one world, with that message.
+fn try_word(
+    rt: &impl Abort,
+    alloc: Global,
+    four: &mut Four,
+    request: &[u8],
+    word: &[u8],
+) -> Result<(), Fail> {
+    cast(rt, alloc, four, request)?;
+    try_parts(rt, alloc, four, word)?;
+    try_each(rt, alloc, four, word)?;
     goes_on(rt, alloc, four);
     Ok(())
+}
+
+fn try_in_a_run(rt: &impl Abort, alloc: Global, request: &[u8]) -> Result<(), Fail> {
+    let word = word_of(alloc, request)?;
+    let mut four = Four::start(alloc)?;
+    try_word(rt, alloc, &mut four, request, &word)
 }
 
 #[test]
 fn a_changed_word_is_refused_by_name(rt: HostRuntime) -> Result<(), Fail> {
     let request = request(rt.alloc(), 1, 0)?;
-    let mut four = Four::start(rt.alloc())?;
-    try_word(&rt, rt.alloc(), &mut four, request.as_slice())
+    try_in_a_run(&rt, rt.alloc(), &request)
 }

@@ -4,6 +4,7 @@ use crate::ends::{status_of_sink, status_of_source};
 use crate::tests::calls::run_call;
 use iss_cli::{FailingSink, FailingSource, MemorySink, MemorySource, Script};
 use std::alloc::{AllocError, Global};
+use std::process::Abort;
 use std::test::Fail;
 
 const INPUT: &[u8] =
@@ -19,48 +20,64 @@ const READS: u64 = 10;
 
 const PUTS: u64 = 9;
 
-fn failing_at(alloc: Global, call: u64) -> Result<Script, AllocError> {
-    Ok(Script::new(vec![in alloc; call]?))
+// A source of this input that fails at a call, and gives this many bytes at each.
+fn source(
+    alloc: Global,
+    input: &[u8],
+    most: usize,
+    call: u64,
+) -> Result<FailingSource, AllocError> {
+    let failing = vec![in alloc; call]?;
+    Ok(FailingSource::new(Vec::from_slice(alloc, input)?, most, Script::new(failing)))
+}
+
+// A sink that fails at a call, and takes 16 bytes at each.
+fn sink(alloc: Global, call: u64) -> Result<FailingSink, AllocError> {
+    Ok(FailingSink::new(alloc, 16, Script::new(vec![in alloc; call]?)))
 }
 
 #[test]
 fn words_are_met_first(rt: HostRuntime) -> Result<(), Fail> {
-    let mut input = FailingSource::new(Vec::new(rt.alloc()), 1, failing_at(rt.alloc(), 0)?);
+    let mut input = source(rt.alloc(), b"", 1, 0)?;
     let mut out = MemorySink::new(rt.alloc());
     let status = run_call(rt.alloc(), "jump", &mut input, &mut out)?;
-    assert_eq!(rt; status.code(), 2);
+    assert_eq!(rt; status, 2);
     assert_eq!(rt; out.held(), b"refused words\n".as_slice());
+    Ok(())
+}
+
+fn check_source(rt: &impl Abort, alloc: Global, call: u64) -> Result<(), Fail> {
+    let mut input = source(alloc, INPUT, 16, call)?;
+    let mut out = MemorySink::new(alloc);
+    let status = run_call(alloc, "replay", &mut input, &mut out)?;
+    let text = if call < READS { b"".as_slice() } else { TEXT };
+    assert_eq!(rt; status, status_of_source(call, READS), "at call {call}");
+    assert_eq!(rt; out.held(), text, "at call {call}");
     Ok(())
 }
 
 #[test]
 fn a_source_fails_at_each_call(rt: HostRuntime) -> Result<(), Fail> {
     for call in 0..=READS {
-        let script = failing_at(rt.alloc(), call)?;
-        let mut input = FailingSource::new(Vec::from_slice(rt.alloc(), INPUT)?, 16, script);
-        let mut out = MemorySink::new(rt.alloc());
-        let status = run_call(rt.alloc(), "replay", &mut input, &mut out)?;
-        let text = if call < READS { b"".as_slice() } else { TEXT };
-        assert_eq!(rt;
-            status.code(),
-            status_of_source(call, READS),
-            "at call {call}"
-        );
-        assert_eq!(rt; out.held(), text, "at call {call}");
+        check_source(&rt, rt.alloc(), call)?;
     }
+    Ok(())
+}
+
+fn check_sink(rt: &impl Abort, alloc: Global, call: u64) -> Result<(), Fail> {
+    let mut input = MemorySource::new(Vec::from_slice(alloc, INPUT)?);
+    let mut out = sink(alloc, call)?;
+    let status = run_call(alloc, "replay", &mut input, &mut out)?;
+    let part = TEXT.len().min(16usize.saturating_mul(call as usize));
+    assert_eq!(rt; status, status_of_sink(call, PUTS), "at call {call}");
+    assert_eq!(rt; out.held(), &TEXT[..part], "at call {call}");
     Ok(())
 }
 
 #[test]
 fn a_sink_fails_at_each_call(rt: HostRuntime) -> Result<(), Fail> {
     for call in 0..=PUTS {
-        let script = failing_at(rt.alloc(), call)?;
-        let mut input = MemorySource::new(Vec::from_slice(rt.alloc(), INPUT)?);
-        let mut out = FailingSink::new(rt.alloc(), 16, script);
-        let status = run_call(rt.alloc(), "replay", &mut input, &mut out)?;
-        let part = TEXT.len().min(16 * call as usize);
-        assert_eq!(rt; status.code(), status_of_sink(call, PUTS), "at call {call}");
-        assert_eq!(rt; out.held(), &TEXT[..part], "at call {call}");
+        check_sink(&rt, rt.alloc(), call)?;
     }
     Ok(())
 }

@@ -69,7 +69,7 @@ returns-then-len-le1-clause-file g c =
     search rules in
     let brief : length c.in_ok-bytes.bytes.items ≤ 1 = search rules in
     brief_rests (g.D.Disk.history c.args.disk.now)
-    (g.D.Disk.history c.make_empty.new.disk) c.in_ok-bytes.bytes.items _ content brief
+    (g.D.Disk.history c.make_empty.new.disk) c.in_ok-bytes.bytes.items content brief
     c.in_ok-make_empty.ensures.file
 
 pub returns-in_ok-cut_tail-in-Whole-clause-file : goal.returns-in_ok-cut_tail-in-Whole-clause-file
@@ -80,6 +80,7 @@ returns-in_ok-cut_tail-in-Whole-clause-file g c =
     let content : IfTold (g.D.Disk.history c.args.disk.now) (λ file. bytes ≡ file.content) = search rules in
     let long : 1 < length bytes = search rules in
     let same : c.in-Whole.entries.bytes.items ≡ bytes = search rules in
-    whole_rests (g.D.Disk.history c.args.disk.now) new bytes (entries_in c.in-Whole.entries) content long
+    let ends : ClosesAfter (entries_in c.in-Whole.entries) bytes = search rules in
+    whole_rests (g.D.Disk.history c.args.disk.now) new bytes (entries_in c.in-Whole.entries) content ends long
     (subst (λ (b : List ℕ). IfTold new (λ file. file ≡ settled (take end b))) same
     c.in_ok-cut_tail-in-Whole.ensures.file)

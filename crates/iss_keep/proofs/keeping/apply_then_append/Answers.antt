@@ -1,5 +1,7 @@
 use Rattle.std.proofs.Common.{◌≡◌, ◌≤◌, ◌∙◌, ap, subst, sym, refl, length, List, ℕ}
 use Rattle.iss_journal.specs.Frames.{max_entry}
+use Rattle.iss_journal.specs.Retained.{is_snapshot}
+use Rattle.iss_keep.proofs.RetainLemmas.{no-snapshot}
 use Rattle.iss_log.specs.LogState.{LogState}
 use Rattle.iss_node.specs.declared.answers.Answer.{Answer as NodeAnswer}
 use Rattle.iss_node.specs.declared.answers.Answer.TheVariants.{Taken as Node_taken}
@@ -16,6 +18,9 @@ append_or_retreat-requires-clause-short g c =
     subst (λ (bytes : List ℕ). length bytes ≤ max_entry) (sym c.requires.entry)
     (short g.M.Sequenced.spec g.M.Sequenced.refines c.args.event c.args.node.now c.take.new.self outcome c.requires.good c.requires.refines c.take.ensures.same.0
     c.take.ensures.same.1 answer c.args.event refl)
+
+pub append_or_retreat-requires-clause-event : goal.append_or_retreat-requires-clause-event
+append_or_retreat-requires-clause-event g c = ap is_snapshot c.requires.entry ∙ no-snapshot c.args.event
 
 pub append_or_retreat-requires-clause-slots : goal.append_or_retreat-requires-clause-slots
 append_or_retreat-requires-clause-slots g c =

@@ -1,7 +1,9 @@
-use Rattle.std.proofs.Common.{rules, IsErrOf}
-use Rattle.iss_journal.specs.Sound.{disk_of, entries_of}
+use Rattle.std.proofs.Common.{rules, IsErrOf, inr}
+use Rattle.iss_disk.specs.Calls.{IfTold}
+use Rattle.iss_journal.specs.Promises.{ComesToRest}
+use Rattle.iss_journal.specs.Sound.{IsRead, disk_of, entries_of, gates_of}
 use Rattle.iss_journal.specs.declared.errors.AttachError.TheVariants.{Damaged}
-use Rattle.iss_keep.proofs.WriteLemmas.{left-damaged}
+use Rattle.iss_keep.proofs.WriteLemmas.{left-damaged, left-read, read-shows, when-ok}
 use Rattle.iss_keep.proofs.reopening.open.Goals as goal
 
 pub returns-in-Err-clause-left : goal.returns-in-Err-clause-left
@@ -10,3 +12,28 @@ returns-in-Err-clause-left g c = λ at is.
     left-damaged (entries_of c.attach.new.self) (g.D.Disk.history (disk_of c.args.journal.now))
     (g.D.Disk.history (disk_of c.attach.new.self)) at (c.attach.ensures.damaged at damage)
     (c.attach.ensures.damaged_stays at damage)
+
+pub returns-in-Ok-clause-attached : goal.returns-in-Ok-clause-attached
+returns-in-Ok-clause-attached g c =
+    let now = c.attach.new.self in
+    let h = g.D.Disk.history (disk_of c.args.journal.now) in
+    let read : IsRead (entries_of now) (gates_of now) h = search rules in
+    when-ok c.replay.result _ (record {
+      read = read-shows (entries_of now) (gates_of now) h read;
+      rest = search rules;
+      durable = search rules;
+    })
+
+pub returns-in-Ok-clause-damaged : goal.returns-in-Ok-clause-damaged
+returns-in-Ok-clause-damaged g c = λ at is.
+    let now = c.attach.new.self in
+    let read : IsRead (entries_of now) (gates_of now) (g.D.Disk.history (disk_of c.args.journal.now)) = search rules in
+    inr (gates_of now, read, c.replay.ensures.damaged at is)
+
+pub returns-in-Ok-clause-left : goal.returns-in-Ok-clause-left
+returns-in-Ok-clause-left g c = λ at is.
+    let now = c.attach.new.self in
+    let h = g.D.Disk.history (disk_of c.args.journal.now) in
+    let read : IsRead (entries_of now) (gates_of now) h = search rules in
+    let rest : IfTold h (λ from. IfTold (g.D.Disk.history (disk_of now)) (ComesToRest from.content)) = search rules in
+    left-read (entries_of now) (gates_of now) h (g.D.Disk.history (disk_of now)) at read rest

@@ -1,6 +1,6 @@
-use Rattle.std.proofs.Common.{rules, ◌≡◌, ◌∙◌, ◌<◌, ◌≤◌, Bool, true, false, Ok, ap, sym, length, ℕ, List, [], get_or}
+use Rattle.std.proofs.Common.{rules, ◌≡◌, ◌∙◌, ◌<◌, ◌≤◌, Bool, true, false, Ok, ap, subst, sym, length, ℕ, List, [], get_or}
 use Rattle.iss_journal.specs.SharedViews.{shared_in}
-use Rattle.iss_journal.specs.Sound.{entries_of}
+use Rattle.iss_journal.specs.Sound.{entries_of, gates_of}
 use Rattle.iss_model.specs.Node.{Core}
 use Rattle.iss_node.specs.State.{RefinesCore}
 use Rattle.iss_request.specs.declared.setups.Setup.{Setup}
@@ -40,7 +40,8 @@ returns-then-not-taken-clause-damaged g c = λ at is.
     let read = get_or (shared_in c.entries-entries.result.now) c.loop-k.k [] in
     let entry : read ≡ get_or (entries_of c.args.journal.now) c.loop-k.k [] =
     ap (λ (es : List (List ℕ)). get_or es c.loop-k.k []) c.entries-entries.ensures in
-    let took : c.replay_at.result ≡ Ok false = search rules in
+    let took : c.replay_at.result ≡ Ok false =
+    subst (λ (b : Bool). c.replay_at.result ≡ Ok b) c.if-not-taken.true c.in-Ok-replay_at.is in
     let old = c.loop-k.node in
     replay-stops c.args.setup.now g.M.Sequenced.spec g.M.Sequenced.refines c.args.me (entries_of c.args.journal.now) c.loop-k.k lt old c.replay_at.new.node read entry
     c.loop-k.invariant.1 c.loop-k.invariant.0
@@ -48,7 +49,7 @@ returns-then-not-taken-clause-damaged g c = λ at is.
     (λ (b : Bool). (d : Core g.row.M-Msg.Denot) → RefinesCore g.M.Sequenced.spec g.M.Sequenced.refines old d →
     GoesTo old.state.setup g.M.Sequenced.spec g.M.Sequenced.refines old.state.me.0 d read c.replay_at.new.node b)
     took c.replay_at.ensures.goes)
-    at (same-gate _ at is ∙ c.gate_of.ensures)
+    (gates_of c.args.journal.now) at (same-gate _ at is ∙ c.gate_of.ensures)
 
 pub returns-clause-refines : goal.returns-clause-refines
 returns-clause-refines g c =

@@ -5,4 +5,4 @@ use Rattle.iss_journal.proofs.shared.SharedEntries.len.Goals as goal
 
 pub returns : goal.returns
 returns c = let now = c.args.self.now in
-    c.len.ensures ∙ sym (length-tails (entries_in now.own) now.read now.tails.items)
+    c.len.ensures ∙ sym (length-tails (entries_in now.own) now.tails.items)

@@ -1,0 +1,50 @@
+use Rattle.std.proofs.Common.{arith, ℕ, ◌≡◌, ◌+◌, ◌++◌, List, length, length-append}
+use Rattle.iss_journal.specs.SharedViews.{shared_in}
+use Rattle.iss_journal.proofs.RetainedLemmas.{count-event, end-after, ends-event, kept-after, shown-after, snapshots-event, with-event}
+use Rattle.iss_journal.proofs.retained.Retained.add_event.Goals as goal
+
+-- the offset after an entry in two parts
+past : (end len : ℕ) (head body : List ℕ) → len ≡ length body →
+    end + (5 + (length head + len)) ≡ end + (5 + length (head ++ body))
+past end len head body is = omega (arith, is, length-append head body)
+
+pub invariant_of-self : goal.invariant_of-self
+invariant_of-self c =
+    let now = c.args.self.now in
+    let es = shared_in now.entries in
+    let new = shared_in c.add.new.self in
+    let entry = c.args.head.now ++ c.args.body in
+    let is = with-event es new entry now.kept c.requires.event c.add.ensures.entries in
+    let next = past now.end c.len.result c.args.head.now c.args.body c.len.ensures in
+    record {
+      kept = kept-after es new entry is;
+      count = count-event es new entry is (length now.gates.items) c.requires.event now.count;
+      ends = ends-event es new entry is now.start now.end _ c.requires.event now.ends next;
+    }
+
+pub returns-clause-entries : goal.returns-clause-entries
+returns-clause-entries c =
+    let now = c.args.self.now in
+    with-event (shared_in now.entries) (shared_in c.add.new.self) (c.args.head.now ++ c.args.body) now.kept
+    c.requires.event c.add.ensures.entries
+
+pub returns-clause-retains : goal.returns-clause-retains
+returns-clause-retains c = λ all r.
+    let now = c.args.self.now in
+    let es = shared_in now.entries in
+    let new = shared_in c.add.new.self in
+    let entry = c.args.head.now ++ c.args.body in
+    let is = with-event es new entry now.kept c.requires.event c.add.ensures.entries in
+    record {
+      shown = shown-after es new entry is all r.shown;
+      snapshots = snapshots-event all entry now.gates.items c.requires.event r.snapshots;
+      ends = end-after all entry now.end _ r.ends (past now.end c.len.result c.args.head.now c.args.body c.len.ensures);
+    }
+
+pub returns-clause-grown : goal.returns-clause-grown
+returns-clause-grown c = record {
+  entries = c.add.ensures.longer;
+  gates = omega arith;
+  gates_room = omega arith;
+  last = past c.args.self.now.end c.len.result c.args.head.now c.args.body c.len.ensures;
+}
