@@ -1,5 +1,4 @@
 pub mod BatchesOnce
-pub mod BranchesDelivered
 pub mod CountsAgree
 pub mod DeliveredSlotsAgree
 pub mod DraftsAgree

@@ -23,7 +23,7 @@ const LAST_ROUND: u16 = 65_535;
 impl Node {
     /// A cast, if it is valid: it waits until the turns before it are complete, and then is proposed. The only error is
     /// out of memory.
-    pub fn queue_cast(
+    pub fn take_cast(
         &mut self,
         context: &Context<HotStuff>,
         slot: Slot,
@@ -41,7 +41,7 @@ impl Node {
 
     /// A proposal that passed `may_prepare`: its node becomes known, its view the replica's own, and the answer is a
     /// prepare vote. The only error is out of memory.
-    pub fn vote_prepare(
+    pub fn take_node(
         &mut self,
         context: &Context<HotStuff>,
         view: u32,
@@ -69,7 +69,7 @@ impl Node {
 
     /// A PreCommit of the replica's own view: its prepareQC becomes the highest one, and the answer is a pre-commit
     /// vote. Otherwise nothing changes. The only error is out of memory.
-    pub fn vote_pre_commit(
+    pub fn take_pre_commit(
         &mut self,
         context: &Context<HotStuff>,
         view: u32,
@@ -91,7 +91,7 @@ impl Node {
     /// A Commit of the replica's own view: its precommitQC becomes the lock, and the answer is a commit vote. Otherwise
     /// nothing changes. The only error is out of memory.
     // rule: HotStuff: Only a certificate of the second phase becomes the lock, which never decreases
-    pub fn vote_commit(
+    pub fn take_commit(
         &mut self,
         context: &Context<HotStuff>,
         view: u32,
@@ -112,7 +112,7 @@ impl Node {
 
     /// A vote for one of the leader's own turns. Exactly a quorum is broadcast as a certificate. After the first and
     /// the last phase the next turn is tried. The only error is out of memory.
-    pub fn count_vote(
+    pub fn take_vote(
         &mut self,
         context: &Context<HotStuff>,
         from: NodeId,
@@ -147,7 +147,7 @@ impl Node {
 
     /// A NewView for a round that the replica leads. Exactly a quorum leads to the round's first turn. The only error
     /// is out of memory.
-    pub fn count_new_view(
+    pub fn take_new_view(
         &mut self,
         context: &Context<HotStuff>,
         from: NodeId,
@@ -170,7 +170,7 @@ impl Node {
     /// The round times out. The replica enters the next round, if there is one, and sends its leader the highest
     /// prepareQC. The only error is out of memory.
     // rule: HotStuff: A timeout enters the next round and tells its leader the highest certificate
-    pub fn enter_next_round(&mut self, context: &Context<HotStuff>) -> Result<Outcome, NoMemory>
+    pub fn time_out(&mut self, context: &Context<HotStuff>) -> Result<Outcome, NoMemory>
         ensures { IfOk result (λ o. (s : State) → RefinesState self.old s →
             Does context.now.p.now self.old self.new s Input.Timeout o) }
     {
