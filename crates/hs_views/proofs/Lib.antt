@@ -1,4 +1,5 @@
 pub mod BatchesOnce
+pub mod BranchesDelivered
 pub mod CountsAgree
 pub mod DeliveredSlotsAgree
 pub mod DraftsAgree

@@ -47,11 +47,14 @@ asked_by p s old from (Commit view shown sig) = None
 asked_by p s old from (Decide view shown sig) = None
 asked_by p s old from (Vote phase view d sig) = None
 
--- the batch that the replica accepts with an input
+-- the batch that a replica in state s accepts with an input, after these batches
+abbrev pub asked_in : Params → ℕ → State → List (Slot × Batch) → Input Message → Option (Slot × Batch)
+asked_in p me s old (Cast slot batch) = if may_cast p me s slot.0 then Some (slot, batch) else None
+asked_in p me s old (Receive from msg) = asked_by p s old from.0 msg
+asked_in p me s old Timeout = None
+
 abbrev pub asks : Params → ℕ → List (Item Message) → Input Message → Option (Slot × Batch)
-asks p me xs (Cast slot batch) = if may_cast p me (state p me xs) slot.0 then Some (slot, batch) else None
-asks p me xs (Receive from msg) = asked_by p (state p me xs) (accepts xs) from.0 msg
-asks p me xs Timeout = None
+asks p me xs i = asked_in p me (state p me xs) (accepts xs) i
 
 -- ---- Unsigned messages: first the answer, then the proposal that the input triggers
 

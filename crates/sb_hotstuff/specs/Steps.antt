@@ -5,6 +5,7 @@ use Rattle.iss_sb.specs.declared.effects.Input.{Input}
 use Rattle.iss_sb.specs.declared.effects.Params.{Params}
 use Rattle.hs_tree.specs.declared.messages.Message.{Message}
 use Rattle.sb_hotstuff.specs.declared.outcomes.Outcome.{Outcome}
+use Rattle.sb_hotstuff.specs.declared.outcomes.Taken.{Taken}
 use Rattle.hs_views.specs.declared.drafts.Draft.{Draft}
 use Rattle.sb_hotstuff.specs.declared.state.Node.{Node}
 use Rattle.sb_hotstuff.specs.Drafts.{AreDrafts}
@@ -24,6 +25,12 @@ pub record IsAnswer (d : Draft) (o : Outcome) : Type 0 where
   pub answer : o.answer ≡ Some d
   pub proposal : o.proposal ≡ None
   pub hashed : o.hashed ≡ []
+
+-- nothing is accepted or delivered
+pub record IsAlone (o : Outcome) (t : Taken) : Type 0 where
+  pub outcome : t.outcome ≡ o
+  pub accepted : t.accepted ≡ None
+  pub delivers : t.delivers ≡ []
 
 -- the turn, if there is one, was added to state k and proposed
 pub record Proposes (p : Params) (old new : Node) (k : State) (t : Option Turn) (o : Outcome) : Type 0 where

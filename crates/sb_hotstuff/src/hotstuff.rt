@@ -1,19 +1,20 @@
 //! A replica's part in an instance of HotStuff, as an ordering module (ISS: Sequenced Broadcast).
 ghost use Rattle.std.specs.Prelude.{◌≡◌, ◌≤◌, ℕ, List, IfOk, None, if◌then◌else◌};
-ghost use Rattle.iss_keys.specs.KeyStates.{KeyState, left_of};
+ghost use Rattle.iss_keys.specs.KeyStates.{left_of};
 ghost use Rattle.iss_request.specs.declared.ids.Slot.{Slot};
 ghost use Rattle.iss_request.specs.declared.requests.Batch.{Batch};
 ghost use Rattle.iss_sb.specs.Calls.{IsGoodInput, IsGoodParams, IsTrueStep, named};
-ghost use Rattle.hs_tree.specs.declared.messages.Message.TheVariants.{NewView, Prepare, PreCommit, Commit, Decide, Vote};
+ghost use Rattle.hs_tree.specs.declared.messages.Message.TheVariants.{Prepare, Decide};
 ghost use Rattle.hs_views.specs.Accepted.{AreAccepted};
 ghost use Rattle.sb_hotstuff.specs.HotStuff.{asked_by, hotstuff, offered};
-ghost use Rattle.sb_hotstuff.specs.Internal.Instances.{Refines};
+ghost use Rattle.sb_hotstuff.specs.Internal.Instances.{Refines, Takes};
 ghost use Rattle.sb_hotstuff.specs.Rules.{State, may_prepare};
 ghost use Rattle.sb_hotstuff.specs.Refines.{RefinesState};
 
 use crate::accepting::{cast_slot, offered_slot};
+use crate::outcomes::{Outcome, Taken};
 use crate::state::{Node, PHASES};
-use hs_tree::{Certificate, Message, Protocol, claims};
+use hs_tree::{Certificate, Message, Poll, Protocol, claims};
 use hs_views::{Accepted, Proposal, SignedVote, keep_at, keep_what, pair};
 use iss_keys::Keys;
 use iss_request::{
@@ -79,72 +80,75 @@ impl HotStuff {
         }
     }
 
-    // The leader takes a cast. It proposes the batch at once if its last turn is complete.
-    fn cast(
+    // Takes a cast: accepts its batch, and proposes it at once if the last turn is complete.
+    fn accept_cast(
         &mut self,
         context: &Context<HotStuff>,
         slot: Slot,
         batch: Batch,
-        keys: &mut Keys,
-    ) -> Result<Effects<Message>, NoMemory>
-        requires { 2 ≤ left_of keys.old }
-        ensures { IfOk result (λ e. IsTrueStep hotstuff Refines context.now.p.now self.old self.new
-            (Input.Cast slot batch) keys.old keys.new e) }
+    ) -> Result<Taken, NoMemory>
+        ensures { IfOk result (λ t. Takes context.now.p.now self.old self.new (Input.Cast slot batch) t) }
     {
         let free = cast_slot(&self.node, context.p, slot);
         let accepted = keep_at(&mut self.accepted, context.alloc, free, &batch)?;
-        let outcome = self.node.take_cast(context, slot, batch)?;
-        outcome.sign(context, accepted, keys)
+        let outcome = self.node.queue_cast(context, slot, batch)?;
+        let delivers = Seq::new(context.alloc);
+        Ok(Taken {
+            outcome,
+            accepted,
+            delivers,
+        })
     }
 
     // Takes a proposal, if it is valid: accepts its batch and casts a prepare vote.
-    fn prepare(
+    fn accept_proposal(
         &mut self,
         context: &Context<HotStuff>,
         from: NodeId,
         proposal: Proposal,
-        keys: &mut Keys,
-    ) -> Result<Effects<Message>, NoMemory>
-        requires { 2 ≤ left_of keys.old }
-        ensures { IfOk result (λ e. (sig : List ℕ) →
-            IsTrueStep hotstuff Refines context.now.p.now self.old self.new
-            (Input.Receive from (Prepare proposal.view proposal.what proposal.just sig)) keys.old keys.new e) }
+    ) -> Result<Taken, NoMemory>
+        ensures { IfOk result (λ t. (sig : List ℕ) → Takes context.now.p.now self.old self.new
+            (Input.Receive from (Prepare proposal.view proposal.what proposal.just sig)) t) }
     {
         let view = proposal.view;
         let what = proposal.what;
         let just = proposal.just;
         if !self.node.may_prepare(context.p, from, view, &what, &just) {
-            return Ok(Effects::nothing(context.alloc));
+            return Ok(Taken::of(context.alloc, Outcome::nothing(context.alloc)));
         }
         let slot = offered_slot(&self.node, &self.accepted, context.p, &what, &just);
         let accepted = keep_what(&mut self.accepted, context.alloc, slot, &what)?;
-        let outcome = self.node.take_node(context, view, what, &just)?;
-        outcome.sign(context, accepted, keys)
+        let outcome = self.node.vote_prepare(context, view, what, &just)?;
+        let delivers = Seq::new(context.alloc);
+        Ok(Taken {
+            outcome,
+            accepted,
+            delivers,
+        })
     }
 
     // Takes a Decide. A valid commitQC of a known node delivers the slots of its branch that are not yet delivered.
     // rule: HotStuff: A certificate of the third phase delivers its node's branch, each slot once
     // rule: Modules: A step delivers exactly what the module's definition delivers
-    fn decide(
+    fn deliver(
         &mut self,
         context: &Context<HotStuff>,
         view: u32,
         shown: Certificate,
-    ) -> Result<Effects<Message>, NoMemory>
-        ensures { IfOk result (λ e. (from : NodeId) (sig : List ℕ) (keys : KeyState) → 2 ≤ left_of keys →
-            IsTrueStep hotstuff Refines context.now.p.now self.old self.new
-            (Input.Receive from (Decide view shown sig)) keys keys e) }
+    ) -> Result<Taken, NoMemory>
+        ensures { IfOk result (λ t. (from : NodeId) (sig : List ℕ) →
+            Takes context.now.p.now self.old self.new (Input.Receive from (Decide view shown sig)) t) }
     {
-        let mut effects = Effects::nothing(context.alloc);
+        let mut taken = Taken::of(context.alloc, Outcome::nothing(context.alloc));
         if !self.node.may_deliver(context.p, view, &shown) {
-            return Ok(effects);
+            return Ok(taken);
         }
         let digest = shown.digest();
         let values = self
             .node
             .tree
             .behind(context.alloc, &digest, self.delivered)?;
-        effects.delivers = pair(
+        taken.delivers = pair(
             context.alloc,
             context.p.slots.as_slice(),
             self.delivered,
@@ -152,80 +156,10 @@ impl HotStuff {
         )?;
         let slots = self.node.tree.slots(&digest);
         if slots <= self.delivered {
-            return Ok(effects);
+            return Ok(taken);
         }
         self.delivered = slots;
-        Ok(effects)
-    }
-
-    // Takes a NewView. A quorum of them makes the round's leader propose.
-    fn new_view(
-        &mut self,
-        context: &Context<HotStuff>,
-        from: NodeId,
-        round: u16,
-        high: Certificate,
-        keys: &mut Keys,
-    ) -> Result<Effects<Message>, NoMemory>
-        requires { 2 ≤ left_of keys.old }
-        ensures { IfOk result (λ e. (sig : List ℕ) →
-            IsTrueStep hotstuff Refines context.now.p.now self.old self.new
-            (Input.Receive from (NewView round high sig)) keys.old keys.new e) }
-    {
-        let outcome = self.node.take_new_view(context, from, round, high)?;
-        outcome.sign(context, None, keys)
-    }
-
-    // Takes a PreCommit: its prepareQC, if valid, gets a pre-commit vote.
-    fn pre_commit(
-        &mut self,
-        context: &Context<HotStuff>,
-        from: NodeId,
-        view: u32,
-        shown: Certificate,
-        keys: &mut Keys,
-    ) -> Result<Effects<Message>, NoMemory>
-        requires { 2 ≤ left_of keys.old }
-        ensures { IfOk result (λ e. (sig : List ℕ) →
-            IsTrueStep hotstuff Refines context.now.p.now self.old self.new
-            (Input.Receive from (PreCommit view shown sig)) keys.old keys.new e) }
-    {
-        let outcome = self.node.take_pre_commit(context, view, shown)?;
-        outcome.sign(context, None, keys)
-    }
-
-    // Takes a Commit: its precommitQC, if valid, becomes the lock and gets a commit vote.
-    fn commit(
-        &mut self,
-        context: &Context<HotStuff>,
-        from: NodeId,
-        view: u32,
-        shown: Certificate,
-        keys: &mut Keys,
-    ) -> Result<Effects<Message>, NoMemory>
-        requires { 2 ≤ left_of keys.old }
-        ensures { IfOk result (λ e. (sig : List ℕ) →
-            IsTrueStep hotstuff Refines context.now.p.now self.old self.new
-            (Input.Receive from (Commit view shown sig)) keys.old keys.new e) }
-    {
-        let outcome = self.node.take_commit(context, view, shown)?;
-        outcome.sign(context, None, keys)
-    }
-
-    // Takes a vote for one of the leader's own turns. A quorum of them is broadcast as a certificate.
-    fn vote(
-        &mut self,
-        context: &Context<HotStuff>,
-        from: NodeId,
-        vote: SignedVote,
-        keys: &mut Keys,
-    ) -> Result<Effects<Message>, NoMemory>
-        requires { 2 ≤ left_of keys.old }
-        ensures { IfOk result (λ e. IsTrueStep hotstuff Refines context.now.p.now self.old self.new
-            (Input.Receive from (Vote vote.phase vote.view vote.digest vote.sig)) keys.old keys.new e) }
-    {
-        let outcome = self.node.take_vote(context, from, vote)?;
-        outcome.sign(context, None, keys)
+        Ok(taken)
     }
 
     // Takes a message.
@@ -234,54 +168,59 @@ impl HotStuff {
         context: &Context<HotStuff>,
         from: NodeId,
         msg: Message,
-        keys: &mut Keys,
-    ) -> Result<Effects<Message>, NoMemory>
-        requires { 2 ≤ left_of keys.old }
-        ensures { IfOk result (λ e. IsTrueStep hotstuff Refines context.now.p.now self.old self.new
-            (Input.Receive from msg) keys.old keys.new e) }
+    ) -> Result<Taken, NoMemory>
+        ensures { IfOk result (λ t. Takes context.now.p.now self.old self.new (Input.Receive from msg) t) }
     {
         match msg {
-            Message::NewView { round, high, .. } => self.new_view(context, from, round, high, keys),
+            Message::NewView { round, high, .. } => {
+                let outcome = self.node.count_new_view(context, from, round, high)?;
+                Ok(Taken::of(context.alloc, outcome))
+            }
             Message::Prepare {
                 view,
                 what,
                 just,
                 ..
-            } => self.prepare(context, from, Proposal { view, what, just }, keys),
+            } => self.accept_proposal(context, from, Proposal { view, what, just }),
             Message::PreCommit { view, shown, .. } => {
-                self.pre_commit(context, from, view, shown, keys)
+                let outcome = self.node.vote_pre_commit(context, view, shown)?;
+                Ok(Taken::of(context.alloc, outcome))
             }
-            Message::Commit { view, shown, .. } => self.commit(context, from, view, shown, keys),
-            Message::Decide { view, shown, .. } => self.decide(context, view, shown),
+            Message::Commit { view, shown, .. } => {
+                let outcome = self.node.vote_commit(context, view, shown)?;
+                Ok(Taken::of(context.alloc, outcome))
+            }
+            Message::Decide { view, shown, .. } => self.deliver(context, view, shown),
             Message::Vote {
                 phase,
                 view,
                 digest,
                 sig,
             } => {
-                let vote = SignedVote {
+                let poll = Poll {
                     phase,
                     view,
                     digest,
-                    sig,
                 };
-                self.vote(context, from, vote, keys)
+                let vote = SignedVote { poll, sig };
+                let outcome = self.node.count_vote(context, from, vote)?;
+                Ok(Taken::of(context.alloc, outcome))
             }
         }
     }
 
-    // The round times out: enters the next one and sends its leader a NewView.
-    fn time_out(
-        &mut self,
-        context: &Context<HotStuff>,
-        keys: &mut Keys,
-    ) -> Result<Effects<Message>, NoMemory>
-        requires { 2 ≤ left_of keys.old }
-        ensures { IfOk result (λ e.
-            IsTrueStep hotstuff Refines context.now.p.now self.old self.new Input.Timeout keys.old keys.new e) }
+    // Takes an input.
+    fn take(&mut self, context: &Context<HotStuff>, i: Input<Message>) -> Result<Taken, NoMemory>
+        ensures { IfOk result (λ t. Takes context.now.p.now self.old self.new i t) }
     {
-        let outcome = self.node.time_out(context)?;
-        outcome.sign(context, None, keys)
+        match i {
+            Input::Cast { slot, batch } => self.accept_cast(context, slot, batch),
+            Input::Receive { from, msg } => self.receive(context, from, msg),
+            Input::Timeout => {
+                let outcome = self.node.enter_next_round(context)?;
+                Ok(Taken::of(context.alloc, outcome))
+            }
+        }
     }
 }
 
@@ -353,11 +292,8 @@ impl Sequenced for HotStuff {
         ensures { IfOk result (λ e. IsTrueStep hotstuff Refines p.now self.old self.new i keys.old keys.new e) }
     {
         let context = Context::of(alloc, p);
-        match i {
-            Input::Cast { slot, batch } => self.cast(&context, slot, batch, keys),
-            Input::Receive { from, msg } => self.receive(&context, from, msg, keys),
-            Input::Timeout => self.time_out(&context, keys),
-        }
+        let taken = self.take(&context, i)?;
+        taken.sign(&context, keys)
     }
 
     fn encode(m: &Message, out: &mut Writer) -> Result<(), NoMemory> {

@@ -1,14 +1,14 @@
-//! The outcome of a rule, not yet signed.
+//! The outcome of a rule and the effect of an input, not yet signed.
 ghost use Rattle.std.specs.Prelude.{◌≤◌, Some, IfOk};
 ghost use Rattle.iss_keys.specs.KeyStates.{left_of};
 ghost use Rattle.sb_hotstuff.specs.Internal.Instances.{IsSigned};
-ghost use Rattle.sb_hotstuff.specs.Steps.{IsAnswer, IsQuiet};
+ghost use Rattle.sb_hotstuff.specs.Steps.{IsAlone, IsAnswer, IsQuiet};
 
 use crate::hotstuff::HotStuff;
 use hs_tree::Message;
 use hs_views::{Draft, send};
 use iss_keys::Keys;
-use iss_request::{Batch, Bytes, NoMemory, Seq, Slot};
+use iss_request::{Batch, Bytes, NoMemory, Seq, Slot, Value};
 use iss_sb::Effects;
 use sb_context::Context;
 use std::alloc::Global;
@@ -43,27 +43,47 @@ impl Outcome {
             hashed: Seq::new(alloc),
         }
     }
+}
 
-    /// The effects: the answer, then the proposal, each signed with the next leaf; and the batch that was accepted. The
-    /// only error is out of memory.
+/// The effect of an input: the outcome of its rule, the batch that is accepted, and what is delivered.
+#[derive(Drop)]
+pub struct Taken {
+    pub outcome: Outcome,
+    pub accepted: Option<(Slot, Batch)>,
+    pub delivers: Seq<(Slot, Value)>,
+}
+
+impl Taken {
+    /// An outcome, with nothing accepted or delivered.
+    pub fn of(alloc: Global, outcome: Outcome) -> Taken
+        ensures { IsAlone outcome result }
+    {
+        Taken {
+            outcome,
+            accepted: None,
+            delivers: Seq::new(alloc),
+        }
+    }
+
+    /// The effects: the answer, then the proposal, each signed with the next leaf; and the rest. The only error is out
+    /// of memory.
     pub fn sign(
         self,
         context: &Context<HotStuff>,
-        accepted: Option<(Slot, Batch)>,
         keys: &mut Keys,
     ) -> Result<Effects<Message>, NoMemory>
         requires { 2 ≤ left_of keys.old }
-        ensures { IfOk result (λ e. IsSigned context.now.p.now self accepted keys.old keys.new e) }
+        ensures { IfOk result (λ e. IsSigned context.now.p.now self keys.old keys.new e) }
     {
         let mut sends = Seq::new(context.alloc);
-        send(context.p, self.answer, keys, &mut sends)?;
-        send(context.p, self.proposal, keys, &mut sends)?;
-        let delivers = Seq::new(context.alloc);
+        let outcome = self.outcome;
+        send(context.p, outcome.answer, keys, &mut sends)?;
+        send(context.p, outcome.proposal, keys, &mut sends)?;
         Ok(Effects {
             sends,
-            accepted,
-            delivers,
-            hashed: self.hashed,
+            accepted: self.accepted,
+            delivers: self.delivers,
+            hashed: outcome.hashed,
         })
     }
 }

@@ -11,7 +11,7 @@ use crate::outcomes::Outcome;
 use crate::showing::shown_draft;
 use crate::state::Node;
 use hs_tree::signing::hash_node;
-use hs_tree::{Certificate, Protocol};
+use hs_tree::{Certificate, Poll, Protocol};
 use hs_views::{SignedVote, round_draft, round_of, vote_draft};
 use iss_request::{Batch, NoMemory, NodeId, Slot};
 use iss_sb::{Content, Input};
@@ -23,7 +23,7 @@ const LAST_ROUND: u16 = 65_535;
 impl Node {
     /// A cast, if it is valid: it waits until the turns before it are complete, and then is proposed. The only error is
     /// out of memory.
-    pub fn take_cast(
+    pub fn queue_cast(
         &mut self,
         context: &Context<HotStuff>,
         slot: Slot,
@@ -41,7 +41,7 @@ impl Node {
 
     /// A proposal that passed `may_prepare`: its node becomes known, its view the replica's own, and the answer is a
     /// prepare vote. The only error is out of memory.
-    pub fn take_node(
+    pub fn vote_prepare(
         &mut self,
         context: &Context<HotStuff>,
         view: u32,
@@ -55,7 +55,12 @@ impl Node {
         let parent = just.digest();
         let node = hash_node(context.alloc, context.p, None, &parent, &what)?;
         let digest = node.digest;
-        let draft = vote_draft(context.alloc, Protocol::Basic, context.p, 1, view, digest)?;
+        let poll = Poll {
+            phase: 1,
+            view,
+            digest,
+        };
+        let draft = vote_draft(context.alloc, Protocol::Basic, context.p, poll)?;
         self.tree.add(digest, parent, what)?;
         self.view = view;
         self.second = false;
@@ -69,7 +74,7 @@ impl Node {
 
     /// A PreCommit of the replica's own view: its prepareQC becomes the highest one, and the answer is a pre-commit
     /// vote. Otherwise nothing changes. The only error is out of memory.
-    pub fn take_pre_commit(
+    pub fn vote_pre_commit(
         &mut self,
         context: &Context<HotStuff>,
         view: u32,
@@ -82,7 +87,12 @@ impl Node {
             return Ok(Outcome::nothing(context.alloc));
         }
         let digest = shown.digest();
-        let draft = vote_draft(context.alloc, Protocol::Basic, context.p, 2, view, digest)?;
+        let poll = Poll {
+            phase: 2,
+            view,
+            digest,
+        };
+        let draft = vote_draft(context.alloc, Protocol::Basic, context.p, poll)?;
         self.high = shown;
         self.second = true;
         Ok(Outcome::of(context.alloc, draft))
@@ -91,7 +101,7 @@ impl Node {
     /// A Commit of the replica's own view: its precommitQC becomes the lock, and the answer is a commit vote. Otherwise
     /// nothing changes. The only error is out of memory.
     // rule: HotStuff: Only a certificate of the second phase becomes the lock, which never decreases
-    pub fn take_commit(
+    pub fn vote_commit(
         &mut self,
         context: &Context<HotStuff>,
         view: u32,
@@ -104,7 +114,12 @@ impl Node {
             return Ok(Outcome::nothing(context.alloc));
         }
         let digest = shown.digest();
-        let draft = vote_draft(context.alloc, Protocol::Basic, context.p, 3, view, digest)?;
+        let poll = Poll {
+            phase: 3,
+            view,
+            digest,
+        };
+        let draft = vote_draft(context.alloc, Protocol::Basic, context.p, poll)?;
         self.lock = shown;
         self.third = true;
         Ok(Outcome::of(context.alloc, draft))
@@ -112,7 +127,7 @@ impl Node {
 
     /// A vote for one of the leader's own turns. Exactly a quorum is broadcast as a certificate. After the first and
     /// the last phase the next turn is tried. The only error is out of memory.
-    pub fn take_vote(
+    pub fn count_vote(
         &mut self,
         context: &Context<HotStuff>,
         from: NodeId,
@@ -120,23 +135,20 @@ impl Node {
     ) -> Result<Outcome, NoMemory>
         ensures { IfOk result (λ o. (s : State) → RefinesState self.old s →
             Does context.now.p.now self.old self.new s
-            (Input.Receive from (Vote vote.phase vote.view vote.digest vote.sig)) o) }
+            (Input.Receive from (Vote vote.poll.phase vote.poll.view vote.poll.digest vote.sig)) o) }
     {
-        let phase = vote.phase;
-        let view = vote.view;
-        let digest = vote.digest;
-        if !self.keeps_vote(context, from, phase, view, &digest) {
+        let poll = vote.poll;
+        let phase = poll.phase;
+        if !self.keeps_vote(context, from, &poll) {
             return Ok(Outcome::nothing(context.alloc));
         }
-        self.votes.keep(from.0, phase, view, digest, vote.sig)?;
-        if !self.is_reached(context, phase, view, &digest) {
+        self.votes.keep(from.0, poll, vote.sig)?;
+        if !self.is_reached(context, &poll) {
             return Ok(Outcome::nothing(context.alloc));
         }
         let n = context.p.setup.n as u8;
-        let shown = self
-            .votes
-            .certificate(context.alloc, n, phase, view, &digest)?;
-        let draft = shown_draft(context.alloc, context.p, phase, view, shown)?;
+        let shown = self.votes.certificate(context.alloc, n, &poll)?;
+        let draft = shown_draft(context.alloc, context.p, phase, poll.view, shown)?;
         if phase == 2 {
             return Ok(Outcome::of(context.alloc, draft));
         }
@@ -147,7 +159,7 @@ impl Node {
 
     /// A NewView for a round that the replica leads. Exactly a quorum leads to the round's first turn. The only error
     /// is out of memory.
-    pub fn take_new_view(
+    pub fn count_new_view(
         &mut self,
         context: &Context<HotStuff>,
         from: NodeId,
@@ -170,7 +182,7 @@ impl Node {
     /// The round times out. The replica enters the next round, if there is one, and sends its leader the highest
     /// prepareQC. The only error is out of memory.
     // rule: HotStuff: A timeout enters the next round and tells its leader the highest certificate
-    pub fn time_out(&mut self, context: &Context<HotStuff>) -> Result<Outcome, NoMemory>
+    pub fn enter_next_round(&mut self, context: &Context<HotStuff>) -> Result<Outcome, NoMemory>
         ensures { IfOk result (λ o. (s : State) → RefinesState self.old s →
             Does context.now.p.now self.old self.new s Input.Timeout o) }
     {

@@ -35,7 +35,7 @@ use Rattle.sb_chained.specs.Chained.{chained, makes}
 use Rattle.sb_chained.specs.Facts.{IsAt, IsCertified, IsCommitted, IsVoted}
 use Rattle.sb_chained.specs.Rules.{node_digest}
 use Rattle.sb_chained.proofs.Examples.ByzantineLeader.{Arrives, alone, batch_held, by, cites, good-q, honest, liar, q, sent, shown-spelled, signs, states, told, voted}
-use Rattle.sb_chained.proofs.Examples.ReachableWorld.{IsOne, c2, c3, d1, d2, d3, each-list, list1, list2, list3, list4, node1, node2, node3, node5, one-empty, pairs, reached as reached-before, second-vote, strings1, strings2, strings3, these-differ, third-vote, value}
+use Rattle.sb_chained.proofs.Examples.ReachableWorld.{IsOne, c2, c3, d1, d2, d3, each-list, list3, list4, node1, node2, node3, node5, one-empty, pairs, reached as reached-before, second-vote, strings1, strings2, strings3, these-differ, third-vote, value}
 use Rattle.sb_chained.proofs.Examples.Runs.{b, node}
 use Rattle.sb_chained.proofs.Safety.WorldsAreBroadcasts.{chained-safe}
 

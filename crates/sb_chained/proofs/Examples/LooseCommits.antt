@@ -27,14 +27,14 @@ use Rattle.hs_tree.specs.declared.certificates.Certificate.TheVariants.{Root}
 use Rattle.hs_tree.specs.declared.messages.Message.{Message}
 use Rattle.hs_tree.specs.declared.messages.Message.TheVariants.{Prepare}
 use Rattle.hs_tree.specs.Certificates.{root_row}
-use Rattle.hs_tree.specs.Statements.{claims, own_statement}
+use Rattle.hs_tree.specs.Statements.{own_statement}
 use Rattle.hs_tree.specs.Tree.{chained as form, root, viewed_string}
 use Rattle.hs_tree.proofs.MessageGrammar.{spelled-read}
 use Rattle.hs_views.proofs.SmallWorlds.{IsOneOf, all_differ, one-takes, separate-by, starts, two-takes, world, zero-takes}
 use Rattle.sb_chained.specs.Chained.{makes}
 use Rattle.sb_chained.specs.Variants.{IsNotSafe, loose}
 use Rattle.sb_chained.proofs.Examples.ByzantineLeader.{and_own, alone, batch_held, cites, good-setup, liar, q, sent, shown, shown-spelled, signs, states, told, voted}
-use Rattle.sb_chained.proofs.Examples.Runs.{b, setup}
+use Rattle.sb_chained.proofs.Examples.Runs.{b}
 
 good : IsGoodParams loose q
 good = record {

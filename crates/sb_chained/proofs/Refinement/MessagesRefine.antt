@@ -28,11 +28,12 @@ use Rattle.sb_chained.specs.declared.state.Node.{Node}
 use Rattle.hs_views.specs.Accepted.{AreAccepted, Adds, at_slot, what_at}
 use Rattle.sb_chained.specs.Chained.{decides, drafts, offered, proposals, strings, strings_at, turn_strings, value_on, voted}
 use Rattle.sb_chained.specs.Drafts.{AreDrafts}
-use Rattle.sb_chained.specs.Internal.Instances.{Does, IsDelivered, IsShown, Makes, Takes, TakesNode, asked_in}
+use Rattle.hs_views.specs.Delivered.{IsDelivered}
+use Rattle.sb_chained.specs.Internal.Instances.{Does, IsShown, Makes, Takes, TakesNode, asked_in}
 use Rattle.sb_chained.specs.Rules.{State, after, certificate, committed_by, find, first_high, is_allowed, is_reached, is_safe, is_usable, keeps_news, keeps_vote, may_cast, may_prepare, next_turn, node_digest, noted, slots_below, turn_on, with_news, with_node, with_shown, with_turn, with_vote}
 use Rattle.hs_views.specs.Views.{Turn, round_of}
 use Rattle.sb_chained.specs.Refines.{IsAlone, RefinesState, IsQuiet, Proposes}
-use Rattle.sb_chained.proofs.Refinement.StepEffectsAgree.{at-inside, what-inside}
+use Rattle.hs_views.proofs.BranchesDelivered.{at-inside, what-inside}
 
 quiet-draft : (p : Params) (t : Taken) (o : Outcome) → IsAlone o t → IsQuiet o → AreDrafts p t.outcome.draft []
 quiet-draft p t o alone quiet = subst (λ (z : Option Draft). AreDrafts p z []) (sym (ap (λ (z : Outcome). z.draft) alone.outcome ∙ quiet.draft)) refl

@@ -1,8 +1,8 @@
 -- A step of the code is one of the definitions.
-use Rattle.std.proofs.Common.{◌≡◌, ◌≤◌, ℕ, ◌+◌, ◌||◌, Bool, true, false, if◌then◌else◌, List, [], ◌++◌, length, drop, take, Option, Some, None, is_some, refl, sym, ap, ◌∙◌, subst, inl, inr, true≢false, arith}
+use Rattle.std.proofs.Common.{◌≡◌, ◌≤◌, ℕ, ◌+◌, Bool, true, false, if◌then◌else◌, List, ◌++◌, length, Option, Some, None, refl, sym, ap, ◌∙◌, subst, arith}
 use Rattle.std.specs.Prelude.{IfSome, IsTrue, ◌↔◌}
 use Rattle.iss_base.specs.Lists.{In, first_of}
-use Rattle.iss_base.proofs.Lists.{first_of-none, none-some, or-flip}
+use Rattle.iss_base.proofs.Lists.{none-some}
 use Rattle.iss_keys.specs.Directories.{AreKeysOf}
 use Rattle.iss_keys.specs.KeyStates.{KeyState, left_of}
 use Rattle.iss_request.specs.declared.ids.NodeId.{NodeId}
@@ -13,99 +13,28 @@ use Rattle.iss_sb.specs.declared.effects.Effects.{Effects}
 use Rattle.iss_sb.specs.declared.effects.Input.{Input}
 use Rattle.iss_sb.specs.declared.effects.Input.TheVariants.{Cast, Receive, Timeout}
 use Rattle.iss_sb.specs.declared.effects.Params.{Params}
-use Rattle.iss_sb.specs.Calls.{AllIn, Delivers, IsGoodParams, IsTaken, IsTrueStep, has_slot, slots_of}
+use Rattle.iss_sb.specs.Calls.{AllIn, Delivers, IsGoodParams, IsTaken, IsTrueStep, slots_of}
 use Rattle.iss_sb.specs.Evidence.{Item, accepts, and_then, delivered, one_or_none}
-use Rattle.iss_sb.proofs.Delivered.{Delivers-from, Delivers-nothing, delivered-decided}
-use Rattle.iss_sb.specs.declared.content.Content.{Content}
-use Rattle.iss_sb.specs.declared.content.Content.TheVariants.{Nil, Holds, Mark}
+use Rattle.iss_sb.proofs.Delivered.{delivered-decided}
 use Rattle.hs_tree.specs.declared.messages.Message.{Message}
-use Rattle.hs_tree.specs.Known.{values}
-use Rattle.hs_tree.specs.Tree.{chained as form, filled, value_at_slot}
-use Rattle.hs_tree.proofs.Branches.{length-values}
+use Rattle.hs_tree.specs.Tree.{chained as form}
 use Rattle.sb_chained.specs.declared.chained.Chained.{Chained}
 use Rattle.sb_chained.specs.declared.outcomes.Taken.{Taken}
-use Rattle.hs_views.specs.Accepted.{AreAccepted, at_slot, what_at}
+use Rattle.hs_views.specs.Accepted.{AreAccepted}
 use Rattle.sb_chained.specs.Chained.{asks, chained, decided, decides, drafts, state, strings}
-use Rattle.iss_sb.specs.Paired.{paired, value_with}
 use Rattle.sb_chained.specs.Drafts.{AreDrafts}
 use Rattle.hs_views.specs.Drafts.{count_of}
-use Rattle.sb_chained.specs.Internal.Instances.{Does, IsBranch, IsDelivered, IsSigned, Refines, Takes, asked_in}
+use Rattle.hs_views.specs.Delivered.{IsDelivered}
+use Rattle.sb_chained.specs.Internal.Instances.{Does, IsSigned, Refines, Takes, asked_in}
 use Rattle.sb_chained.specs.Rules.{State, after, may_cast}
 use Rattle.sb_chained.specs.Refines.{RefinesState}
-use Rattle.iss_sb.proofs.Paired.{fresh-ascending}
-use Rattle.hs_views.proofs.DeliveredSlotsAgree.{branch-value, fresh-value, or-within, slots-more, value-fresh, value-some}
+use Rattle.hs_views.proofs.BranchesDelivered.{delivers-now, reached-now}
 use Rattle.hs_views.proofs.DraftsAgree.{count-few, drafts-long}
 
 -- ---- Decisions are stable, so a slot is delivered if it is decided
 
 pub delivered-is : (p : Params) (me : ℕ) (xs : List (Item Message)) (n : ℕ) → delivered chained p me xs n ≡ decided p me xs n
 delivered-is p me xs n = delivered-decided chained p me (λ s. refl) (λ xs y s x h. ap (λ (o : Option Value). first_of o (decides p me (state p me xs) y.input s)) h) xs n
-
--- nothing is decided anew
-module _ (p : Params) (m : Chained) (i : Input Message) (e : Effects Message) (me : ℕ) (xs : List (Item Message)) (st : Refines m p me xs) (quiet : (k : ℕ) → decides p me (state p me xs) i k ≡ None) where
-  still : (k : ℕ) → first_of (decided p me xs k) (decides p me (state p me xs) i k) ≡ decided p me xs k
-  still k = ap (λ (r : Option Value). first_of (decided p me xs k) r) (quiet k) ∙ first_of-none (decided p me xs k)
-
-  pub none-reached : (k : ℕ) → is_some (first_of (decided p me xs k) (decides p me (state p me xs) i k)) ≡ has_slot k (take m.delivered p.slots)
-  none-reached k = ap (λ (r : Option Value). is_some r) (still k) ∙ st.reached k
-
-  pub none-delivered : e.delivers ≡ [] → (leaf : ℕ) → Delivers chained p me xs (and_then chained p me xs i leaf) e.delivers
-  none-delivered nothing leaf = subst (λ (z : List (Slot × Value)). Delivers chained p me xs (and_then chained p me xs i leaf) z) (sym nothing)
-      (Delivers-nothing chained p me xs i leaf (λ t x h none. none-some x (sym none ∙ delivered-is p me xs t.0 ∙ sym (still t.0) ∙ h)))
-
--- the branch of a node is decided
-module _ (p : Params) (good : IsGoodParams chained p) (m : Chained) (i : Input Message) (e : Effects Message) (me : ℕ) (xs : List (Item Message)) (st : Refines m p me xs) (cs : List Content)
-    (decides-is : (k : ℕ) → decides p me (state p me xs) i k ≡ value_at_slot cs 0 p.slots k) (ds : e.delivers ≡ paired (drop m.delivered p.slots) (drop m.delivered (values cs))) where
-  abbrev old : ℕ → Option Value
-  old k = decided p me xs k
-
-  now-is : (k : ℕ) → first_of (old k) (decides p me (state p me xs) i k) ≡ first_of (old k) (value_with k p.slots (values cs))
-  now-is k = ap (λ (r : Option Value). first_of (old k) r) (decides-is k ∙ branch-value k cs p.slots)
-
-  some-first : (a b : Option Value) → is_some (first_of a b) ≡ (is_some a || is_some b)
-  some-first None b = refl
-  some-first (Some x) b = refl
-
-  now-some : (k : ℕ) → is_some (first_of (old k) (decides p me (state p me xs) i k)) ≡ (has_slot k (take m.delivered p.slots) || has_slot k (take (filled cs) p.slots))
-  now-some k =
-      ap (λ (r : Option Value). is_some r) (now-is k) ∙ some-first (old k) (value_with k p.slots (values cs))
-      ∙ (λ j. st.reached k j || value-some k p.slots (values cs) j) ∙ ap (λ (z : ℕ). has_slot k (take m.delivered p.slots) || has_slot k (take z p.slots)) (length-values cs)
-
-  pub low-reached : filled cs ≤ m.delivered → (k : ℕ) → is_some (first_of (old k) (decides p me (state p me xs) i k)) ≡ has_slot k (take m.delivered p.slots)
-  low-reached le k = now-some k ∙ or-within (has_slot k (take m.delivered p.slots)) _ (slots-more k (filled cs) m.delivered p.slots le)
-
-  pub high-reached : m.delivered ≤ filled cs → (k : ℕ) → is_some (first_of (old k) (decides p me (state p me xs) i k)) ≡ has_slot k (take (filled cs) p.slots)
-  high-reached le k = now-some k ∙ or-flip _ (has_slot k (take (filled cs) p.slots)) ∙ or-within (has_slot k (take (filled cs) p.slots)) _ (slots-more k m.delivered (filled cs) p.slots le)
-
-  none-of : (o : Option Value) → is_some o ≡ false → o ≡ None
-  none-of None h = refl
-  none-of (Some x) h = absurd (true≢false h)
-
-  first-new : (a b : Option Value) (x : Value) → a ≡ None → first_of a b ≡ Some x → b ≡ Some x
-  first-new None b x e h = h
-  first-new (Some y) b x e h = absurd cc
-
-  first-none : (a b : Option Value) (x : Value) → a ≡ None → b ≡ Some x → first_of a b ≡ Some x
-  first-none None b x e h = h
-  first-none (Some y) b x e h = absurd cc
-
-  pub branch-delivered : (leaf : ℕ) → Delivers chained p me xs (and_then chained p me xs i leaf) e.delivers
-  branch-delivered leaf = subst (λ (z : List (Slot × Value)). Delivers chained p me xs (and_then chained p me xs i leaf) z) (sym ds)
-      (Delivers-from chained p me xs i leaf (paired (drop m.delivered p.slots) (drop m.delivered (values cs))) (fresh-ascending 0 m.delivered p.slots (drop m.delivered (values cs)) good.ascending)
-      (λ t x. (λ h. there t x h, λ h. fresh t x h.0 h.1)))
-    where
-      there : (t : Slot) (x : Value) → In {A = Slot × Value} (t, x) (paired (drop m.delivered p.slots) (drop m.delivered (values cs))) →
-          (first_of (old t.0) (decides p me (state p me xs) i t.0) ≡ Some x) × (delivered chained p me xs t.0 ≡ None)
-      there t x h =
-          let r = fresh-value 0 m.delivered t x p.slots (values cs) good.ascending h in
-          let none = none-of (old t.0) (st.reached t.0 ∙ r.1) in
-          (now-is t.0 ∙ first-none (old t.0) _ x none r.0, delivered-is p me xs t.0 ∙ none)
-
-      fresh : (t : Slot) (x : Value) → first_of (old t.0) (decides p me (state p me xs) i t.0) ≡ Some x → delivered chained p me xs t.0 ≡ None →
-          In {A = Slot × Value} (t, x) (paired (drop m.delivered p.slots) (drop m.delivered (values cs)))
-      fresh t x h none =
-          let was = sym (delivered-is p me xs t.0) ∙ none in
-          value-fresh m.delivered t x p.slots (values cs) (first-new (old t.0) _ x was (sym (now-is t.0) ∙ h)) (sym (st.reached t.0) ∙ ap (λ (r : Option Value). is_some r) was)
 
 -- ---- a step: the effect of the input, signed
 
@@ -134,26 +63,12 @@ module _ (p : Params) (good : IsGoodParams chained p) (m n : Chained) (i : Input
     accepted-is : t.accepted ≡ asks p me xs i
     accepted-is = takes.asked s (accepts xs) st.keeps st.batches ∙ ap (λ (k : ℕ). asked_in p k s (accepts xs) i) st.node ∙ asked-is p me xs i
 
-    reached-now : IsDelivered p m.delivered n.delivered t.delivers (decides p me s i) → (k : ℕ) → is_some (first_of (decided p me xs k) (decides p me s i k)) ≡ has_slot k (take n.delivered p.slots)
-    reached-now (inl none) k = none-reached p m i e me xs st none.decides k ∙ ap (λ (z : ℕ). has_slot k (take z p.slots)) (sym none.same)
-    reached-now (inr b) k = elim b.1.up_to [
-      | inl low ↦ low-reached p good m i (given b.0 b.1) me xs st b.0 b.1.decides refl low.0 k ∙ ap (λ (z : ℕ). has_slot k (take z p.slots)) (sym low.1)
-      | inr high ↦ high-reached p good m i (given b.0 b.1) me xs st b.0 b.1.decides refl high.0 k ∙ ap (λ (z : ℕ). has_slot k (take z p.slots)) (sym high.1)
-    ]
-      where
-        given : (cs : List Content) → IsBranch p m.delivered n.delivered t.delivers (decides p me s i) cs → Effects Message
-        given cs b = record { sends = []; accepted = None; delivers = paired (drop m.delivered p.slots) (drop m.delivered (values cs)); hashed = [] }
-
-    delivers-now : (leaf : ℕ) → IsDelivered p m.delivered n.delivered t.delivers (decides p me s i) → Delivers chained p me xs (and_then chained p me xs i leaf) e.delivers
-    delivers-now leaf (inl none) = none-delivered p m i e me xs st none.decides (signed.delivers ∙ none.delivers) leaf
-    delivers-now leaf (inr b) = branch-delivered p good m i e me xs st b.0 b.1.decides (signed.delivers ∙ b.1.delivers) leaf
-
     stands-then : (leaf : ℕ) → Refines n p me (and_then chained p me xs i leaf)
     stands-then leaf = record {
       node = ap (λ (z : NodeId). z.0) d.node ∙ st.node;
       keeps = subst (λ (k : ℕ). RefinesState p n.node (after p k s i)) st.node d.state;
       batches = subst (λ (z : Option (Slot × Batch)). AreAccepted n.accepted (one_or_none z ++ accepts xs)) accepted-is (takes.more (accepts xs) st.batches);
-      reached = reached-now delivered_so;
+      reached = reached-now chained p good.ascending me xs i (λ k. decided p me xs k) (λ k. decides p me s i k) (λ k. delivered-is p me xs k) (λ leaf k. refl) m.delivered st.reached n.delivered t.delivers delivered_so;
     }
 
     takes-it : AreKeysOf me p.setup.keys before → IsTaken chained p me xs i before.used e
@@ -161,7 +76,8 @@ module _ (p : Params) (good : IsGoodParams chained p) (m n : Chained) (i : Input
       sends = signed.sends me (drafts p me s i) own drafted;
       accepted = signed.accepts ∙ accepted-is;
       hashed = signed.hashed ∙ subst (λ (k : ℕ). t.outcome.hashed ≡ strings p k s i) st.node d.hashed;
-      delivers = delivers-now before.used delivered_so;
+      delivers = subst (λ (z : List (Slot × Value)). Delivers chained p me xs (and_then chained p me xs i before.used) z) (sym signed.delivers)
+          (delivers-now chained p good.ascending me xs i (λ k. decided p me xs k) (λ k. decides p me s i k) (λ k. delivered-is p me xs k) (λ leaf k. refl) m.delivered st.reached n.delivered t.delivers before.used delivered_so);
     }
 
     uses : later.used ≡ before.used + length (drafts p me s i)
@@ -189,15 +105,6 @@ module _ (p : Params) (good : IsGoodParams chained p) (m n : Chained) (i : Input
         };
         enough = enough;
       }
-
-pub at-inside : (b : Batch) (o : Option Slot) (ss : List Slot) → IfSome o (λ s. In s ss) → IfSome (at_slot b o) (λ x. In x.0 ss)
-at-inside b None ss h = tt
-at-inside b (Some s) ss h = h
-
-pub what-inside : (what : Content) (o : Option Slot) (ss : List Slot) → IfSome o (λ s. In s ss) → IfSome (what_at what o) (λ x. In x.0 ss)
-what-inside Nil o ss h = tt
-what-inside (Holds b) o ss h = at-inside b o ss h
-what-inside Mark o ss h = tt
 
 -- ---- Whether a cast is valid
 

@@ -1,6 +1,6 @@
 -- When an instance of the code refines a list of inputs, and what the parts of its steps give: a certificate that is
 -- seen, a rule, the batch that is accepted, and what is delivered.
-use Rattle.std.specs.Prelude.{◌≡◌, ◌≤◌, ◌⊎◌, ℕ, ◌+◌, List, [], take, drop, Option, Some, None, is_some, IfSome, if◌then◌else◌}
+use Rattle.std.specs.Prelude.{◌≡◌, ℕ, ◌+◌, List, take, Option, Some, None, is_some, IfSome, if◌then◌else◌}
 use Rattle.iss_base.specs.Lists.{In}
 use Rattle.iss_keys.specs.Directories.{AreKeysOf}
 use Rattle.iss_keys.specs.KeyStates.{KeyState}
@@ -17,15 +17,14 @@ use Rattle.iss_sb.specs.Evidence.{Item, accepts, one_or_none}
 use Rattle.iss_sb.specs.declared.content.Content.{Content}
 use Rattle.hs_tree.specs.declared.certificates.Certificate.{Certificate}
 use Rattle.hs_tree.specs.declared.messages.Message.{Message}
-use Rattle.hs_tree.specs.Known.{values}
-use Rattle.hs_tree.specs.Tree.{Node as Tree_node, filled, value_at_slot}
+use Rattle.hs_tree.specs.Tree.{Node as Tree_node}
 use Rattle.sb_chained.specs.declared.chained.Chained.{Chained}
 use Rattle.sb_chained.specs.declared.outcomes.Outcome.{Outcome}
 use Rattle.sb_chained.specs.declared.outcomes.Taken.{Taken}
 use Rattle.sb_chained.specs.declared.state.Node.{Node}
 use Rattle.hs_views.specs.Accepted.{AreAccepted, Adds}
+use Rattle.hs_views.specs.Delivered.{IsDelivered}
 use Rattle.sb_chained.specs.Chained.{asked_by, decided, decides, drafts, sign_all, state, strings, strings_at, value_on, voted}
-use Rattle.iss_sb.specs.Paired.{paired}
 use Rattle.sb_chained.specs.Drafts.{AreDrafts}
 use Rattle.hs_views.specs.Drafts.{count_of}
 use Rattle.sb_chained.specs.Links.{digest_at}
@@ -49,23 +48,6 @@ pub record IsSigned (p : Params) (t : Taken) (before later : KeyState) (e : Effe
   pub delivers : e.delivers ≡ t.delivers
   pub hashed : e.hashed ≡ t.outcome.hashed
   pub used : later ≡ record before { used = before.used + count_of t.outcome.draft }
-
--- the values f are those of a branch: what lies after the first `old` slots is delivered, up to the branch's end
-pub record IsBranch (p : Params) (old new : ℕ) (ds : List (Slot × Value)) (f : ℕ → Option Value)
-    (cs : List Content) : Type 0 where
-  pub decides : (n : ℕ) → f n ≡ value_at_slot cs 0 p.slots n
-  pub delivers : ds ≡ paired (drop old p.slots) (drop old (values cs))
-  pub up_to : ((filled cs ≤ old) × (new ≡ old)) ⊎ ((old ≤ filled cs) × (new ≡ filled cs))
-
--- nothing is decided
-pub record IsNone (old new : ℕ) (ds : List (Slot × Value)) (f : ℕ → Option Value) : Type 0 where
-  pub decides : (n : ℕ) → f n ≡ None
-  pub delivers : ds ≡ []
-  pub same : new ≡ old
-
--- nothing is decided, or a branch is
-abbrev pub IsDelivered : Params → ℕ → ℕ → List (Slot × Value) → (ℕ → Option Value) → Type 0
-IsDelivered p old new ds f = IsNone old new ds f ⊎ ((cs : List Content) × IsBranch p old new ds f cs)
 
 -- the branch of the node with this digest, if there is one, is delivered
 pub record IsDeciding (p : Params) (m n : Chained) (decided : Option (List ℕ)) (ds : List (Slot × Value)) : Type 0 where

@@ -55,6 +55,11 @@ module _ (p : Params) (old new : Node) (s : State) (i : Input Message) (o : Outc
   pub led : (mid : Node) (k : State) (t : Option Turn) → kept p old.me.0 s i ≡ k → proposed p old.me.0 s k i ≡ t → answers p s k i ≡ [] → taken_of p s i ≡ [] → mid.me ≡ old.me → Proposes p mid new k t o → Does p old new s i o
   led mid k t ek et ea es me d = does k t [] [] ek et ea es (d.node ∙ me) d.state (none o.answer d.answer) d.proposal d.hashed
 
+-- nothing
+pub idle : (p : Params) (m : Node) (s : State) (i : Input Message) (o : Outcome) → kept p m.me.0 s i ≡ s → proposed p m.me.0 s s i ≡ None → answers p s s i ≡ [] → taken_of p s i ≡ [] → RefinesState m s → IsQuiet o → Does p m m s i o
+idle p m s i o ek et ea es h quiet =
+    does p m m s i o s None [] [] ek et ea es refl h (none p m m s i o o.answer quiet.answer) (none p m m s i o o.proposal quiet.proposal) quiet.hashed
+
 -- ---- The cases of a test
 
 when : {A : Type 0} (b : Bool) (x y : A) → b ≡ true → (if b then x else y) ≡ x

@@ -1,10 +1,7 @@
--- The messages of an outcome are signed with the next leaves.
+-- The messages of what was taken are signed with the next leaves.
 use Rattle.std.proofs.Common.{◌≡◌, ℕ, suc, ◌+◌, ◌-◌, ◌^◌, ◌<◌, ◌≤◌, List, [], ◌∷◌, ◌++◌, length, Option, refl, sym, ap, ◌∙◌, arith}
 use Rattle.iss_keys.specs.Directories.{AreKeysOf}
 use Rattle.iss_keys.specs.KeyStates.{KeyState, left_of}
-use Rattle.iss_request.specs.declared.ids.Slot.{Slot}
-use Rattle.iss_request.specs.declared.requests.Batch.{Batch}
-use Rattle.iss_request.specs.declared.requests.Value.{Value}
 use Rattle.iss_sb.specs.declared.effects.Params.{Params}
 use Rattle.iss_sb.specs.declared.effects.To.{To}
 use Rattle.iss_sb.specs.Calls.{AreToNodes}
@@ -12,7 +9,7 @@ use Rattle.iss_sb.specs.Statements.{signature}
 use Rattle.hs_tree.specs.declared.messages.Message.{Message}
 use Rattle.hs_tree.specs.Statements.{own_statement, with_signature}
 use Rattle.hs_tree.specs.Tree.{basic}
-use Rattle.sb_hotstuff.specs.declared.outcomes.Outcome.{Outcome}
+use Rattle.sb_hotstuff.specs.declared.outcomes.Taken.{Taken}
 use Rattle.hs_views.specs.declared.drafts.Draft.{Draft}
 use Rattle.sb_hotstuff.specs.Drafts.{AreDrafts}
 use Rattle.hs_views.specs.Drafts.{count_of}
@@ -51,25 +48,25 @@ same-owner me height before mid count h own = record { own = ap (λ (k : KeyStat
 add : (a b c : ℕ) → a + b + c ≡ a + (b + c)
 add a b c = omega arith
 
-module _ (p : Params) (o : Outcome) (before mid later : KeyState) (empty first second : List (To × Message)) (e : empty ≡ [])
-    (one : (me : ℕ) (xs : List (To × Message)) → AreKeysOf me p.setup.keys before → AreDrafts p o.answer xs → first ≡ empty ++ sign_all p me before.used xs)
-    (two : (me : ℕ) (ys : List (To × Message)) → AreKeysOf me p.setup.keys mid → AreDrafts p o.proposal ys → second ≡ first ++ sign_all p me mid.used ys)
-    (used : mid ≡ record before { used = before.used + count_of o.answer }) (again : later ≡ record mid { used = mid.used + count_of o.proposal }) where
-  sends : (me : ℕ) (xs ys : List (To × Message)) → AreKeysOf me p.setup.keys before → AreDrafts p o.answer xs → AreDrafts p o.proposal ys → second ≡ sign_all p me before.used (xs ++ ys)
+module _ (p : Params) (t : Taken) (before mid later : KeyState) (empty first second : List (To × Message)) (e : empty ≡ [])
+    (one : (me : ℕ) (xs : List (To × Message)) → AreKeysOf me p.setup.keys before → AreDrafts p t.outcome.answer xs → first ≡ empty ++ sign_all p me before.used xs)
+    (two : (me : ℕ) (ys : List (To × Message)) → AreKeysOf me p.setup.keys mid → AreDrafts p t.outcome.proposal ys → second ≡ first ++ sign_all p me mid.used ys)
+    (used : mid ≡ record before { used = before.used + count_of t.outcome.answer }) (again : later ≡ record mid { used = mid.used + count_of t.outcome.proposal }) where
+  sends : (me : ℕ) (xs ys : List (To × Message)) → AreKeysOf me p.setup.keys before → AreDrafts p t.outcome.answer xs → AreDrafts p t.outcome.proposal ys → second ≡ sign_all p me before.used (xs ++ ys)
   sends me xs ys own dx dy =
-      let leaf : mid.used ≡ before.used + length xs = ap (λ (k : KeyState). k.used) used ∙ ap (λ (n : ℕ). before.used + n) (drafts-long basic p o.answer xs dx) in
-      two me ys (same-owner me p.setup.keys before mid (count_of o.answer) used own) dy
+      let leaf : mid.used ≡ before.used + length xs = ap (λ (k : KeyState). k.used) used ∙ ap (λ (n : ℕ). before.used + n) (drafts-long basic p t.outcome.answer xs dx) in
+      two me ys (same-owner me p.setup.keys before mid (count_of t.outcome.answer) used own) dy
       ∙ ap (λ (z : List (To × Message)). z ++ sign_all p me mid.used ys) (one me xs own dx ∙ ap (λ (z : List (To × Message)). z ++ sign_all p me before.used xs) e)
       ∙ ap (λ (n : ℕ). sign_all p me before.used xs ++ sign_all p me n ys) leaf
       ∙ sym (sign-both p me before.used xs ys)
 
-  pub both-signed : (accepted : Option (Slot × Batch)) (delivers : List (Slot × Value)) → delivers ≡ [] → AreToNodes p.setup.n second →
-      IsSigned p o accepted before later (record { sends = second; accepted = accepted; delivers = delivers; hashed = o.hashed })
-  both-signed accepted delivers none to = record {
+  pub both-signed : AreToNodes p.setup.n second → IsSigned p t before later (record { sends = second; accepted = t.accepted; delivers = t.delivers; hashed = t.outcome.hashed })
+  both-signed to = record {
     sends = sends;
     addressed = to;
     accepts = refl;
-    delivers = none;
+    delivers = refl;
     hashed = refl;
-    used = again ∙ ap (λ (k : KeyState). record k { used = k.used + count_of o.proposal }) used ∙ ap (λ (n : ℕ). record before { used = n }) (add before.used (count_of o.answer) (count_of o.proposal));
+    used = again ∙ ap (λ (k : KeyState). record k { used = k.used + count_of t.outcome.proposal }) used
+        ∙ ap (λ (n : ℕ). record before { used = n }) (add before.used (count_of t.outcome.answer) (count_of t.outcome.proposal));
   }

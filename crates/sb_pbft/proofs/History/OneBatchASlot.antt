@@ -1,5 +1,5 @@
 -- A replica accepts one batch for a slot: only if it has no proposal of view 0 there, and then it has one.
-use Rattle.std.proofs.Common.{◌≡◌, ◌&&◌, ◌∙◌, ℕ, Bool, true, List, [], ◌∷◌, refl, sym, subst, ap, inl, inr, Option, Some, None}
+use Rattle.std.proofs.Common.{◌≡◌, ◌&&◌, ◌∙◌, ℕ, Bool, List, [], ◌∷◌, refl, sym, subst, ap, inl, inr, Option, Some, None}
 use Rattle.std.specs.Prelude.{◌==◌}
 use Rattle.iss_base.specs.Lists.{In, first_of}
 use Rattle.iss_base.proofs.Lists.{some-injective}
@@ -18,7 +18,7 @@ use Rattle.pbft_wire.specs.declared.messages.Message.{Message}
 use Rattle.sb_pbft.specs.Facts.{AreOnce}
 use Rattle.sb_pbft.specs.Makes.{inputs}
 use Rattle.sb_pbft.specs.Pbft.{pbft}
-use Rattle.sb_pbft.specs.Rules.{asked, chosen, mode, offer, offered, proposal, when}
+use Rattle.sb_pbft.specs.Rules.{chosen, mode, offer, offered, proposal, when}
 use Rattle.sb_pbft.proofs.History.AcceptedAndDecided.{IsAsked, asked-is}
 use Rattle.sb_pbft.proofs.Basics.{is-same}
 

@@ -1,10 +1,8 @@
+use Rattle.std.proofs.lemmas.Result.{IfOk-weaker}
+use Rattle.sb_hotstuff.proofs.Refinement.StepEffectsAgree.{true-step}
 use Rattle.sb_hotstuff.proofs.hotstuff.HotStuffSequenced.apply.Goals as goal
 
-pub returns-in-Cast : goal.returns-in-Cast
-returns-in-Cast c = rw c.in-Cast.is (rw c.of-context.ensures at c.cast.ensures)
-
-pub returns-in-Receive : goal.returns-in-Receive
-returns-in-Receive c = rw c.in-Receive.is (rw c.of-context.ensures at c.receive.ensures)
-
-pub returns-in-Timeout : goal.returns-in-Timeout
-returns-in-Timeout c = rw c.in-Timeout.is (rw c.of-context.ensures at c.time_out.ensures)
+pub returns : goal.returns
+returns c =
+    IfOk-weaker c.sign.result _ _
+    (λ e signed. true-step c.args.p.now c.requires.good c.args.self.now c.take.new.self c.args.i c.in_ok-taken.taken c.args.keys.now c.sign.new.keys e c.requires.enough (rw c.of-context.ensures at c.in_ok-taken.ensures) signed) (rw c.of-context.ensures at c.sign.ensures)

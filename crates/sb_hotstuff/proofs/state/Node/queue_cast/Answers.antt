@@ -2,7 +2,7 @@ use Rattle.std.proofs.Common.{refl}
 use Rattle.std.proofs.lemmas.Result.{IfOk-weaker}
 use Rattle.sb_hotstuff.specs.declared.state.Node.{Node}
 use Rattle.sb_hotstuff.proofs.Refinement.InputRefines.{cast-led}
-use Rattle.sb_hotstuff.proofs.state.Node.take_cast.Goals as goal
+use Rattle.sb_hotstuff.proofs.state.Node.queue_cast.Goals as goal
 
 pub returns : goal.returns
 returns c =

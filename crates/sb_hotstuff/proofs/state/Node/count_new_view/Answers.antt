@@ -1,7 +1,7 @@
 use Rattle.std.proofs.Common.{refl}
 use Rattle.std.proofs.lemmas.Result.{IfOk-weaker}
 use Rattle.sb_hotstuff.proofs.Refinement.InputRefines.{news-led}
-use Rattle.sb_hotstuff.proofs.state.Node.take_new_view.Goals as goal
+use Rattle.sb_hotstuff.proofs.state.Node.count_new_view.Goals as goal
 
 pub returns : goal.returns
 returns c =

@@ -1,5 +1,5 @@
 use Rattle.sb_hotstuff.proofs.Refinement.InputRefines.{node-taken}
-use Rattle.sb_hotstuff.proofs.state.Node.take_node.Goals as goal
+use Rattle.sb_hotstuff.proofs.state.Node.vote_prepare.Goals as goal
 
 pub returns : goal.returns
 returns c s from sig h may =
