@@ -1,4 +1,7 @@
 pub mod AnswersRefine
+pub mod EnteredLast
+pub mod EntriesAreKept
+pub mod EntriesCompose
 pub mod OutcomesCompose
 pub mod QueriesAgree
 pub mod ReportsAgree

@@ -7,5 +7,6 @@ pub mod Inputs
 pub mod Parcels
 pub mod Ready
 pub mod Shape
+pub mod Storing
 pub mod Transfers
 pub mod Votes

@@ -1,4 +1,6 @@
+pub mod Entered
 pub mod Flights
 pub mod Internal
+pub mod Saved
 pub mod State
 pub mod Steps

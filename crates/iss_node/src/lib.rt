@@ -12,13 +12,17 @@ pub mod inputs;
 pub mod node;
 pub mod packets;
 pub mod parcels;
+pub mod rebuilding;
 pub mod requests;
+pub mod saved;
 pub mod slims;
 pub mod starting;
 pub mod state;
+pub mod storing;
 pub mod transfer;
 pub mod votes;
 
 pub use answers::{Accepted, Answer, Outcome};
 pub use node::Node;
+pub use rebuilding::{Rebuilding, Rebuilt};
 pub use slims::nodes_stand_for_slims;

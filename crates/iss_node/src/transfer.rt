@@ -63,7 +63,11 @@ impl<M: Sequenced> NodeState<M> {
     }
 
     // The values of an epoch, if the log has all of its slots.
-    fn values_of(&self, alloc: Global, epoch: Epoch) -> Result<Option<Seq<Value>>, NoMemory>
+    pub(crate) fn values_of(
+        &self,
+        alloc: Global,
+        epoch: Epoch,
+    ) -> Result<Option<Seq<Value>>, NoMemory>
         ensures { IfOk result (λ values. values ≡ held_values self.now epoch.0) }
     {
         let Some(slots) = self.slots_of(epoch) else {
@@ -155,8 +159,10 @@ impl<M: Sequenced> NodeState<M> {
         self.apply_deliveries(alloc, delivers, &mut strings)?;
         self.ballots.keep(cert)?;
         let early = self.next_epoch(alloc)?;
+        let bytes = self.entry(alloc, early.as_slice())?;
         let mut outcome = Outcome::nothing(alloc);
         outcome.hashed = strings;
+        outcome.entered = Some(bytes);
         self.take_each(alloc, outcome, early)
     }
 }
@@ -181,7 +187,11 @@ fn copies_of(alloc: Global, values: &[Value]) -> Result<Seq<Value>, NoMemory>
 }
 
 // Values with their slots, which are consecutive from `first` on.
-fn at_slots(alloc: Global, first: Slot, values: Seq<Value>) -> Result<Vec<(Slot, Value)>, NoMemory>
+pub(crate) fn at_slots(
+    alloc: Global,
+    first: Slot,
+    values: Seq<Value>,
+) -> Result<Vec<(Slot, Value)>, NoMemory>
     requires { first.0 + length values < 2 ^ 64 }
     ensures { IfOk result (λ ds. ds.items ≡ at_slots first.0 values) }
 {
@@ -196,7 +206,7 @@ fn at_slots(alloc: Global, first: Slot, values: Seq<Value>) -> Result<Vec<(Slot,
 
 // An outcome that sends one packet to one node.
 fn one_send(alloc: Global, to: NodeId, bytes: Bytes) -> Result<Outcome, NoMemory>
-    ensures { IfOk result (λ o. o ≡ record { sends = (To.One to, bytes) ∷ []; own = []; early = []; hashed = [] }) }
+    ensures { IfOk result (λ o. o ≡ record { sends = (To.One to, bytes) ∷ []; own = []; early = []; hashed = []; entered = None }) }
 {
     let mut outcome = Outcome::nothing(alloc);
     outcome.sends.push((To::One(to), bytes))?;

@@ -29,7 +29,8 @@ use Rattle.iss_rules.specs.Past.{Past, Piece, adopted_at, adopts, before_own, ce
 use Rattle.iss_rules.specs.Rules.{Rules}
 use Rattle.iss_model.specs.Sound.{IsSoundCore}
 use Rattle.iss_node.proofs.EpochEnd.EpochEndRefines.{IsOver}
-use Rattle.iss_node.proofs.Steps.VotesDoNotMatter.{each-held, onward-held, with_turn}
+use Rattle.iss_node.proofs.Steps.EntriesCompose.{entry-of}
+use Rattle.iss_node.proofs.Steps.VotesDoNotMatter.{each-held, held-entered, onward-held, with_turn}
 use Rattle.iss_node.proofs.Instances.ChecksRefine.{goes-trans}
 use Rattle.iss_node.proofs.EpochEnd.LeafIsKept.{lasts-at}
 use Rattle.iss_node.proofs.EpochEnd.NextEpochStarts.{next-parts}
@@ -42,6 +43,7 @@ use Rattle.iss_node.specs.Internal.Inputs.{HasAppliedDeliveries, IsChained}
 use Rattle.iss_node.specs.Internal.Ready.{IsOpen, MayAdopt}
 use Rattle.iss_node.specs.Internal.Shape.{IsNodeState}
 use Rattle.iss_node.specs.State.{RefinesBareCore, RefinesPast, StateView, bare, core_of, seen_early, slot_value}
+use Rattle.iss_node.specs.Entered.{IsEntryOf}
 use Rattle.iss_node.specs.Steps.{IsHeldTurn, IsLater, IsNextEpoch, IsSameNode, IsTurnBehind, IsTurned}
 use Rattle.iss_node.specs.Internal.Transfers.{IsAdoptedBy, at_slots}
 use Rattle.iss_node.specs.declared.answers.Early.{Early}
@@ -297,10 +299,10 @@ module _ {M Msg : Type 0} (m : Module Msg) (refines : M → Params → ℕ → L
 
 -- Votes and certificates do not matter for this.
 pub kept-same : {M Msg : Type 0} (v u w : StateView M Msg) (ballots : BallotsState) → IsLater v u → IsLater (record u { ballots = ballots }) w → IsSameNode v w
-kept-same v u w ballots h g = record { setup = g.setup ∙ h.setup; me = g.me ∙ h.me; log = goes-trans v.log.entries u.log.entries w.log.entries h.log g.log }
+kept-same v u w ballots h g = record { setup = g.setup ∙ h.setup; me = g.me ∙ h.me; saved = g.saved ∙ h.saved; log = goes-trans v.log.entries u.log.entries w.log.entries h.log g.log }
 
 pub same-on : {M Msg : Type 0} (v w x : StateView M Msg) → IsSameNode v w → IsLater w x → IsSameNode v x
-same-on v w x h g = record { setup = g.setup ∙ h.setup; me = g.me ∙ h.me; log = goes-trans v.log.entries w.log.entries x.log.entries h.log g.log }
+same-on v w x h g = record { setup = g.setup ∙ h.setup; me = g.me ∙ h.me; saved = g.saved ∙ h.saved; log = goes-trans v.log.entries w.log.entries x.log.entries h.log g.log }
 
 -- ---- the whole adoption
 
@@ -312,34 +314,48 @@ bare_turn R m me c p =
 
 -- The next epoch starts behind the adopted one.
 module _ {M Msg : Type 0} (m : Module Msg) (refines : M → Params → ℕ → List (Item Msg) → Type 0)
-    (v u w : StateView M Msg) (shape : IsNodeState m v) (p : Sent_piece) (hashed strings : List (List ℕ)) (ballots : BallotsState) (early : List (Early Msg)) (first : Outcome)
+    (v u w : StateView M Msg) (shape : IsNodeState m v) (p : Sent_piece) (hashed strings : List (List ℕ)) (ballots : BallotsState) (early : List (Early Msg))
     (grown : HasAppliedDeliveries v u (at_slots v.plan.start p.values)) (chained : IsChained v u hashed strings)
-    (begun : IsNextEpoch refines (record u { ballots = ballots }) w early) (later : IsLater (record u { ballots = ballots }) w)
-    (is_first : first ≡ record { sends = []; own = []; early = []; hashed = strings }) where
-  first-turn : (past : Past Msg) → RefinesPast m refines v past → IsAdoptable v.setup (voters_of v.setup v.directory) v.log.entries v.epoch p hashed →
-      IsTurned m refines (bare_turn (rules_of v.setup) m v.me.0 (core_of v past) p) w first
-  first-turn past tied told =
-      let g = grown in
-      let chain = chained.joined g.grown.joined g.grown.entries tied.chained in
-      let returns : (all : List ReqId) (bf : List Value) → RefinesNoted v.windows (noted_before bf) → ((x : ReqId) → has_id x all ≡ (has_id x u.logged || has_id x (log_ids bf))) →
-      AreNew (fold waits_on v.waiting g.grown.joined) (absent all (returned (reverse u.log.entries) v.flight.casts)) →
-      u.waiting ≡ fold waits_on v.waiting g.grown.joined ++ absent all (returned (reverse u.log.entries) v.flight.casts) =
-      λ all bf noted members fresh. g.landed.waiting all (record { before = bf; noted = noted; members = members }) fresh in
-      let over = is-over m refines v shape past tied p hashed told u.log g.held g.grown u.chains chain.chained u.waiting u.flight u.logged ballots g.logged g.landed.landed returns in
-      let is = core-is m refines v shape past tied p hashed told u.log g.held g.grown u.chains chain.chained u.waiting u.flight u.logged ballots g.logged g.landed.landed returns in
-      let with_ballots : StateView M Msg → StateView M Msg = λ z. record z { ballots = ballots } in
-      let from : IsNextEpoch refines (record v { log = u.log; chains = u.chains; logged = u.logged; flight = u.flight; waiting = u.waiting; ballots = ballots }) w early =
-      subst (λ (z : StateView M Msg). IsNextEpoch refines z w early) (ap with_ballots g.rest) begun in
-      record {
-        refined = subst (λ (c : Core Msg). RefinesBareCore m refines w c) (sym is) (next-parts m refines _ shape.slots _ _ over w early from);
-        made = record {
-          sends = ap (λ (z : Outcome). z.sends) is_first;
-          own = ap (λ (z : Outcome). z.own) is_first;
-          early = ap (λ (z : Outcome). z.early) is_first;
-          hashed = ap (λ (z : Outcome). z.hashed) is_first ∙ strings-are m refines v shape past tied p hashed told u.log g.held g.grown strings chain.strings;
-        };
-        addressed = subst (λ (xs : List (To × List ℕ)). AreToNodes w.setup.n xs) (sym (ap (λ (z : Outcome). z.sends) is_first)) tt;
-      }
+    (begun : IsNextEpoch refines (record u { ballots = ballots }) w early) (later : IsLater (record u { ballots = ballots }) w) where
+  module _ (past : Past Msg) (tied : RefinesPast m refines v past) (told : IsAdoptable v.setup (voters_of v.setup v.directory) v.log.entries v.epoch p hashed) where
+    -- The adopted core, without votes and certificates.
+    abbrev adopted : Core Msg
+    adopted = bare (adopts_piece (rules_of v.setup) m v.me.0 (core_of v past) p).core
+
+    chain : _
+    chain = chained.joined grown.grown.joined grown.grown.entries tied.chained
+
+    adopted-refined : RefinesBareCore m refines w adopted
+    adopted-refined =
+        let g = grown in
+        let returns : (all : List ReqId) (bf : List Value) → RefinesNoted v.windows (noted_before bf) → ((x : ReqId) → has_id x all ≡ (has_id x u.logged || has_id x (log_ids bf))) →
+        AreNew (fold waits_on v.waiting g.grown.joined) (absent all (returned (reverse u.log.entries) v.flight.casts)) →
+        u.waiting ≡ fold waits_on v.waiting g.grown.joined ++ absent all (returned (reverse u.log.entries) v.flight.casts) =
+        λ all bf noted members fresh. g.landed.waiting all (record { before = bf; noted = noted; members = members }) fresh in
+        let over = is-over m refines v shape past tied p hashed told u.log g.held g.grown u.chains chain.chained u.waiting u.flight u.logged ballots g.logged g.landed.landed returns in
+        let is = core-is m refines v shape past tied p hashed told u.log g.held g.grown u.chains chain.chained u.waiting u.flight u.logged ballots g.logged g.landed.landed returns in
+        let with_ballots : StateView M Msg → StateView M Msg = λ z. record z { ballots = ballots } in
+        let from : IsNextEpoch refines (record v { log = u.log; chains = u.chains; logged = u.logged; flight = u.flight; waiting = u.waiting; ballots = ballots }) w early =
+        subst (λ (z : StateView M Msg). IsNextEpoch refines z w early) (ap with_ballots g.rest) begun in
+        subst (λ (c : Core Msg). RefinesBareCore m refines w c) (sym is) (next-parts m refines _ shape.slots _ _ over w early from)
+
+    pub first-turn : (first : Outcome) (bytes : List ℕ) → IsEntryOf m refines w early bytes → first ≡ record { sends = []; own = []; early = []; hashed = strings; entered = Some bytes } →
+        IsTurned m refines (bare_turn (rules_of v.setup) m v.me.0 (core_of v past) p) w first
+    first-turn first bytes entry is_first = record {
+      refined = adopted-refined;
+      made = record {
+        sends = ap (λ (z : Outcome). z.sends) is_first;
+        own = ap (λ (z : Outcome). z.own) is_first;
+        early = ap (λ (z : Outcome). z.early) is_first;
+        hashed = ap (λ (z : Outcome). z.hashed) is_first ∙ strings-are m refines v shape past tied p hashed told u.log grown.held grown.grown strings chain.strings;
+      };
+      entered = λ votes certs kept.
+          ap (λ (z : Outcome). z.entered) is_first
+          ∙ ap (λ (x : List ℕ). Some x)
+          (entry-of m refines w early bytes entry adopted adopted-refined (seen_early v.early)
+          (ap (λ (xs : List (Early Msg)). seen_early xs) (begun.kept ∙ ap (λ (z : StateView M Msg). z.early) grown.rest)) votes certs kept);
+      addressed = subst (λ (xs : List (To × List ℕ)). AreToNodes w.setup.n xs) (sym (ap (λ (z : Outcome). z.sends) is_first)) tt;
+    }
 
   -- It begins open.
   pub adopted-open : MayAdopt m refines v p hashed → IsOpen m refines w
@@ -347,7 +363,7 @@ module _ {M Msg : Type 0} (m : Module Msg) (refines : M → Params → ℕ → L
       let past = may.refined.0 in
       let tied = may.refined.1 in
       let told = adoption-tells v.setup (voters_of v.setup v.directory) v.log.entries v.epoch p hashed may.found in
-      let there = (first-turn past tied told).refined.tied in
+      let there = (adopted-refined past tied told).tied in
       let setup : w.setup ≡ v.setup = later.setup ∙ ap (λ (z : StateView M Msg). z.setup) grown.rest in
       let log : length w.log.entries ≡ length u.log.entries =
       ap (λ (z : StateView M Msg). length z.log.entries) begun.new_is
@@ -374,7 +390,7 @@ module _ {M Msg : Type 0} (m : Module Msg) (refines : M → Params → ℕ → L
     (grown : HasAppliedDeliveries v u (at_slots v.plan.start p.values)) (chained : IsChained v u hashed strings)
     (keeps : (votes : List Vote) (certs : List Cert) → AreKept u.ballots votes certs → AreKept ballots votes (keeping certs p.cert (cert_on certs p.cert.epoch.0)))
     (begun : IsNextEpoch refines (record u { ballots = ballots }) w early) (later : IsLater (record u { ballots = ballots }) w)
-    (is_first : first ≡ record { sends = []; own = []; early = []; hashed = strings })
+    (bytes : List ℕ) (entry : IsEntryOf m refines w early bytes) (is_first : first ≡ record { sends = []; own = []; early = []; hashed = strings; entered = Some bytes })
     (each : IsTurnBehind m refines w (λ F R me t. then_turn t (takes_each F R m me w.epoch (seen_early early))) first new o) (last : IsLater w new) where
   pub adopted-all : IsAdoptedBy m refines v p hashed new o
   adopted-all c h found =
@@ -386,7 +402,7 @@ module _ {M Msg : Type 0} (m : Module Msg) (refines : M → Params → ℕ → L
       let e = suc c.past.epoch in
       let certs = keeping c.certs p.cert (cert_on c.certs c.past.epoch) in
       let start : Turn Msg = bare_turn R m me (bare c) p in
-      let turned : IsTurned m refines start w first = subst (λ (d : Core Msg). IsTurned m refines (bare_turn R m me d p) w first) (sym h.state.core) (first-turn m refines v u w shape p hashed strings ballots early first grown chained begun later is_first c.past tied told) in
+      let turned : IsTurned m refines start w first = subst (λ (d : Core Msg). IsTurned m refines (bare_turn R m me d p) w first) (sym h.state.core) (first-turn m refines v u w shape p hashed strings ballots early grown chained begun later c.past tied told first bytes entry is_first) in
       let setup : w.setup ≡ v.setup = later.setup ∙ ap (λ (z : StateView M Msg). z.setup) grown.rest in
       let node : w.me ≡ v.me = later.me ∙ ap (λ (z : StateView M Msg). z.me) grown.rest in
       let epoch : w.epoch ≡ e = turned.refined.tied.epoch in
@@ -408,5 +424,6 @@ module _ {M Msg : Type 0} (m : Module Msg) (refines : M → Params → ℕ → L
           kept = subst (λ (b : BallotsState). AreKept b c.votes certs) (sym (last.ballots ∙ later.ballots)) own;
         };
         made = record { sends = there.made.sends; own = there.made.own; early = there.made.early; hashed = there.made.hashed };
+        entered = held-entered {m = m} new c.votes certs (subst (λ (b : BallotsState). AreKept b c.votes certs) (sym (last.ballots ∙ later.ballots)) own) (then_turn start (takes_each F R m me e c.early)).entered o.entered there.entered;
         addressed = λ a. there.addressed;
       })

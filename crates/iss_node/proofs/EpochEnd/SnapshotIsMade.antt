@@ -1,0 +1,95 @@
+-- The snapshot of a node is that of each core that its state refines.
+use Rattle.std.proofs.Common.{arith, ◌≡◌, ℕ, zero, suc, ◌+◌, ◌-◌, ◌*◌, ◌<◌, ◌≤◌, Bool, true, false, cond, List, [], ◌∷◌, ◌++◌, Option, Some, None, drop, get_or, length, nat_le, reverse, take, refl, sym, ap, ◌∙◌, subst, add-one, true≢false}
+use Rattle.std.proofs.Math.Nat.{mul-le-mul_left, mul-comm}
+use Rattle.std.proofs.Math.Seq.{take-suc}
+use Rattle.std.proofs.lemmas.Bool.{le-leb}
+use Rattle.std.proofs.lemmas.List.{append-nil}
+use Rattle.iss_base.specs.Lists.{below}
+use Rattle.iss_base.proofs.Lists.{none-some}
+use Rattle.iss_ballots.specs.Ballots.{AreKept, cert_at}
+use Rattle.iss_checkpoint.specs.declared.votes.Cert.{Cert}
+use Rattle.iss_checkpoint.specs.declared.votes.Vote.{Vote}
+use Rattle.iss_model.specs.Frames.{Frame, frame_of}
+use Rattle.iss_model.specs.Node.{Core, Early as Kept_early, values_of}
+use Rattle.iss_node.proofs.StateTransfer.HandOutRefines.{none-held, values-are}
+use Rattle.iss_node.specs.Internal.Storing.{and_new_cert, epochs_to}
+use Rattle.iss_node.specs.Internal.Transfers.{held_values}
+use Rattle.iss_node.specs.Saved.{holds}
+use Rattle.iss_node.specs.State.{RefinesPast, StateView, seen_early, seen_one}
+use Rattle.iss_node.specs.declared.answers.Early.{Early}
+use Rattle.iss_rebuilt.specs.Stored.{early_parcel, epochs_of, new_cert, new_certs, packets_of}
+use Rattle.iss_request.specs.declared.requests.Value.{Value}
+use Rattle.iss_request.specs.declared.setups.Setup.{Setup}
+use Rattle.iss_rules.specs.Past.{Past}
+use Rattle.iss_rules.specs.Votes.{cert_on}
+use Rattle.iss_sb.specs.Evidence.{Item, Module}
+use Rattle.iss_sb.specs.declared.effects.Params.{Params}
+
+-- ---- the values
+
+abbrev part : ℕ → List Value → ℕ → List Value
+part size log e = drop (e * size) (take (suc e * size) log)
+
+pub epochs-more : (size : ℕ) (log : List Value) (e n k : ℕ) → k ≡ e + n → epochs_to size log e (suc n) ≡ epochs_to size log e n ++ part size log k ∷ []
+epochs-more size log e zero k q =
+    let same : e ≡ k = omega (arith, q) in
+    ap (λ (j : ℕ). part size log j ∷ []) same
+epochs-more size log e (suc n) k q = ap (λ (xs : List (List Value)). part size log e ∷ xs) (epochs-more size log (suc e) n k (omega (arith, q)))
+
+-- The model has the log newest first.
+pub epochs-are : {Msg : Type 0} (s : Setup) (m : Module Msg) (entries : List Value) (e n : ℕ) → (e + n) * s.epoch ≤ length entries → epochs_to s.epoch entries e n ≡ epochs_of (frame_of s m) (reverse entries) e n
+epochs-are s m entries e zero le = refl
+epochs-are s m entries e (suc n) le =
+    let first : suc e * s.epoch ≤ (e + suc n) * s.epoch = up (suc e) (e + suc n) (omega arith) in
+    let there : suc e * s.epoch ≤ length entries = omega (arith, first, le) in
+    let same : suc e + n ≡ e + suc n = omega arith in
+    ap (λ (xs : List Value). xs ∷ epochs_to s.epoch entries (suc e) n) (sym (values-are s entries e there))
+    ∙ ap (λ (xs : List (List Value)). values_of (frame_of s m).rules (reverse entries) e ∷ xs)
+    (epochs-are s m entries (suc e) n (subst (λ (k : ℕ). k * s.epoch ≤ length entries) (sym same) le))
+  where
+    up : (a b : ℕ) → a ≤ b → a * s.epoch ≤ b * s.epoch
+    up a b h = let l = mul-le-mul_left s.epoch h in let p = mul-comm s.epoch a in let q = mul-comm s.epoch b in omega (arith, l, p, q)
+
+-- A node has the values of each epoch before its own.
+pub has-values : {M Msg : Type 0} (m : Module Msg) (refines : M → Params → ℕ → List (Item Msg) → Type 0) (v : StateView M Msg) (past : Past Msg) → RefinesPast m refines v past → (e : ℕ) → e < v.epoch → None ≡ held_values v e → ⊥
+has-values m refines v past tied e lt none =
+    let high : suc e * v.setup.epoch ≤ v.epoch * v.setup.epoch = up in
+    let start : v.plan.start ≡ v.epoch * v.setup.epoch = tied.start ∙ ap (λ (k : ℕ). k * v.setup.epoch) (sym tied.epoch) in
+    let begun = tied.begun in
+    let le : suc e * v.setup.epoch ≤ length v.log.entries = omega (arith, high, start, begun) in
+    true≢false (sym (le-leb (suc e * v.setup.epoch) (length v.log.entries) le) ∙ none-held _ _ none)
+  where
+    up : suc e * v.setup.epoch ≤ v.epoch * v.setup.epoch
+    up = let h : suc e ≤ v.epoch = omega (arith, lt) in let l = mul-le-mul_left v.setup.epoch h in let p = mul-comm v.setup.epoch (suc e) in let q = mul-comm v.setup.epoch v.epoch in omega (arith, l, p, q)
+
+-- ---- the certificates
+
+certs-append : (held : ℕ → Bool) (certs : List Cert) (es fs : List ℕ) → new_certs held certs (es ++ fs) ≡ new_certs held certs es ++ new_certs held certs fs
+certs-append held certs [] fs = refl
+certs-append held certs (e ∷ es) fs =
+    ap (λ (xs : List Cert). new_cert held e (cert_on certs e) ++ xs) (certs-append held certs es fs)
+    ∙ sym (assoc (new_cert held e (cert_on certs e)) (new_certs held certs es) (new_certs held certs fs))
+  where
+    assoc : (xs ys zs : List Cert) → (xs ++ ys) ++ zs ≡ xs ++ (ys ++ zs)
+    assoc [] ys zs = refl
+    assoc (x ∷ xs) ys zs = ap (λ (us : List Cert). x ∷ us) (assoc xs ys zs)
+
+pub certs-next : {M Msg : Type 0} (v : StateView M Msg) (votes : List Vote) (certs : List Cert) → AreKept v.ballots votes certs → (e : ℕ) (found : List Cert) → found ≡ new_certs (holds v.saved) certs (below e) →
+    and_new_cert v e found ≡ new_certs (holds v.saved) certs (below (suc e))
+certs-next v votes certs kept e found is =
+    ap (λ (o : Option Cert). found ++ new_cert (holds v.saved) e o) (kept.certs_are e)
+    ∙ (ap (λ (xs : List Cert). xs ++ new_cert (holds v.saved) e (cert_on certs e)) is
+    ∙ (ap (λ (xs : List Cert). new_certs (holds v.saved) certs (below e) ++ xs) (sym (append-nil (new_cert (holds v.saved) e (cert_on certs e))))
+    ∙ sym (certs-append (holds v.saved) certs (below e) (e ∷ []))))
+
+-- ---- the early messages
+
+packets-append : {Msg : Type 0} (W : Frame Msg) (e : ℕ) (xs ys : List (Early Msg)) → packets_of W e (seen_early (xs ++ ys)) ≡ packets_of W e (seen_early xs) ++ packets_of W e (seen_early ys)
+packets-append W e [] ys = refl
+packets-append W e (x ∷ xs) ys = ap (λ (zs : List (List ℕ)). W.formats.wrap (early_parcel e (seen_one x)) ∷ zs) (packets-append W e xs ys)
+
+pub packets-next : {Msg : Type 0} (W : Frame Msg) (e : ℕ) (xs : List (Early Msg)) (i : ℕ) (x : Early Msg) → i < length xs → x ≡ get_or xs i x →
+    packets_of W e (seen_early (take i xs)) ++ W.formats.wrap (early_parcel e (seen_one x)) ∷ [] ≡ packets_of W e (seen_early (take (i + 1) xs))
+packets-next W e xs i x lt is =
+    let q : take (i + 1) xs ≡ take i xs ++ x ∷ [] = rw add-one (take-suc xs i x lt ∙ ap (λ (y : Early _). take i xs ++ y ∷ []) (sym is)) in
+    sym (ap (λ (ys : List (Early _)). packets_of W e (seen_early ys)) q ∙ packets-append W e (take i xs) (x ∷ []))
