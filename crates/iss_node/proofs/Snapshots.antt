@@ -1,4 +1,5 @@
 pub mod BytesAreRead
 pub mod EpochsAreAdopted
+pub mod NodeIsWoken
 pub mod PartsAreTaken
 pub mod SnapshotContinues

@@ -2,7 +2,7 @@
 -- and hands out what the model makes: packets in order, own claims, read claims, hashed strings. If the model drops
 -- it, nothing changes, for the same cause. Where memory runs out the node is stale, and shows the log and epoch that
 -- it had.
-use Rattle.std.specs.Prelude.{◌≡◌, ◌<◌, ◌+◌, ◌^◌, ℕ, true, List, [], take}
+use Rattle.std.specs.Prelude.{◌≡◌, ◌<◌, ◌+◌, ◌^◌, ℕ, true, List, [], None, take}
 use Rattle.iss_log.specs.LogState.{GoesOn}
 use Rattle.iss_rules.specs.Concrete.{rules_of}
 use Rattle.iss_rules.specs.Formats.{formats_of}
@@ -235,6 +235,13 @@ IsEnteredAnswer m old (Step_taken turn) new (Node_taken outcome) =
     IsKeptEntry m old turn.entered new.saved outcome.entered
 IsEnteredAnswer m old (Step_dropped why) new (Node_dropped cause) = new.saved ≡ old.saved
 IsEnteredAnswer m old stepped new answer = Unit {0}
+
+-- Nothing takes the place of an event that is replayed.
+abbrev pub IsReplayed : Answer → Type 0
+IsReplayed (Node_taken outcome) = outcome.entered ≡ None
+IsReplayed (Node_dropped why) = Unit {0}
+IsReplayed Node_no_memory = Unit {0}
+IsReplayed Node_stale = Unit {0}
 
 -- Memory ran out: the node is stale, and reports the log and the epoch that it had.
 pub record IsSpoiled {M Msg : Type 0} (old new : NodeView M Msg) : Type 0 where

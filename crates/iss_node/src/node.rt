@@ -1,5 +1,5 @@
 //! A node: its state, and whether it is stale.
-ghost use Rattle.std.specs.Prelude.{◌≡◌, ◌<◌, ◌≤◌, ◌↔◌, ℕ, [], false, true, IfOk, OnOk, is_some, length, map, not, option_map, reverse};
+ghost use Rattle.std.specs.Prelude.{◌≡◌, ◌<◌, ◌≤◌, ◌↔◌, ℕ, [], false, true, None, IfOk, OnOk, is_some, length, map, not, option_map, reverse};
 ghost use Rattle.std.specs.List.{list_any};
 ghost use Rattle.iss_ballots.specs.Ballots.{cert_at};
 ghost use Rattle.iss_keys.specs.Directories.{AreKeysOf};
@@ -15,7 +15,7 @@ ghost use Rattle.iss_node.specs.Internal.Ready.{RefinesSome};
 ghost use Rattle.iss_node.specs.State.{RefinesCore, RefinesPast, StateRefinesCore, accepted_of};
 ghost use Rattle.iss_request.specs.Log.{ids};
 ghost use Rattle.iss_node.specs.Internal.Storing.{HasNoted, is_entry, storable};
-ghost use Rattle.iss_node.specs.Steps.{HasRetreated, IsAnswer, IsEnteredAnswer, IsHeldStepOf, IsKeptStepOf, IsLeft, IsOfNodes, IsSameLog, IsSameNode};
+ghost use Rattle.iss_node.specs.Steps.{HasRetreated, IsAnswer, IsEnteredAnswer, IsHeldStepOf, IsKeptStepOf, IsLeft, IsOfNodes, IsReplayed, IsSameLog, IsSameNode};
 
 use crate::answers::{Accepted, Answer, Outcome, StepResult};
 use crate::flight::Flight;
@@ -166,7 +166,8 @@ impl<M: Sequenced> Node<M> {
         }
     }
 
-    /// Takes an event of a journal: as `take`, but a snapshot that it would give is not noted.
+    /// Takes an event of a journal, as `take` does. It stands there already, so no snapshot takes its place, and none is
+    /// noted.
     pub fn replay(&mut self, alloc: Global, event: NodeEvent) -> Answer
         ensures answer { (c : Core M.Msg) → RefinesCore M.spec M.refines self.old c →
             IsAnswer M.spec M.refines (IsOfNodes self.old.state.setup.n event) c
@@ -175,6 +176,7 @@ impl<M: Sequenced> Node<M> {
         ensures left { IsLeft self.old self.new result }
         ensures same { (self.new.state.setup ≡ self.old.state.setup) × (self.new.state.me ≡ self.old.state.me) }
         ensures saved { self.new.state.saved ≡ self.old.state.saved }
+        ensures entered { IsReplayed result }
     {
         if self.stale {
             return Answer::Stale;
@@ -185,7 +187,7 @@ impl<M: Sequenced> Node<M> {
         match self.state.turn(alloc, event) {
             Ok(StepResult::Taken(outcome)) => {
                 self.stale = false;
-                Answer::Taken(outcome)
+                Answer::Taken(replayed(outcome))
             }
             Ok(StepResult::Dropped(why)) => {
                 self.stale = false;
@@ -370,6 +372,26 @@ impl<M: Sequenced> NodeState<M> {
             Some(segment) => is_any_empty(&self.log, segment.params().slots.as_slice()),
             None => false,
         }
+    }
+}
+
+// The outcome of an event that stands in the journal.
+fn replayed(outcome: Outcome) -> Outcome
+    ensures { result ≡ record outcome { entered = None } }
+{
+    let Outcome {
+        sends,
+        own,
+        early,
+        hashed,
+        ..
+    } = outcome;
+    Outcome {
+        sends,
+        own,
+        early,
+        hashed,
+        entered: None,
     }
 }
 
