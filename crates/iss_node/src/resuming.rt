@@ -5,7 +5,7 @@ ghost use Rattle.iss_checkpoint.specs.declared.votes.Cert.{Cert as Certificate};
 ghost use Rattle.iss_checkpoint.specs.declared.votes.Vote.{Vote as Voted};
 ghost use Rattle.iss_model.specs.Frames.{frame_of};
 ghost use Rattle.iss_model.specs.Node.{Core};
-ghost use Rattle.iss_node.specs.Internal.Rebuilding.{AreTaken, AreWhole, HasBegun, IsEmptied, IsReadAs, IsSamePlace, IsWhole, after, continues, kept_early};
+ghost use Rattle.iss_node.specs.Internal.Rebuilding.{AreTaken, AreWhole, HasBegun, IsEmptied, IsReadAs, IsSamePlace, IsWhole, after, continues, kept_early, was_taken};
 ghost use Rattle.iss_node.specs.Internal.Parcels.{IsFromNode, seen_some};
 ghost use Rattle.iss_node.specs.Internal.Shape.{AreFrom};
 ghost use Rattle.iss_node.specs.Rebuilding.{HasRead};
@@ -83,7 +83,8 @@ impl<M: Sequenced> NodeState<M> {
         self.saved.note(to, certs.as_slice())?;
         self.begin_anew(alloc, leaf, certs)?;
         self.adopt_epochs(alloc, epochs)?;
-        if !self.refill(alloc, waiting, votes)? {
+        let full = self.refill(alloc, waiting, votes)?;
+        if !full {
             return Ok(None);
         }
         self.messages_in(alloc, early.as_slice())
@@ -177,7 +178,8 @@ impl<M: Sequenced> NodeState<M> {
             (takes_requests (frame_of self.old.setup M.spec) self.old.me.0 waiting (Some c))) self.new all) }
         ensures same { IsSameNode self.old self.new }
     {
-        if !self.take_requests(alloc, waiting)? {
+        let all = self.take_requests(alloc, waiting)?;
+        if !all {
             return Ok(false);
         }
         self.take_votes(alloc, votes)
@@ -191,7 +193,8 @@ impl<M: Sequenced> NodeState<M> {
         ensures same { IsSameNode self.old self.new }
     {
         for request in requests.into_vec() {
-            if let StepResult::Dropped(_) = self.take_request(alloc, request)? {
+            let step = self.take_request(alloc, request)?;
+            if !was_taken(&step) {
                 return Ok(false);
             }
         }
@@ -205,7 +208,8 @@ impl<M: Sequenced> NodeState<M> {
         ensures same { IsSameNode self.old self.new }
     {
         for vote in votes.into_vec() {
-            if let StepResult::Dropped(_) = self.take_vote(alloc, vote)? {
+            let step = self.take_vote(alloc, vote)?;
+            if !was_taken(&step) {
                 return Ok(false);
             }
         }
@@ -245,6 +249,16 @@ impl<M: Sequenced> NodeState<M> {
             Some(parcel) => Ok(early_of(self.epoch, parcel)),
             None => Ok(None),
         }
+    }
+}
+
+// Whether a step was taken.
+fn was_taken(step: &StepResult) -> bool
+    ensures { result ≡ was_taken step.now }
+{
+    match step {
+        StepResult::Taken(_) => true,
+        StepResult::Dropped(_) => false,
     }
 }
 

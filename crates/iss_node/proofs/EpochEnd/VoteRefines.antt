@@ -1,5 +1,5 @@
 -- Voting at the end of an epoch refines the model's step.
-use Rattle.std.proofs.Common.{arith, ◌≡◌, ℕ, suc, ◌+◌, true, List, [], ◌∷◌, length, reverse, take, sym, ap, ◌∙◌, subst, add-one}
+use Rattle.std.proofs.Common.{arith, ◌≡◌, ℕ, suc, ◌+◌, true, Some, List, [], ◌∷◌, length, reverse, take, sym, ap, ◌∙◌, subst, add-one}
 use Rattle.std.proofs.lemmas.List.{length-reverse, reverse-reverse, take_all}
 use Rattle.iss_base.proofs.Lists.{some-injective}
 use Rattle.iss_ballots.specs.Claims.{claim_by}

@@ -7,7 +7,7 @@ use Rattle.iss_model.specs.Frames.{Frame, frame_of}
 use Rattle.iss_model.specs.Node.{Core, Dropped, Early, Stepped, Taken, is_counted, is_known, takes_request, takes_vote}
 use Rattle.iss_node.proofs.Instances.ChecksRefine.{goes-trans}
 use Rattle.iss_node.proofs.Steps.VotesDoNotMatter.{held-step, request-held}
-use Rattle.iss_node.specs.Internal.Rebuilding.{AreTaken}
+use Rattle.iss_node.specs.Internal.Rebuilding.{AreTaken, was_taken}
 use Rattle.iss_node.specs.State.{StateRefinesCore, StateView}
 use Rattle.iss_node.specs.Steps.{IsHeldStep, IsHeldStepOf, IsLater, IsSameNode, IsStepOf}
 use Rattle.iss_node.specs.declared.answers.StepResult.{StepResult}
@@ -53,11 +53,6 @@ votes-more W [] v rest (Some c) = refl
 votes-more W (x ∷ done) v rest (Some c) = votes-more W done v rest (core_of_step (takes_vote W.rules c x))
 
 -- ---- at a node
-
--- whether a step was taken
-abbrev pub was_taken : StepResult → Bool
-was_taken (Result_taken o) = true
-was_taken (Result_dropped why) = false
 
 module _ {M Msg : Type 0} (m : Module Msg) (refines : M → Params → ℕ → List (Item Msg) → Type 0) where
   pub step-taken : (v w : StateView M Msg) (o : Option (Core Msg)) (step : Core Msg → Stepped Msg) (asked : Type 0) (a : StepResult) → AreTaken m refines o v true →

@@ -1,5 +1,5 @@
 -- The outcome of a turn.
-use Rattle.std.proofs.Common.{◌≡◌, ℕ, List, [], ◌++◌, Result, Ok, Err, ap, sym, ◌∙◌, subst}
+use Rattle.std.proofs.Common.{◌≡◌, ℕ, List, [], ◌++◌, Result, Ok, Err, None, ap, sym, ◌∙◌, subst}
 use Rattle.std.specs.Prelude.{OnOk}
 use Rattle.iss_model.specs.Node.{Core, Turn, then_turn, unchanged}
 use Rattle.iss_node.specs.Internal.Epochs.{appended}

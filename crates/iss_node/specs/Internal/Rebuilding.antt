@@ -10,6 +10,8 @@ use Rattle.iss_node.specs.Internal.Shape.{AreFrom}
 use Rattle.iss_node.specs.Rebuilding.{HasRead}
 use Rattle.iss_node.specs.State.{StateRefinesCore, StateView, seen_early}
 use Rattle.iss_node.specs.declared.answers.Early.{Early}
+use Rattle.iss_node.specs.declared.answers.StepResult.{StepResult}
+use Rattle.iss_node.specs.declared.answers.StepResult.TheVariants.{Dropped as Result_dropped, Taken as Result_taken}
 use Rattle.iss_rebuilt.specs.Reading.{Rebuilt, are_new}
 use Rattle.iss_rebuilt.specs.Stored.{Saved}
 use Rattle.iss_request.specs.declared.requests.Value.{Value}
@@ -70,6 +72,11 @@ pub record HasBegun {M Msg : Type 0} (leaf : ℕ) (certs : List Cert) (old new :
   pub rest : new ≡ record old { waiting = []; ballots = new.ballots; keys = new.keys }
 
 -- ---- results
+
+-- whether a step was taken
+abbrev pub was_taken : StepResult → Bool
+was_taken (Result_taken outcome) = true
+was_taken (Result_dropped why) = false
 
 -- All were taken, and the state refines the core after them; or one is refused.
 abbrev pub AreTaken : {M Msg : Type 0} → Module Msg → Relation M Msg → Option (Core Msg) → StateView M Msg → Bool →
