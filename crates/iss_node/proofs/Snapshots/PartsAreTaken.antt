@@ -5,7 +5,7 @@ use Rattle.iss_checkpoint.specs.declared.votes.Vote.{Vote}
 use Rattle.iss_log.specs.LogState.{GoesOn}
 use Rattle.iss_model.specs.Frames.{Frame, frame_of}
 use Rattle.iss_model.specs.Node.{Core, Dropped, Early, Stepped, Taken, is_counted, is_known, takes_request, takes_vote}
-use Rattle.iss_node.proofs.Instances.ChecksRefine.{goes-trans}
+use Rattle.iss_node.proofs.Instances.ChecksRefine.{goes-trans, later-refl}
 use Rattle.iss_node.proofs.Steps.VotesDoNotMatter.{held-step, request-held}
 use Rattle.iss_node.specs.Internal.Rebuilding.{AreTaken, was_taken}
 use Rattle.iss_node.specs.State.{StateRefinesCore, StateView}
@@ -113,6 +113,27 @@ module _ {M Msg : Type 0} (m : Module Msg) (refines : M → Params → ℕ → L
       ∙ (votes-more W done v rest (Some c) ∙ (ap (λ (x : Option (Core Msg)). takes_votes W rest x) (refused-none o w h) ∙ no-vote W rest)) in
       subst (λ (x : Option (Core Msg)). AreTaken m refines x w false) (sym none) tt
 
+  -- Else the next one is tried.
+  no-more : (W : Frame Msg) (me : ℕ) (o : Option (Core Msg)) → takes_requests W me [] o ≡ o
+  no-more W me None = refl
+  no-more W me (Some c) = refl
+
+  no-votes-more : (W : Frame Msg) (o : Option (Core Msg)) → takes_votes W [] o ≡ o
+  no-votes-more W None = refl
+  no-votes-more W (Some c) = refl
+
+  pub request-next : (W : Frame Msg) (me : ℕ) (done : List Request) (q : Request) (c : Core Msg) (w : StateView M Msg) →
+      AreTaken m refines (then_step (takes_requests W me done (Some c)) (λ d. takes_request W.rules W.spec me d q)) w true → AreTaken m refines (takes_requests W me (done ++ q ∷ []) (Some c)) w true
+  request-next W me done q c w h =
+      subst (λ (x : Option (Core Msg)). AreTaken m refines x w true)
+      (sym (requests-more W me done q [] (Some c) ∙ no-more W me (then_step (takes_requests W me done (Some c)) (λ d. takes_request W.rules W.spec me d q)))) h
+
+  pub vote-next : (W : Frame Msg) (done : List Vote) (v : Vote) (c : Core Msg) (w : StateView M Msg) →
+      AreTaken m refines (then_step (takes_votes W done (Some c)) (λ d. takes_vote W.rules d v)) w true → AreTaken m refines (takes_votes W (done ++ v ∷ []) (Some c)) w true
+  vote-next W done v c w h =
+      subst (λ (x : Option (Core Msg)). AreTaken m refines x w true)
+      (sym (votes-more W done v [] (Some c) ∙ no-votes-more W (then_step (takes_votes W done (Some c)) (λ d. takes_vote W.rules d v)))) h
+
   -- ---- both
 
   pub refill-refused : (W : Frame Msg) (o : Option (Core Msg)) (votes : List Vote) (w : StateView M Msg) → AreTaken m refines o w false → AreTaken m refines (takes_votes W votes o) w false
@@ -181,3 +202,6 @@ same-on-later v w x h g = record { setup = g.setup ∙ h.setup; me = g.me ∙ h.
 
 pub same-trans : {M Msg : Type 0} (v w x : StateView M Msg) → IsSameNode v w → IsSameNode w x → IsSameNode v x
 same-trans v w x h g = record { setup = g.setup ∙ h.setup; me = g.me ∙ h.me; saved = g.saved ∙ h.saved; log = goes-trans v.log.entries w.log.entries x.log.entries h.log g.log }
+
+pub same-refl : {M Msg : Type 0} (v : StateView M Msg) → IsSameNode v v
+same-refl v = let l = later-refl v in record { setup = l.setup; me = l.me; saved = l.saved; log = l.log }

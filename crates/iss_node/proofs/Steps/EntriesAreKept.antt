@@ -14,17 +14,19 @@ use Rattle.iss_node.specs.Entered.{IsHeldEntered, IsKeptEntry, encoded_by, is_st
 use Rattle.iss_node.specs.Internal.Storing.{HasNoted, is_entry, storable}
 use Rattle.iss_node.specs.Saved.{HasSaved, SavedState, holds, saved_of}
 use Rattle.iss_node.specs.State.{RefinesPast, StateRefinesCore, StateView, bare}
-use Rattle.iss_node.specs.Steps.{IsHeldStep, IsHeldStepOf, IsKeptStep, IsKeptStepOf, IsMade, IsOfNodes, IsSameNode}
+use Rattle.iss_node.specs.Steps.{IsHeldStep, IsHeldStepOf, IsKeptStep, IsKeptStepOf, IsMade, IsOfNodes, IsSameLog, IsSameNode}
 use Rattle.iss_node.specs.declared.answers.Outcome.{Outcome}
 use Rattle.iss_node.specs.declared.answers.StepResult.{StepResult}
 use Rattle.iss_node.specs.declared.answers.StepResult.TheVariants.{Dropped as Result_dropped, Taken as Result_taken}
 use Rattle.iss_rebuilt.specs.Stored.{Kept, Saved, new_certs, or_event, saved_after, snapshot_kept, snapshot_of}
 use Rattle.iss_request.specs.declared.ids.NodeId.{NodeId}
+use Rattle.iss_request.specs.declared.requests.Value.{Value}
 use Rattle.iss_request.specs.declared.setups.Setup.{Setup}
 use Rattle.iss_rules.specs.Concrete.{rules_of}
 use Rattle.iss_rules.specs.Formats.{formats_of}
 use Rattle.iss_rules.specs.Past.{Past}
 use Rattle.iss_rules.specs.declared.events.NodeEvent.{NodeEvent}
+use Rattle.iss_rules.specs.declared.events.Why.{Why}
 use Rattle.iss_sb.specs.Calls.{AreToNodes}
 use Rattle.iss_sb.specs.Evidence.{Item, Module}
 use Rattle.iss_sb.specs.declared.effects.Params.{Params}
@@ -166,3 +168,21 @@ module _ {M Msg : Type 0} (m : Module Msg) (refines : M → Params → ℕ → L
             subst (λ (s : Setup). AreToNodes s.n p.sends) (sym setup)
             (subst (λ (xs : List (To × List ℕ)). AreToNodes w.setup.n xs) (sym (ap (λ (z : Outcome). z.sends) out)) (k.turned.addressed asked));
       }
+
+  -- A step that was dropped notes nothing.
+  pub kept-dropped : (event : NodeEvent) (why : Why) → IsHeldStepOf m refines (IsOfNodes v.setup.n event) v (λ F R me c. step F R m me c event) w (Result_dropped why) →
+      IsKeptStepOf m refines (IsOfNodes v.setup.n event) v (λ F R me c. step F R m me c event) w (Result_dropped why)
+  kept-dropped event why all c h = let k = all c h in record { step_is = k.step_is; refined = k.refined; saved = same.saved }
+
+  -- The log was at most extended.
+  pub kept-log : IsSameLog v new
+  kept-log =
+      record {
+        setup = ap (λ (z : StateView M Msg). z.setup) is ∙ same.setup;
+        me = ap (λ (z : StateView M Msg). z.me) is ∙ same.me;
+        log = subst (λ (xs : List Value). GoesOn v.log.entries xs) (sym (ap (λ (z : StateView M Msg). z.log.entries) is)) same.log;
+      }
+
+-- Set-up, identity and log are the same.
+pub log-same : {M Msg : Type 0} (v w : StateView M Msg) → IsSameNode v w → IsSameLog v w
+log-same v w h = record { setup = h.setup; me = h.me; log = h.log }
