@@ -1,7 +1,7 @@
 //! A cluster whose packets arrive in any order. Of one node the snapshots are kept: a node that is rebuilt from them does
 //! from then on what that node does.
 use iss_keys::SharedDirectory;
-use iss_node::{Answer, Node, Outcome, Rebuilt};
+use iss_node::{Answer, Node, Outcome, RebuildError};
 use iss_packet::{Packet, PacketKind};
 use iss_request::{
     Bytes, Epoch, Kind, NoMemory, NodeId, Nodes, Policy, ReqId, Request, Setup, Writer,
@@ -121,12 +121,12 @@ fn rebuild(
     entries: &[Bytes],
 ) -> Result<Node<Relay>, Fail> {
     match Node::<Relay>::rebuild(alloc, setup, directory, NodeId(1), entries) {
-        Rebuilt::Rebuilt(node) => Ok(node),
-        Rebuilt::BadEntry { index } => {
+        Ok(node) => Ok(node),
+        Err(RebuildError::BadEntry { index }) => {
             assert_eq!(rt; index, 9999);
             Err(NoMemory)?
         }
-        Rebuilt::NoMemory => Err(NoMemory)?,
+        Err(RebuildError::NoMemory) => Err(NoMemory)?,
     }
 }
 

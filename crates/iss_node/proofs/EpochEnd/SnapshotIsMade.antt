@@ -1,8 +1,9 @@
 -- The snapshot of a node is that of each core that its state refines.
-use Rattle.std.proofs.Common.{arith, ◌≡◌, ℕ, zero, suc, ◌+◌, ◌-◌, ◌*◌, ◌<◌, ◌≤◌, Bool, true, false, cond, List, [], ◌∷◌, ◌++◌, Option, Some, None, drop, get_or, length, nat_le, reverse, take, refl, sym, ap, ◌∙◌, subst, add-one, true≢false}
+use Rattle.std.proofs.Common.{arith, inl, inr, ◌≡◌, ℕ, zero, suc, ◌+◌, ◌-◌, ◌*◌, ◌<◌, ◌≤◌, Bool, true, false, cond, List, [], ◌∷◌, ◌++◌, Option, Some, None, drop, get_or, length, nat_le, reverse, take, refl, sym, ap, ◌∙◌, subst, add-one, true≢false}
 use Rattle.std.proofs.Math.Nat.{mul-le-mul_left, mul-comm}
 use Rattle.std.proofs.Math.Seq.{take-suc}
 use Rattle.std.proofs.lemmas.Bool.{le-leb}
+use Rattle.std.proofs.lemmas.Bool.Decides.{leb_tells}
 use Rattle.std.proofs.lemmas.List.{append-nil}
 use Rattle.iss_base.specs.Lists.{below}
 use Rattle.iss_base.proofs.Lists.{none-some}
@@ -15,12 +16,15 @@ use Rattle.iss_node.proofs.StateTransfer.HandOutRefines.{none-held, values-are}
 use Rattle.iss_node.specs.Internal.Storing.{and_new_cert, epochs_to}
 use Rattle.iss_node.specs.Internal.Transfers.{held_values}
 use Rattle.iss_node.specs.Saved.{holds}
-use Rattle.iss_node.specs.State.{RefinesPast, StateView, seen_early, seen_one}
+use Rattle.iss_node.specs.Entered.{saved_by}
+use Rattle.iss_node.specs.State.{RefinesPast, StateView, core_of, holding, seen_early, seen_one}
 use Rattle.iss_node.specs.declared.answers.Early.{Early}
 use Rattle.iss_rebuilt.specs.Stored.{early_parcel, epochs_of, new_cert, new_certs, packets_of}
 use Rattle.iss_request.specs.declared.requests.Value.{Value}
 use Rattle.iss_request.specs.declared.setups.Setup.{Setup}
-use Rattle.iss_rules.specs.Past.{Past}
+use Rattle.iss_rules.specs.Concrete.{rules_of}
+use Rattle.iss_rules.specs.Past.{Past, log_of}
+use Rattle.iss_snapshot.specs.declared.snapshots.Snapshot.{Snapshot}
 use Rattle.iss_rules.specs.Votes.{cert_on}
 use Rattle.iss_sb.specs.Evidence.{Item, Module}
 use Rattle.iss_sb.specs.declared.effects.Params.{Params}
@@ -93,3 +97,47 @@ pub packets-next : {Msg : Type 0} (W : Frame Msg) (e : ℕ) (xs : List (Early Ms
 packets-next W e xs i x lt is =
     let q : take (i + 1) xs ≡ take i xs ++ x ∷ [] = rw add-one (take-suc xs i x lt ∙ ap (λ (y : Early _). take i xs ++ y ∷ []) (sym is)) in
     sym (ap (λ (ys : List (Early _)). packets_of W e (seen_early ys)) q ∙ packets-append W e (take i xs) (x ∷ []))
+
+-- ---- the whole snapshot
+
+module _ {M Msg : Type 0} (m : Module Msg) (refines : M → Params → ℕ → List (Item Msg) → Type 0) (v : StateView M Msg) (past : Past Msg) (tied : RefinesPast m refines v past) where
+  abbrev log : List Value
+  log = log_of (rules_of v.setup) m v.me.0 past
+
+  -- The model has the values of the epochs since the last snapshot.
+  values-since : (from : ℕ) → epochs_to v.setup.epoch v.log.entries from (v.epoch - from) ≡ epochs_of (frame_of v.setup m) log from (past.epoch - from)
+  values-since from = elim (leb_tells from v.epoch) [
+    | inl t ↦
+        let le = t.1 in
+        let all : from + (v.epoch - from) ≡ v.epoch = omega (arith, le) in
+        let start : v.plan.start ≡ v.epoch * v.setup.epoch = tied.start ∙ ap (λ (k : ℕ). k * v.setup.epoch) (sym tied.epoch) in
+        let begun = tied.begun in
+        let high : v.epoch * v.setup.epoch ≤ length v.log.entries = omega (arith, start, begun) in
+        let room : (from + (v.epoch - from)) * v.setup.epoch ≤ length v.log.entries = subst (λ (k : ℕ). k * v.setup.epoch ≤ length v.log.entries) (sym all) high in
+        epochs-are v.setup m v.log.entries from (v.epoch - from) room
+        ∙ (ap (λ (ys : List Value). epochs_of (frame_of v.setup m) ys from (v.epoch - from)) (sym tied.log)
+        ∙ ap (λ (k : ℕ). epochs_of (frame_of v.setup m) log from (k - from)) tied.epoch)
+    | inr t ↦
+        let lt = t.1 in
+        let none : v.epoch - from ≡ 0 = omega (arith, lt) in
+        let there : past.epoch - from ≡ 0 = ap (λ (k : ℕ). k - from) (sym tied.epoch) ∙ none in
+        ap (λ (k : ℕ). epochs_to v.setup.epoch v.log.entries from k) none ∙ sym (ap (λ (k : ℕ). epochs_of (frame_of v.setup m) log from k) there)
+  ]
+
+  pub snapshot-is : (votes : List Vote) (certs : List Cert) → AreKept v.ballots votes certs → (early : List (Early Msg)) (s : Snapshot) →
+      s.from.0 ≡ v.saved.from → s.to.0 ≡ v.epoch → s.epochs ≡ epochs_to v.setup.epoch v.log.entries s.from.0 (v.epoch - s.from.0) → s.leaf ≡ v.keys.used → s.waiting ≡ v.waiting →
+      s.certs ≡ new_certs (holds v.saved) certs (below (suc (suc v.epoch))) → s.votes ≡ v.ballots.counted → s.early ≡ packets_of (frame_of v.setup m) v.epoch (seen_early early) →
+      s ≡ saved_by m v (holding votes certs (record (core_of v past) { early = seen_early early }))
+  snapshot-is votes certs kept early s from to epochs leaf waiting new counted packets = λ i. record {
+    from = record { 0 = from i };
+    to = record { 0 = (to ∙ tied.epoch) i };
+    epochs =
+        (epochs
+        ∙ (values-since s.from.0
+        ∙ ap (λ (k : ℕ). epochs_of (frame_of v.setup m) log k (past.epoch - k)) from)) i;
+    leaf = leaf i;
+    waiting = waiting i;
+    certs = (new ∙ ap (λ (k : ℕ). new_certs (holds v.saved) certs (below (suc (suc k)))) tied.epoch) i;
+    votes = (counted ∙ kept.counted_are) i;
+    early = (packets ∙ ap (λ (k : ℕ). packets_of (frame_of v.setup m) k (seen_early early)) tied.epoch) i;
+  }
