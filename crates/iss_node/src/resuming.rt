@@ -194,7 +194,7 @@ impl<M: Sequenced> NodeState<M> {
     {
         for request in requests.into_vec() {
             let step = self.take_request(alloc, request)?;
-            if !was_taken(&step) {
+            if !was_taken(step) {
                 return Ok(false);
             }
         }
@@ -209,7 +209,7 @@ impl<M: Sequenced> NodeState<M> {
     {
         for vote in votes.into_vec() {
             let step = self.take_vote(alloc, vote)?;
-            if !was_taken(&step) {
+            if !was_taken(step) {
                 return Ok(false);
             }
         }
@@ -253,8 +253,8 @@ impl<M: Sequenced> NodeState<M> {
 }
 
 // Whether a step was taken.
-fn was_taken(step: &StepResult) -> bool
-    ensures { result ≡ was_taken step.now }
+fn was_taken(step: StepResult) -> bool
+    ensures { result ≡ was_taken step }
 {
     match step {
         StepResult::Taken(_) => true,

@@ -75,15 +75,15 @@ module _ {Msg : Type 0} (W : Frame Msg) (e : ℕ) where
       early_each W e (done ++ packet ∷ []) ≡ Some (xs ++ x ∷ [])
   early-next [] packet xs x h q =
       ap (λ (o : Option (Kept_early Msg)). with_early o (Some [])) q ∙ ap (λ (ys : List (Kept_early Msg)). Some (ys ++ x ∷ [])) (some-injective [] xs h)
-  early-next (b ∷ done) packet xs x h q = go (one b) refl (early_each W e done) refl h
+  early-next (b ∷ done) packet xs x h q = go (λ ys k. early-next done packet ys x k q) (one b) refl (early_each W e done) refl h
     where
-      go : (o : Option (Kept_early Msg)) → one b ≡ o → (os : Option (List (Kept_early Msg))) → early_each W e done ≡ os → with_early o os ≡ Some xs →
+      go : ((ys : List (Kept_early Msg)) → early_each W e done ≡ Some ys → early_each W e (done ++ packet ∷ []) ≡ Some (ys ++ x ∷ [])) → (o : Option (Kept_early Msg)) → one b ≡ o → (os : Option (List (Kept_early Msg))) → early_each W e done ≡ os → with_early o os ≡ Some xs →
           with_early (one b) (early_each W e (done ++ packet ∷ [])) ≡ Some (xs ++ x ∷ [])
-      go None qo os qs k = absurd (none-some xs k)
-      go (Some y) qo None qs k = absurd (none-some xs k)
-      go (Some y) qo (Some ys) qs k =
+      go more None qo os qs k = absurd (none-some xs k)
+      go more (Some y) qo None qs k = absurd (none-some xs k)
+      go more (Some y) qo (Some ys) qs k =
           ap (λ (o : Option (Kept_early Msg)). with_early o (early_each W e (done ++ packet ∷ []))) qo
-          ∙ (ap (λ (os : Option (List (Kept_early Msg))). with_early (Some y) os) (early-next done packet ys x qs q)
+          ∙ (ap (λ (os : Option (List (Kept_early Msg))). with_early (Some y) os) (more ys qs)
           ∙ ap (λ (zs : List (Kept_early Msg)). Some (zs ++ x ∷ [])) (some-injective (y ∷ ys) xs k))
 
   -- One that is no message.
@@ -94,15 +94,27 @@ module _ {Msg : Type 0} (W : Frame Msg) (e : ℕ) where
 
   early-count : (packets : List (List ℕ)) (xs : List (Kept_early Msg)) → early_each W e packets ≡ Some xs → length xs ≡ length packets
   early-count [] xs h = ap (λ (ys : List (Kept_early Msg)). length ys) (sym (some-injective [] xs h))
-  early-count (b ∷ packets) xs h = go (one b) (early_each W e packets) refl h
+  early-count (b ∷ packets) xs h = go (λ ys k. early-count packets ys k) (one b) (early_each W e packets) refl h
     where
-      go : (o : Option (Kept_early Msg)) (os : Option (List (Kept_early Msg))) → early_each W e packets ≡ os → with_early o os ≡ Some xs → length xs ≡ suc (length packets)
-      go None os qs k = absurd (none-some xs k)
-      go (Some y) None qs k = absurd (none-some xs k)
-      go (Some y) (Some ys) qs k =
-          ap (λ (zs : List (Kept_early Msg)). length zs) (sym (some-injective (y ∷ ys) xs k)) ∙ ap (λ (n : ℕ). suc n) (early-count packets ys qs)
+      go : ((ys : List (Kept_early Msg)) → early_each W e packets ≡ Some ys → length ys ≡ length packets) → (o : Option (Kept_early Msg)) (os : Option (List (Kept_early Msg))) → early_each W e packets ≡ os → with_early o os ≡ Some xs → length xs ≡ suc (length packets)
+      go more None os qs k = absurd (none-some xs k)
+      go more (Some y) None qs k = absurd (none-some xs k)
+      go more (Some y) (Some ys) qs k =
+          ap (λ (zs : List (Kept_early Msg)). length zs) (sym (some-injective (y ∷ ys) xs k)) ∙ ap (λ (n : ℕ). suc n) (more ys qs)
 
   -- ---- the results
+
+  test-many : (xs : List (Kept_early Msg)) → early_most < length xs → nat_le (length xs) early_most ≡ false
+  test-many xs lt = elim (leb_tells (length xs) early_most) [
+    | inl t ↦ let le = t.1 in absurd (omega (arith, le, lt))
+    | inr t ↦ t.0
+  ]
+
+  test-few : (xs : List (Kept_early Msg)) → length xs ≤ early_most → nat_le (length xs) early_most ≡ true
+  test-few xs le = elim (leb_tells (length xs) early_most) [
+    | inl t ↦ t.0
+    | inr t ↦ let lt = t.1 in absurd (omega (arith, le, lt))
+  ]
 
   pub early-many : (packets : List (List ℕ)) → early_most < length packets → kept_early (early_each W e packets) ≡ None
   early-many packets lt = go (early_each W e packets) refl
@@ -111,10 +123,7 @@ module _ {Msg : Type 0} (W : Frame Msg) (e : ℕ) where
       go None q = refl
       go (Some xs) q =
           let n = early-count packets xs q in
-          ap (λ (b : Bool). cond b (Some xs) None) (elim (leb_tells (length xs) early_most) [
-            | inl t ↦ let le = t.1 in absurd (omega (arith, n, le, lt))
-            | inr t ↦ t.0
-          ])
+          ap (λ (b : Bool). cond b (Some xs) None) (test-many xs (omega (arith, n, lt)))
 
   split-at : (packets : List (List ℕ)) (i : ℕ) (packet : List ℕ) → i < length packets → packet ≡ get_or packets i packet → packets ≡ take i packets ++ packet ∷ drop (i + 1) packets
   split-at packets i packet lt is =
@@ -136,10 +145,7 @@ module _ {Msg : Type 0} (W : Frame Msg) (e : ℕ) where
   early-all packets xs few h =
       let n = early-count packets xs h in
       sym (ap (λ (os : Option (List (Kept_early Msg))). kept_early os) h
-      ∙ ap (λ (b : Bool). cond b (Some xs) None) (elim (leb_tells (length xs) early_most) [
-        | inl t ↦ t.0
-        | inr t ↦ let lt = t.1 in absurd (omega (arith, n, few, lt))
-      ]))
+      ∙ ap (λ (b : Bool). cond b (Some xs) None) (test-few xs (omega (arith, n, few))))
 
 -- ---- at a node
 

@@ -14,7 +14,7 @@ use Rattle.iss_node.proofs.EpochEnd.LeafIsKept.{lasts-at}
 use Rattle.iss_node.proofs.EpochEnd.NextEpochStarts.{next-parts}
 use Rattle.iss_node.proofs.Log.LogIsDelivered.{has-slots, start-is}
 use Rattle.iss_node.proofs.StateTransfer.EpochIsFilled.{core-is, grown_core, is-over, long, new-log, settled, size}
-use Rattle.iss_node.specs.Internal.Growth.{waits_on}
+use Rattle.iss_node.specs.Internal.Growth.{AreJoined, waits_on}
 use Rattle.iss_node.specs.Internal.Inputs.{HasAppliedDeliveries, IsChained}
 use Rattle.iss_node.specs.Internal.Rebuilding.{HasBegun, IsEmptied, emptied}
 use Rattle.iss_node.specs.Internal.Shape.{IsNodeState}
@@ -89,7 +89,7 @@ module _ {M Msg : Type 0} (m : Module Msg) (refines : M → Params → ℕ → L
   sound : IsSoundCore (rules_of v.setup) m v.me.0 (grown_core m refines v shape past tied values whole u.log grown.held grown.grown)
   sound = subst (λ (c : Core Msg). IsSoundCore (rules_of v.setup) m v.me.0 c) (sym nothing-held) spare
 
-  chain : _
+  chain : AreJoined v.chains v.log.entries grown.grown.joined u.chains hashed strings
   chain = chained.joined grown.grown.joined grown.grown.entries tied.chained
 
   refined : RefinesBareCore m refines w (bare (emptied next certs leaf))
@@ -146,8 +146,8 @@ adopts-count past (x ∷ more) = let n = adopts-count (adopts past (record { epo
 -- Certificates are added, and requests and votes are forgotten.
 module _ {M Msg : Type 0} (m : Module Msg) (refines : M → Params → ℕ → List (Item Msg) → Type 0) (v w : StateView M Msg) (c : Core Msg) (h : StateRefinesCore m refines v c)
     (early : c.early ≡ []) (flight : c.flight ≡ []) (lasts : is_complete (rules_of v.setup) m v.me.0 c.past ≡ false) (leaf : ℕ) (certs : List Cert) (begun : HasBegun leaf certs v w) where
-  tied : RefinesPast m refines v c.past
-  tied = h.state.tied
+  was-tied : RefinesPast m refines v c.past
+  was-tied = h.state.tied
 
   landed : v.flight.casts ≡ []
   landed = sym (ap (λ (d : Core Msg). d.flight) h.state.core) ∙ flight
@@ -155,9 +155,9 @@ module _ {M Msg : Type 0} (m : Module Msg) (refines : M → Params → ℕ → L
   abbrev after : KeyState → BallotsState → StateView M Msg
   after keys ballots = record v { waiting = []; ballots = ballots; keys = keys }
 
-  sound : (keys : KeyState) (ballots : BallotsState) → IsSoundCore (rules_of v.setup) m v.me.0 (core_of (after keys ballots) c.past)
-  sound keys ballots =
-      let spare = spare-sound (rules_of v.setup) m v.me.0 c.past keys.used tied.sound.reached tied.sound.settled tied.sound.unborn in
+  new-sound : (keys : KeyState) (ballots : BallotsState) → IsSoundCore (rules_of v.setup) m v.me.0 (core_of (after keys ballots) c.past)
+  new-sound keys ballots =
+      let spare = spare-sound (rules_of v.setup) m v.me.0 c.past keys.used was-tied.sound.reached was-tied.sound.settled was-tied.sound.unborn in
       subst (λ (fs : List (Slot × Batch)). IsSoundCore (rules_of v.setup) m v.me.0 (record (core_of (after keys ballots) c.past) { flight = fs })) (sym landed)
       (record {
         different = spare.different;
@@ -171,30 +171,30 @@ module _ {M Msg : Type 0} (m : Module Msg) (refines : M → Params → ℕ → L
 
   tied-after : (keys : KeyState) (ballots : BallotsState) → AreKeysOf v.me.0 v.setup.keys keys → RefinesPast m refines (after keys ballots) c.past
   tied-after keys ballots own = record {
-    epoch = tied.epoch;
-    log = tied.log;
-    chained = tied.chained;
-    rests = tied.rests;
-    standing = tied.standing;
-    start = tied.start;
-    begun = tied.begun;
-    cells = tied.cells;
-    outside = tied.outside;
-    hole = tied.hole;
-    leading = tied.leading;
-    instances = tied.instances;
-    accepted = tied.accepted;
-    logged = tied.logged;
-    flown = tied.flown;
-    sound = sound keys ballots;
+    epoch = was-tied.epoch;
+    log = was-tied.log;
+    chained = was-tied.chained;
+    rests = was-tied.rests;
+    standing = was-tied.standing;
+    start = was-tied.start;
+    begun = was-tied.begun;
+    cells = was-tied.cells;
+    outside = was-tied.outside;
+    hole = was-tied.hole;
+    leading = was-tied.leading;
+    instances = was-tied.instances;
+    accepted = was-tied.accepted;
+    logged = was-tied.logged;
+    flown = was-tied.flown;
+    sound = new-sound keys ballots;
     keys = own;
   }
 
-  own : AreKeysOf v.me.0 v.setup.keys w.keys
-  own = record { own = ap (λ (k : KeyState). k.secret) begun.keys; tall = ap (λ (k : KeyState). k.height) begun.keys }
+  new-keys : AreKeysOf v.me.0 v.setup.keys w.keys
+  new-keys = record { own = ap (λ (k : KeyState). k.secret) begun.keys; tall = ap (λ (k : KeyState). k.height) begun.keys }
 
-  refined : RefinesBareCore m refines (after w.keys w.ballots) (bare (emptied c.past (reverse certs ++ c.certs) leaf))
-  refined = record {
+  new-refined : RefinesBareCore m refines (after w.keys w.ballots) (bare (emptied c.past (reverse certs ++ c.certs) leaf))
+  new-refined = record {
     core = λ i. record {
       past = c.past;
       waiting = [];
@@ -204,13 +204,13 @@ module _ {M Msg : Type 0} (m : Module Msg) (refines : M → Params → ℕ → L
       certs = [];
       leaf = sym (ap (λ (k : KeyState). k.used) begun.keys) i;
     };
-    tied = tied-after w.keys w.ballots own;
+    tied = tied-after w.keys w.ballots new-keys;
   }
 
   pub begun-empty : IsEmptied m refines w c.past (reverse certs ++ c.certs) leaf
   begun-empty = record {
     core = record {
-      state = subst (λ (z : StateView M Msg). RefinesBareCore m refines z (bare (emptied c.past (reverse certs ++ c.certs) leaf))) (sym begun.rest) refined;
+      state = subst (λ (z : StateView M Msg). RefinesBareCore m refines z (bare (emptied c.past (reverse certs ++ c.certs) leaf))) (sym begun.rest) new-refined;
       kept = begun.kept c.votes c.certs h.kept;
     };
     unfinished =

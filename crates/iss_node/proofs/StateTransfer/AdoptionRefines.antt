@@ -292,6 +292,6 @@ module _ {M Msg : Type 0} (m : Module Msg) (refines : M → Params → ℕ → L
           kept = subst (λ (b : BallotsState). AreKept b c.votes certs) (sym (last.ballots ∙ later.ballots)) own;
         };
         made = record { sends = there.made.sends; own = there.made.own; early = there.made.early; hashed = there.made.hashed };
-        entered = held-entered {m = m} new c.votes certs (subst (λ (b : BallotsState). AreKept b c.votes certs) (sym (last.ballots ∙ later.ballots)) own) (then_turn start (takes_each F R m me e c.early)).entered o.entered there.entered;
+        entered = held-entered m new c.votes certs (subst (λ (b : BallotsState). AreKept b c.votes certs) (sym (last.ballots ∙ later.ballots)) own) (then_turn start (takes_each F R m me e c.early)).entered o.entered there.entered;
         addressed = λ a. there.addressed;
       })

@@ -25,7 +25,7 @@ use Rattle.iss_rules.specs.Concrete.{rules_of}
 use Rattle.iss_rules.specs.Formats.{formats_of}
 use Rattle.iss_rules.specs.Parcels.{Formats}
 use Rattle.iss_rules.specs.Votes.{cert_on, keeping}
-use Rattle.iss_model.specs.Node.{Core, Early as Kept_early, Turn, adopts_piece, grown_strings, in_next_epoch, joined, returned, takes_each, then_turn}
+use Rattle.iss_model.specs.Node.{Core, Early as Kept_early, Turn, adopts_piece, after_growth, grown_strings, in_next_epoch, joined, returned, takes_each, then_turn}
 use Rattle.iss_rules.specs.Past.{Past, Piece, adopted_at, adopts, before_own, cell, log_of}
 use Rattle.iss_rules.specs.Rules.{Rules}
 use Rattle.iss_model.specs.Sound.{IsSoundCore}

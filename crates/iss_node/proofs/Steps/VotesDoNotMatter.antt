@@ -141,10 +141,10 @@ module _ {Msg : Type 0} (F : Formats Msg) (R : Rules) (m : Module Msg) (me : ℕ
   proposed-held c = drop-held (not (leads_in R m me c.past me)) NotLeader _ _ (casts-held c (next_slot R m me c))
 
 -- The snapshot has the votes and certificates of the core.
-pub held-entered : {M Msg : Type 0} {m : Module Msg} (w : StateView M Msg) (votes : List Vote) (certs : List Cert) → AreKept w.ballots votes certs → (d : Option (Core Msg)) (bytes : Option (List ℕ)) →
+pub held-entered : {M Msg : Type 0} (m : Module Msg) (w : StateView M Msg) (votes : List Vote) (certs : List Cert) → AreKept w.ballots votes certs → (d : Option (Core Msg)) (bytes : Option (List ℕ)) →
     IsEntered m w d bytes → IsHeldEntered m w (with_entered votes certs d) bytes
-held-entered w votes certs kept None bytes h = h
-held-entered w votes certs kept (Some d) bytes h = h votes certs kept
+held-entered m w votes certs kept None bytes h = h
+held-entered m w votes certs kept (Some d) bytes h = h votes certs kept
 
 -- ---- so a proof for cores without votes holds for every core
 
@@ -171,7 +171,7 @@ module _ {M Msg : Type 0} (m : Module Msg) (refines : M → Params → ℕ → L
         turned = record {
           refined = held-parts c s.turn.core h s.turned.refined;
           made = record { sends = s.turned.made.sends; own = s.turned.made.own; early = s.turned.made.early; hashed = s.turned.made.hashed };
-          entered = held-entered {m = m} w c.votes c.certs (subst (λ (b : BallotsState). AreKept b c.votes c.certs) (sym later.ballots) h.kept) s.turn.entered o.entered s.turned.entered;
+          entered = held-entered m w c.votes c.certs (subst (λ (b : BallotsState). AreKept b c.votes c.certs) (sym later.ballots) h.kept) s.turn.entered o.entered s.turned.entered;
           addressed = λ k. s.turned.addressed;
         };
       }

@@ -7,6 +7,6 @@ use Rattle.iss_node.proofs.saved.Saved.note.Given as goal
 
 abbrev pub invariant-loop-cert : goal.invariant-loop-cert
 invariant-loop-cert l = record {
-  from : l.self-inside.from ≡ l.to;
+  from : l.self-inside.from ≡ l.fn.to;
   held : (e : ℕ) → list_any (λ k. is_eq (nat_cmp e k)) l.self-inside.held.keys ≡ (holds l.fn.self e || is_some (cert_on (take l.cert-index l.certs) e));
 }
