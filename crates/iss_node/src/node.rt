@@ -139,7 +139,8 @@ impl<M: Sequenced> Node<M> {
         ensures refused { (result ≡ Answer.Stale) ↔ (self.old.stale ≡ true) }
         ensures left { IsLeft self.old self.new result }
         ensures same { (self.new.state.setup ≡ self.old.state.setup) × (self.new.state.me ≡ self.old.state.me) }
-        ensures entered { (c : Core M.Msg) → RefinesCore M.spec M.refines self.old c → IsEnteredAnswer M.spec self.old.state
+        ensures entered { (c : Core M.Msg) → RefinesCore M.spec M.refines self.old c →
+            IsEnteredAnswer M.spec self.old.state
             (step_in (frame_of self.old.state.setup M.spec) self.old.state.me.0 c event) self.new.state result }
     {
         if self.stale {
@@ -166,8 +167,8 @@ impl<M: Sequenced> Node<M> {
         }
     }
 
-    /// Takes an event of a journal, as `take` does. It stands there already, so no snapshot takes its place, and none is
-    /// noted.
+    /// Takes an event of a journal, as `take` does. It stands there already, so no snapshot takes its place, and none
+    /// is noted.
     pub fn replay(&mut self, alloc: Global, event: NodeEvent) -> Answer
         ensures answer { (c : Core M.Msg) → RefinesCore M.spec M.refines self.old c →
             IsAnswer M.spec M.refines (IsOfNodes self.old.state.setup.n event) c

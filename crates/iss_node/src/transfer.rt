@@ -1,5 +1,5 @@
 //! State transfer: how a node asks for an epoch, hands one out, and adopts one (ISS: state transfer).
-ghost use Rattle.std.specs.Prelude.{◌≡◌, ◌<◌, ◌≤◌, ◌+◌, ◌^◌, ◌∷◌, [], IfOk, List, drop, length, take};
+ghost use Rattle.std.specs.Prelude.{◌≡◌, ◌<◌, ◌≤◌, ◌+◌, ◌^◌, ◌∷◌, [], None, IfOk, List, drop, length, take};
 ghost use Rattle.iss_checkpoint.specs.Votes.{voters_of};
 ghost use Rattle.iss_log.specs.Chains.{IsChainOf};
 ghost use Rattle.iss_rules.specs.Votes.{cert_on};
@@ -206,7 +206,8 @@ pub(crate) fn at_slots(
 
 // An outcome that sends one packet to one node.
 fn one_send(alloc: Global, to: NodeId, bytes: Bytes) -> Result<Outcome, NoMemory>
-    ensures { IfOk result (λ o. o ≡ record { sends = (To.One to, bytes) ∷ []; own = []; early = []; hashed = []; entered = None }) }
+    ensures { IfOk result (λ o. o ≡
+        record { sends = (To.One to, bytes) ∷ []; own = []; early = []; hashed = []; entered = None }) }
 {
     let mut outcome = Outcome::nothing(alloc);
     outcome.sends.push((To::One(to), bytes))?;
