@@ -1,4 +1,7 @@
 use Rattle.std.proofs.Common.{◌≡◌, ◌∙◌, ◌≤◌, ◌^◌, [], ap, subst, sym}
+use Rattle.iss_ballots.specs.Ballots.{AreKept}
+use Rattle.iss_keys.specs.Directories.{node_secret}
+use Rattle.iss_keys.specs.KeyStates.{KeyState}
 use Rattle.iss_node.proofs.Snapshots.KeysAreOwn.{own-leaf, own-number}
 use Rattle.iss_node.specs.Internal.Shape.{IsNodeState}
 use Rattle.iss_node.specs.State.{StateView}
@@ -16,4 +19,12 @@ keys_of_node_at-requires-clause-next g c =
     (subst (λ (z : StateView g.row.M.Denot g.row.M-Msg.Denot). c.args.leaf ≤ 2 ^ z.setup.keys) (sym c.self.view_is) c.requires)
 
 pub returns-clause-begun : goal.returns-clause-begun
-returns-clause-begun g c = let first = c.self in let put = c.put_all in let forget = c.forget_votes in let keys = c.keys_of_node_at in ?
+returns-clause-begun g c = record {
+  kept = λ votes older k.
+      c.in_ok-put_all.ensures.kept [] older
+      (c.forget_votes.ensures.kept votes older (subst (λ (z : StateView g.row.M.Denot g.row.M-Msg.Denot). AreKept z.ballots votes older) (sym c.self.view_is) k));
+  keys =
+      c.keys_of_node_at.ensures.made c.self.inside.setup.n c.self.inside.setup.clients c.self.inside.setup.keys (c.directory-directory.ensures ∙ c.self.invariant.directory)
+      ∙ ap (λ (z : StateView g.row.M.Denot g.row.M-Msg.Denot). let k : KeyState = record { secret = node_secret z.me.0; height = z.setup.keys; used = c.args.leaf } in k) c.self.view_is;
+  rest = λ i. record (c.self.view_is i) { waiting = c.new.ensures i; ballots = c.put_all.new.ballots; keys = c.keys_of_node_at.result };
+}

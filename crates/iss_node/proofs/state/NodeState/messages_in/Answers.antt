@@ -1,6 +1,6 @@
-use Rattle.std.proofs.Common.{arith, ◌≡◌, ◌∙◌, ◌<◌, ◌≤◌, List, Some, None, length, refl, sym, ap, subst}
+use Rattle.std.proofs.Common.{arith, ◌≡◌, ◌∙◌, ◌<◌, ◌≤◌, List, Option, Some, None, length, refl, sym, ap, subst}
 use Rattle.std.proofs.lemmas.List.{take_all}
-use Rattle.std.specs.Prelude.{option_map}
+use Rattle.std.specs.Prelude.{IfSome, option_map}
 use Rattle.iss_model.specs.Frames.{frame_of}
 use Rattle.iss_node.proofs.Snapshots.BytesAreRead.{early-all, early-bad, early-many, early-on, from-next, seen-next}
 use Rattle.iss_node.specs.Internal.Shape.{AreFrom}
@@ -16,7 +16,7 @@ returns-then-packets-gt-EARLY_MOST-clause-read g c =
 pub returns-in-None-clause-read : goal.returns-in-None-clause-read
 returns-in-None-clause-read g c =
     sym (early-bad (frame_of c.args.self.now.setup g.M.Sequenced.spec) c.args.self.now.epoch c.args.packets.now c.loop-packet.packet-index c.packet-item.result (omega (arith, c.loop-packet-test.true)) c.packet-item.is
-    (sym c.in-None.ensures.read))
+    (sym c.in_ok-message.ensures.read ∙ ap (λ (o : Option (Early g.row.M-Msg.Denot)). option_map (λ x. seen_one x) o) c.in-None.is))
 
 pub loop-packet-preserved : goal.loop-packet-preserved
 loop-packet-preserved g c =
@@ -26,10 +26,10 @@ loop-packet-preserved g c =
     record {
       read =
           early-on W c.args.self.now.epoch c.args.packets.now c.loop-packet.packet-index c.packet-item.result (seen_early c.loop-packet.early.items) (seen_one c.in-Some.message) (omega (arith, c.loop-packet-test.true)) c.packet-item.is
-          h.read (sym c.in-Some.ensures.read)
+          h.read (sym c.in_ok-message.ensures.read ∙ ap (λ (o : Option (Early g.row.M-Msg.Denot)). option_map (λ x. seen_one x) o) c.in-Some.is)
           ∙ ap (λ xs. Some xs) (sym (ap (λ (xs : List (Early g.row.M-Msg.Denot)). seen_early xs) more ∙ seen-next c.loop-packet.early.items c.in-Some.message));
       from = subst (λ (xs : List (Early g.row.M-Msg.Denot)). AreFrom c.args.self.now.setup.n xs) (sym more)
-          (from-next c.args.self.now.setup.n c.loop-packet.early.items c.in-Some.message h.from c.in-Some.ensures.from);
+          (from-next c.args.self.now.setup.n c.loop-packet.early.items c.in-Some.message h.from (subst (λ (o : Option (Early g.row.M-Msg.Denot)). IfSome o (λ x. x.from.0 < c.args.self.now.setup.n)) c.in-Some.is c.in_ok-message.ensures.from));
     }
 
 pub returns-clause-read : goal.returns-clause-read
