@@ -1,6 +1,6 @@
 -- The snapshot of a node is that of each core that its state refines.
 use Rattle.std.proofs.Common.{arith, inl, inr, ◌≡◌, ℕ, zero, suc, ◌+◌, ◌-◌, ◌*◌, ◌<◌, ◌≤◌, Bool, true, false, cond, List, [], ◌∷◌, ◌++◌, Option, Some, None, drop, get_or, length, nat_le, reverse, take, refl, sym, ap, ◌∙◌, subst, add-one, true≢false}
-use Rattle.std.proofs.Math.Nat.{mul-le-mul_left, mul-comm}
+use Rattle.std.proofs.Math.Nat.{mul-le-mul_left, mul_comm}
 use Rattle.std.proofs.Math.Seq.{take-suc}
 use Rattle.std.proofs.lemmas.Bool.{le-leb}
 use Rattle.std.proofs.lemmas.Bool.Decides.{leb_tells}
@@ -52,7 +52,7 @@ epochs-are s m entries e (suc n) le =
     (epochs-are s m entries (suc e) n (subst (λ (k : ℕ). k * s.epoch ≤ length entries) (sym same) le))
   where
     up : (a b : ℕ) → a ≤ b → a * s.epoch ≤ b * s.epoch
-    up a b h = let l = mul-le-mul_left s.epoch h in let p = mul-comm s.epoch a in let q = mul-comm s.epoch b in omega (arith, l, p, q)
+    up a b h = let l = mul-le-mul_left s.epoch h in let p = mul_comm s.epoch a in let q = mul_comm s.epoch b in omega (arith, l, p, q)
 
 -- A node has the values of each epoch before its own.
 pub has-values : {M Msg : Type 0} (m : Module Msg) (refines : M → Params → ℕ → List (Item Msg) → Type 0) (v : StateView M Msg) (past : Past Msg) → RefinesPast m refines v past → (e : ℕ) → e < v.epoch → None ≡ held_values v e → ⊥
@@ -64,7 +64,7 @@ has-values m refines v past tied e lt none =
     true≢false (sym (le-leb (suc e * v.setup.epoch) (length v.log.entries) le) ∙ none-held _ _ none)
   where
     up : suc e * v.setup.epoch ≤ v.epoch * v.setup.epoch
-    up = let h : suc e ≤ v.epoch = omega (arith, lt) in let l = mul-le-mul_left v.setup.epoch h in let p = mul-comm v.setup.epoch (suc e) in let q = mul-comm v.setup.epoch v.epoch in omega (arith, l, p, q)
+    up = let h : suc e ≤ v.epoch = omega (arith, lt) in let l = mul-le-mul_left v.setup.epoch h in let p = mul_comm v.setup.epoch (suc e) in let q = mul_comm v.setup.epoch v.epoch in omega (arith, l, p, q)
 
 -- ---- the certificates
 

@@ -3,4 +3,4 @@ use Rattle.iss_node.proofs.EpochEnd.SnapshotIsMade.{snapshot-is}
 use Rattle.iss_node.proofs.state.NodeState.snapshot.Goals as goal
 
 pub returns : goal.returns
-returns g c = λ past votes certs tied kept. let one = c.in_ok-epochs_from in let two = c.self in let three = c.in_ok-requests in ?
+returns g c = λ past votes certs tied kept. ?
