@@ -12,7 +12,7 @@ use Rattle.iss_checkpoint.specs.declared.votes.Cert.{Cert}
 use Rattle.iss_checkpoint.specs.declared.votes.Vote.{Vote}
 use Rattle.iss_model.specs.Frames.{Frame, frame_of}
 use Rattle.iss_model.specs.Node.{Core, Early as Kept_early, values_of}
-use Rattle.iss_node.proofs.StateTransfer.HandOutRefines.{none-held, values-are}
+use Rattle.iss_node.proofs.StateTransfer.HandOutRefines.{none-held, some-held, values-are}
 use Rattle.iss_node.specs.Internal.Storing.{and_new_cert, epochs_to}
 use Rattle.iss_node.specs.Internal.Transfers.{held_values}
 use Rattle.iss_node.specs.Saved.{holds}
@@ -65,6 +65,19 @@ has-values m refines v past tied e lt none =
   where
     up : suc e * v.setup.epoch ≤ v.epoch * v.setup.epoch
     up = let h : suc e ≤ v.epoch = omega (arith, lt) in let l = mul-le-mul_left v.setup.epoch h in let p = mul_comm v.setup.epoch (suc e) in let q = mul_comm v.setup.epoch v.epoch in omega (arith, l, p, q)
+
+-- The values of one epoch more.
+pub epochs-next : {M Msg : Type 0} (v : StateView M Msg) (from e : ℕ) (found next : List (List Value)) (values : List Value) → from ≤ e → found ≡ epochs_to v.setup.epoch v.log.entries from (e - from) →
+    Some values ≡ held_values v e → next ≡ found ++ values ∷ [] → next ≡ epochs_to v.setup.epoch v.log.entries from (e + 1 - from)
+epochs-next v from e found next values low is held more =
+    let one : values ≡ part v.setup.epoch v.log.entries e = (some-held _ _ _ held).1 in
+    let last : e ≡ from + (e - from) = omega (arith, low) in
+    let count : suc (e - from) ≡ e + 1 - from = omega (arith, low) in
+    more
+    ∙ (ap (λ (xs : List Value). found ++ xs ∷ []) one
+    ∙ (ap (λ (xs : List (List Value)). xs ++ part v.setup.epoch v.log.entries e ∷ []) is
+    ∙ (sym (epochs-more v.setup.epoch v.log.entries from (e - from) e last)
+    ∙ ap (λ (n : ℕ). epochs_to v.setup.epoch v.log.entries from n) count)))
 
 -- ---- the certificates
 
