@@ -38,7 +38,7 @@ use Rattle.iss_node.proofs.Log.LogIsDelivered.{epoch-cell, goes-on, has-slots, l
 use Rattle.iss_node.proofs.StateTransfer.EpochIsFilled.{core-is, grown_core, is-over, new-log, size}
 use Rattle.iss_node.proofs.Log.LogIsExtended.{AreRefiled, are-refiled, bf-long, bf-part, bounded, grown-is}
 use Rattle.iss_node.specs.Flights.{FlightState, IsCompleted}
-use Rattle.iss_node.specs.Internal.Growth.{IsGrown, and_values, waits_on}
+use Rattle.iss_node.specs.Internal.Growth.{AreJoined, IsGrown, and_values, waits_on}
 use Rattle.iss_node.specs.Internal.Inputs.{HasAppliedDeliveries, IsChained}
 use Rattle.iss_node.specs.Internal.Ready.{IsOpen, MayAdopt}
 use Rattle.iss_node.specs.Internal.Shape.{IsNodeState}
@@ -190,7 +190,7 @@ module _ {M Msg : Type 0} (m : Module Msg) (refines : M → Params → ℕ → L
     abbrev adopted : Core Msg
     adopted = bare (adopts_piece (rules_of v.setup) m v.me.0 (core_of v past) p).core
 
-    chain : _
+    chain : AreJoined v.chains v.log.entries grown.grown.joined u.chains hashed strings
     chain = chained.joined grown.grown.joined grown.grown.entries tied.chained
 
     adopted-refined : RefinesBareCore m refines w adopted
