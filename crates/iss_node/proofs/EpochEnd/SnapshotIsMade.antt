@@ -1,6 +1,6 @@
 -- The snapshot of a node is that of each core that its state refines.
 use Rattle.std.proofs.Common.{arith, inl, inr, ◌≡◌, ℕ, zero, suc, ◌+◌, ◌-◌, ◌*◌, ◌<◌, ◌≤◌, Bool, true, false, cond, List, [], ◌∷◌, ◌++◌, Option, Some, None, drop, get_or, length, nat_le, reverse, take, refl, sym, ap, ◌∙◌, subst, add-one, true≢false}
-use Rattle.std.proofs.Math.Nat.{mul-le-mul_left, mul-comm}
+use Rattle.std.proofs.Math.Nat.{mul-le-mul_left, mul_comm}
 use Rattle.std.proofs.Math.Seq.{take-suc}
 use Rattle.std.proofs.lemmas.Bool.{le-leb}
 use Rattle.std.proofs.lemmas.Bool.Decides.{leb_tells}
@@ -12,7 +12,7 @@ use Rattle.iss_checkpoint.specs.declared.votes.Cert.{Cert}
 use Rattle.iss_checkpoint.specs.declared.votes.Vote.{Vote}
 use Rattle.iss_model.specs.Frames.{Frame, frame_of}
 use Rattle.iss_model.specs.Node.{Core, Early as Kept_early, values_of}
-use Rattle.iss_node.proofs.StateTransfer.HandOutRefines.{none-held, values-are}
+use Rattle.iss_node.proofs.StateTransfer.HandOutRefines.{none-held, some-held, values-are}
 use Rattle.iss_node.specs.Internal.Storing.{and_new_cert, epochs_to}
 use Rattle.iss_node.specs.Internal.Transfers.{held_values}
 use Rattle.iss_node.specs.Saved.{holds}
@@ -52,7 +52,7 @@ epochs-are s m entries e (suc n) le =
     (epochs-are s m entries (suc e) n (subst (λ (k : ℕ). k * s.epoch ≤ length entries) (sym same) le))
   where
     up : (a b : ℕ) → a ≤ b → a * s.epoch ≤ b * s.epoch
-    up a b h = let l = mul-le-mul_left s.epoch h in let p = mul-comm s.epoch a in let q = mul-comm s.epoch b in omega (arith, l, p, q)
+    up a b h = let l = mul-le-mul_left s.epoch h in let p = mul_comm s.epoch a in let q = mul_comm s.epoch b in omega (arith, l, p, q)
 
 -- A node has the values of each epoch before its own.
 pub has-values : {M Msg : Type 0} (m : Module Msg) (refines : M → Params → ℕ → List (Item Msg) → Type 0) (v : StateView M Msg) (past : Past Msg) → RefinesPast m refines v past → (e : ℕ) → e < v.epoch → None ≡ held_values v e → ⊥
@@ -64,7 +64,20 @@ has-values m refines v past tied e lt none =
     true≢false (sym (le-leb (suc e * v.setup.epoch) (length v.log.entries) le) ∙ none-held _ _ none)
   where
     up : suc e * v.setup.epoch ≤ v.epoch * v.setup.epoch
-    up = let h : suc e ≤ v.epoch = omega (arith, lt) in let l = mul-le-mul_left v.setup.epoch h in let p = mul-comm v.setup.epoch (suc e) in let q = mul-comm v.setup.epoch v.epoch in omega (arith, l, p, q)
+    up = let h : suc e ≤ v.epoch = omega (arith, lt) in let l = mul-le-mul_left v.setup.epoch h in let p = mul_comm v.setup.epoch (suc e) in let q = mul_comm v.setup.epoch v.epoch in omega (arith, l, p, q)
+
+-- The values of one epoch more.
+pub epochs-next : {M Msg : Type 0} (v : StateView M Msg) (from e : ℕ) (found next : List (List Value)) (values : List Value) → from ≤ e → found ≡ epochs_to v.setup.epoch v.log.entries from (e - from) →
+    Some values ≡ held_values v e → next ≡ found ++ values ∷ [] → next ≡ epochs_to v.setup.epoch v.log.entries from (e + 1 - from)
+epochs-next v from e found next values low is held more =
+    let one : values ≡ part v.setup.epoch v.log.entries e = (some-held _ _ _ held).1 in
+    let last : e ≡ from + (e - from) = omega (arith, low) in
+    let count : suc (e - from) ≡ e + 1 - from = omega (arith, low) in
+    more
+    ∙ (ap (λ (xs : List Value). found ++ xs ∷ []) one
+    ∙ (ap (λ (xs : List (List Value)). xs ++ part v.setup.epoch v.log.entries e ∷ []) is
+    ∙ (sym (epochs-more v.setup.epoch v.log.entries from (e - from) e last)
+    ∙ ap (λ (n : ℕ). epochs_to v.setup.epoch v.log.entries from n) count)))
 
 -- ---- the certificates
 
