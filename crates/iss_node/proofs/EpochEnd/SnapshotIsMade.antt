@@ -1,18 +1,16 @@
 -- The snapshot of a node is that of each core that its state refines.
-use Rattle.std.proofs.Common.{arith, inl, inr, ◌≡◌, ℕ, zero, suc, ◌+◌, ◌-◌, ◌*◌, ◌<◌, ◌≤◌, Bool, true, false, cond, List, [], ◌∷◌, ◌++◌, Option, Some, None, drop, get_or, length, nat_le, reverse, take, refl, sym, ap, ◌∙◌, subst, add-one, true≢false}
+use Rattle.std.proofs.Common.{arith, inl, inr, ◌≡◌, ℕ, zero, suc, ◌+◌, ◌-◌, ◌*◌, ◌<◌, ◌≤◌, Bool, List, [], ◌∷◌, ◌++◌, Option, Some, drop, get_or, length, reverse, take, refl, sym, ap, ◌∙◌, subst, add-one}
 use Rattle.std.proofs.Math.Nat.{mul-le-mul_left, mul_comm}
 use Rattle.std.proofs.Math.Seq.{take-suc}
-use Rattle.std.proofs.lemmas.Bool.{le-leb}
 use Rattle.std.proofs.lemmas.Bool.Decides.{leb_tells}
 use Rattle.std.proofs.lemmas.List.{append-nil}
 use Rattle.iss_base.specs.Lists.{below}
-use Rattle.iss_base.proofs.Lists.{none-some}
-use Rattle.iss_ballots.specs.Ballots.{AreKept, cert_at}
+use Rattle.iss_ballots.specs.Ballots.{AreKept}
 use Rattle.iss_checkpoint.specs.declared.votes.Cert.{Cert}
 use Rattle.iss_checkpoint.specs.declared.votes.Vote.{Vote}
 use Rattle.iss_model.specs.Frames.{Frame, frame_of}
-use Rattle.iss_model.specs.Node.{Core, Early as Kept_early, values_of}
-use Rattle.iss_node.proofs.StateTransfer.HandOutRefines.{none-held, some-held, values-are}
+use Rattle.iss_model.specs.Node.{values_of}
+use Rattle.iss_node.proofs.StateTransfer.HandOutRefines.{some-held, values-are}
 use Rattle.iss_node.specs.Internal.Storing.{and_new_cert, epochs_to}
 use Rattle.iss_node.specs.Internal.Transfers.{held_values}
 use Rattle.iss_node.specs.Saved.{holds}
@@ -53,18 +51,6 @@ epochs-are s m entries e (suc n) le =
   where
     up : (a b : ℕ) → a ≤ b → a * s.epoch ≤ b * s.epoch
     up a b h = let l = mul-le-mul_left s.epoch h in let p = mul_comm s.epoch a in let q = mul_comm s.epoch b in omega (arith, l, p, q)
-
--- A node has the values of each epoch before its own.
-pub has-values : {M Msg : Type 0} (m : Module Msg) (refines : M → Params → ℕ → List (Item Msg) → Type 0) (v : StateView M Msg) (past : Past Msg) → RefinesPast m refines v past → (e : ℕ) → e < v.epoch → None ≡ held_values v e → ⊥
-has-values m refines v past tied e lt none =
-    let high : suc e * v.setup.epoch ≤ v.epoch * v.setup.epoch = up in
-    let start : v.plan.start ≡ v.epoch * v.setup.epoch = tied.start ∙ ap (λ (k : ℕ). k * v.setup.epoch) (sym tied.epoch) in
-    let begun = tied.begun in
-    let le : suc e * v.setup.epoch ≤ length v.log.entries = omega (arith, high, start, begun) in
-    true≢false (sym (le-leb (suc e * v.setup.epoch) (length v.log.entries) le) ∙ none-held _ _ none)
-  where
-    up : suc e * v.setup.epoch ≤ v.epoch * v.setup.epoch
-    up = let h : suc e ≤ v.epoch = omega (arith, lt) in let l = mul-le-mul_left v.setup.epoch h in let p = mul_comm v.setup.epoch (suc e) in let q = mul_comm v.setup.epoch v.epoch in omega (arith, l, p, q)
 
 -- The values of one epoch more.
 pub epochs-next : {M Msg : Type 0} (v : StateView M Msg) (from e : ℕ) (found next : List (List Value)) (values : List Value) → from ≤ e → found ≡ epochs_to v.setup.epoch v.log.entries from (e - from) →

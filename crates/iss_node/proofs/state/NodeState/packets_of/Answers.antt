@@ -1,4 +1,4 @@
-use Rattle.std.proofs.Common.{arith, ◌≡◌, ◌∙◌, ℕ, ◌++◌, ◌∷◌, [], ◌<◌, List, ap, length, refl}
+use Rattle.std.proofs.Common.{arith, ◌∙◌, ℕ, ◌++◌, ◌∷◌, [], ◌<◌, List, ap, length, refl}
 use Rattle.iss_model.specs.Frames.{frame_of}
 use Rattle.iss_node.proofs.EpochEnd.SnapshotIsMade.{packets-next}
 use Rattle.iss_node.specs.State.{StateView, seen_one}

@@ -1,4 +1,4 @@
-use Rattle.std.proofs.Common.{◌≡◌, ◌∙◌, ap}
+use Rattle.std.proofs.Common.{◌∙◌, ap}
 use Rattle.iss_node.proofs.EpochEnd.SnapshotIsMade.{snapshot-is}
 use Rattle.iss_node.specs.State.{StateView}
 use Rattle.iss_node.proofs.state.NodeState.snapshot.Goals as goal
