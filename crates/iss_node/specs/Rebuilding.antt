@@ -34,6 +34,7 @@ pub record RefinesRebuilt {M Msg : Type 0} (m : Module Msg) (refines : Relation 
   pub from : AreFrom v.state.setup.n v.early
 
 -- The next snapshot is read as the model reads it, and refused if the model refuses it.
+-- rule: Persistence: A snapshot that does not continue those before it, or has a part to be dropped, is damage
 abbrev pub IsReadOn : {M Msg : Type 0} → Module Msg → Relation M Msg → Option (Rebuilt Msg) →
     Option (RebuildingView M Msg) → Type 0
 IsReadOn m refines None None = Unit {0}
@@ -42,6 +43,8 @@ IsReadOn m refines (Some r) None = ⊥
 IsReadOn m refines (Some r) (Some v) = RefinesRebuilt m refines v r
 
 -- The node refines the core that entries lead to, and notes what they saved.
+-- rule: Persistence: A node is rebuilt from its snapshots, in order
+-- rule: Persistence: The early messages of the last snapshot are taken next
 pub record IsOf {M Msg : Type 0} (m : Module Msg) (refines : Relation M Msg) (found : Option (Rebuilt Msg))
     (node : NodeView M Msg) : Type 0 where
   pub rebuilt : Rebuilt Msg

@@ -237,6 +237,7 @@ IsEnteredAnswer m old (Step_dropped why) new (Node_dropped cause) = new.saved �
 IsEnteredAnswer m old stepped new answer = Unit {0}
 
 -- Nothing takes the place of an event that is replayed.
+-- rule: Persistence: No snapshot takes the place of an event that is replayed
 abbrev pub IsReplayed : Answer → Type 0
 IsReplayed (Node_taken outcome) = outcome.entered ≡ None
 IsReplayed (Node_dropped why) = Unit {0}

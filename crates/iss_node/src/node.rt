@@ -169,6 +169,7 @@ impl<M: Sequenced> Node<M> {
 
     /// Takes an event of a journal, as `take` does. It stands there already, so no snapshot takes its place, and none
     /// is noted.
+    // rule: Persistence: No snapshot takes the place of an event that is replayed
     pub fn replay(&mut self, alloc: Global, event: NodeEvent) -> Answer
         ensures answer { (c : Core M.Msg) → RefinesCore M.spec M.refines self.old c →
             IsAnswer M.spec M.refines (IsOfNodes self.old.state.setup.n event) c
@@ -299,6 +300,7 @@ impl<M: Sequenced> Node<M> {
 
 impl<M: Sequenced> NodeState<M> {
     // Takes an event, and notes the snapshot that takes its place, unless that is too long.
+    // rule: Persistence: A snapshot takes the place of the event that ended an epoch, unless it is too long for an entry
     fn kept_turn(&mut self, alloc: Global, event: NodeEvent) -> Result<StepResult, NoMemory>
         requires { RefinesSome M.spec M.refines self.old }
         ensures answer { IfOk result (λ a. IsKeptStepOf M.spec M.refines (IsOfNodes self.old.setup.n event) self.old
