@@ -18,6 +18,7 @@ use Rattle.iss_snapshot.specs.Snapshots.{fits, snapshot_row, spell_snapshot}
 use Rattle.iss_snapshot.specs.declared.snapshots.Snapshot.{Snapshot}
 
 -- the snapshot of a core, behind those that hold this
+-- rule: Persistence: A snapshot has the values and certificates that no earlier one has, and the next leaf
 abbrev pub saved_by : {M Msg : Type 0} → Module Msg → StateView M Msg → Core Msg → Snapshot
 saved_by m v d = snapshot_of (frame_of v.setup m) v.me.0 (saved_of v.saved) d
 
@@ -26,6 +27,7 @@ encoded_by m v d = spell_snapshot v.setup.version (saved_by m v d)
 
 -- If an epoch was entered, its snapshot was made. The core is one without votes and certificates, and the snapshot has
 -- those of the state.
+-- rule: Persistence: A snapshot is of the node as it enters an epoch, with the early messages that it takes next
 abbrev pub IsEntered : {M Msg : Type 0} → Module Msg → StateView M Msg → Option (Core Msg) → Option (List ℕ) → Type 0
 IsEntered m v None bytes = bytes ≡ None
 IsEntered m v (Some d) bytes = (votes : List Vote) (certs : List Cert) → AreKept v.ballots votes certs →

@@ -18,6 +18,7 @@ abbrev pub saved_of : SavedState → Saved
 saved_of s = record { from = s.from; held = holds s }
 
 -- A further snapshot ends at `to` and has these certificates.
+-- rule: Persistence: A snapshot that is handed out is noted by its end and its certificates
 pub record HasSaved (old : SavedState) (to : ℕ) (certs : List Cert) (new : SavedState) : Type 0 where
   pub from : new.from ≡ to
   pub held : (e : ℕ) → holds new e ≡ (holds old e || is_some (cert_on certs e))

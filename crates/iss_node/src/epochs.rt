@@ -66,6 +66,7 @@ impl<M: Sequenced> NodeState<M> {
 
     // Votes on the node's complete epoch (ISS: checkpoint) and starts the next one. Returns the vote's outcome and the
     // messages that arrived early.
+    // rule: Persistence: A snapshot is of the node as it enters an epoch, with the early messages that it takes next
     fn end_epoch(&mut self, alloc: Global) -> Result<(Outcome, Vec<Early<M::Msg>>), NoMemory>
         requires { MayVote M.spec M.refines self.old }
         ensures ended { IfOk result

@@ -35,6 +35,7 @@ impl<M: Sequenced> NodeState<M> {
     }
 
     /// Notes that a snapshot of the current epoch stands in the journal.
+    // rule: Persistence: A snapshot that is handed out is noted by its end and its certificates
     pub(crate) fn note_saved(&mut self, alloc: Global) -> Result<(), NoMemory>
         ensures noted { OnOk result ((votes : List Voted) (certs : List Certificate) →
             AreKept self.old.ballots votes certs → HasSaved self.old.saved self.old.epoch
@@ -45,6 +46,7 @@ impl<M: Sequenced> NodeState<M> {
         self.saved.note(self.epoch, certs.as_slice())
     }
 
+    // rule: Persistence: A snapshot has the values and certificates that no earlier one has, and the next leaf
     fn snapshot(&self, alloc: Global, early: &[Early<M::Msg>]) -> Result<Snapshot, NoMemory>
         requires { RefinesSome M.spec M.refines self.now }
         ensures { IfOk result (λ s. IsSnapshotOf M.spec M.refines self.now early.now s) }
@@ -119,6 +121,7 @@ impl<M: Sequenced> NodeState<M> {
     }
 
     // The early messages as the packets that they came in.
+    // rule: Persistence: A snapshot is of the node as it enters an epoch, with the early messages that it takes next
     fn packets_of(&self, alloc: Global, early: &[Early<M::Msg>]) -> Result<Seq<Bytes>, NoMemory>
         ensures { IfOk result (λ packets.
             packets ≡ packets_of (frame_of self.now.setup M.spec) self.now.epoch (seen_early early.now)) }

@@ -143,6 +143,7 @@ impl<M: Sequenced> NodeState<M> {
     // Adopts a piece: its values fill the slots that have none, and its certificate is kept. The next epoch starts,
     // with the messages that arrived early for it.
     // rule: Transfer: An adopted piece of the own epoch fills the empty slots and ends the epoch without a vote
+    // rule: Persistence: A snapshot is of the node as it enters an epoch, with the early messages that it takes next
     fn adopt(
         &mut self,
         alloc: Global,
