@@ -1,22 +1,26 @@
-// Recovery: a node is rebuilt by replaying the entries of its journal.
-ghost use Rattle.std.specs.Prelude.{◌≡◌, ◌<◌, ℕ, [], true, length, slice_index_or, IfOk, IsErrOf, OnOk};
+// Recovery: a node is rebuilt from the snapshots of its journal, and replays the events behind them.
+ghost use Rattle.std.specs.Prelude.{◌≡◌, ◌<◌, ℕ, [], true, length, slice_index_or, take, IfOk, IsErrOf, OnOk};
+ghost use Rattle.iss_journal.specs.Retained.{is_snapshot, retained};
 ghost use Rattle.iss_journal.specs.SharedViews.{shared_in};
 ghost use Rattle.iss_journal.specs.Sound.{IsSound, disk_of, entries_of, gates_of, is_attached};
 ghost use Rattle.iss_keep.specs.Cores.{StopsAt};
-ghost use Rattle.iss_keep.specs.Internal.Replays.{GoesTo, IsOf, IsReplayed};
+ghost use Rattle.iss_keep.specs.Internal.Replays.{AreInFront, GoesTo, IsFound, IsOf, IsRebuiltBy, IsReplayed};
 ghost use Rattle.iss_keep.specs.Steps.{IsAttached, IsDamaged, IsLeft, LosesNone, sight};
 ghost use Rattle.iss_rules.specs.Concrete.{keys_of};
-ghost use Rattle.iss_model.specs.Node.{Core, initial_core};
+ghost use Rattle.iss_model.specs.Node.{initial_core};
 ghost use Rattle.iss_rules.specs.Setups.{IsSetupOf};
+ghost use Rattle.iss_node.specs.Rebuilds.{HasReadEntry, IsSameReader, RefinesRebuilt};
 ghost use Rattle.iss_node.specs.State.{RefinesCore};
+ghost use Rattle.iss_rebuilt.specs.Reading.{Rebuilt};
 
 use crate::entries::decode_entry;
 use iss_disk::Disk;
 use iss_journal::{AttachError, Journal, SharedEntries};
 use iss_keys::SharedDirectory;
-use iss_node::{Answer, Node};
+use iss_node::{Answer, Node, Rebuilding};
 use iss_request::{NoMemory, NodeId, Setup};
 use iss_sb::Sequenced;
+use iss_snapshot::snapshots::KIND;
 use std::alloc::Global;
 
 /// A node that took no event, with unused keys.
@@ -36,6 +40,120 @@ pub(crate) fn start_fresh<M: Sequenced>(
     Node::start(alloc, setup, directory, me, keys)
 }
 
+// A node that has read no snapshot.
+fn start_rebuilding<M: Sequenced>(
+    alloc: Global,
+    setup: &Setup,
+    directory: &SharedDirectory,
+    me: NodeId,
+) -> Result<Rebuilding<M>, NoMemory>
+    requires good { IsSetupOf M.spec setup.now }
+    requires directory { directory.now ≡ keys_of setup.now }
+    requires me { me.0 < setup.now.n }
+    ensures refines { IfOk result (IsRebuiltBy setup.now M.spec M.refines me.0 []) }
+    ensures same { IfOk result (λ v. IsOf setup.now me v.node) }
+{
+    Rebuilding::start(alloc, setup, directory, me)
+}
+
+// Whether an entry is a snapshot, by its first byte.
+fn is_snapshot(entry: &[u8]) -> bool
+    ensures { result ≡ is_snapshot entry.now }
+{
+    match entry {
+        [kind, ..] => *kind == KIND,
+        [] => false,
+    }
+}
+
+// The number of snapshots in front. None stands behind another entry.
+fn snapshots_in_front(alloc: Global, entries: &SharedEntries) -> Result<usize, NoMemory>
+    ensures { IfOk result (AreInFront (shared_in entries.now)) }
+{
+    for k in 0..entries.len() {
+        let entry = entries.get(alloc, k)?;
+        if !is_snapshot(&entry) {
+            return Ok(k);
+        }
+    }
+    Ok(entries.len())
+}
+
+// Reads entry `k` as a snapshot. `false` if it does not continue those before it.
+fn read_at<M: Sequenced>(
+    alloc: Global,
+    rebuilding: &mut Rebuilding<M>,
+    entries: &SharedEntries,
+    k: usize,
+) -> Result<bool, NoMemory>
+    requires k { k < length (shared_in entries.now) }
+    ensures read { IfOk result (λ taken. (r : Rebuilt M.Msg) → RefinesRebuilt M.spec M.refines rebuilding.old r →
+        HasReadEntry M.spec M.refines rebuilding.old r (slice_index_or (shared_in entries.now) k []) rebuilding.new
+        taken) }
+    ensures same { IsSameReader rebuilding.old rebuilding.new.node }
+{
+    let entry = entries.get(alloc, k)?;
+    rebuilding.read(&entry)
+}
+
+// Reads the first `front` entries, which are snapshots. `Damaged` has the gate offset of the first that does not
+// continue those before it.
+fn read_front<M: Sequenced, D: Disk>(
+    alloc: Global,
+    setup: &Setup,
+    rebuilding: &mut Rebuilding<M>,
+    journal: &Journal<D>,
+    front: usize,
+) -> Result<(), AttachError>
+    requires front { AreInFront (entries_of journal.now) front }
+    requires same { (me : NodeId) × IsOf setup.now me rebuilding.old.node
+        × IsRebuiltBy setup.now M.spec M.refines me.0 [] rebuilding.old }
+    ensures rebuilt { OnOk result (IsRebuiltBy setup.now M.spec M.refines rebuilding.old.node.state.me.0
+        (take front (entries_of journal.now)) rebuilding.new) }
+    ensures same { IsSameReader rebuilding.old rebuilding.new.node }
+    ensures damaged { (at : ℕ) → IsErrOf result (AttachError.Damaged at) →
+        StopsAt setup.now M.spec rebuilding.old.node.state.me.0 at (entries_of journal.now) (gates_of journal.now) }
+    ensures sound { IsErrOf result AttachError.Failed → ⊥ }
+{
+    let entries = journal.entries();
+    for k in 0..front {
+        let Ok(taken) = read_at(alloc, rebuilding, entries, k) else {
+            return Err(AttachError::NoMemory);
+        };
+        if !taken {
+            return Err(AttachError::Damaged {
+                at: journal.gate_of(k),
+            });
+        }
+    }
+    Ok(())
+}
+
+// Rebuilds the node from the snapshots in front, of which there are `front`.
+fn rebuild<M: Sequenced, D: Disk>(
+    alloc: Global,
+    setup: &Setup,
+    mut rebuilding: Rebuilding<M>,
+    journal: &Journal<D>,
+    front: usize,
+) -> Result<Node<M>, AttachError>
+    requires front { AreInFront (entries_of journal.now) front }
+    requires same { (me : NodeId) × IsOf setup.now me rebuilding.node
+        × IsRebuiltBy setup.now M.spec M.refines me.0 [] rebuilding }
+    ensures refines { IfOk result (IsReplayed setup.now M.spec M.refines rebuilding.node.state.me.0
+        (take front (entries_of journal.now))) }
+    ensures same { IfOk result (IsOf setup.now rebuilding.node.state.me) }
+    ensures damaged { (at : ℕ) → IsErrOf result (AttachError.Damaged at) →
+        StopsAt setup.now M.spec rebuilding.node.state.me.0 at (entries_of journal.now) (gates_of journal.now) }
+    ensures sound { IsErrOf result AttachError.Failed → ⊥ }
+{
+    read_front(alloc, setup, &mut rebuilding, journal, front)?;
+    match rebuilding.finish() {
+        Ok(node) => Ok(node),
+        Err(_) => Err(AttachError::NoMemory),
+    }
+}
+
 // Replays one entry. `false` if it does not decode or the node drops it; the node must not be used afterwards.
 fn replay_entry<M: Sequenced>(
     alloc: Global,
@@ -44,14 +162,14 @@ fn replay_entry<M: Sequenced>(
     entry: &[u8],
 ) -> Result<bool, NoMemory>
     requires { n ≡ node.old.state.setup.n }
-    ensures goes { IfOk result (λ taken. (c : Core M.Msg) → RefinesCore M.spec M.refines node.old c →
-        GoesTo node.old.state.setup M.spec M.refines node.old.state.me.0 c entry.now node.new taken) }
+    ensures goes { IfOk result (λ taken. (found : Rebuilt M.Msg) → IsFound M.spec M.refines node.old found →
+        GoesTo node.old.state.setup M.spec M.refines node.old.state.me.0 found entry.now node.new taken) }
     ensures same { (node.new.state.setup ≡ node.old.state.setup) × (node.new.state.me ≡ node.old.state.me) }
 {
     let Some(event) = decode_entry(alloc, n, entry)? else {
         return Ok(false);
     };
-    match node.take(alloc, event) {
+    match node.replay(alloc, event) {
         Answer::Taken(_outcome) => Ok(true),
         Answer::Dropped(_why) => Ok(false),
         Answer::NoMemory => Err(NoMemory),
@@ -69,22 +187,56 @@ fn replay_at<M: Sequenced>(
 ) -> Result<bool, NoMemory>
     requires n { n ≡ node.old.state.setup.n }
     requires k { k < length (shared_in entries.now) }
-    ensures goes { IfOk result (λ taken. (c : Core M.Msg) → RefinesCore M.spec M.refines node.old c →
-        GoesTo node.old.state.setup M.spec M.refines node.old.state.me.0 c (slice_index_or (shared_in entries.now) k [])
-        node.new taken) }
+    ensures goes { IfOk result (λ taken. (found : Rebuilt M.Msg) → IsFound M.spec M.refines node.old found →
+        GoesTo node.old.state.setup M.spec M.refines node.old.state.me.0 found
+        (slice_index_or (shared_in entries.now) k []) node.new taken) }
     ensures same { (node.new.state.setup ≡ node.old.state.setup) × (node.new.state.me ≡ node.old.state.me) }
 {
     let entry = entries.get(alloc, k)?;
     replay_entry(alloc, n, node, &entry)
 }
 
-// Replays all entries of the journal. `Damaged` has the gate offset of the first entry that does not decode or is
+// Replays the entries behind the first `front`. `Damaged` has the gate offset of the first that does not decode or is
 // dropped.
+fn replay_behind<M: Sequenced, D: Disk>(
+    alloc: Global,
+    setup: &Setup,
+    node: &mut Node<M>,
+    journal: &Journal<D>,
+    front: usize,
+) -> Result<(), AttachError>
+    requires front { AreInFront (entries_of journal.now) front }
+    requires same { (me : NodeId) × IsOf setup.now me node.old
+        × IsReplayed setup.now M.spec M.refines me.0 (take front (entries_of journal.now)) node.old }
+    requires stay { retained (entries_of journal.now) ≡ entries_of journal.now }
+    ensures refines { OnOk result (IsReplayed setup.now M.spec M.refines node.old.state.me.0
+        (entries_of journal.now) node.new) }
+    ensures same { IsOf setup.now node.old.state.me node.new }
+    ensures damaged { (at : ℕ) → IsErrOf result (AttachError.Damaged at) →
+        StopsAt setup.now M.spec node.old.state.me.0 at (entries_of journal.now) (gates_of journal.now) }
+    ensures sound { IsErrOf result AttachError.Failed → ⊥ }
+{
+    let entries = journal.entries();
+    for k in front..entries.len() {
+        let Ok(taken) = replay_at(alloc, setup.n, node, entries, k) else {
+            return Err(AttachError::NoMemory);
+        };
+        if !taken {
+            return Err(AttachError::Damaged {
+                at: journal.gate_of(k),
+            });
+        }
+    }
+    Ok(())
+}
+
+// Rebuilds the node from the snapshots in front of the journal, and replays the events behind them. `Damaged` has the
+// gate offset of the first entry that leads nowhere.
 // rule: Persistence: A reopened node is that of its entries, with its next leaf
 // rule: Persistence: An entry that is no event of its node is damage, at the offset of its gate
 // rule: Persistence: No leaf is used by two entries, over all restarts
 // rule: Persistence: No leaf signs two statements, over all restarts
-fn replay<M: Sequenced, D: Disk>(
+fn recover<M: Sequenced, D: Disk>(
     alloc: Global,
     setup: &Setup,
     directory: &SharedDirectory,
@@ -94,30 +246,25 @@ fn replay<M: Sequenced, D: Disk>(
     requires good { IsSetupOf M.spec setup.now }
     requires directory { directory.now ≡ keys_of setup.now }
     requires me { me.0 < setup.now.n }
+    requires stay { retained (entries_of journal.now) ≡ entries_of journal.now }
     ensures refines { IfOk result (IsReplayed setup.now M.spec M.refines me.0 (entries_of journal.now)) }
     ensures same { IfOk result (IsOf setup.now me) }
     ensures damaged { (at : ℕ) → IsErrOf result (AttachError.Damaged at) →
         StopsAt setup.now M.spec me.0 at (entries_of journal.now) (gates_of journal.now) }
     ensures sound { IsErrOf result AttachError.Failed → ⊥ }
 {
-    let Ok(mut node) = start_fresh::<M>(alloc, setup, directory, me) else {
+    let Ok(rebuilding) = start_rebuilding::<M>(alloc, setup, directory, me) else {
         return Err(AttachError::NoMemory);
     };
-    let entries = journal.entries();
-    for k in 0..entries.len() {
-        let Ok(taken) = replay_at(alloc, setup.n, &mut node, entries, k) else {
-            return Err(AttachError::NoMemory);
-        };
-        if !taken {
-            return Err(AttachError::Damaged {
-                at: journal.gate_of(k),
-            });
-        }
-    }
+    let Ok(front) = snapshots_in_front(alloc, journal.entries()) else {
+        return Err(AttachError::NoMemory);
+    };
+    let mut node = rebuild(alloc, setup, rebuilding, journal, front)?;
+    replay_behind(alloc, setup, &mut node, journal, front)?;
     Ok(node)
 }
 
-/// Attaches the journal and recovers the node from its entries. `Failed` if the disk failed, `Damaged` as `replay`
+/// Attaches the journal and recovers the node from its entries. `Failed` if the disk failed, `Damaged` as `recover`
 /// says, or if the file itself is damaged.
 pub(crate) fn open<M: Sequenced, D: Disk>(
     alloc: Global,
@@ -146,7 +293,7 @@ pub(crate) fn open<M: Sequenced, D: Disk>(
     ensures sound { IsSound D.history D.room journal.new }
 {
     match journal.attach() {
-        Ok(()) => replay(alloc, setup, directory, me, journal),
+        Ok(()) => recover(alloc, setup, directory, me, journal),
         Err(error) => Err(error),
     }
 }

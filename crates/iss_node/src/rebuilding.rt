@@ -1,5 +1,9 @@
 //! A node from the snapshots of its journal.
-ghost use Rattle.std.specs.Prelude.{◌≡◌, ◌<◌};
+ghost use Rattle.std.specs.Prelude.{◌≡◌, ◌<◌, IfOk};
+ghost use Rattle.iss_model.specs.Node.{initial_core};
+ghost use Rattle.iss_node.specs.Rebuilds.{HasReadEntry, IsSameReader, IsWoken, RefinesRebuilt};
+ghost use Rattle.iss_rebuilt.specs.Reading.{Rebuilt as Found};
+ghost use Rattle.iss_rebuilt.specs.Stored.{nothing_saved};
 ghost use Rattle.iss_rules.specs.Concrete.{keys_of};
 ghost use Rattle.iss_rules.specs.Setups.{IsSetupOf};
 
@@ -15,6 +19,7 @@ use iss_request::{Bytes, DecodeError, NoMemory, NodeId, Request, Seq, Setup, Val
 use iss_sb::Sequenced;
 use iss_snapshot::{Snapshot, decode_snapshot};
 use std::alloc::Global;
+use std::marker::Model;
 
 /// How many messages of the next epoch a node keeps.
 const EARLY_MOST: usize = 256;
@@ -37,6 +42,14 @@ pub struct Rebuilding<M: Sequenced> {
     early: Vec<Early<M::Msg>>,
 }
 
+impl<M: Sequenced> Model for Rebuilding<M> {
+    ghost use Rattle.iss_node.specs.Rebuilds.{RebuildingView};
+
+    ghost Value = { RebuildingView M M.Msg };
+
+    ghost view = { λ v. record { node = v.node; early = v.early.items } };
+}
+
 impl<M: Sequenced> Rebuilding<M> {
     /// A node that took no event, with unused keys.
     pub fn start(
@@ -48,6 +61,9 @@ impl<M: Sequenced> Rebuilding<M> {
         requires good { IsSetupOf M.spec setup.now }
         requires directory { directory.now ≡ keys_of setup.now }
         requires me { me.0 < setup.now.n }
+        ensures refines { IfOk result (λ v. RefinesRebuilt M.spec M.refines v
+            (record { core = initial_core; saved = nothing_saved })) }
+        ensures same { IfOk result (λ v. (v.node.state.setup ≡ setup.now) × (v.node.state.me ≡ me)) }
     {
         let keys = directory.directory().keys_of_node(alloc, me.0);
         let node = Node::start(alloc, setup, directory, me, keys)?;
@@ -60,7 +76,11 @@ impl<M: Sequenced> Rebuilding<M> {
 
     /// Continues with a snapshot. `false` if the bytes are no snapshot, do not continue those before, or have a part
     /// that the node would drop; the node must not be used afterwards.
-    pub fn read(&mut self, bytes: &[u8]) -> Result<bool, NoMemory> {
+    pub fn read(&mut self, bytes: &[u8]) -> Result<bool, NoMemory>
+        ensures read { IfOk result (λ taken. (r : Found M.Msg) → RefinesRebuilt M.spec M.refines self.old r →
+            HasReadEntry M.spec M.refines self.old r bytes.now self.new taken) }
+        ensures same { IsSameReader self.old self.new.node }
+    {
         match self.node.state.read_entry(self.alloc, bytes)? {
             Some(early) => {
                 self.early = early;
@@ -71,7 +91,11 @@ impl<M: Sequenced> Rebuilding<M> {
     }
 
     /// The node, with the early messages of the last snapshot taken.
-    pub fn finish(self) -> Result<Node<M>, NoMemory> {
+    pub fn finish(self) -> Result<Node<M>, NoMemory>
+        ensures woken { IfOk result (λ node. (r : Found M.Msg) → RefinesRebuilt M.spec M.refines self r →
+            IsWoken M.spec M.refines self r node) }
+        ensures same { IfOk result (λ node. IsSameReader self node) }
+    {
         let Rebuilding {
             alloc,
             mut node,

@@ -36,6 +36,7 @@ pub record IsRecovered {Msg : Type 0} (W : Frame Msg) (event_in : List ℕ → O
   pub is : recovered W event_in me entries ≡ Some found
   pub saved : found.saved ≡ st.saved
   pub placed : IsPlaced W.rules W.spec me found.core
+  pub known : IsPlaced W.rules W.spec me st.core
   pub slims : slim W.rules W.spec me found.core ≡ slim W.rules W.spec me st.core
 
 -- What stays of a replica's entries leads back to the replica. A journal has its entries oldest first. The replica's

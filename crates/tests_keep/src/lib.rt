@@ -1,0 +1,5 @@
+//! Tests of rebuilt nodes.
+#![tactic(auto)]
+
+#[cfg(test)]
+mod tests;
