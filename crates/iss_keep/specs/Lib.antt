@@ -1,5 +1,4 @@
 pub mod Cores
-pub mod Deeds
 pub mod Entries
 pub mod Internal
 pub mod Recovery

@@ -4,7 +4,6 @@ ghost use Rattle.std.specs.Prelude.{◌≡◌, ◌⊎◌, ◌∷◌, ◌++◌, �
 ghost use Rattle.iss_base.specs.Lists.{Extends};
 ghost use Rattle.iss_journal.specs.Promises.{Shows, ShowsWithOrWithout};
 ghost use Rattle.iss_keep.specs.Cores.{shown_of, step_of, stored_of};
-ghost use Rattle.iss_keep.specs.Deeds.{deeds_of};
 ghost use Rattle.iss_keep.specs.Internal.Makings.{AreApart, makings_from, makings_of};
 ghost use Rattle.iss_keep.specs.Recovery.{AreNamed, Recovers};
 ghost use Rattle.iss_model.specs.Courses.{core_of as core_after};
@@ -13,7 +12,7 @@ ghost use Rattle.iss_model.specs.Node.{Taken, Turn};
 ghost use Rattle.iss_rules.specs.Concrete.{rules_of};
 ghost use Rattle.iss_rules.specs.Formats.{formats_of};
 ghost use Rattle.iss_rules.specs.Setups.{IsSetupOf};
-ghost use Rattle.iss_theorems.specs.Leaves.{SignsOnceEach, core_behind};
+ghost use Rattle.iss_theorems.specs.Leaves.{SignsOnceEach, core_behind, life_of};
 ghost use Rattle.iss_rules.specs.declared.events.NodeEvent.{NodeEvent};
 ghost use Rattle.iss_request.specs.declared.setups.Setup.{Setup};
 
@@ -58,19 +57,20 @@ pub fn leaves_are_of_one_entry<M: Sequenced>()
 /// No leaf signs two statements, over all crashes and restarts.
 ///
 /// `signs`: each used leaf has one statement. Every signature of the node by that leaf is over that statement, or was
-/// received from elsewhere. `core`: the deeds end in the core of the events, as what is stored does. `taken`: an
-/// accepted event is the next deed. `again`: later events do not change earlier deeds.
+/// received from elsewhere. `core`: the life that events give ends in the core that stored them. `taken`: an accepted
+/// event is the next deed. `again`: later events do not change earlier deeds.
+// rule: Persistence: No leaf signs two statements, over all restarts
 pub fn leaves_are_of_one_statement<M: Sequenced>()
     ensures signs { (s : Setup) → IsSetupOf M.spec s → (me : ℕ) (events : List NodeEvent) →
-        SignsOnceEach (frame_of s M.spec) me (deeds_of s M.spec me events) }
+        SignsOnceEach (frame_of s M.spec) me (life_of (frame_of s M.spec) me events) }
     ensures core { (s : Setup) (me : ℕ) (events : List NodeEvent) →
-        core_behind (deeds_of s M.spec me events) ≡ (stored_of s M.spec me events).core }
+        core_behind (life_of (frame_of s M.spec) me events) ≡ (stored_of s M.spec me events).core }
     ensures taken { (s : Setup) (me : ℕ) (events : List NodeEvent) (event : NodeEvent) (t : Turn M.Msg) →
         step_of s M.spec me (stored_of s M.spec me events).core event ≡ Taken t →
-        deeds_of s M.spec me (event ∷ events)
-        ≡ record { event = event; turn = t } ∷ deeds_of s M.spec me events }
+        life_of (frame_of s M.spec) me (event ∷ events)
+        ≡ record { event = event; turn = t } ∷ life_of (frame_of s M.spec) me events }
     ensures again { (s : Setup) (me : ℕ) (events more : List NodeEvent) →
-        Extends (deeds_of s M.spec me events) (deeds_of s M.spec me (more ++ events)) }
+        Extends (life_of (frame_of s M.spec) me events) (life_of (frame_of s M.spec) me (more ++ events)) }
 {
     leaves_sign_once::<M>();
 }
