@@ -75,8 +75,8 @@ module _ {Msg : Type 0} (s : Setup) (m : Module Msg) (me : ℕ) where
   snapshots-wake [] h = refl
   snapshots-wake (x ∷ xs) h = go (is_snapshot x) refl h
     where
-      same : (as bs : List (List ℕ)) → ◌≡◌ {A = List (List ℕ)} (x ∷ as) (x ∷ bs) → as ≡ bs
-      same as bs q = cc
+      same : (ps qs : List (List ℕ)) → ◌≡◌ {A = List (List ℕ)} (x ∷ ps) (x ∷ qs) → ps ≡ qs
+      same ps qs q = cc
 
       few : (ys : List (List ℕ)) → length (filter is_snapshot ys) ≤ length ys
       few [] = omega arith
@@ -145,10 +145,10 @@ module _ {Msg : Type 0} (s : Setup) (m : Module Msg) (me : ℕ) where
         }
         go true q = elim h.why [
           | inl empty ↦ record {
-              none = entry-more k lt ∙ (ap (λ (b : Bool). row (at k) b (fronts k) (core_of s m me (take k entries))) q
-                  ∙ ap (λ (o : Option (Rebuilt Msg)). woken_of W me (reads_entry W me o (at k))) empty);
-              why = inl (fronts-more k lt q ∙ ap (λ (o : Option (Rebuilt Msg)). reads_entry W me o (at k)) empty);
-            }
+            none = entry-more k lt ∙ (ap (λ (b : Bool). row (at k) b (fronts k) (core_of s m me (take k entries))) q
+                ∙ ap (λ (o : Option (Rebuilt Msg)). woken_of W me (reads_entry W me o (at k))) empty);
+            why = inl (fronts-more k lt q ∙ ap (λ (o : Option (Rebuilt Msg)). reads_entry W me o (at k)) empty);
+          }
           | inr (j, below, event) ↦ absurd (true≢false (sym q ∙ behind-event entries j k stay event (omega (arith, below)) lt))
         ]
 
@@ -181,11 +181,11 @@ module _ {Msg : Type 0} (s : Setup) (m : Module Msg) (me : ℕ) where
         go true q = record {
           none = none;
           why = inl (
-            ap (λ (es : List (List ℕ)). rebuilt W me (filter is_snapshot (reverse es))) first
-            ∙ (ap (λ (es : List (List ℕ)). rebuilt W me (filter is_snapshot es)) (turned-last stops.front stops.entry)
-            ∙ (ap (λ (b : Bool). rebuilt W me (cond b (stops.entry ∷ filter is_snapshot (reverse stops.front)) (filter is_snapshot (reverse stops.front)))) q
-            ∙ woken-none _ (sym (one-more stops.front stops.entry
-            ∙ ap (λ (b : Bool). row stops.entry b (rebuilt W me (filter is_snapshot (reverse stops.front))) (core_of s m me stops.front)) q) ∙ stops.none))));
+              ap (λ (es : List (List ℕ)). rebuilt W me (filter is_snapshot (reverse es))) first
+              ∙ (ap (λ (es : List (List ℕ)). rebuilt W me (filter is_snapshot es)) (turned-last stops.front stops.entry)
+              ∙ (ap (λ (b : Bool). rebuilt W me (cond b (stops.entry ∷ filter is_snapshot (reverse stops.front)) (filter is_snapshot (reverse stops.front)))) q
+              ∙ woken-none _ (sym (one-more stops.front stops.entry
+              ∙ ap (λ (b : Bool). row stops.entry b (rebuilt W me (filter is_snapshot (reverse stops.front))) (core_of s m me stops.front)) q) ∙ stops.none))));
         }
 
     pub stops-not : (gates : List ℕ) (c : Rebuilt Msg) (offset : ℕ) → core_of s m me entries ≡ Some c → StopsAt s m me offset entries gates → ⊥
@@ -285,8 +285,7 @@ module _ {M Msg : Type 0} (s : Setup) (m : Module Msg) (refines : Relation M Msg
       let w = wakes before.0 before.1 in
       let core : RefinesCore m refines node (woken V me.0 before.0.core).core =
       subst (λ (i : NodeId). RefinesCore m refines node (woken V i.0 before.0.core).core) own.number
-      (subst (λ (t : Setup). RefinesCore m refines node (woken (frame_of t m) v.node.state.me.0 before.0.core).core) own.cluster w.core) in
-      (
+      (subst (λ (t : Setup). RefinesCore m refines node (woken (frame_of t m) v.node.state.me.0 before.0.core).core) own.cluster w.core) in (
         record { core = (woken V me.0 before.0.core).core; saved = before.0.saved },
         (core, w.saved),
         snapshots-wake s m me.0 (reverse (take front entries)) (all-front entries front front are (omega arith))

@@ -45,8 +45,8 @@ record IsFirst (x : List ℕ) (xs : List (List ℕ)) : Type 0 where
 first-of : (x : List ℕ) (xs : List (List ℕ)) → retained (x ∷ xs) ≡ x ∷ xs → IsFirst x xs
 first-of x xs h = go (is_snapshot x) (has_snapshot xs) refl refl h
   where
-    tail : (as bs : List (List ℕ)) → ◌≡◌ {A = List (List ℕ)} (x ∷ as) (x ∷ bs) → as ≡ bs
-    tail as bs q = cc
+    tail : (ps qs : List (List ℕ)) → ◌≡◌ {A = List (List ℕ)} (x ∷ ps) (x ∷ qs) → ps ≡ qs
+    tail ps qs q = cc
 
     go : (a b : Bool) → is_snapshot x ≡ a → has_snapshot xs ≡ b → cond (a || not b) (x ∷ retained xs) (retained xs) ≡ x ∷ xs → IsFirst x xs
     go true b p q k = record { rest = tail (retained xs) xs k; none = λ z. absurd (true≢false (sym p ∙ z)) }

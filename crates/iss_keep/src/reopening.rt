@@ -106,8 +106,8 @@ fn read_front<M: Sequenced, D: Disk>(
     front: usize,
 ) -> Result<(), AttachError>
     requires front { AreInFront (entries_of journal.now) front }
-    requires same { (me : NodeId) × IsOf setup.now me rebuilding.old.node
-        × IsRebuiltBy setup.now M.spec M.refines me.0 [] rebuilding.old }
+    requires cluster { rebuilding.old.node.state.setup ≡ setup.now }
+    requires begun { IsRebuiltBy setup.now M.spec M.refines rebuilding.old.node.state.me.0 [] rebuilding.old }
     ensures rebuilt { OnOk result (IsRebuiltBy setup.now M.spec M.refines rebuilding.old.node.state.me.0
         (take front (entries_of journal.now)) rebuilding.new) }
     ensures same { IsSameReader rebuilding.old rebuilding.new.node }
@@ -138,8 +138,8 @@ fn rebuild<M: Sequenced, D: Disk>(
     front: usize,
 ) -> Result<Node<M>, AttachError>
     requires front { AreInFront (entries_of journal.now) front }
-    requires same { (me : NodeId) × IsOf setup.now me rebuilding.node
-        × IsRebuiltBy setup.now M.spec M.refines me.0 [] rebuilding }
+    requires cluster { rebuilding.node.state.setup ≡ setup.now }
+    requires begun { IsRebuiltBy setup.now M.spec M.refines rebuilding.node.state.me.0 [] rebuilding }
     ensures refines { IfOk result (IsReplayed setup.now M.spec M.refines rebuilding.node.state.me.0
         (take front (entries_of journal.now))) }
     ensures same { IfOk result (IsOf setup.now rebuilding.node.state.me) }
@@ -206,8 +206,9 @@ fn replay_behind<M: Sequenced, D: Disk>(
     front: usize,
 ) -> Result<(), AttachError>
     requires front { AreInFront (entries_of journal.now) front }
-    requires same { (me : NodeId) × IsOf setup.now me node.old
-        × IsReplayed setup.now M.spec M.refines me.0 (take front (entries_of journal.now)) node.old }
+    requires cluster { node.old.state.setup ≡ setup.now }
+    requires begun { IsReplayed setup.now M.spec M.refines node.old.state.me.0
+        (take front (entries_of journal.now)) node.old }
     requires stay { retained (entries_of journal.now) ≡ entries_of journal.now }
     ensures refines { OnOk result (IsReplayed setup.now M.spec M.refines node.old.state.me.0
         (entries_of journal.now) node.new) }
@@ -278,6 +279,7 @@ pub(crate) fn open<M: Sequenced, D: Disk>(
     requires me { me.0 < setup.now.n }
     requires sound { IsSound D.history D.room journal.old }
     ensures refines { IfOk result (IsReplayed setup.now M.spec M.refines me.0 (entries_of journal.new)) }
+    ensures stay { OnOk result (retained (entries_of journal.new) ≡ entries_of journal.new) }
     ensures same { IfOk result (IsOf setup.now me) }
     ensures attached { OnOk result
         (IsAttached (sight D.history D.passes D.faults D.current D.files (disk_of journal.old))
