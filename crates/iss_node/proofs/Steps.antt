@@ -5,6 +5,7 @@ pub mod EntriesCompose
 pub mod OutcomesCompose
 pub mod QueriesAgree
 pub mod ReportsAgree
+pub mod SavedAfter
 pub mod SlimCoresRefine
 pub mod StepsCompose
 pub mod VotesDoNotMatter

@@ -6,10 +6,10 @@ use Rattle.iss_checkpoint.specs.declared.votes.Vote.{Vote}
 use Rattle.iss_journal.specs.Frames.{max_entry}
 use Rattle.iss_model.specs.Frames.{Frame, frame_of}
 use Rattle.iss_model.specs.Node.{Core}
-use Rattle.iss_node.specs.Saved.{HasSaved, SavedState, saved_of}
+use Rattle.iss_node.specs.Saved.{SavedState, saved_of}
 use Rattle.iss_node.specs.State.{RefinesPast, StateView, core_of, holding, seen_early}
 use Rattle.iss_node.specs.declared.answers.Early.{Early}
-use Rattle.iss_rebuilt.specs.Stored.{snapshot_of}
+use Rattle.iss_rebuilt.specs.Stored.{Saved, saved_after, snapshot_of}
 use Rattle.iss_request.specs.declared.setups.Setup.{Setup}
 use Rattle.iss_rules.specs.Past.{Past}
 use Rattle.iss_sb.specs.Calls.{Relation}
@@ -59,9 +59,9 @@ is_storable version s = fits s && nat_le (length (snapshot_row version s)) max_e
 abbrev pub storable_of : ℕ → Snapshot → Option (List ℕ)
 storable_of version s = cond (is_storable version s) (Some (spell_snapshot version s)) None
 
--- What is noted of it.
-abbrev pub IsNoted : Bool → SavedState → Snapshot → SavedState → Type 0
-IsNoted kept old s new = cond kept (HasSaved old s.to.0 s.certs new) (new ≡ old)
+-- What snapshots hold after an event, if its snapshot is handed out.
+abbrev pub saved_with : Bool → Saved → Snapshot → Saved
+saved_with handed saved s = cond handed (saved_after saved s) saved
 
 -- What an event hands out and notes if it entered an epoch. `v` is the state before the event.
 abbrev pub IsKeptEntry : {M Msg : Type 0} → Module Msg → StateView M Msg → Option (Core Msg) → SavedState →
@@ -69,4 +69,5 @@ abbrev pub IsKeptEntry : {M Msg : Type 0} → Module Msg → StateView M Msg →
 IsKeptEntry m v None new bytes = (bytes ≡ None) × (new ≡ v.saved)
 IsKeptEntry m v (Some d) new bytes =
     let s = saved_by m v d in
-    (bytes ≡ storable_of v.setup.version s) × IsNoted (is_storable v.setup.version s) v.saved s new
+    (bytes ≡ storable_of v.setup.version s)
+    × (saved_of new ≡ saved_with (is_storable v.setup.version s) (saved_of v.saved) s)

@@ -1,7 +1,7 @@
 pub mod Entered
 pub mod Flights
 pub mod Internal
-pub mod Rebuilds
+pub mod Rebuilding
 pub mod Saved
 pub mod State
 pub mod Steps

@@ -14,6 +14,7 @@ pub mod packets;
 pub mod parcels;
 pub mod rebuilding;
 pub mod requests;
+pub mod resuming;
 pub mod saved;
 pub mod slims;
 pub mod starting;
@@ -24,5 +25,5 @@ pub mod votes;
 
 pub use answers::{Accepted, Answer, Outcome};
 pub use node::Node;
-pub use rebuilding::{Rebuilding, Rebuilt};
+pub use rebuilding::{RebuildError, Rebuilding};
 pub use slims::nodes_stand_for_slims;

@@ -1,5 +1,5 @@
 //! A node: its state, and whether it is stale.
-ghost use Rattle.std.specs.Prelude.{◌≡◌, ◌<◌, ◌≤◌, ◌↔◌, ℕ, true, IfOk, OnOk, is_some, length, map, not, option_map, reverse};
+ghost use Rattle.std.specs.Prelude.{◌≡◌, ◌<◌, ◌≤◌, ◌↔◌, ℕ, [], false, true, IfOk, OnOk, is_some, length, map, not, option_map, reverse};
 ghost use Rattle.std.specs.List.{list_any};
 ghost use Rattle.iss_ballots.specs.Ballots.{cert_at};
 ghost use Rattle.iss_keys.specs.Directories.{AreKeysOf};
@@ -12,7 +12,7 @@ ghost use Rattle.iss_rules.specs.Setups.{IsSetupOf};
 ghost use Rattle.iss_model.specs.Views.{accepted_by, is_castable_now, is_unfilled, unfilled};
 ghost use Rattle.iss_model.specs.Frames.{claims_of_bytes_in, frame_of, step_in};
 ghost use Rattle.iss_node.specs.Internal.Ready.{RefinesSome};
-ghost use Rattle.iss_node.specs.State.{RefinesCore, RefinesPast, accepted_of};
+ghost use Rattle.iss_node.specs.State.{RefinesCore, RefinesPast, StateRefinesCore, accepted_of};
 ghost use Rattle.iss_request.specs.Log.{ids};
 ghost use Rattle.iss_node.specs.Internal.Storing.{HasNoted, is_entry, storable};
 ghost use Rattle.iss_node.specs.Steps.{HasRetreated, IsAnswer, IsEnteredAnswer, IsHeldStepOf, IsKeptStepOf, IsLeft, IsOfNodes, IsSameLog, IsSameNode};
@@ -76,6 +76,7 @@ impl<M: Sequenced> Node<M> {
         requires own { AreKeysOf me.0 setup.now.keys keys }
         ensures refines { IfOk result (λ v. RefinesCore M.spec M.refines v (record initial_core { leaf = keys.used })) }
         ensures same { IfOk result (λ v. (v.state.setup ≡ setup.now) × (v.state.me ≡ me)) }
+        ensures saved { IfOk result (λ v. v.state.saved ≡ record { from = 0; held = [] }) }
     {
         epochs_are_fair();
         let standing = Standing::new();
@@ -108,6 +109,24 @@ impl<M: Sequenced> Node<M> {
             state,
             stale: false,
         })
+    }
+
+    // The node with this state.
+    pub(crate) fn of(state: NodeState<M>) -> Node<M>
+        requires { (c : Core M.Msg) × StateRefinesCore M.spec M.refines state c }
+        ensures { result ≡ record { state = state; stale = false } }
+    {
+        Node {
+            state,
+            stale: false,
+        }
+    }
+
+    // Its state.
+    pub(crate) fn into_state(self) -> NodeState<M>
+        ensures { result ≡ self.state }
+    {
+        self.state
     }
 
     /// Takes an event. A dropped event changes nothing. After `NoMemory` the node is stale, and reports the log and

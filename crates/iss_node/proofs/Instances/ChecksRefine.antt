@@ -54,7 +54,7 @@ pub later-same : {M Msg : Type 0} (u v : StateView M Msg) → v.setup ≡ u.setu
 later-same u v s i l b k = record { setup = s; me = i; saved = k; log = goes-same u.log.entries v.log.entries l; ballots = b }
 
 pub later-refl : {M Msg : Type 0} (u : StateView M Msg) → IsLater u u
-later-refl u = later-same u u refl refl refl refl
+later-refl u = later-same u u refl refl refl refl refl
 
 four : {Msg : Type 0} (a a' d d' b b' : Bool) (w w' : Option Refusal) (turn : Turn Msg) → a ≡ a' → d ≡ d' → b ≡ b' → w ≡ w' →
     cond (not a) (Dropped NotLeader) (cond (not d) (Dropped BadClaim) (cond (not b) (Dropped NoKeys) (by_verdict w turn)))

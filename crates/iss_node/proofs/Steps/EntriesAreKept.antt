@@ -1,5 +1,5 @@
 -- A snapshot that fits an entry takes the event's place, and is noted.
-use Rattle.std.proofs.Common.{◌≡◌, ℕ, suc, ◌==◌, ◌&&◌, Bool, true, false, cond, nat_le, List, [], ◌∷◌, ◌++◌, Option, Some, None, length, refl, sym, ap, ◌∙◌, subst}
+use Rattle.std.proofs.Common.{◌≡◌, ℕ, suc, ◌==◌, ◌&&◌, Bool, true, false, cond, nat_le, List, [], ◌∷◌, ◌++◌, Option, Some, None, length, option_map, refl, sym, ap, ◌∙◌, subst}
 use Rattle.iss_base.specs.Lists.{below}
 use Rattle.iss_ballots.specs.Ballots.{AreKept}
 use Rattle.iss_checkpoint.specs.declared.votes.Cert.{Cert}
@@ -9,7 +9,8 @@ use Rattle.iss_log.specs.LogState.{GoesOn}
 use Rattle.iss_model.specs.Frames.{frame_of}
 use Rattle.iss_model.specs.Node.{Core, Dropped as Step_dropped, Stepped, Taken as Step_taken, Turn, step}
 use Rattle.iss_node.proofs.Steps.EnteredLast.{IsLast, step-last}
-use Rattle.iss_node.specs.Entered.{IsHeldEntered, IsKeptEntry, IsNoted, encoded_by, is_storable, saved_by, storable_of}
+use Rattle.iss_node.proofs.Steps.SavedAfter.{saved-after}
+use Rattle.iss_node.specs.Entered.{IsHeldEntered, IsKeptEntry, encoded_by, is_storable, saved_by, saved_with, storable_of}
 use Rattle.iss_node.specs.Internal.Storing.{HasNoted, is_entry, storable}
 use Rattle.iss_node.specs.Saved.{HasSaved, SavedState, holds, saved_of}
 use Rattle.iss_node.specs.State.{RefinesPast, StateRefinesCore, StateView, bare}
@@ -17,7 +18,7 @@ use Rattle.iss_node.specs.Steps.{IsHeldStep, IsHeldStepOf, IsKeptStep, IsKeptSte
 use Rattle.iss_node.specs.declared.answers.Outcome.{Outcome}
 use Rattle.iss_node.specs.declared.answers.StepResult.{StepResult}
 use Rattle.iss_node.specs.declared.answers.StepResult.TheVariants.{Dropped as Result_dropped, Taken as Result_taken}
-use Rattle.iss_rebuilt.specs.Stored.{new_certs, snapshot_of}
+use Rattle.iss_rebuilt.specs.Stored.{Kept, Saved, new_certs, or_event, saved_after, snapshot_kept, snapshot_of}
 use Rattle.iss_request.specs.declared.ids.NodeId.{NodeId}
 use Rattle.iss_request.specs.declared.setups.Setup.{Setup}
 use Rattle.iss_rules.specs.Concrete.{rules_of}
@@ -45,6 +46,26 @@ entry-is version s = go (fits s) refl
     go : (b : Bool) → fits s ≡ b → is_entry (cond b (snapshot_row version s) (0 ∷ [])) ≡ (b && nat_le (length (snapshot_row version s)) max_entry)
     go true q = alone (nat_le (length (snapshot_row version s)) max_entry)
     go false q = refl
+
+-- A journal keeps the same, if the snapshot fits: what is handed out is its entry, and what is noted is its mark.
+pub kept-as : {M Msg : Type 0} (m : Module Msg) (v : StateView M Msg) (d : Core Msg) (new : SavedState) (bytes : Option (List ℕ)) → fits (saved_by m v d) ≡ true → IsKeptEntry m v (Some d) new bytes →
+    (bytes ≡ option_map (λ k. k.entry) (snapshot_kept (frame_of v.setup m) v.me.0 (saved_of v.saved) (Some d)))
+    × (saved_of new ≡ (or_event (snapshot_kept (frame_of v.setup m) v.me.0 (saved_of v.saved) (Some d)) [] (saved_of v.saved)).saved)
+kept-as m v d new bytes fitting h =
+    let s = saved_by m v d in
+    let short = nat_le (length (snapshot_row v.setup.version s)) max_entry in
+    let is : is_storable v.setup.version s ≡ short = ap (λ (b : Bool). b && short) fitting in (
+      h.0 ∙ (ap (λ (b : Bool). cond b (Some (spell_snapshot v.setup.version s)) None) is ∙ entry-row short (spell_snapshot v.setup.version s) (saved_after (saved_of v.saved) s)),
+      h.1 ∙ (ap (λ (b : Bool). saved_with b (saved_of v.saved) s) is ∙ saved-row short (spell_snapshot v.setup.version s) (saved_after (saved_of v.saved) s) (saved_of v.saved)),
+    )
+  where
+    entry-row : (b : Bool) (enc : List ℕ) (x : Saved) → cond b (Some enc) None ≡ option_map (λ (k : Kept). k.entry) (cond b (Some (record { entry = enc; saved = x })) None)
+    entry-row true enc x = refl
+    entry-row false enc x = refl
+
+    saved-row : (b : Bool) (enc : List ℕ) (x y : Saved) → cond b x y ≡ (or_event (cond b (Some (record { entry = enc; saved = x })) None) [] y).saved
+    saved-row true enc x y = refl
+    saved-row false enc x y = refl
 
 -- ---- only what snapshots hold changes
 
@@ -93,37 +114,34 @@ module _ {M Msg : Type 0} (m : Module Msg) (refines : M → Params → ℕ → L
       (subst (λ (k : ℕ). HasSaved w.saved k (new_certs (holds w.saved) d.certs (below (suc (suc k)))) new.saved) epoch
       (subst (λ (certs : List Cert). HasSaved w.saved w.epoch (new_certs (holds w.saved) certs (below (suc (suc w.epoch)))) new.saved) (sym last.1) (has c.votes c.certs h.kept)))
 
+  -- A snapshot is handed out and noted exactly if it fits an entry.
+  entry-so : (c d : Core Msg) → StateRefinesCore m refines w c → (d.past.epoch ≡ c.past.epoch) × (d.certs ≡ c.certs) → (enc : List ℕ) → is_entry enc ≡ is_storable v.setup.version (saved_by m v d) →
+      (b : Bool) → is_storable v.setup.version (saved_by m v d) ≡ b → HasNoted w (cond (is_entry enc) (Some enc) None) new →
+      (cond (is_entry enc) (Some enc) None ≡ cond (is_storable v.setup.version (saved_by m v d)) (Some enc) None)
+      × (saved_of new.saved ≡ saved_with (is_storable v.setup.version (saved_by m v d)) (saved_of v.saved) (saved_by m v d))
+  entry-so c d h last enc is_same true q k = (
+    ap (λ (b : Bool). cond b (Some enc) None) is_same,
+    saved-after v.saved new.saved (saved_by m v d) (noted c d h last (subst (λ (b : Bool). HasNoted w (cond b (Some enc) None) new) (is_same ∙ q) k))
+        ∙ ap (λ (b : Bool). saved_with b (saved_of v.saved) (saved_by m v d)) (sym q),
+  )
+  entry-so c d h last enc is_same false q k = (
+    ap (λ (b : Bool). cond b (Some enc) None) is_same,
+    ap (λ (x : SavedState). saved_of x) (subst (λ (b : Bool). HasNoted w (cond b (Some enc) None) new) (is_same ∙ q) k ∙ same.saved)
+        ∙ ap (λ (b : Bool). saved_with b (saved_of v.saved) (saved_by m v d)) (sym q),
+  )
+
   pub entry-kept : (c : Core Msg) (o : Option (Core Msg)) (bytes : Option (List ℕ)) → StateRefinesCore m refines w c → IsLast c o → IsHeldEntered m w o bytes → HasNoted w (storable bytes) new →
       IsKeptEntry m v o new.saved (storable bytes)
   entry-kept c None bytes h last is_none has =
       (ap (λ (x : Option (List ℕ)). storable x) is_none, subst (λ (x : Option (List ℕ)). HasNoted w (storable x) new) is_none has ∙ same.saved)
   entry-kept c (Some d) bytes h last is_some has =
-      let spelled : encoded_by m w d ≡ spell_snapshot v.setup.version (saved_by m v d) =
+      let enc : List ℕ = spell_snapshot v.setup.version (saved_by m v d) in
+      let spelled : encoded_by m w d ≡ enc =
       ap (λ (s : Setup). spell_snapshot s.version (saved_by m w d)) same.setup ∙ ap (λ (s : Snapshot). spell_snapshot v.setup.version s) (saved-same d) in
-      let whole : bytes ≡ Some (spell_snapshot v.setup.version (saved_by m v d)) = is_some ∙ ap (λ (x : List ℕ). Some x) spelled in
+      let whole : bytes ≡ Some enc = is_some ∙ ap (λ (x : List ℕ). Some x) spelled in
       subst (λ (x : Option (List ℕ)). IsKeptEntry m v (Some d) new.saved (storable x)) (sym whole)
-      (go (is_storable v.setup.version (saved_by m v d)) refl (subst (λ (x : Option (List ℕ)). HasNoted w (storable x) new) whole has))
-    where
-      abbrev s : Snapshot
-      s = saved_by m v d
-
-      abbrev enc : List ℕ
-      enc = spell_snapshot v.setup.version s
-
-      go : (b : Bool) → is_storable v.setup.version s ≡ b → HasNoted w (cond (is_entry enc) (Some enc) None) new →
-          (cond (is_entry enc) (Some enc) None ≡ cond (is_storable v.setup.version s) (Some enc) None) × IsNoted (is_storable v.setup.version s) v.saved s new.saved
-      go true q k =
-          let t : is_entry enc ≡ true = entry-is v.setup.version s ∙ q in
-          (
-            ap (λ (b : Bool). cond b (Some enc) None) (entry-is v.setup.version s),
-            subst (λ (b : Bool). IsNoted b v.saved s new.saved) (sym q) (noted c d h last (subst (λ (b : Bool). HasNoted w (cond b (Some enc) None) new) t k)),
-          )
-      go false q k =
-          let t : is_entry enc ≡ false = entry-is v.setup.version s ∙ q in
-          (
-            ap (λ (b : Bool). cond b (Some enc) None) (entry-is v.setup.version s),
-            subst (λ (b : Bool). IsNoted b v.saved s new.saved) (sym q) (subst (λ (b : Bool). HasNoted w (cond b (Some enc) None) new) t k ∙ same.saved),
-          )
+      (entry-so c d h last enc (entry-is v.setup.version (saved_by m v d)) (is_storable v.setup.version (saved_by m v d)) refl
+      (subst (λ (x : Option (List ℕ)). HasNoted w (storable x) new) whole has))
 
   -- The whole step.
   pub kept-taken : (event : NodeEvent) (o p : Outcome) → p ≡ record o { entered = storable o.entered } → HasNoted w (storable o.entered) new →

@@ -1,5 +1,5 @@
 -- A node that refines a core refines each placed core with the same slim part.
-use Rattle.std.proofs.Common.{◌≡◌, ℕ, ◌+◌, ◌*◌, ◌<◌, ◌≤◌, List, [], Some, None, length, sym, ap, ap₂, ◌∙◌, subst, arith}
+use Rattle.std.proofs.Common.{◌≡◌, ℕ, ◌+◌, ◌*◌, ◌<◌, ◌≤◌, List, [], Some, None, length, reverse, sym, ap, ap₂, ◌∙◌, subst, arith}
 use Rattle.iss_base.specs.Lists.{In}
 use Rattle.iss_layout.specs.Layout.{IsStanding, epochs}
 use Rattle.iss_request.specs.Log.{log_ids}
@@ -118,6 +118,7 @@ module _ {S Msg : Type 0} (m : Module Msg) (refines : Relation S Msg) (v : State
             h.kept.votes_are e k here
             ∙ vote-same c.certs d.certs c.votes d.votes
             (record { certs_are = λ n. ap (λ (s : SlimCore Msg). s.certs n) same; votes_are = ap (λ (s : SlimCore Msg). s.votes) same }) e here k;
+        counted_are = h.kept.counted_are ∙ ap (λ (s : SlimCore Msg). reverse s.votes) same;
       };
     }
 

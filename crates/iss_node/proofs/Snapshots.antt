@@ -1,0 +1,4 @@
+pub mod BytesAreRead
+pub mod EpochsAreAdopted
+pub mod PartsAreTaken
+pub mod SnapshotContinues
