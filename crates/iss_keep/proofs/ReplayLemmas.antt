@@ -12,7 +12,7 @@ use Rattle.iss_model.specs.Frames.{Frame, frame_of}
 use Rattle.iss_model.specs.Node.{Core, Stepped, initial_core}
 use Rattle.iss_rules.specs.declared.events.NodeEvent.{NodeEvent}
 use Rattle.iss_rules.specs.declared.events.Why.{Why}
-use Rattle.iss_node.specs.Rebuilds.{HasReadEntry, IsSameReader, IsWoken, RebuildingView, RefinesRebuilt}
+use Rattle.iss_node.specs.Rebuilding.{IsOf as IsOfFound, IsReadOn, RebuildingView, RefinesRebuilt}
 use Rattle.iss_node.specs.Saved.{SavedState, saved_of}
 use Rattle.iss_node.specs.State.{NodeView, RefinesCore}
 use Rattle.iss_node.specs.Steps.{IsDrop, IsTurn}
@@ -26,7 +26,7 @@ use Rattle.iss_sb.specs.Calls.{Relation}
 use Rattle.iss_sb.specs.Evidence.{Module}
 use Rattle.iss_keep.specs.Cores.{StopsAt, core_of, step_of}
 use Rattle.iss_keep.specs.Entries.{event_in}
-use Rattle.iss_keep.specs.Internal.Replays.{AreInFront, GoesTo, IsFound, IsOf, IsRebuiltBy, IsReplayed}
+use Rattle.iss_keep.specs.Internal.Replays.{AreInFront, GoesTo, IsFound, IsOf, IsReaderOf, IsRebuiltBy, IsReplayed}
 use Rattle.iss_keep.proofs.RetainLemmas.{behind-event}
 
 -- ---- entries, oldest first and newest first
@@ -238,17 +238,18 @@ module _ {M Msg : Type 0} (s : Setup) (m : Module Msg) (refines : Relation M Msg
   abbrev V : Frame Msg
   V = frame_of s m
 
-  module _ (k : ℕ) (lt : k < front) (old new : RebuildingView M Msg) (entry : List ℕ) (is : entry ≡ get_or entries k []) (own : IsOf s me old.node)
-      (before : IsRebuiltBy s m refines me.0 (take k entries) old) where
+  module _ (k : ℕ) (lt : k < front) (old : RebuildingView M Msg) (next : Option (RebuildingView M Msg)) (entry : List ℕ) (is : entry ≡ get_or entries k []) (own : IsReaderOf s me old)
+      (before : IsRebuiltBy s m refines me.0 (take k entries) old)
+      (read : (r : Rebuilt Msg) → RefinesRebuilt m refines old r → IsReadOn m refines (reads_entry (frame_of old.state.setup m) old.state.me.0 (Some r) entry) next) where
     in-row : k < length entries
     in-row = let w = are.within in omega (arith, lt, w)
 
-    here : (o : Option (Rebuilt Msg)) → reads_entry (frame_of old.node.state.setup m) old.node.state.me.0 (Some before.0) entry ≡ o →
-        reads_entry V me.0 (Some before.0) (get_or entries k []) ≡ o
-    here o h =
-        subst (λ (e : List ℕ). reads_entry V me.0 (Some before.0) e ≡ o) is
-        (subst (λ (i : NodeId). reads_entry V i.0 (Some before.0) entry ≡ o) own.number
-        (subst (λ (t : Setup). reads_entry (frame_of t m) old.node.state.me.0 (Some before.0) entry ≡ o) own.cluster h))
+    -- the reader reads as the model reads entry k
+    here : IsReadOn m refines (reads_entry V me.0 (Some before.0) (get_or entries k [])) next
+    here =
+        subst (λ (e : List ℕ). IsReadOn m refines (reads_entry V me.0 (Some before.0) e) next) is
+        (subst (λ (i : NodeId). IsReadOn m refines (reads_entry V i.0 (Some before.0) entry) next) own.number
+        (subst (λ (t : Setup). IsReadOn m refines (reads_entry (frame_of t m) old.state.me.0 (Some before.0) entry) next) own.cluster (read before.0 before.1)))
 
     -- the snapshots so far lead on
     at-entry : (o : Option (Rebuilt Msg)) → reads_entry V me.0 (Some before.0) (get_or entries k []) ≡ o →
@@ -257,39 +258,54 @@ module _ {M Msg : Type 0} (s : Setup) (m : Module Msg) (refines : Relation M Msg
         ap (λ (es : List (List ℕ)). rebuilt V me.0 es) (turned-more entries k in-row)
         ∙ (ap (λ (f : Option (Rebuilt Msg)). reads_entry V me.0 f (get_or entries k [])) before.2 ∙ h)
 
-    pub read-on : ((r : Rebuilt Msg) → RefinesRebuilt m refines old r → HasReadEntry m refines old r entry new true) →
-        IsRebuiltBy s m refines me.0 (take (k + 1) entries) new
-    read-on goes =
-        let g = goes before.0 before.1 in
-        (g.0, g.1, at-entry (Some g.0) (here (Some g.0) g.2))
+    pub read-on : (new : RebuildingView M Msg) → next ≡ Some new → IsRebuiltBy s m refines me.0 (take (k + 1) entries) new
+    read-on new q =
+        go (reads_entry V me.0 (Some before.0) (get_or entries k [])) refl
+        (subst (λ (o : Option (RebuildingView M Msg)). IsReadOn m refines (reads_entry V me.0 (Some before.0) (get_or entries k [])) o) q here)
+      where
+        go : (o : Option (Rebuilt Msg)) → reads_entry V me.0 (Some before.0) (get_or entries k []) ≡ o → IsReadOn m refines o (Some new) →
+            IsRebuiltBy s m refines me.0 (take (k + 1) entries) new
+        go None z h = absurd h
+        go (Some r) z h = (r, h, at-entry (Some r) z)
 
-    pub read-stops : ((r : Rebuilt Msg) → RefinesRebuilt m refines old r → HasReadEntry m refines old r entry new false) →
-        (gates : List ℕ) (at : ℕ) → at ≡ get_or gates k 0 → StopsAt s m me.0 at entries gates
-    read-stops goes gates at offset =
-        let none = here None (goes before.0 before.1) in
-        let woke : core_of s m me.0 (take k entries) ≡ woken_of V me.0 (Some before.0) =
-        snapshots-wake s m me.0 (reverse (take k entries)) (all-front entries front k are (omega (arith, lt)))
-        ∙ ap (λ (o : Option (Rebuilt Msg)). woken_of V me.0 o) before.2 in
-        let last : rebuilt V me.0 (filter is_snapshot (reverse (take k entries))) ≡ Some before.0 =
-        ap (λ (es : List (List ℕ)). rebuilt V me.0 es) (all-front entries front k are (omega (arith, lt))) ∙ before.2 in
-        stops-here s m refines me.0 entries k in-row _ woke gates at offset
-        (one-more s m me.0 (take k entries) (get_or entries k [])
-        ∙ (ap (λ (b : Bool). row s m me.0 (get_or entries k []) b (rebuilt V me.0 (filter is_snapshot (reverse (take k entries)))) (core_of s m me.0 (take k entries))) (are.are k lt)
-        ∙ (ap (λ (f : Option (Rebuilt Msg)). woken_of V me.0 (reads_entry V me.0 f (get_or entries k []))) last
-        ∙ ap (λ (f : Option (Rebuilt Msg)). woken_of V me.0 f) none)))
+    pub read-stops : next ≡ None → (gates : List ℕ) (at : ℕ) → at ≡ get_or gates k 0 → StopsAt s m me.0 at entries gates
+    read-stops q gates at offset =
+        go (reads_entry V me.0 (Some before.0) (get_or entries k [])) refl
+        (subst (λ (o : Option (RebuildingView M Msg)). IsReadOn m refines (reads_entry V me.0 (Some before.0) (get_or entries k [])) o) q here)
+      where
+        woke : core_of s m me.0 (take k entries) ≡ woken_of V me.0 (Some before.0)
+        woke = snapshots-wake s m me.0 (reverse (take k entries)) (all-front entries front k are (omega (arith, lt)))
+            ∙ ap (λ (o : Option (Rebuilt Msg)). woken_of V me.0 o) before.2
+
+        last : rebuilt V me.0 (filter is_snapshot (reverse (take k entries))) ≡ Some before.0
+        last = ap (λ (es : List (List ℕ)). rebuilt V me.0 es) (all-front entries front k are (omega (arith, lt))) ∙ before.2
+
+        go : (o : Option (Rebuilt Msg)) → reads_entry V me.0 (Some before.0) (get_or entries k []) ≡ o → IsReadOn m refines o None →
+            StopsAt s m me.0 at entries gates
+        go (Some r) z h = absurd h
+        go None z h =
+            stops-here s m refines me.0 entries k in-row _ woke gates at offset
+            (one-more s m me.0 (take k entries) (get_or entries k [])
+            ∙ (ap (λ (b : Bool). row s m me.0 (get_or entries k []) b (rebuilt V me.0 (filter is_snapshot (reverse (take k entries)))) (core_of s m me.0 (take k entries))) (are.are k lt)
+            ∙ (ap (λ (f : Option (Rebuilt Msg)). woken_of V me.0 (reads_entry V me.0 f (get_or entries k []))) last
+            ∙ ap (λ (f : Option (Rebuilt Msg)). woken_of V me.0 f) z)))
+
+    pub still-reads : (new : RebuildingView M Msg) → (new.state.setup ≡ old.state.setup) × (new.state.me ≡ old.state.me) → IsReaderOf s me new
+    still-reads new same = record { cluster = same.0 ∙ own.cluster; number = same.1 ∙ own.number }
 
   -- woken, the node is at the core of the snapshots
-  pub finished : (v : RebuildingView M Msg) (node : NodeView M Msg) → IsOf s me v.node → IsRebuiltBy s m refines me.0 (take front entries) v →
-      ((r : Rebuilt Msg) → RefinesRebuilt m refines v r → IsWoken m refines v r node) → IsReplayed s m refines me.0 (take front entries) node
+  pub finished : (v : RebuildingView M Msg) (node : NodeView M Msg) → IsReaderOf s me v → IsRebuiltBy s m refines me.0 (take front entries) v →
+      ((r : Rebuilt Msg) → RefinesRebuilt m refines v r → IsOfFound m refines (woken_of (frame_of v.state.setup m) v.state.me.0 (Some r)) node) →
+      IsReplayed s m refines me.0 (take front entries) node
   finished v node own before wakes =
       let w = wakes before.0 before.1 in
-      let core : RefinesCore m refines node (woken V me.0 before.0.core).core =
-      subst (λ (i : NodeId). RefinesCore m refines node (woken V i.0 before.0.core).core) own.number
-      (subst (λ (t : Setup). RefinesCore m refines node (woken (frame_of t m) v.node.state.me.0 before.0.core).core) own.cluster w.core) in (
-        record { core = (woken V me.0 before.0.core).core; saved = before.0.saved },
-        (core, w.saved),
+      let there : woken_of V me.0 (Some before.0) ≡ Some w.rebuilt =
+      subst (λ (i : NodeId). woken_of V i.0 (Some before.0) ≡ Some w.rebuilt) own.number
+      (subst (λ (t : Setup). woken_of (frame_of t m) v.state.me.0 (Some before.0) ≡ Some w.rebuilt) own.cluster w.is) in (
+        w.rebuilt,
+        (w.refined, w.saved),
         snapshots-wake s m me.0 (reverse (take front entries)) (all-front entries front front are (omega arith))
-            ∙ ap (λ (o : Option (Rebuilt Msg)). woken_of V me.0 o) before.2,
+            ∙ (ap (λ (o : Option (Rebuilt Msg)). woken_of V me.0 o) before.2 ∙ there),
       )
 
   -- ---- the events behind them
@@ -327,9 +343,6 @@ module _ {M Msg : Type 0} (s : Setup) (m : Module Msg) (refines : Relation M Msg
 pub still-of : {M Msg : Type 0} (s : Setup) (me : NodeId) (old new : NodeView M Msg) → IsOf s me old → (new.state.setup ≡ old.state.setup) × (new.state.me ≡ old.state.me) →
     IsOf s me new
 still-of s me old new own same = record { cluster = same.0 ∙ own.cluster; number = same.1 ∙ own.number }
-
-pub still-reads : {M Msg : Type 0} (s : Setup) (me : NodeId) (old : RebuildingView M Msg) (new : NodeView M Msg) → IsOf s me old.node → IsSameReader old new → IsOf s me new
-still-reads s me old new own same = record { cluster = same.setup ∙ own.cluster; number = same.me ∙ own.number }
 
 -- A node that took no event reports an empty log and epoch 0.
 pub fresh-shown : {M Msg : Type 0} (m : Module Msg) (refines : Relation M Msg) (v : NodeView M Msg) → RefinesCore m refines v initial_core →

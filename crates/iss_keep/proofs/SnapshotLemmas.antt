@@ -1,56 +1,19 @@
 -- What a node hands out to be kept, and notes, is what the event is stored as.
-use mathlib.Core.Path.{fun_ext}
-use Rattle.std.proofs.Common.{◌≡◌, ℕ, ◌≤◌, ◌&&◌, ◌||◌, Bool, true, false, cond, eqb, nat_le, is_some, List, [], ◌∷◌, ◌++◌, length, reverse, Option, Some, None, refl, sym, ap, ap₂, ◌∙◌, subst, true≢false}
+use Rattle.std.proofs.Common.{◌≡◌, ℕ, ◌≤◌, ◌&&◌, Bool, true, false, cond, nat_le, List, [], length, Option, Some, None, refl, sym, ap, subst, true≢false}
 use Rattle.std.proofs.lemmas.Bool.{leb-true}
-use Rattle.std.proofs.lemmas.List.{reverse-append}
-use Rattle.iss_checkpoint.specs.declared.votes.Cert.{Cert}
 use Rattle.iss_journal.specs.Frames.{max_entry}
 use Rattle.iss_model.specs.Frames.{Frame, frame_of}
 use Rattle.iss_model.specs.Node.{Core}
-use Rattle.iss_node.specs.Entered.{IsKeptEntry, IsNoted, saved_by}
-use Rattle.iss_node.specs.Saved.{HasSaved, SavedState, holds, saved_of}
+use Rattle.iss_node.specs.Entered.{IsKeptEntry, saved_by, saved_with}
+use Rattle.iss_node.specs.Saved.{SavedState, saved_of}
 use Rattle.iss_node.specs.State.{StateView}
-use Rattle.iss_rebuilt.specs.Stored.{Kept, Saved, is_storable, or_event, saved_after, snapshot_kept}
+use Rattle.iss_rebuilt.specs.Stored.{Kept, is_storable, or_event, saved_after, snapshot_kept}
 use Rattle.iss_request.specs.declared.requests.Value.{Value}
-use Rattle.iss_rules.specs.Votes.{cert_on}
 use Rattle.iss_sb.specs.Evidence.{Module}
 use Rattle.iss_snapshot.proofs.SnapshotGrammar.{spelled-row}
 use Rattle.iss_snapshot.specs.Snapshots.{fits, snapshot_row, spell_snapshot}
 use Rattle.iss_snapshot.specs.declared.snapshots.Snapshot.{Snapshot}
 use Rattle.iss_keep.specs.Internal.Keeping.{entry_kept}
-
--- ---- the order of certificates does not tell whether there is one
-
-some-append : (xs ys : List Cert) (e : ℕ) → is_some (cert_on (xs ++ ys) e) ≡ (is_some (cert_on xs e) || is_some (cert_on ys e))
-some-append [] ys e = refl
-some-append (x ∷ xs) ys e = go (eqb x.epoch.0 e) (some-append xs ys e)
-  where
-    go : (b : Bool) → is_some (cert_on (xs ++ ys) e) ≡ (is_some (cert_on xs e) || is_some (cert_on ys e)) →
-        is_some (cond b (Some x) (cert_on (xs ++ ys) e)) ≡ (is_some (cond b (Some x) (cert_on xs e)) || is_some (cert_on ys e))
-    go true ih = refl
-    go false ih = ih
-
-some-turned : (xs : List Cert) (e : ℕ) → is_some (cert_on (reverse xs) e) ≡ is_some (cert_on xs e)
-some-turned [] e = refl
-some-turned (x ∷ xs) e =
-    ap (λ (ys : List Cert). is_some (cert_on ys e)) (reverse-append (x ∷ []) xs)
-    ∙ (some-append (reverse xs) (x ∷ []) e
-    ∙ (ap (λ (b : Bool). b || is_some (cond (eqb x.epoch.0 e) (Some x) None)) (some-turned xs e)
-    ∙ go (eqb x.epoch.0 e) (cert_on xs e)))
-  where
-    go : (b : Bool) (o : Option Cert) → (is_some o || is_some (cond b (Some x) None)) ≡ is_some (cond b (Some x) o)
-    go true None = refl
-    go true (Some c) = refl
-    go false None = refl
-    go false (Some c) = refl
-
-noted-is : (old new : SavedState) (s : Snapshot) → HasSaved old s.to.0 s.certs new → saved_of new ≡ saved_after (saved_of old) s
-noted-is old new s h =
-    ap₂ (λ (from : ℕ) (held : ℕ → Bool). noted from held) h.from
-    (fun_ext (λ e. h.held e ∙ ap (λ (b : Bool). holds old e || b) (sym (some-turned s.certs e))))
-  where
-    noted : ℕ → (ℕ → Bool) → Saved
-    noted from held = record { from = from; held = held }
 
 -- ---- an event
 
@@ -67,12 +30,12 @@ module _ {M Msg : Type 0} (m : Module Msg) (v : StateView M Msg) (own : List ℕ
     pub saved : saved_of new ≡ k.saved
 
   entered : (d : Core Msg) (new : SavedState) (bytes : Option (List ℕ)) (b : Bool) → let s = saved_by m v d in
-      bytes ≡ cond b (Some (spell_snapshot v.setup.version s)) None → IsNoted b v.saved s new →
+      bytes ≡ cond b (Some (spell_snapshot v.setup.version s)) None → saved_of new ≡ saved_with b (saved_of v.saved) s →
       IsRight (or_event (cond b (Some (record { entry = spell_snapshot v.setup.version s; saved = saved_after (saved_of v.saved) s })) None) own (saved_of v.saved)) new bytes
   entered d new bytes true h noted =
-      record { entry = ap (λ (x : Option (List ℕ)). entry_kept x own) h; saved = noted-is v.saved new (saved_by m v d) noted }
+      record { entry = ap (λ (x : Option (List ℕ)). entry_kept x own) h; saved = noted }
   entered d new bytes false h noted =
-      record { entry = ap (λ (x : Option (List ℕ)). entry_kept x own) h; saved = ap (λ (x : SavedState). saved_of x) noted }
+      record { entry = ap (λ (x : Option (List ℕ)). entry_kept x own) h; saved = noted }
 
   pub kept-right : (o : Option (Core Msg)) (new : SavedState) (bytes : Option (List ℕ)) → IsKeptEntry m v o new bytes → IsRight (kept_with o) new bytes
   kept-right None new bytes h =

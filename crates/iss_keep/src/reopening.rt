@@ -1,17 +1,18 @@
 // Recovery: a node is rebuilt from the snapshots of its journal, and replays the events behind them.
-ghost use Rattle.std.specs.Prelude.{◌≡◌, ◌<◌, ℕ, [], true, length, slice_index_or, take, IfOk, IsErrOf, OnOk};
+ghost use Rattle.std.specs.Prelude.{◌≡◌, ◌<◌, ℕ, [], Some, true, length, slice_index_or, take, IfOk, IfSome, IsErrOf, OnOk};
 ghost use Rattle.iss_journal.specs.Retained.{is_snapshot, retained};
 ghost use Rattle.iss_journal.specs.SharedViews.{shared_in};
 ghost use Rattle.iss_journal.specs.Sound.{IsSound, disk_of, entries_of, gates_of, is_attached};
 ghost use Rattle.iss_keep.specs.Cores.{StopsAt};
-ghost use Rattle.iss_keep.specs.Internal.Replays.{AreInFront, GoesTo, IsFound, IsOf, IsRebuiltBy, IsReplayed};
+ghost use Rattle.iss_keep.specs.Internal.Replays.{AreInFront, GoesTo, IsFound, IsOf, IsReplayed};
 ghost use Rattle.iss_keep.specs.Steps.{IsAttached, IsDamaged, IsLeft, LosesNone, sight};
 ghost use Rattle.iss_rules.specs.Concrete.{keys_of};
 ghost use Rattle.iss_model.specs.Node.{initial_core};
 ghost use Rattle.iss_rules.specs.Setups.{IsSetupOf};
-ghost use Rattle.iss_node.specs.Rebuilds.{HasReadEntry, IsSameReader, RefinesRebuilt};
+ghost use Rattle.iss_model.specs.Frames.{frame_of};
+ghost use Rattle.iss_node.specs.Rebuilding.{IsReadOn, RefinesRebuilt};
 ghost use Rattle.iss_node.specs.State.{RefinesCore};
-ghost use Rattle.iss_rebuilt.specs.Reading.{Rebuilt};
+ghost use Rattle.iss_rebuilt.specs.Reading.{Rebuilt, reads_entry};
 
 use crate::entries::decode_entry;
 use iss_disk::Disk;
@@ -40,22 +41,6 @@ pub(crate) fn start_fresh<M: Sequenced>(
     Node::start(alloc, setup, directory, me, keys)
 }
 
-// A node that has read no snapshot.
-fn start_rebuilding<M: Sequenced>(
-    alloc: Global,
-    setup: &Setup,
-    directory: &SharedDirectory,
-    me: NodeId,
-) -> Result<Rebuilding<M>, NoMemory>
-    requires good { IsSetupOf M.spec setup.now }
-    requires directory { directory.now ≡ keys_of setup.now }
-    requires me { me.0 < setup.now.n }
-    ensures refines { IfOk result (IsRebuiltBy setup.now M.spec M.refines me.0 []) }
-    ensures same { IfOk result (λ v. IsOf setup.now me v.node) }
-{
-    Rebuilding::start(alloc, setup, directory, me)
-}
-
 // Whether an entry is a snapshot, by its first byte.
 fn is_snapshot(entry: &[u8]) -> bool
     ensures { result ≡ is_snapshot entry.now }
@@ -79,75 +64,59 @@ fn snapshots_in_front(alloc: Global, entries: &SharedEntries) -> Result<usize, N
     Ok(entries.len())
 }
 
-// Reads entry `k` as a snapshot. `false` if it does not continue those before it.
+// Reads entry `k` as a snapshot. `None` if it does not continue those before it.
 fn read_at<M: Sequenced>(
     alloc: Global,
-    rebuilding: &mut Rebuilding<M>,
+    rebuilding: Rebuilding<M>,
     entries: &SharedEntries,
     k: usize,
-) -> Result<bool, NoMemory>
+) -> Result<Option<Rebuilding<M>>, NoMemory>
     requires k { k < length (shared_in entries.now) }
-    ensures read { IfOk result (λ taken. (r : Rebuilt M.Msg) → RefinesRebuilt M.spec M.refines rebuilding.old r →
-        HasReadEntry M.spec M.refines rebuilding.old r (slice_index_or (shared_in entries.now) k []) rebuilding.new
-        taken) }
-    ensures same { IsSameReader rebuilding.old rebuilding.new.node }
+    ensures read { IfOk result (λ next. (r : Rebuilt M.Msg) → RefinesRebuilt M.spec M.refines rebuilding r →
+        IsReadOn M.spec M.refines (reads_entry (frame_of rebuilding.state.setup M.spec) rebuilding.state.me.0 (Some r)
+        (slice_index_or (shared_in entries.now) k [])) next) }
+    ensures same { IfOk result (λ next. IfSome next
+        (λ v. (v.state.setup ≡ rebuilding.state.setup) × (v.state.me ≡ rebuilding.state.me))) }
 {
     let entry = entries.get(alloc, k)?;
     rebuilding.read(&entry)
 }
 
-// Reads the first `front` entries, which are snapshots. `Damaged` has the gate offset of the first that does not
-// continue those before it.
-fn read_front<M: Sequenced, D: Disk>(
-    alloc: Global,
-    setup: &Setup,
-    rebuilding: &mut Rebuilding<M>,
-    journal: &Journal<D>,
-    front: usize,
-) -> Result<(), AttachError>
-    requires front { AreInFront (entries_of journal.now) front }
-    requires cluster { rebuilding.old.node.state.setup ≡ setup.now }
-    requires begun { IsRebuiltBy setup.now M.spec M.refines rebuilding.old.node.state.me.0 [] rebuilding.old }
-    ensures rebuilt { OnOk result (IsRebuiltBy setup.now M.spec M.refines rebuilding.old.node.state.me.0
-        (take front (entries_of journal.now)) rebuilding.new) }
-    ensures same { IsSameReader rebuilding.old rebuilding.new.node }
-    ensures damaged { (at : ℕ) → IsErrOf result (AttachError.Damaged at) →
-        StopsAt setup.now M.spec rebuilding.old.node.state.me.0 at (entries_of journal.now) (gates_of journal.now) }
-    ensures sound { IsErrOf result AttachError.Failed → ⊥ }
-{
-    let entries = journal.entries();
-    for k in 0..front {
-        let Ok(taken) = read_at(alloc, rebuilding, entries, k) else {
-            return Err(AttachError::NoMemory);
-        };
-        if !taken {
-            return Err(AttachError::Damaged {
-                at: journal.gate_of(k),
-            });
-        }
-    }
-    Ok(())
-}
-
-// Rebuilds the node from the snapshots in front, of which there are `front`.
+// Rebuilds the node from the first `front` entries, which are snapshots. `Damaged` has the gate offset of the first that
+// does not continue those before it.
 fn rebuild<M: Sequenced, D: Disk>(
     alloc: Global,
     setup: &Setup,
-    mut rebuilding: Rebuilding<M>,
+    directory: &SharedDirectory,
+    me: NodeId,
     journal: &Journal<D>,
     front: usize,
 ) -> Result<Node<M>, AttachError>
+    requires good { IsSetupOf M.spec setup.now }
+    requires directory { directory.now ≡ keys_of setup.now }
+    requires me { me.0 < setup.now.n }
     requires front { AreInFront (entries_of journal.now) front }
-    requires cluster { rebuilding.node.state.setup ≡ setup.now }
-    requires begun { IsRebuiltBy setup.now M.spec M.refines rebuilding.node.state.me.0 [] rebuilding }
-    ensures refines { IfOk result (IsReplayed setup.now M.spec M.refines rebuilding.node.state.me.0
-        (take front (entries_of journal.now))) }
-    ensures same { IfOk result (IsOf setup.now rebuilding.node.state.me) }
+    ensures refines { IfOk result (IsReplayed setup.now M.spec M.refines me.0 (take front (entries_of journal.now))) }
+    ensures same { IfOk result (IsOf setup.now me) }
     ensures damaged { (at : ℕ) → IsErrOf result (AttachError.Damaged at) →
-        StopsAt setup.now M.spec rebuilding.node.state.me.0 at (entries_of journal.now) (gates_of journal.now) }
+        StopsAt setup.now M.spec me.0 at (entries_of journal.now) (gates_of journal.now) }
     ensures sound { IsErrOf result AttachError.Failed → ⊥ }
 {
-    read_front(alloc, setup, &mut rebuilding, journal, front)?;
+    let Ok(mut rebuilding) = Rebuilding::<M>::start(alloc, setup, directory, me) else {
+        return Err(AttachError::NoMemory);
+    };
+    let entries = journal.entries();
+    for k in 0..front {
+        let Ok(next) = read_at(alloc, rebuilding, entries, k) else {
+            return Err(AttachError::NoMemory);
+        };
+        let Some(next) = next else {
+            return Err(AttachError::Damaged {
+                at: journal.gate_of(k),
+            });
+        };
+        rebuilding = next;
+    }
     match rebuilding.finish() {
         Ok(node) => Ok(node),
         Err(_) => Err(AttachError::NoMemory),
@@ -254,13 +223,10 @@ fn recover<M: Sequenced, D: Disk>(
         StopsAt setup.now M.spec me.0 at (entries_of journal.now) (gates_of journal.now) }
     ensures sound { IsErrOf result AttachError.Failed → ⊥ }
 {
-    let Ok(rebuilding) = start_rebuilding::<M>(alloc, setup, directory, me) else {
-        return Err(AttachError::NoMemory);
-    };
     let Ok(front) = snapshots_in_front(alloc, journal.entries()) else {
         return Err(AttachError::NoMemory);
     };
-    let mut node = rebuild(alloc, setup, rebuilding, journal, front)?;
+    let mut node = rebuild::<M, D>(alloc, setup, directory, me, journal, front)?;
     replay_behind(alloc, setup, &mut node, journal, front)?;
     Ok(node)
 }

@@ -2,7 +2,7 @@
 use Rattle.std.specs.Prelude.{◌≡◌, ℕ, ◌<◌, ◌≤◌, Bool, true, false, List, [], length, reverse, take, Some, None, slice_index_or}
 use Rattle.iss_journal.specs.Retained.{is_snapshot}
 use Rattle.iss_model.specs.Frames.{frame_of}
-use Rattle.iss_node.specs.Rebuilds.{RefinesRebuilt, RebuildingView}
+use Rattle.iss_node.specs.Rebuilding.{RefinesRebuilt, RebuildingView}
 use Rattle.iss_node.specs.Saved.{saved_of}
 use Rattle.iss_node.specs.State.{NodeView, RefinesCore}
 use Rattle.iss_rebuilt.specs.Reading.{Rebuilt, rebuilt, replays}
@@ -32,6 +32,10 @@ IsReplayed {Msg = Msg} s m refines me entries v = (found : Rebuilt Msg) × IsFou
 
 -- The node has this identity, in this cluster.
 pub record IsOf {M Msg : Type 0} (s : Setup) (me : NodeId) (v : NodeView M Msg) : Type 0 where
+  pub cluster : v.state.setup ≡ s
+  pub number : v.state.me ≡ me
+
+pub record IsReaderOf {M Msg : Type 0} (s : Setup) (me : NodeId) (v : RebuildingView M Msg) : Type 0 where
   pub cluster : v.state.setup ≡ s
   pub number : v.state.me ≡ me
 
