@@ -170,6 +170,22 @@ impl<M: Sequenced, D: Disk> Kept<M, D> {
         }
     }
 
+    /// The set-up of its cluster.
+    pub fn setup(&self) -> &Setup
+        ensures same { result.now ≡ self.now.setup }
+        ensures good { IsSetupOf M.spec result.now }
+    {
+        &self.setup
+    }
+
+    /// Which node it is.
+    pub fn me(&self) -> NodeId
+        ensures same { result ≡ self.now.me }
+        ensures member { result.0 < self.now.setup.n }
+    {
+        self.me
+    }
+
     /// The disk.
     pub fn into_disk(self) -> D
         ensures { result ≡ self.disk }
