@@ -1,5 +1,5 @@
 // Recovery: a node is rebuilt from the snapshots of its journal, and replays the events behind them.
-ghost use Rattle.std.specs.Prelude.{◌≡◌, ◌<◌, ℕ, [], Some, true, length, slice_index_or, take, IfOk, IfSome, IsErrOf, OnOk};
+ghost use Rattle.std.specs.Prelude.{◌≡◌, ◌<◌, ℕ, [], Some, true, get_or, length, slice_index_or, take, IfOk, IfSome, IsErrOf, OnOk};
 ghost use Rattle.iss_journal.specs.Retained.{is_snapshot, retained};
 ghost use Rattle.iss_journal.specs.SharedViews.{shared_in};
 ghost use Rattle.iss_journal.specs.Sound.{IsSound, disk_of, entries_of, gates_of, is_attached};
@@ -64,6 +64,16 @@ fn snapshots_in_front(alloc: Global, entries: &SharedEntries) -> Result<usize, N
     Ok(entries.len())
 }
 
+// That entry `k` leads nowhere.
+fn damage_at<D: Disk>(journal: &Journal<D>, k: usize) -> AttachError
+    requires { k < length (entries_of journal.now) }
+    ensures { result ≡ AttachError.Damaged (get_or (gates_of journal.now) k 0) }
+{
+    AttachError::Damaged {
+        at: journal.gate_of(k),
+    }
+}
+
 // Reads entry `k` as a snapshot. `None` if it does not continue those before it.
 fn read_at<M: Sequenced>(
     alloc: Global,
@@ -111,9 +121,7 @@ fn rebuild<M: Sequenced, D: Disk>(
             return Err(AttachError::NoMemory);
         };
         let Some(next) = next else {
-            return Err(AttachError::Damaged {
-                at: journal.gate_of(k),
-            });
+            return Err(damage_at(journal, k));
         };
         rebuilding = next;
     }
@@ -192,9 +200,7 @@ fn replay_behind<M: Sequenced, D: Disk>(
             return Err(AttachError::NoMemory);
         };
         if !taken {
-            return Err(AttachError::Damaged {
-                at: journal.gate_of(k),
-            });
+            return Err(damage_at(journal, k));
         }
     }
     Ok(())

@@ -1,7 +1,8 @@
 use Rattle.std.proofs.Common.{rules, ◌≡◌, ◌∙◌, ◌<◌, None, Some, ap, refl, sym, ℕ, List, [], get_or}
 use Rattle.iss_journal.specs.SharedViews.{shared_in}
 use Rattle.iss_journal.specs.Sound.{entries_of, gates_of}
-use Rattle.iss_keep.proofs.ReplayLemmas.{finished, read-on, read-stops, same-gate, still-reads}
+use Rattle.iss_journal.specs.declared.errors.AttachError.{AttachError}
+use Rattle.iss_keep.proofs.ReplayLemmas.{fail, finished, read-on, read-stops, same-gate, still-reads}
 use Rattle.iss_keep.proofs.reopening.rebuild.Goals as goal
 
 pub loop-k-init : goal.loop-k-init
