@@ -167,7 +167,7 @@ module _ {Msg : Type 0} (s : Setup) (m : Module Msg) (me : ℕ) where
 
         first : take (length stops.front + 1) entries ≡ stops.front ++ stops.entry ∷ []
         first = ap (λ (es : List (List ℕ)). take (length stops.front + 1) es) parts
-            ∙ take_at (stops.front ++ stops.entry ∷ []) stops.behind (length stops.front + 1) (sym long)
+            ∙ take_at (stops.front ++ stops.entry ∷ []) stops.behind (length stops.front + 1) long
 
         entry-is : at (length stops.front) ≡ stops.entry
         entry-is = ap (λ (es : List (List ℕ)). get_or es (length stops.front) []) stops.is ∙ at-end stops.front stops.entry stops.behind

@@ -18,7 +18,7 @@ use Rattle.iss_node.specs.declared.answers.Outcome.{Outcome}
 use Rattle.iss_sb.specs.Calls.{Relation}
 use Rattle.iss_sb.specs.Evidence.{Module}
 use Rattle.iss_keep.specs.Entries.{spell_event}
-use Rattle.iss_keep.specs.Internal.Keeping.{Answers, HasEnded, HasNoted, HasStepped, IsKeptAs, ShowsSame, Takes, entry_kept, released}
+use Rattle.iss_keep.specs.Internal.Keeping.{Answers, HasEnded, HasNoted, HasStepped, IsKeptAs, ShowsSame, Takes, entry_kept, kept_at, released}
 use Rattle.iss_keep.specs.declared.answers.Answer.{Answer}
 use Rattle.iss_keep.specs.declared.answers.Answer.TheVariants.{Dropped as Kept_dropped, Failed, NoMemory, Stale, Taken as Kept_taken}
 use Rattle.iss_keep.proofs.SnapshotLemmas.{kept-right, kept-short}
@@ -85,7 +85,7 @@ module _ {M Msg : Type 0} (m : Module Msg) (refines : Relation M Msg) (event : N
 
   right-entry : IsKeptAs m refines event old (entry_kept outcome.entered own)
   right-entry c turn st q =
-      subst (λ (bytes : List ℕ). entry_kept outcome.entered bytes ≡ _) (sym own-is)
+      subst (λ (bytes : List ℕ). entry_kept outcome.entered bytes ≡ (kept_at m old event turn).entry) (sym own-is)
       (kept-right m old.state (spell_event event) turn.entered taken.state.saved outcome.entered (entered-by c turn st q)).entry
 
   right-note : HasNoted m refines event old taken
