@@ -9,7 +9,7 @@ use Rattle.iss_keep.proofs.keeping.apply_then_append.Goals as goal
 
 pub append_or_retreat-requires-clause-short : goal.append_or_retreat-requires-clause-short
 append_or_retreat-requires-clause-short g c =
-    let outcome = c.in-Taken.field-0 in
+    let outcome = c.in-Taken.outcome in
     let answer : Answers g.M.Sequenced.spec g.M.Sequenced.refines c.args.event c.args.node.now c.take.new.self (Node_taken outcome) =
     subst (λ (a : NodeAnswer). Answers g.M.Sequenced.spec g.M.Sequenced.refines c.args.event c.args.node.now c.take.new.self a) c.in-Taken.is c.take.ensures.answer in
     let enters : Enters g.M.Sequenced.spec g.M.Sequenced.refines c.args.event c.args.node.now c.take.new.self (Node_taken outcome) =
@@ -19,7 +19,7 @@ append_or_retreat-requires-clause-short g c =
 
 pub append_or_retreat-requires-clause-slots : goal.append_or_retreat-requires-clause-slots
 append_or_retreat-requires-clause-slots g c =
-    let outcome = c.in-Taken.field-0 in
+    let outcome = c.in-Taken.outcome in
     let answer : Answers g.M.Sequenced.spec g.M.Sequenced.refines c.args.event c.args.node.now c.take.new.self (Node_taken outcome) =
     subst (λ (a : NodeAnswer). Answers g.M.Sequenced.spec g.M.Sequenced.refines c.args.event c.args.node.now c.take.new.self a) c.in-Taken.is c.take.ensures.answer in
     let enters : Enters g.M.Sequenced.spec g.M.Sequenced.refines c.args.event c.args.node.now c.take.new.self (Node_taken outcome) =
@@ -31,7 +31,7 @@ append_or_retreat-requires-clause-slots g c =
 
 pub append_or_retreat-requires-clause-epoch : goal.append_or_retreat-requires-clause-epoch
 append_or_retreat-requires-clause-epoch g c =
-    let outcome = c.in-Taken.field-0 in
+    let outcome = c.in-Taken.outcome in
     let answer : Answers g.M.Sequenced.spec g.M.Sequenced.refines c.args.event c.args.node.now c.take.new.self (Node_taken outcome) =
     subst (λ (a : NodeAnswer). Answers g.M.Sequenced.spec g.M.Sequenced.refines c.args.event c.args.node.now c.take.new.self a) c.in-Taken.is c.take.ensures.answer in
     let enters : Enters g.M.Sequenced.spec g.M.Sequenced.refines c.args.event c.args.node.now c.take.new.self (Node_taken outcome) =
@@ -41,7 +41,7 @@ append_or_retreat-requires-clause-epoch g c =
 
 pub returns-in-Taken-clause-stepped : goal.returns-in-Taken-clause-stepped
 returns-in-Taken-clause-stepped g c =
-    let outcome = c.in-Taken.field-0 in
+    let outcome = c.in-Taken.outcome in
     let answer : Answers g.M.Sequenced.spec g.M.Sequenced.refines c.args.event c.args.node.now c.take.new.self (Node_taken outcome) =
     subst (λ (a : NodeAnswer). Answers g.M.Sequenced.spec g.M.Sequenced.refines c.args.event c.args.node.now c.take.new.self a) c.in-Taken.is c.take.ensures.answer in
     let enters : Enters g.M.Sequenced.spec g.M.Sequenced.refines c.args.event c.args.node.now c.take.new.self (Node_taken outcome) =
@@ -56,7 +56,7 @@ returns-in-Taken-clause-stepped g c =
 
 pub returns-in-Taken-clause-same : goal.returns-in-Taken-clause-same
 returns-in-Taken-clause-same g c =
-    let outcome = c.in-Taken.field-0 in
+    let outcome = c.in-Taken.outcome in
     let answer : Answers g.M.Sequenced.spec g.M.Sequenced.refines c.args.event c.args.node.now c.take.new.self (Node_taken outcome) =
     subst (λ (a : NodeAnswer). Answers g.M.Sequenced.spec g.M.Sequenced.refines c.args.event c.args.node.now c.take.new.self a) c.in-Taken.is c.take.ensures.answer in
     let enters : Enters g.M.Sequenced.spec g.M.Sequenced.refines c.args.event c.args.node.now c.take.new.self (Node_taken outcome) =
