@@ -1,12 +1,14 @@
 //! One node of a cluster, which runs over links and keeps its events in a journal.
-ghost use Rattle.std.specs.Prelude.{◌≡◌, ◌≢◌, ◌<◌, ◌^◌, ℕ, List, false, IfOk, IsErrOf, OnOk};
-ghost use Rattle.iss_cluster.specs.Nodes.{HasRead, HasTaken, IsDurable, IsNodeRun, IsRefused, IsStopped, as_step};
+ghost use Rattle.std.specs.Prelude.{◌≡◌, ◌≢◌, ◌<◌, ◌^◌, ◌++◌, ℕ, List, reverse, false, IfOk, IsErrOf, OnOk};
+ghost use Rattle.iss_cluster.specs.Nodes.{HasRead, HasTaken, IsDurable, IsNodeRun, IsRefused, IsStopped, as_step, stored_since};
 ghost use Rattle.iss_config.specs.Configs.{IsInRange, setup_of};
 ghost use Rattle.iss_disk.specs.Calls.{HasCause as HasDiskCause};
 ghost use Rattle.iss_journal.specs.Promises.{LosesNothing};
+ghost use Rattle.iss_keep.specs.Cores.{stored_of};
 ghost use Rattle.iss_keep.specs.Steps.{IsSame};
 ghost use Rattle.iss_links.specs.Calls.{HasCause};
 ghost use Rattle.iss_loops.specs.NodeBehavior.{NodeBehavior};
+ghost use Rattle.iss_request.specs.declared.setups.Setup.{Setup};
 ghost use Rattle.iss_rules.specs.Setups.{IsSetupOf};
 ghost use Rattle.iss_rules.specs.declared.events.NodeEvent.{NodeEvent as ModelEvent};
 
@@ -200,3 +202,11 @@ pub fn node<M: Sequenced, L: Links, D: Disk>(
     run_node_loop(running, links, FRAMES, PATIENCE, config.turns)?;
     Ok(running.block(alloc)?)
 }
+
+/// What a node has stored that had stored what these events lead to, and took others since, is what all of them lead to.
+/// So a node that is opened again goes on from all that it ever took.
+pub fn runs_join<M: Sequenced>()
+    ensures { (s : Setup) (me : ℕ) (events taken : List ModelEvent) →
+        stored_since s M.spec me (stored_of s M.spec me events) taken
+        ≡ stored_of s M.spec me (reverse taken ++ events) }
+{}

@@ -44,8 +44,11 @@ sends-more B nodes me sends i s events ends ends2 progress progress2 whole is is
 pub grows-same : (events : List NodeEvent) → GrowsTo events events
 grows-same events k e h = h
 
+none-some : {A : Type 0} (x : A) (P : Type 0) → None ≡ Some x → P
+none-some x P h = absurd (cc)
+
 pub grows-more : (events : List NodeEvent) (event : NodeEvent) → GrowsTo events (events ++ event ∷ [])
-grows-more [] event k e h = absurd (cc)
+grows-more [] event k e h = none-some e _ h
 grows-more (x ∷ xs) event zero e h = h
 grows-more (x ∷ xs) event (suc k) e h = grows-more xs event k e h
 
@@ -139,16 +142,6 @@ not-received B me most events has ends ends1 progress there mine none left = gon
         let e : receives B most w ≡ w1 = ap (λ (o : Option (List ℕ)). arrives B o w1) (sym t) in
         (let Q : NodeState → Type 0 = λ x. IsAt events ends1 progress x in subst Q (sym e)
         (record { events_are = at.events_are; ends_are = r; count = at.count; idle = at.idle; idle_turns = at.idle_turns }))
-
--- it times out for one leader more
-pub times-out-more : (B : NodeBehavior) (leaders : List NodeId) (i : ℕ) (d : NodeId) (events events2 : List NodeEvent) (ends ends2 : Option (List End)) (progress progress2 : NodeProgress) (whole : NodeState) → i < length leaders
-    → Comes events ends progress (times_out B (drop i leaders)) whole → ((w : NodeState) → IsAt events ends progress w → IsAt events2 ends2 progress2 (takes B (Timeout (get_or leaders i d)) w))
-    → Comes events2 ends2 progress2 (times_out B (drop (i + 1) leaders)) whole
-times-out-more B leaders i d events events2 ends ends2 progress progress2 whole within c h = record {
-  now = takes B (Timeout (get_or leaders i d)) c.now;
-  at = h c.now c.at;
-  same = sym (ap (λ (ls : List NodeId). times_out B ls c.now) (drop_more leaders i d within)) ∙ c.same;
-}
 
 -- the node wakes up
 pub rests-wakes : (B : NodeBehavior) (patience : ℕ) (events events2 : List NodeEvent) (ends ends2 : Option (List End)) (progress after progress2 : NodeProgress) → progress.idle ≡ true → progress.idle_turns + 1 ≡ patience → after ≡ record progress { idle_turns = 0 }

@@ -68,7 +68,7 @@ module _ {M Msg : Type 0} (m : Module Msg) (refines : Relation M Msg) (s : Setup
           whole = all;
           numbers = all.one_log.numbers;
           journals = journals-then v (course_after s m events) (course_after s m events).ended h;
-          leaves = λ i g at. once g.me.0 ((course_after s m events).state.disks i).kept;
+          leaves = λ i g at kept shows. once g.me.0 kept;
         }
 
     pub headline-more : (v : WorldState M Msg) (es : List Event) (e : Event) (x : EventResult) → AreInRange s es → IsInRange s e →

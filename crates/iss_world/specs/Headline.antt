@@ -44,11 +44,11 @@ AgreeOnNumbers s m h =
     first_number_of (shown s m h j) slot ≡ Some l → k ≡ l
 
 -- No leaf of a core's keys signs two statements, over all crashes and restarts: each used leaf has one statement in the
--- deeds of the events that the core's journal kept.
-abbrev pub SignOnce : {M Msg : Type 0} → Setup → Module Msg → WorldState M Msg → Course Msg → Type 0
-SignOnce {M = M} {Msg = Msg} s m v p = (i : ℕ) (g : KeptState M Msg MemoryDisk) →
-    slice_get v.simulation.nodes i ≡ Some g →
-    SignsOnceEach (frame_of s m) g.me.0 (life_of (frame_of s m) g.me.0 (p.state.disks i).kept)
+-- life that events give of which the core's journal shows what stays.
+abbrev pub SignOnce : {M Msg : Type 0} → Setup → Module Msg → WorldState M Msg → Type 0
+SignOnce {M = M} {Msg = Msg} s m v = (i : ℕ) (g : KeptState M Msg MemoryDisk) →
+    slice_get v.simulation.nodes i ≡ Some g → (events : List NodeEvent) → g.entries ≡ shown_by m g.setup g.me.0 events →
+    SignsOnceEach (frame_of s m) g.me.0 (life_of (frame_of s m) g.me.0 events)
 
 -- A journal shows what stays of the events that the model's disk keeps: the snapshots that some of them let the node
 -- write, and the events behind the last one. After evidence there may be one event more: the one that revealed it, of
@@ -74,4 +74,4 @@ pub record IsHeadline {M Msg : Type 0} (s : Setup) (m : Module Msg) (refines : R
   pub whole : IsWhole s m events
   pub numbers : AgreeOnNumbers s m (held_after s m events)
   pub journals : HoldKept m v (course_after s m events)
-  pub leaves : SignOnce s m v (course_after s m events)
+  pub leaves : SignOnce s m v

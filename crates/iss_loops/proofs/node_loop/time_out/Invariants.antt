@@ -1,9 +1,8 @@
 use Rattle.std.proofs.Common.{◌≡◌, ◌≤◌, List, drop}
-use Rattle.iss_loops.proofs.NodeLemmas.{IsPassing}
 use Rattle.iss_loops.specs.NodeBehavior.{NodeBehavior}
 use Rattle.iss_loops.specs.NodeLoop.{times_out}
 use Rattle.iss_rules.specs.declared.events.NodeEvent.{NodeEvent}
-use Rattle.iss_loops.proofs.CutLemmas.{IsUnder}
+use Rattle.iss_loops.proofs.CutLemmas.{IsPassing}
 use Rattle.iss_loops.proofs.node_loop.time_out.Given as goal
 
 abbrev pub invariant-loop-leader : goal.invariant-loop-leader
