@@ -1,5 +1,5 @@
 -- A loop that is cut short: its state comes of frames that were taken and of events that the node took.
-use Rattle.std.proofs.Common.{◌≡◌, ◌∙◌, ℕ, zero, suc, ◌+◌, ◌<◌, ◌≤◌, ◌==◌, nat_lt, Bool, true, false, List, [], ◌∷◌, ◌++◌, length, get_or, drop, Option, Some, None, Result, Ok, Err, IsErrOf, if◌then◌else◌, refl, ap, sym, subst}
+use Rattle.std.proofs.Common.{◌≡◌, ◌∙◌, ℕ, zero, suc, ◌+◌, ◌<◌, ◌≤◌, ◌==◌, nat_lt, Bool, true, false, List, [], ◌∷◌, ◌++◌, length, get_or, drop, Option, Some, None, Result, Ok, Err, IsErrOf, if◌then◌else◌, refl, ap, sym, subst, arith}
 use Rattle.std.proofs.lemmas.List.{drop_all, drop_more}
 use Rattle.iss_links.specs.Ends.{End, after_take, end_at}
 use Rattle.iss_links.specs.Frames.{Fragment}
@@ -297,10 +297,11 @@ timed-out B leaders i events has ends0 ends progress0 progress all p = record {
 -- one turn more
 pub turns-on : (B : NodeBehavior) (frames patience n : ℕ) (events : List NodeEvent) (has1 has2 : List NodeEvent → Type 0) (ends0 ends1 ends2 : Option (List End)) (progress0 progress1 progress2 : NodeProgress)
     → IsPassing B events has1 ends0 ends1 progress0 progress1 (λ v. v) (turns B frames patience n)
-    → ((es : List NodeEvent) → has1 es → HasGone es has2 ends1 ends2 progress1 progress2 (turn B frames patience)) → IsPassing B events has2 ends0 ends2 progress0 progress2 (λ v. v) (turns B frames patience (suc n))
+    → ((es : List NodeEvent) → has1 es → HasGone es has2 ends1 ends2 progress1 progress2 (turn B frames patience)) → IsPassing B events has2 ends0 ends2 progress0 progress2 (λ v. v) (turns B frames patience (n + 1))
 turns-on B frames patience n events has1 has2 ends0 ends1 ends2 progress0 progress1 progress2 p more =
-    passing-more B events has1 has2 ends0 ends1 ends2 progress0 progress1 progress2 (λ v. v) (λ v. v) (turns B frames patience n) (turns B frames patience (suc n)) (turn B frames patience)
-    (turn-reaches B frames patience) p more (λ v w same. ap (turn B frames patience) same)
+    let next : suc n ≡ n + 1 = omega arith in
+    passing-more B events has1 has2 ends0 ends1 ends2 progress0 progress1 progress2 (λ v. v) (λ v. v) (turns B frames patience n) (turns B frames patience (n + 1)) (turn B frames patience)
+    (turn-reaches B frames patience) p more (λ v w same. ap (turn B frames patience) same ∙ ap (λ (k : ℕ). turns B frames patience k w) next)
 
 -- all turns are over
 pub turned-all : (B : NodeBehavior) (frames patience n : ℕ) (events : List NodeEvent) (has : List NodeEvent → Type 0) (ends0 ends : Option (List End)) (progress : NodeProgress)

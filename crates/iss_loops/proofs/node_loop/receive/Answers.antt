@@ -1,4 +1,4 @@
-use Rattle.std.proofs.Common.{◌∙◌, sym, refl, ap, Vec, Global, option_map}
+use Rattle.std.proofs.Common.{◌∙◌, sym, refl, ap, ℕ, Vec, Global, option_map}
 use Rattle.std.proofs.lemmas.Result.{on_ok_weaker}
 use Rattle.iss_loops.proofs.CutLemmas.{cut-received}
 use Rattle.iss_loops.proofs.NodeLemmas.{received-gone}

@@ -14,7 +14,7 @@ loop-init g c = record {
   place = search rules;
   same = search rules;
   idle_turns = search rules;
-  goes = λ B events has. rw c.new.ensures (passing-first B events (g.N.JournaledNode.has c.args.node.now B) (g.L.Links.ends c.args.links.now) (record { count = 0; idle = true; idle_turns = 0 }) (λ v. v) has);
+  goes = λ B events has. rw c.new-progress.ensures (passing-first B events (g.N.JournaledNode.has c.args.node.now B) (g.L.Links.ends c.args.links.now) (record { count = 0; idle = true; idle_turns = 0 }) (λ v. v) has);
 }
 
 pub loop-preserved : goal.loop-preserved

@@ -1,4 +1,4 @@
-use Rattle.std.proofs.Common.{List, sym, subst}
+use Rattle.std.proofs.Common.{ℕ, List, subst}
 use Rattle.std.proofs.lemmas.Result.{on_ok_weaker}
 use Rattle.iss_loops.proofs.NodeLemmas.{dropped-gone, newest, taken-gone}
 use Rattle.iss_loops.specs.NodeBehavior.{GoTo, IsStep}
