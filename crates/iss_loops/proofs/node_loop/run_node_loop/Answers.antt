@@ -1,6 +1,6 @@
-use Rattle.std.proofs.Common.{rules, true, sym, subst}
+use Rattle.std.proofs.Common.{rules, true}
 use Rattle.std.proofs.lemmas.Result.{err_from_is_err_and}
-use Rattle.iss_loops.proofs.CutLemmas.{cut-passing, passed, passing-first, turned-all, turns-on}
+use Rattle.iss_loops.proofs.CutLemmas.{cut-passing, passed, passing-first, turns-on}
 use Rattle.iss_loops.specs.declared.errors.NodeError.TheVariants.{DiskFault}
 use Rattle.iss_loops.proofs.node_loop.run_node_loop.Goals as goal
 

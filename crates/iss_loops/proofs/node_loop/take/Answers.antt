@@ -1,11 +1,10 @@
 use Rattle.std.proofs.Common.{ℕ, List, subst}
 use Rattle.std.proofs.lemmas.Result.{on_ok_weaker}
-use Rattle.iss_loops.proofs.NodeLemmas.{dropped-gone, newest, taken-gone}
+use Rattle.iss_loops.proofs.NodeLemmas.{newest, taken-gone}
 use Rattle.iss_loops.specs.NodeBehavior.{GoTo, IsStep}
 use Rattle.iss_loops.specs.NodeLoop.{IsAt, send_each}
 use Rattle.iss_loops.specs.declared.node.NodeStep.{NodeStep}
-use Rattle.iss_loops.specs.declared.node.NodeStep.TheVariants.{Dropped, Taken}
-use Rattle.iss_sb.specs.Calls.{AreToNodes}
+use Rattle.iss_loops.specs.declared.node.NodeStep.TheVariants.{Taken}
 use Rattle.iss_sb.specs.declared.effects.To.{To}
 use Rattle.iss_loops.proofs.node_loop.take.Goals as goal
 

@@ -2,7 +2,6 @@ use Rattle.std.proofs.Common.{refl, true}
 use Rattle.std.proofs.lemmas.Result.{err_from_is_err_and, on_ok_weaker}
 use Rattle.iss_loops.proofs.CutLemmas.{cut-behind, cut-idle, passed, proposes-reaches, receives-reaches}
 use Rattle.iss_loops.proofs.NodeLemmas.{open-on, turned}
-use Rattle.iss_loops.specs.NodeBehavior.{NodeBehavior}
 use Rattle.iss_loops.specs.NodeLoop.{NodeState, proposes, receives}
 use Rattle.iss_loops.specs.declared.errors.NodeError.TheVariants.{DiskFault}
 use Rattle.iss_loops.proofs.node_loop.take_turn.Goals as goal

@@ -1,6 +1,6 @@
-use Rattle.std.proofs.Common.{rules, subst, sym, ◌∙◌, get_or}
+use Rattle.std.proofs.Common.{rules}
 use Rattle.std.proofs.lemmas.Result.{err_from_is_err_and}
-use Rattle.iss_loops.proofs.CutLemmas.{cut-passing, passed, passing-first, timed-out, times-out-on}
+use Rattle.iss_loops.proofs.CutLemmas.{cut-passing, passed, passing-first, times-out-on}
 use Rattle.iss_loops.specs.NodeLoop.{times_out}
 use Rattle.iss_loops.specs.declared.errors.NodeError.TheVariants.{DiskFault}
 use Rattle.iss_loops.proofs.LoopLemmas.{leader-at}

@@ -3,7 +3,6 @@ use Rattle.std.proofs.lemmas.Result.{on_ok_weaker}
 use Rattle.iss_loops.proofs.CutLemmas.{cut-behind, times-out-reaches}
 use Rattle.iss_loops.proofs.NodeLemmas.{open-on, woken}
 use Rattle.iss_loops.specs.Behavior.{AreNodes}
-use Rattle.iss_loops.specs.NodeBehavior.{NodeBehavior}
 use Rattle.iss_loops.specs.NodeLoop.{NodeState, times_out}
 use Rattle.iss_request.specs.declared.ids.NodeId.{NodeId}
 use Rattle.iss_loops.proofs.node_loop.wake.Goals as goal
