@@ -1,5 +1,0 @@
-//! Tests of rebuilt nodes.
-#![tactic(auto)]
-
-#[cfg(test)]
-mod tests;
