@@ -18,7 +18,7 @@ use std::test::Fail;
 
 const THREE_NODES: &[u8] =
     b"module = \"relay\"\nf = 0\nepoch = 3\nbuckets = 3\nbatch = 4\nwindow = 8\npolicy = \"simple\"\n\
-      clients = 1\nkeys = 4\nrequests = 0\nturns = 1\n";
+      clients = 1\nkeys = 2\nrequests = 0\nturns = 1\n";
 
 // Node 0 as it enters epoch 1 behind three empty batches: its kind, the epochs from 0 to 1, the batches, the next leaf,
 // and no request, certificate, vote or early packet. The bytes are those of an independent program.
@@ -112,7 +112,7 @@ fn a_snapshot_takes_the_place_of_the_event_that_ended_an_epoch(
 
 // Request 1 of client 0, which node 0 does not propose in the first epochs.
 fn request(alloc: Global) -> Result<Bytes, Fail> {
-    let directory = Directory::make(alloc, 3, 1, 4)?;
+    let directory = Directory::make(alloc, 3, 1, 2)?;
     let mut keys = directory.keys_of_client(alloc, 0);
     let id = ReqId {
         client: 0,
@@ -217,14 +217,14 @@ fn a_snapshot_is_damaged_at_each_byte(rt: HostRuntime) -> Result<(), Fail> {
 }
 
 // The gate of the second snapshot. Behind it are the parts of both at which a byte is changed.
-const SECOND: usize = 4687;
+const SECOND: usize = 4559;
 
 // In the first snapshot: where it begins and ends, the next leaf, the request's client and signature, the vote's epoch,
 // node, chain and signature, and the early packet's epoch and leader.
-const OF_FIRST: [usize; 11] = [13, 21, 31, 36, 1005, 2335, 2336, 2337, 3005, 4670, 4671];
+const OF_FIRST: [usize; 11] = [13, 21, 31, 36, 1005, 2271, 2272, 2273, 3005, 4542, 4543];
 
 // In the second: where it begins, and the certificate's chain, a signature of it, and its second signer.
-const OF_SECOND: [usize; 4] = [4700, 7019, 7692, 9338];
+const OF_SECOND: [usize; 4] = [4572, 6827, 7564, 9082];
 
 #[test]
 fn a_snapshot_that_would_lose_something_is_damaged(rt: HostRuntime) -> Result<(), Fail> {
