@@ -1,5 +1,5 @@
 -- What each call of a kept node preserves and establishes.
-use Rattle.std.proofs.Common.{inl, inr, ◌≡◌, ◌⊎◌, ℕ, ◌<◌, Bool, true, false, List, [], ◌∷◌, ◌++◌, length, Some, refl, sym, ap, ap₂, ◌∙◌, subst, true≢false}
+use Rattle.std.proofs.Common.{inl, inr, ◌≡◌, ◌⊎◌, ℕ, ◌<◌, Bool, true, false, List, [], ◌∷◌, ◌++◌, length, refl, sym, ap, ◌∙◌, subst, true≢false}
 use Rattle.iss_disk.specs.Calls.{IfTold, Room}
 use Rattle.iss_disk.specs.File.{File}
 use Rattle.iss_journal.specs.Promises.{OnlyLeaves, Shows}
@@ -11,7 +11,7 @@ use Rattle.iss_keys.specs.KeyStates.{KeyState}
 use Rattle.iss_keys.proofs.DirectoryLemmas.{length-nodes}
 use Rattle.iss_rules.specs.Concrete.{keys_of, rules_of}
 use Rattle.iss_rules.specs.Formats.{formats_of}
-use Rattle.iss_model.specs.Frames.{frame_of, step_in}
+use Rattle.iss_model.specs.Frames.{frame_of}
 use Rattle.iss_model.specs.Node.{Core, Stepped, Taken as Step_taken, Turn, step}
 use Rattle.iss_rules.specs.Setups.{IsSetupOf}
 use Rattle.iss_rules.specs.declared.events.NodeEvent.{NodeEvent}
@@ -21,7 +21,6 @@ use Rattle.iss_node.specs.State.{NodeView, RefinesCore}
 use Rattle.iss_node.specs.Steps.{IsAnswer as Node_answers, IsOfNodes}
 use Rattle.iss_node.specs.declared.answers.Answer.TheVariants.{Dropped as Node_dropped, Taken as Node_taken}
 use Rattle.iss_node.specs.declared.answers.Outcome.{Outcome}
-use Rattle.iss_rebuilt.specs.Reading.{Rebuilt}
 use Rattle.iss_rebuilt.specs.Stored.{Kept, Saved, Stored, kept_of, stored_by}
 use Rattle.iss_request.specs.declared.ids.NodeId.{NodeId}
 use Rattle.iss_request.specs.declared.setups.Setup.{Setup}
@@ -30,7 +29,7 @@ use Rattle.iss_sb.specs.Calls.{AreToNodes, Relation}
 use Rattle.iss_keep.specs.Cores.{step_of, stored_after}
 use Rattle.iss_keep.specs.Entries.{spell_event}
 use Rattle.iss_keep.specs.State.{IsKept, IsStoredSince, KeptRefinesCore, KeptState, RefinesStored, state_over, stored_as}
-use Rattle.iss_keep.specs.Internal.Keeping.{HasNoted, HasStepped, IsKeptAs, Takes, kept_at}
+use Rattle.iss_keep.specs.Internal.Keeping.{HasStepped, IsKeptAs, kept_at}
 use Rattle.iss_keep.specs.Internal.Replays.{IsOf, IsReplayed}
 use Rattle.iss_keep.specs.Steps.{IsAnswer, IsDrop, IsTurn, ShowsAsBefore, Writes, entries_after, is_appended, makes_stale}
 use Rattle.iss_keep.specs.declared.answers.Answer.{Answer}

@@ -59,11 +59,11 @@ module _ {Msg : Type 0} (s : Setup) (m : Module Msg) (me : ℕ) where
   -- ---- later events
 
   -- the core after events, oldest first, and newest first
-  after : List NodeEvent → Core Msg → Core Msg
+  abbrev after : List NodeEvent → Core Msg → Core Msg
   after [] c = c
   after (x ∷ xs) c = after xs (after_step c (step_of s m me c x))
 
-  behind : Core Msg → List NodeEvent → Core Msg
+  abbrev behind : Core Msg → List NodeEvent → Core Msg
   behind c [] = c
   behind c (x ∷ xs) = let d = behind c xs in after_step d (step_of s m me d x)
 

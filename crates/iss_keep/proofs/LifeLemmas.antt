@@ -1,6 +1,6 @@
 -- The deeds that events give are a life of the node, which ends in the core that stored them. Later events do not change
 -- earlier deeds.
-use Rattle.std.proofs.Common.{◌≡◌, ◌∙◌, ◌++◌, ◌∷◌, ℕ, ◌≤◌, List, [], refl, ap, arith, le_trans}
+use Rattle.std.proofs.Common.{◌≡◌, ◌∙◌, ◌++◌, ◌∷◌, ℕ, ◌≤◌, List, [], refl, ap, arith}
 use Rattle.iss_base.specs.Lists.{Extends}
 use Rattle.iss_base.proofs.Lists.{extends-refl}
 use Rattle.iss_rules.specs.declared.events.NodeEvent.{NodeEvent}

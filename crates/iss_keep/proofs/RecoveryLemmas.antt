@@ -1,9 +1,8 @@
 -- What a replica stored leads back to it, and so does what a crash leaves while an event is journaled.
-use Rattle.std.proofs.Common.{◌≡◌, ◌⊎◌, inl, inr, ℕ, ◌<◌, ◌^◌, List, [], ◌∷◌, sym, subst, ◌∙◌, arith, refl}
+use Rattle.std.proofs.Common.{◌≡◌, ◌⊎◌, inl, inr, ℕ, ◌<◌, ◌^◌, List, ◌∷◌, sym, subst, ◌∙◌, arith, refl}
 use Rattle.iss_base.specs.Lists.{In}
 use Rattle.iss_journal.proofs.Showing.{shown_once}
 use Rattle.iss_journal.specs.Promises.{Shows, ShowsWithOrWithout}
-use Rattle.iss_journal.specs.Retained.{retained}
 use Rattle.iss_request.specs.declared.setups.Setup.{Setup}
 use Rattle.iss_rules.specs.declared.events.NodeEvent.{NodeEvent}
 use Rattle.iss_sb.specs.Evidence.{Module}

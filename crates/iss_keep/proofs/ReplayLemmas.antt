@@ -1,5 +1,5 @@
 -- A node that recovers from the entries of its journal: first from the snapshots in front, then from the events behind.
-use Rattle.std.proofs.Common.{arith, append_assoc, inl, inr, length-append, length-take-le, true≢false, ◌≡◌, ◌⊎◌, ℕ, zero, suc, ◌+◌, ◌<◌, ◌≤◌, true, false, cond, List, [], ◌∷◌, ◌++◌, length, take, drop, get_or, Option, Some, None, Bool, Result, Ok, Err, IfOk, refl, sym, ap, ap₂, ◌∙◌, subst, take-append-drop}
+use Rattle.std.proofs.Common.{arith, append_assoc, inl, inr, length-append, length-take-le, true≢false, ◌≡◌, ◌⊎◌, ℕ, zero, suc, ◌+◌, ◌<◌, ◌≤◌, true, false, cond, List, [], ◌∷◌, ◌++◌, length, take, drop, get_or, Option, Some, None, Bool, Result, Ok, Err, IfOk, refl, sym, ap, ◌∙◌, subst, take-append-drop}
 use Rattle.std.proofs.lemmas.List.{drop_more, reverse-append, reverse-reverse, take_all, take_at, take_more}
 use Rattle.std.specs.List.{filter}
 use Rattle.std.specs.Prelude.{reverse}
@@ -9,7 +9,7 @@ use Rattle.iss_journal.specs.declared.errors.AttachError.TheVariants.{Damaged}
 use Rattle.iss_rules.proofs.Logs.{newborn-log}
 use Rattle.iss_rules.specs.Concrete.{rules_of}
 use Rattle.iss_model.specs.Frames.{Frame, frame_of}
-use Rattle.iss_model.specs.Node.{Core, Stepped, initial_core}
+use Rattle.iss_model.specs.Node.{Stepped, initial_core}
 use Rattle.iss_rules.specs.declared.events.NodeEvent.{NodeEvent}
 use Rattle.iss_rules.specs.declared.events.Why.{Why}
 use Rattle.iss_node.specs.Rebuilding.{IsOf as IsOfFound, IsReadOn, RebuildingView, RefinesRebuilt}
@@ -17,8 +17,7 @@ use Rattle.iss_node.specs.Saved.{SavedState, saved_of}
 use Rattle.iss_node.specs.State.{NodeView, RefinesCore}
 use Rattle.iss_node.specs.Steps.{IsDrop, IsTurn}
 use Rattle.iss_node.specs.declared.answers.Outcome.{Outcome}
-use Rattle.iss_rebuilt.specs.Reading.{Rebuilt, core_of_step, reads_entry, rebuilt, recovered, replayed, replays, woken, woken_of}
-use Rattle.iss_rebuilt.specs.Stored.{Saved, nothing_saved}
+use Rattle.iss_rebuilt.specs.Reading.{Rebuilt, core_of_step, reads_entry, rebuilt, recovered, replayed, replays, woken_of}
 use Rattle.iss_request.specs.declared.ids.NodeId.{NodeId}
 use Rattle.iss_request.specs.declared.requests.Value.{Value}
 use Rattle.iss_request.specs.declared.setups.Setup.{Setup}
@@ -168,7 +167,7 @@ module _ {Msg : Type 0} (s : Setup) (m : Module Msg) (me : ℕ) where
 
         first : take (length stops.front + 1) entries ≡ stops.front ++ stops.entry ∷ []
         first = ap (λ (es : List (List ℕ)). take (length stops.front + 1) es) parts
-            ∙ take_at (stops.front ++ stops.entry ∷ []) stops.behind (length stops.front + 1) (sym long)
+            ∙ take_at (stops.front ++ stops.entry ∷ []) stops.behind (length stops.front + 1) long
 
         entry-is : at (length stops.front) ≡ stops.entry
         entry-is = ap (λ (es : List (List ℕ)). get_or es (length stops.front) []) stops.is ∙ at-end stops.front stops.entry stops.behind

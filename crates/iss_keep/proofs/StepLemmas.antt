@@ -1,23 +1,24 @@
 -- What a step leaves of a node, and what appending its entry leaves after that.
-use Rattle.std.proofs.Common.{◌≡◌, ℕ, ◌≤◌, List, length, take, refl, sym, ap, ◌∙◌, subst}
+use Rattle.std.proofs.Common.{◌≡◌, ℕ, ◌≤◌, List, Result, Ok, length, take, refl, sym, ap, ◌∙◌, subst}
+use Rattle.iss_disk.specs.declared.errors.EndError.{EndError}
 use Rattle.iss_journal.specs.Frames.{max_entry}
 use Rattle.iss_log.specs.LogState.{GoesOn}
 use Rattle.iss_model.specs.Frames.{frame_of, step_in}
-use Rattle.iss_model.specs.Node.{Core, Dropped as Step_dropped, Stepped, Taken as Step_taken, Turn}
+use Rattle.iss_model.specs.Node.{Core, Stepped, Taken as Step_taken, Turn}
 use Rattle.iss_rules.specs.Setups.{IsSetupOf}
 use Rattle.iss_rules.specs.declared.events.NodeEvent.{NodeEvent}
 use Rattle.iss_rules.specs.declared.events.Why.{Why}
 use Rattle.iss_node.specs.Entered.{IsKeptEntry}
 use Rattle.iss_node.specs.Saved.{SavedState, saved_of}
-use Rattle.iss_node.specs.State.{NodeView, RefinesCore, StateView}
-use Rattle.iss_node.specs.Steps.{HasRetreated, IsEnteredAnswer, IsSpoiled}
+use Rattle.iss_node.specs.State.{NodeView, RefinesCore}
+use Rattle.iss_node.specs.Steps.{HasRetreated, IsEnteredAnswer, IsLeft, IsSpoiled}
 use Rattle.iss_node.specs.declared.answers.Answer.{Answer as NodeAnswer}
-use Rattle.iss_node.specs.declared.answers.Answer.TheVariants.{Dropped as Node_dropped, Taken as Node_taken}
+use Rattle.iss_node.specs.declared.answers.Answer.TheVariants.{Dropped as Node_dropped, NoMemory as Node_no_memory, Stale as Node_stale, Taken as Node_taken}
 use Rattle.iss_node.specs.declared.answers.Outcome.{Outcome}
 use Rattle.iss_sb.specs.Calls.{Relation}
 use Rattle.iss_sb.specs.Evidence.{Module}
 use Rattle.iss_keep.specs.Entries.{spell_event}
-use Rattle.iss_keep.specs.Internal.Keeping.{Answers, HasEnded, HasNoted, HasStepped, IsKeptAs, ShowsSame, Takes, entry_kept}
+use Rattle.iss_keep.specs.Internal.Keeping.{Answers, HasEnded, HasNoted, HasStepped, IsKeptAs, ShowsSame, Takes, entry_kept, kept_at, released}
 use Rattle.iss_keep.specs.declared.answers.Answer.{Answer}
 use Rattle.iss_keep.specs.declared.answers.Answer.TheVariants.{Dropped as Kept_dropped, Failed, NoMemory, Stale, Taken as Kept_taken}
 use Rattle.iss_keep.proofs.SnapshotLemmas.{kept-right, kept-short}
@@ -27,6 +28,10 @@ use Rattle.iss_keep.proofs.TakenLemmas.{log-cut, log-long, taken-goes-on, taken-
 abbrev pub Enters : {M Msg : Type 0} → Module Msg → Relation M Msg → NodeEvent → (old new : NodeView M Msg) → NodeAnswer → Type 0
 Enters {Msg = Msg} m refines event old new answer = (c : Core Msg) → RefinesCore m refines old c →
     IsEnteredAnswer m old.state (step_in (frame_of old.state.setup m) old.state.me.0 c event) new.state answer
+
+-- The append did not fail.
+abbrev pub nothing_failed : Result (Unit {0}) EndError
+nothing_failed = Ok tt
 
 -- ---- the event was not accepted
 
@@ -50,6 +55,15 @@ dropped-notes {Msg = Msg} m refines event old new why core answer enters =
     subst (λ (o : Stepped Msg). IsEnteredAnswer m old.state o new.state (Node_dropped why)) a.step_is (enters core.0 core.1) in
     ap (λ (z : SavedState). saved_of z) same
 
+-- The node has not accepted the event: nothing is appended.
+pub unaccepted : {M Msg : Type 0} (m : Module Msg) (refines : Relation M Msg) (event : NodeEvent) (old new : NodeView M Msg) (entry : List ℕ) (made : NodeAnswer) →
+    (core : (c : Core Msg) × RefinesCore m refines old c) → Answers m refines event old new made → Enters m refines event old new made → IsLeft old new made →
+    ((outcome : Outcome) → made ≡ Node_taken outcome → ⊥) → HasStepped m refines event old new entry (released made nothing_failed)
+unaccepted m refines event old new entry (Node_taken outcome) core answer enters left other = absurd (other outcome refl)
+unaccepted m refines event old new entry (Node_dropped why) core answer enters left other = (answer, dropped-notes m refines event old new why core answer enters)
+unaccepted m refines event old new entry Node_no_memory core answer enters left other = shows-spoiled old new left
+unaccepted m refines event old new entry Node_stale core answer enters left other = shows-stale old new left.1
+
 -- ---- the event was accepted
 
 module _ {M Msg : Type 0} (m : Module Msg) (refines : Relation M Msg) (event : NodeEvent) (old taken : NodeView M Msg) (outcome : Outcome)
@@ -71,7 +85,7 @@ module _ {M Msg : Type 0} (m : Module Msg) (refines : Relation M Msg) (event : N
 
   right-entry : IsKeptAs m refines event old (entry_kept outcome.entered own)
   right-entry c turn st q =
-      subst (λ (bytes : List ℕ). entry_kept outcome.entered bytes ≡ _) (sym own-is)
+      subst (λ (bytes : List ℕ). entry_kept outcome.entered bytes ≡ (kept_at m old event turn).entry) (sym own-is)
       (kept-right m old.state (spell_event event) turn.entered taken.state.saved outcome.entered (entered-by c turn st q)).entry
 
   right-note : HasNoted m refines event old taken

@@ -1,7 +1,7 @@
 -- What a replica's journal holds: its events, and instead of each event that ended an epoch the replica as it entered
 -- its newest epoch, before it took the messages that came early. An event whose snapshot would be too long is kept
 -- itself.
-use Rattle.std.specs.Prelude.{ℕ, zero, suc, ◌-◌, ◌==◌, ◌||◌, ◌&&◌, nat_le, cond, Bool, false, is_some, List, [], ◌∷◌, ◌++◌, length, reverse, Option, Some, None}
+use Rattle.std.specs.Prelude.{ℕ, zero, suc, ◌-◌, ◌||◌, ◌&&◌, nat_le, cond, Bool, false, is_some, List, [], ◌∷◌, ◌++◌, length, reverse, Option, Some, None}
 use Rattle.std.specs.List.{filter}
 use Rattle.iss_base.specs.Lists.{below}
 use Rattle.iss_checkpoint.specs.declared.votes.Cert.{Cert}

@@ -2,7 +2,7 @@
 -- node refines a core over its disk: it is at the core, or its disk has failed and it shows the core's log and epoch.
 -- Its journal shows what stays of the events that the disk keeps. The networks are the same, and the books hold what the
 -- run's hold.
-use Rattle.std.specs.Prelude.{◌≡◌, ◌≢◌, ◌⊎◌, ◌↔◌, ℕ, ◌||◌, Bool, true, false, List, [], ◌∷◌, ◌++◌, length, Option, Some, None, option_map, reverse, slice_get}
+use Rattle.std.specs.Prelude.{◌≡◌, ◌≢◌, ◌⊎◌, ◌↔◌, ℕ, ◌||◌, Bool, true, false, List, [], ◌∷◌, length, Option, Some, None, option_map, reverse, slice_get}
 use Rattle.iss_rules.specs.Ends.{End, Forged, Collision}
 use Rattle.iss_rules.specs.declared.events.NodeEvent.{NodeEvent}
 use Rattle.iss_disk.specs.Calls.{IfTold, Passes, script, up_to}

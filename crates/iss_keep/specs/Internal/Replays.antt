@@ -1,5 +1,5 @@
 -- Recovery entry by entry: what the entries before lead to goes on with the next entry, or that leads nowhere.
-use Rattle.std.specs.Prelude.{◌≡◌, ℕ, ◌<◌, ◌≤◌, Bool, true, false, List, [], length, reverse, take, Some, None, slice_index_or}
+use Rattle.std.specs.Prelude.{◌≡◌, ℕ, ◌<◌, ◌≤◌, Bool, true, false, List, [], length, reverse, Some, None, slice_index_or}
 use Rattle.iss_journal.specs.Retained.{is_snapshot}
 use Rattle.iss_model.specs.Frames.{frame_of}
 use Rattle.iss_node.specs.Rebuilding.{RefinesRebuilt, RebuildingView}
