@@ -19,17 +19,17 @@ use Rattle.hs_tree.specs.Tree.{Form, kind_of, string_in, strings_of, value_diges
 abbrev start : ℕ → Written
 start version = record { version = version; bytes = [] }
 
-pub vote-written : (p : Params) (form : Form) (tag phase view version : ℕ) (digest : List ℕ) (a b c d e : Written) → view < 2 ^ 32 → form.tag ≡ tag → a ≡ and_bytes (start version) (statement_head p tag) → b ≡ and_bytes a (6 ∷ []) → c ≡ and_bytes b (phase ∷ []) →
+pub vote-written : (p : Params) (form : Form) (phase view : ℕ) (digest : List ℕ) (a b c d e : Written) → view < 2 ^ 32 → a.bytes ≡ statement_head p form.tag → b ≡ and_bytes a (6 ∷ []) → c ≡ and_bytes b (phase ∷ []) →
     d ≡ and_bytes c (to_be_bytes w32 view) → e ≡ and_bytes d digest → e.bytes ≡ vote_statement form p phase view digest
-vote-written p form tag phase view version digest a b c d e lt et ha hb hc hd he = let same = four-is view lt in rw (he, hd, hc, hb, ha, same, et) (simp append_assoc)
+vote-written p form phase view digest a b c d e lt ha hb hc hd he = let same = four-is view lt in rw (he, hd, hc, hb, ha, same) (simp append_assoc)
 
-pub node-written : (p : Params) (form : Form) (tag kind view version : ℕ) (digest : List ℕ) (a b c d : Written) → view < 2 ^ 32 → form.tag ≡ tag → a ≡ and_bytes (start version) (statement_head p tag) → b ≡ and_bytes a (kind ∷ []) →
+pub node-written : (p : Params) (form : Form) (kind view : ℕ) (digest : List ℕ) (a b c d : Written) → view < 2 ^ 32 → a.bytes ≡ statement_head p form.tag → b ≡ and_bytes a (kind ∷ []) →
     c ≡ and_bytes b (to_be_bytes w32 view) → d ≡ and_bytes c digest → d.bytes ≡ statement form p kind (four_bytes view ++ digest)
-node-written p form tag kind view version digest a b c d lt et ha hb hc hd = let same = four-is view lt in rw (hd, hc, hb, ha, same, et) (simp append_assoc)
+node-written p form kind view digest a b c d lt ha hb hc hd = let same = four-is view lt in rw (hd, hc, hb, ha, same) (simp append_assoc)
 
-pub round-written : (p : Params) (form : Form) (tag round view version : ℕ) (a b c d : Written) → round < 2 ^ 16 → view < 2 ^ 32 → form.tag ≡ tag → a ≡ and_bytes (start version) (statement_head p tag) → b ≡ and_bytes a (1 ∷ []) →
+pub round-written : (p : Params) (form : Form) (round view : ℕ) (a b c d : Written) → round < 2 ^ 16 → view < 2 ^ 32 → a.bytes ≡ statement_head p form.tag → b ≡ and_bytes a (1 ∷ []) →
     c ≡ and_bytes b (to_be_bytes w16 round) → d ≡ and_bytes c (to_be_bytes w32 view) → d.bytes ≡ statement form p 1 (two_bytes round ++ four_bytes view)
-round-written p form tag round view version a b c d low lt et ha hb hc hd = let rounds = two-is round low in let views = four-is view lt in rw (hd, hc, hb, ha, rounds, views, et) (simp append_assoc)
+round-written p form round view a b c d low lt ha hb hc hd = let rounds = two-is round low in let views = four-is view lt in rw (hd, hc, hb, ha, rounds, views) (simp append_assoc)
 
 -- ---- Claims
 

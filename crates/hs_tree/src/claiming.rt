@@ -4,10 +4,11 @@ ghost use Rattle.iss_sb.specs.Statements.{claim};
 ghost use Rattle.hs_tree.specs.Protocols.{form_of};
 ghost use Rattle.hs_tree.specs.Statements.{certificate_claims, claims, inside, own_statement, signature_of, with_signature};
 
-use crate::messages::Message;
+use crate::messages::{Message, Poll};
 use crate::protocols::Protocol;
 use crate::signing::{
-    hash_node, node_statement, put_certificate_claims, round_statement, vote_statement,
+    hash_node, node_statement, put_certificate_claims, round_statement, start_statement,
+    vote_statement,
 };
 use crate::wire::{COMMIT, DECIDE, PRE_COMMIT, PREPARE};
 use iss_request::{Bytes, NoMemory, NodeId, Seq};
@@ -74,8 +75,9 @@ fn own_statement(
     ensures { IfOk result (λ s. s ≡ own_statement (form_of protocol) p.now m.now) }
 {
     let tag = protocol.tag();
+    let out = start_statement(alloc, p, tag)?;
     match m {
-        Message::NewView { round, high, .. } => round_statement(alloc, p, tag, *round, high.view()),
+        Message::NewView { round, high, .. } => round_statement(out, *round, high.view()),
         Message::Prepare {
             view,
             what,
@@ -84,23 +86,26 @@ fn own_statement(
         } => {
             let shown = protocol.shown_view(*view);
             let node = hash_node(alloc, p, shown, &just.digest(), what)?;
-            node_statement(alloc, p, tag, PREPARE, *view, &node.digest)
+            node_statement(out, PREPARE, *view, &node.digest)
         }
         Message::PreCommit { view, shown, .. } => {
-            node_statement(alloc, p, tag, PRE_COMMIT, *view, &shown.digest())
+            node_statement(out, PRE_COMMIT, *view, &shown.digest())
         }
-        Message::Commit { view, shown, .. } => {
-            node_statement(alloc, p, tag, COMMIT, *view, &shown.digest())
-        }
-        Message::Decide { view, shown, .. } => {
-            node_statement(alloc, p, tag, DECIDE, *view, &shown.digest())
-        }
+        Message::Commit { view, shown, .. } => node_statement(out, COMMIT, *view, &shown.digest()),
+        Message::Decide { view, shown, .. } => node_statement(out, DECIDE, *view, &shown.digest()),
         Message::Vote {
             phase,
             view,
             digest,
             ..
-        } => vote_statement(alloc, p, tag, *phase, *view, digest),
+        } => {
+            let poll = Poll {
+                phase: *phase,
+                view: *view,
+                digest: *digest,
+            };
+            vote_statement(out, &poll)
+        }
     }
 }
 

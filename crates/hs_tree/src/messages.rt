@@ -3,6 +3,14 @@ use crate::certificates::Certificate;
 use iss_request::Bytes;
 use iss_sb::Content;
 
+/// What a vote is for: a phase and a view of the node with this digest.
+#[derive(Clone, Copy)]
+pub struct Poll {
+    pub phase: u8,
+    pub view: u32,
+    pub digest: [u8; 32],
+}
+
 /// The messages of HotStuff, each with its sender's signature. `NewView` starts a round with the sender's highest
 /// prepareQC. `Prepare` proposes a node, whose parent is the one that `just` certifies. `PreCommit`, `Commit` and
 /// `Decide` broadcast the certificates of the three phases. `Vote` is a vote of a phase.

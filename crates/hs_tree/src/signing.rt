@@ -1,13 +1,15 @@
 //! The strings that are hashed for a node, and the statements that are signed.
 ghost use Rattle.std.specs.Prelude.{◌≡◌, [], ◌++◌, IfOk, OnOk};
 ghost use Rattle.iss_sb.specs.Evidence.{one_or_none};
-ghost use Rattle.iss_sb.specs.Statements.{claim, four_bytes, two_bytes};
+ghost use Rattle.iss_sb.specs.Statements.{claim, four_bytes, statement_head, two_bytes};
 ghost use Rattle.iss_request.specs.Fields.{and_bytes};
+ghost use Rattle.iss_sb.specs.declared.effects.Params.{Params};
 ghost use Rattle.hs_tree.specs.Hashed.{IsHashed, start_of};
 ghost use Rattle.hs_tree.specs.Statements.{certificate_claims, statement, vote_claims, vote_statement};
 ghost use Rattle.hs_tree.specs.Tree.{Form, kind_of, string_in, strings_of, value_digest, value_of};
 
 use crate::certificates::Certificate;
+use crate::messages::Poll;
 use crate::wire::{NEW_VIEW, VOTE};
 use iss_request::{Bytes, NoMemory, Seq, Value, Writer, batch_string, value_string};
 use iss_sb::{Claim, Content, Params, Signed, put_head};
@@ -132,61 +134,51 @@ fn put_string(string: Option<Bytes>, all: &mut Seq<Bytes>) -> Result<(), NoMemor
 
 // ---- what is signed, for the module with this tag
 
-/// The statement of a vote. The only error is out of memory.
-pub fn vote_statement(
-    alloc: Global,
-    p: &Params,
-    module_tag: u8,
-    phase: u8,
-    view: u32,
-    digest: &[u8; 32],
-) -> Result<Bytes, NoMemory>
-    ensures { IfOk result (λ s. (form : Form) → form.tag ≡ module_tag →
-        s ≡ vote_statement form p.now phase view digest.now) }
+/// The start of a statement: its instance, and the module's tag. The only error is out of memory.
+pub fn start_statement(alloc: Global, p: &Params, module_tag: u8) -> Result<Writer, NoMemory>
+    ensures { IfOk result (λ out. (form : Form) → form.tag ≡ module_tag → out.bytes ≡ statement_head p.now form.tag) }
 {
     let mut out = Writer::new(alloc, p.setup.version);
     put_head(p, module_tag, &mut out)?;
+    Ok(out)
+}
+
+/// The statement of a vote, after its start. The only error is out of memory.
+pub fn vote_statement(mut out: Writer, poll: &Poll) -> Result<Bytes, NoMemory>
+    ensures { IfOk result (λ s. (form : Form) (p : Params) → out.bytes ≡ statement_head p form.tag →
+        s ≡ vote_statement form p poll.now.phase poll.now.view poll.now.digest) }
+{
     out.put_u8(VOTE)?;
-    out.put_u8(phase)?;
-    out.put_u32(view)?;
+    out.put_u8(poll.phase)?;
+    out.put_u32(poll.view)?;
+    let digest = &poll.digest;
     out.put_bytes(digest)?;
     Ok(out.into_bytes())
 }
 
-/// The statement of a proposal, or of a message that broadcasts a certificate: its number, view and node. The only
-/// error is out of memory.
+/// The statement of a proposal, or of a message that broadcasts a certificate: its number, view and node, after its
+/// start. The only error is out of memory.
 pub fn node_statement(
-    alloc: Global,
-    p: &Params,
-    module_tag: u8,
+    mut out: Writer,
     kind: u8,
     view: u32,
     digest: &[u8; 32],
 ) -> Result<Bytes, NoMemory>
-    ensures { IfOk result (λ s. (form : Form) → form.tag ≡ module_tag →
-        s ≡ statement form p.now kind (four_bytes view ++ digest.now)) }
+    ensures { IfOk result (λ s. (form : Form) (p : Params) → out.bytes ≡ statement_head p form.tag →
+        s ≡ statement form p kind (four_bytes view ++ digest.now)) }
 {
-    let mut out = Writer::new(alloc, p.setup.version);
-    put_head(p, module_tag, &mut out)?;
     out.put_u8(kind)?;
     out.put_u32(view)?;
     out.put_bytes(digest)?;
     Ok(out.into_bytes())
 }
 
-/// The statement of a NewView: its round, and the view of its certificate. The only error is out of memory.
-pub fn round_statement(
-    alloc: Global,
-    p: &Params,
-    module_tag: u8,
-    round: u16,
-    view: u32,
-) -> Result<Bytes, NoMemory>
-    ensures { IfOk result (λ s. (form : Form) → form.tag ≡ module_tag →
-        s ≡ statement form p.now 1 (two_bytes round ++ four_bytes view)) }
+/// The statement of a NewView: its round, and the view of its certificate, after its start. The only error is out of
+/// memory.
+pub fn round_statement(mut out: Writer, round: u16, view: u32) -> Result<Bytes, NoMemory>
+    ensures { IfOk result (λ s. (form : Form) (p : Params) → out.bytes ≡ statement_head p form.tag →
+        s ≡ statement form p 1 (two_bytes round ++ four_bytes view)) }
 {
-    let mut out = Writer::new(alloc, p.setup.version);
-    put_head(p, module_tag, &mut out)?;
     out.put_u8(NEW_VIEW)?;
     out.put_u16(round)?;
     out.put_u32(view)?;
@@ -212,7 +204,13 @@ pub fn put_certificate_claims(
             digest,
             votes,
         } => {
-            let statement = vote_statement(alloc, p, module_tag, *phase, *view, digest)?;
+            let poll = Poll {
+                phase: *phase,
+                view: *view,
+                digest: *digest,
+            };
+            let out = start_statement(alloc, p, module_tag)?;
+            let statement = vote_statement(out, &poll)?;
             put_vote_claims(&statement, votes.as_slice(), all)
         }
     }

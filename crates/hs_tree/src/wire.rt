@@ -6,7 +6,7 @@ ghost use Rattle.hs_tree.specs.declared.messages.Message.{Message};
 ghost use Rattle.hs_tree.specs.Messages.{is_message, parse, parse_new_view, parse_prepare, parse_shown, parse_vote, spell, spell_shown};
 
 use crate::certificates::{Certificate, is_phase, read_certificate, read_phase, write_certificate};
-use crate::messages::Message;
+use crate::messages::{Message, Poll};
 use iss_request::{Bytes, DecodeError, Fields, NoMemory, Writer, has_shape, read_signature};
 use iss_sb::{Content, read_content, write_content};
 use std::alloc::Global;
@@ -61,7 +61,14 @@ pub fn write(phases: u8, msg: &Message, out: &mut Writer) -> Result<(), NoMemory
             view,
             digest,
             sig,
-        } => write_vote(phases, *phase, *view, digest, sig, out),
+        } => {
+            let poll = Poll {
+                phase: *phase,
+                view: *view,
+                digest: *digest,
+            };
+            write_vote(phases, &poll, sig, out)
+        }
     }
 }
 
@@ -128,25 +135,18 @@ fn write_shown(
     out.put_bytes(sig)
 }
 
-fn write_vote(
-    phases: u8,
-    phase: u8,
-    view: u32,
-    digest: &[u8; 32],
-    sig: &Bytes,
-    out: &mut Writer,
-) -> Result<(), NoMemory>
+fn write_vote(phases: u8, poll: &Poll, sig: &Bytes, out: &mut Writer) -> Result<(), NoMemory>
     ensures { OnOk result (out.new ≡ and_bytes out.old
-        (spell phases out.old.version (Message.Vote phase view digest.now sig.now))) }
+        (spell phases out.old.version (Message.Vote poll.now.phase poll.now.view poll.now.digest sig.now))) }
 {
     let sig = sig.as_slice();
-    if !is_phase(phases, phase) || !has_shape(sig) {
+    if !is_phase(phases, poll.phase) || !has_shape(sig) {
         return out.put_u8(NO_MESSAGE);
     }
     out.put_u8(VOTE)?;
-    out.put_u8(phase)?;
-    out.put_u32(view)?;
-    out.put_bytes(digest)?;
+    out.put_u8(poll.phase)?;
+    out.put_u32(poll.view)?;
+    out.put_bytes(&poll.digest)?;
     out.put_bytes(sig)
 }
 

@@ -7,7 +7,7 @@ ghost use Rattle.iss_sb.specs.declared.signers.Signed.{Signed};
 ghost use Rattle.hs_views.specs.Views.{Kept, vote_of, votes_of};
 ghost use Rattle.hs_views.specs.Counts.{AreVotes, signed, vote_at};
 
-use hs_tree::Certificate;
+use hs_tree::{Certificate, Poll};
 use iss_request::{Bytes, NoMemory, NodeId, Seq};
 use iss_sb::Signed;
 use std::alloc::Global;
@@ -55,52 +55,46 @@ impl Ballots {
     }
 
     // The signature of this vote, if it was received.
-    fn at(&self, by: u8, phase: u8, view: u32, digest: &[u8; 32]) -> Option<&Bytes>
-        ensures { option_copied result ≡ vote_at self.now by phase view digest.now }
+    fn at(&self, by: u8, poll: &Poll) -> Option<&Bytes>
+        ensures { option_copied result ≡ vote_at self.now by poll.now.phase poll.now.view poll.now.digest }
     {
         let ballot = Ballot {
             by,
-            phase,
-            view,
-            digest: *digest,
+            phase: poll.phase,
+            view: poll.view,
+            digest: poll.digest,
         };
         self.all.get(&ballot)
     }
 
     /// Whether this vote was received.
-    pub fn has(&self, by: u8, phase: u8, view: u32, digest: &[u8; 32]) -> bool
-        ensures { (vs : List Kept) → AreVotes self.now vs → result ≡ is_some (vote_of vs phase view digest.now by) }
+    pub fn has(&self, by: u8, poll: &Poll) -> bool
+        ensures { (vs : List Kept) → AreVotes self.now vs →
+            result ≡ is_some (vote_of vs poll.now.phase poll.now.view poll.now.digest by) }
     {
-        self.at(by, phase, view, digest).is_some()
+        self.at(by, poll).is_some()
     }
 
-    /// The votes of replicas 0 to `n` - 1 for this phase, view and digest, by ascending replica. The only error is out
-    /// of memory.
-    pub fn votes(
-        &self,
-        alloc: Global,
-        n: u8,
-        phase: u8,
-        view: u32,
-        digest: &[u8; 32],
-    ) -> Result<Seq<Signed>, NoMemory>
+    /// The votes of replicas 0 to `n` - 1 in this poll, by ascending replica. The only error is out of memory.
+    pub fn votes(&self, alloc: Global, n: u8, poll: &Poll) -> Result<Seq<Signed>, NoMemory>
         ensures { IfOk result (λ all. (vs : List Kept) → AreVotes self.now vs →
-            all ≡ votes_of n vs phase view digest.now) }
+            all ≡ votes_of n vs poll.now.phase poll.now.view poll.now.digest) }
     {
         let mut votes = Seq::new(alloc);
         for by in 0..n {
-            put_vote(by, self.at(by, phase, view, digest), &mut votes)?;
+            put_vote(by, self.at(by, poll), &mut votes)?;
         }
         Ok(votes)
     }
 
     /// How many of replicas 0 to `n` - 1 cast this vote.
-    pub fn count(&self, n: u8, phase: u8, view: u32, digest: &[u8; 32]) -> u32
-        ensures { (vs : List Kept) → AreVotes self.now vs → result ≡ length (votes_of n vs phase view digest.now) }
+    pub fn count(&self, n: u8, poll: &Poll) -> u32
+        ensures { (vs : List Kept) → AreVotes self.now vs →
+            result ≡ length (votes_of n vs poll.now.phase poll.now.view poll.now.digest) }
     {
         let mut count = 0u32;
         for by in 0..n {
-            if self.at(by, phase, view, digest).is_some() {
+            if self.at(by, poll).is_some() {
                 count += 1;
             }
         }
@@ -109,44 +103,31 @@ impl Ballots {
 
     /// The quorum certificate of the votes of replicas 0 to `n` - 1. The caller checks that they are a quorum. The only
     /// error is out of memory.
-    pub fn certificate(
-        &self,
-        alloc: Global,
-        n: u8,
-        phase: u8,
-        view: u32,
-        digest: &[u8; 32],
-    ) -> Result<Certificate, NoMemory>
+    pub fn certificate(&self, alloc: Global, n: u8, poll: &Poll) -> Result<Certificate, NoMemory>
         ensures { IfOk result (λ c. (vs : List Kept) → AreVotes self.now vs →
-            c ≡ Votes view phase digest.now (votes_of n vs phase view digest.now)) }
+            c ≡ Votes poll.now.view poll.now.phase poll.now.digest
+            (votes_of n vs poll.now.phase poll.now.view poll.now.digest)) }
     {
-        let votes = self.votes(alloc, n, phase, view, digest)?;
+        let votes = self.votes(alloc, n, poll)?;
         Ok(Certificate::Votes {
-            view,
-            phase,
-            digest: *digest,
+            view: poll.view,
+            phase: poll.phase,
+            digest: poll.digest,
             votes,
         })
     }
 
     /// Adds a vote, or replaces its signature. The only error is out of memory.
-    pub fn keep(
-        &mut self,
-        by: u8,
-        phase: u8,
-        view: u32,
-        digest: [u8; 32],
-        sig: Bytes,
-    ) -> Result<(), NoMemory>
+    pub fn keep(&mut self, by: u8, poll: Poll, sig: Bytes) -> Result<(), NoMemory>
         ensures { OnOk result ((v : Kept) (vs : List Kept) →
-            v ≡ record { by = by; phase = phase; view = view; digest = digest; sig = sig } →
+            v ≡ record { by = by; phase = poll.phase; view = poll.view; digest = poll.digest; sig = sig } →
             AreVotes self.old vs → AreVotes self.new (v ∷ vs)) }
     {
         let ballot = Ballot {
             by,
-            phase,
-            view,
-            digest,
+            phase: poll.phase,
+            view: poll.view,
+            digest: poll.digest,
         };
         self.all.insert(ballot, sig)?;
         Ok(())

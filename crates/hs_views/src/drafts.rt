@@ -15,9 +15,9 @@ ghost use Rattle.hs_views.specs.Sending.{signed_from, to_leader, vote_for};
 
 use crate::fields::Proposal;
 use crate::views::{leader_of, round_of};
-use hs_tree::signing::{node_statement, round_statement, vote_statement};
+use hs_tree::signing::{node_statement, round_statement, start_statement, vote_statement};
 use hs_tree::wire::PREPARE;
-use hs_tree::{Certificate, Message, Protocol, with_signature};
+use hs_tree::{Certificate, Message, Poll, Protocol, with_signature};
 use iss_keys::Keys;
 use iss_request::{Bytes, NoMemory, Seq};
 use iss_sb::{Params, To, sign};
@@ -56,22 +56,22 @@ pub fn vote_draft(
     alloc: Global,
     protocol: Protocol,
     p: &Params,
-    phase: u8,
-    view: u32,
-    digest: [u8; 32],
+    poll: Poll,
 ) -> Result<Draft, NoMemory>
-    ensures { IfOk result (λ d. AreDrafts (form_of protocol) p.now (Some d) (vote_for p.now phase view digest)) }
+    ensures { IfOk result (λ d. AreDrafts (form_of protocol) p.now (Some d)
+        (vote_for p.now poll.phase poll.view poll.digest)) }
 {
     let tag = protocol.tag();
-    let statement = vote_statement(alloc, p, tag, phase, view, &digest)?;
-    let round = round_of(view);
+    let out = start_statement(alloc, p, tag)?;
+    let statement = vote_statement(out, &poll)?;
+    let round = round_of(poll.view);
     let sig = Bytes::new(alloc);
     Ok(Draft {
         to: Recipient::Leader(round),
         msg: Message::Vote {
-            phase,
-            view,
-            digest,
+            phase: poll.phase,
+            view: poll.view,
+            digest: poll.digest,
             sig,
         },
         statement,
@@ -93,7 +93,8 @@ pub fn proposal_draft(
 {
     let tag = protocol.tag();
     let view = proposal.view;
-    let statement = node_statement(alloc, p, tag, PREPARE, view, digest)?;
+    let out = start_statement(alloc, p, tag)?;
+    let statement = node_statement(out, PREPARE, view, digest)?;
     let sig = Bytes::new(alloc);
     let what = proposal.what;
     let just = proposal.just;
@@ -121,7 +122,8 @@ pub fn round_draft(
         ((to_leader p.now round, NewView round high []) ∷ [])) }
 {
     let tag = protocol.tag();
-    let statement = round_statement(alloc, p, tag, round, high.view())?;
+    let out = start_statement(alloc, p, tag)?;
+    let statement = round_statement(out, round, high.view())?;
     let sig = Bytes::new(alloc);
     Ok(Draft {
         to: Recipient::Leader(round),

@@ -1,5 +1,5 @@
 //! The fields of a message that travel together.
-use hs_tree::Certificate;
+use hs_tree::{Certificate, Poll};
 use iss_request::Bytes;
 use iss_sb::Content;
 
@@ -11,11 +11,9 @@ pub struct Proposal {
     pub just: Certificate,
 }
 
-/// A vote: its phase and view, the digest of its node, and the voter's signature.
+/// A vote: what it is for, and the voter's signature.
 #[derive(Drop)]
 pub struct SignedVote {
-    pub phase: u8,
-    pub view: u32,
-    pub digest: [u8; 32],
+    pub poll: Poll,
     pub sig: Bytes,
 }

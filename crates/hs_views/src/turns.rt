@@ -3,6 +3,7 @@ ghost use Rattle.std.specs.Prelude.{◌≡◌, ◌∷◌, List, [], OnOk};
 ghost use Rattle.hs_views.specs.Views.{Turn, is_own_turn};
 ghost use Rattle.hs_views.specs.Turns.{AreTurns, last_of, own_of};
 
+use hs_tree::Poll;
 use iss_request::NoMemory;
 use std::alloc::Global;
 use std::collections::BTreeSet;
@@ -20,6 +21,19 @@ pub struct Last {
     pub view: u32,
     pub digest: [u8; 32],
     pub slots: usize,
+}
+
+impl Last {
+    /// The votes of this phase for the turn's node.
+    pub fn poll(&self, phase: u8) -> Poll
+        ensures { result ≡ record { phase = phase; view = self.now.view; digest = self.now.digest } }
+    {
+        Poll {
+            phase,
+            view: self.view,
+            digest: self.digest,
+        }
+    }
 }
 
 /// All turns of a leader.

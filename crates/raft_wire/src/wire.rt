@@ -39,7 +39,11 @@ pub fn write(msg: &Message, out: &mut Writer) -> Result<(), NoMemory>
                 return out.put_u8(NO_MESSAGE);
             }
             let entries = entries.as_slice();
-            write_append(*term, *previous, *previous_term, *commit, entries, out)
+            let previous = Place {
+                index: *previous,
+                term: *previous_term,
+            };
+            write_append(*term, previous, *commit, entries, out)
         }
         Message::Reply { term, ok, index } => write_reply(*term, *ok, *index, out),
         Message::AskVote {
@@ -51,23 +55,29 @@ pub fn write(msg: &Message, out: &mut Writer) -> Result<(), NoMemory>
     }
 }
 
+// An entry's place in a log.
+#[derive(Clone, Copy)]
+struct Place {
+    index: u32,
+    term: u16,
+}
+
 fn write_append(
     term: u16,
-    previous: u32,
-    previous_term: u16,
+    previous: Place,
     commit: u32,
     entries: &[Entry],
     out: &mut Writer,
 ) -> Result<(), NoMemory>
     requires { length entries.now < 2 ^ 32 }
     ensures { OnOk result (out.new ≡ and_bytes out.old
-        (append_row term previous previous_term commit (length entries.now)
+        (append_row term previous.index previous.term commit (length entries.now)
         (flat_map (spell_entry out.old.version) entries.now))) }
 {
     out.put_u8(APPEND)?;
     out.put_u16(term)?;
-    out.put_u32(previous)?;
-    out.put_u16(previous_term)?;
+    out.put_u32(previous.index)?;
+    out.put_u16(previous.term)?;
     out.put_u32(commit)?;
     out.put_u32(entries.len() as u32)?;
     write_entries(entries, out)

@@ -16,7 +16,7 @@ ghost use Rattle.sb_chained.specs.Refines.{RefinesState};
 use crate::accepting::{cast_slot, offered_slot};
 use crate::outcomes::{Outcome, Taken};
 use crate::state::{Node, PHASE};
-use hs_tree::{Certificate, Message, Protocol, claims};
+use hs_tree::{Certificate, Message, Poll, Protocol, claims};
 use hs_views::{Accepted, Proposal, SignedVote, keep_at, keep_what, pair};
 use iss_keys::Keys;
 use iss_request::{
@@ -207,25 +207,24 @@ impl Chained {
         vote: SignedVote,
     ) -> Result<Taken, NoMemory>
         ensures { IfOk result (λ t. Takes context.now.p.now self.old self.new
-            (Input.Receive from (Vote vote.phase vote.view vote.digest vote.sig)) t) }
+            (Input.Receive from (Vote vote.poll.phase vote.poll.view vote.poll.digest vote.sig)) t) }
     {
-        let view = vote.view;
-        let digest = vote.digest;
-        if !self
-            .node
-            .keeps_vote(context, from, vote.phase, view, &digest)
-        {
+        let view = vote.poll.view;
+        let digest = vote.poll.digest;
+        if !self.node.keeps_vote(context, from, &vote.poll) {
             return Ok(Taken::of(context.alloc, Outcome::nothing(context.alloc)));
         }
-        self.node.votes.keep(from.0, PHASE, view, digest, vote.sig)?;
+        let poll = Poll {
+            phase: PHASE,
+            view,
+            digest,
+        };
+        self.node.votes.keep(from.0, poll, vote.sig)?;
         if !self.node.is_reached(context, view, &digest) {
             return Ok(Taken::of(context.alloc, Outcome::nothing(context.alloc)));
         }
         let n = context.p.setup.n as u8;
-        let shown = self
-            .node
-            .votes
-            .certificate(context.alloc, n, PHASE, view, &digest)?;
+        let shown = self.node.votes.certificate(context.alloc, n, &poll)?;
         let delivers = self.show(context, shown)?;
         let outcome = self.node.next(context)?;
         Ok(Taken {
@@ -289,12 +288,12 @@ impl Chained {
                 digest,
                 sig,
             } => {
-                let vote = SignedVote {
+                let poll = Poll {
                     phase,
                     view,
                     digest,
-                    sig,
                 };
+                let vote = SignedVote { poll, sig };
                 self.vote(context, from, vote)
             }
             Message::PreCommit { .. } => Ok(Taken::of(

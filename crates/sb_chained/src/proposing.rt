@@ -164,9 +164,7 @@ impl Node {
             Proposes context.now.p.now self.old self.new k (turn_after context.now.p.now k t) o) }
     {
         let n = context.p.setup.n as u8;
-        let just = self
-            .votes
-            .certificate(context.alloc, n, PHASE, last.view, &last.digest)?;
+        let just = self.votes.certificate(context.alloc, n, &last.poll(PHASE))?;
         let view = last.view.saturating_add(1);
         if last.slots >= context.p.slots.len() {
             if !self.is_marked(context.p, &last) {

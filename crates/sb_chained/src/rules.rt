@@ -10,7 +10,7 @@ use crate::links::{Link, Lock};
 use crate::outcomes::Outcome;
 use crate::state::{Node, PHASE};
 use hs_tree::signing::hash_node;
-use hs_tree::{Certificate, Protocol};
+use hs_tree::{Certificate, Poll, Protocol};
 use hs_views::{round_draft, round_of, vote_draft};
 use iss_request::{Batch, NoMemory, Slot};
 use iss_sb::{Content, Input, Params};
@@ -87,14 +87,12 @@ impl Node {
         let from = just.view();
         let node = hash_node(context.alloc, context.p, Some(view), &parent, &what)?;
         let digest = node.digest;
-        let draft = vote_draft(
-            context.alloc,
-            Protocol::Chained,
-            context.p,
-            PHASE,
+        let poll = Poll {
+            phase: PHASE,
             view,
             digest,
-        )?;
+        };
+        let draft = vote_draft(context.alloc, Protocol::Chained, context.p, poll)?;
         self.nodes.add(digest, Link { view, from, parent }, what)?;
         self.view = view;
         Ok(Outcome {

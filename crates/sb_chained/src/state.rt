@@ -9,7 +9,7 @@ ghost use Rattle.sb_chained.specs.Refines.{RefinesState};
 use crate::chained::Chained;
 use crate::links::{Lock, Nodes};
 use crate::turns::Turns;
-use hs_tree::Certificate;
+use hs_tree::{Certificate, Poll};
 use hs_views::{Ballots, Words, leader_of, round_of};
 use iss_request::{Batch, NodeId, Seq, Slot};
 use iss_sb::{Content, Params, is_next};
@@ -118,27 +118,24 @@ impl Node {
             nat_lt (length (votes_of context.now.p.now.setup.n s.votes 1 view digest.now))
             context.now.p.now.setup.quorum) }
     {
-        if self.votes.has(from.0, PHASE, view, digest) {
+        let poll = Poll {
+            phase: PHASE,
+            view,
+            digest: *digest,
+        };
+        if self.votes.has(from.0, &poll) {
             return false;
         }
-        self.votes
-            .count(context.p.setup.n as u8, PHASE, view, digest)
-            < context.p.setup.quorum
+        self.votes.count(context.p.setup.n as u8, &poll) < context.p.setup.quorum
     }
 
     /// Whether the vote is counted: for one of the replica's own turns, the sender's first, and below a quorum.
-    pub fn keeps_vote(
-        &self,
-        context: &Context<Chained>,
-        from: NodeId,
-        phase: u8,
-        view: u32,
-        digest: &[u8; 32],
-    ) -> bool
+    pub fn keeps_vote(&self, context: &Context<Chained>, from: NodeId, poll: &Poll) -> bool
         ensures { (s : State) → RefinesState context.now.p.now self.now s →
-            result ≡ keeps_vote context.now.p.now s from.0 phase view digest.now }
+            result ≡ keeps_vote context.now.p.now s from.0 poll.now.phase poll.now.view poll.now.digest }
     {
-        self.is_own(phase, view, digest) && self.is_new(context, from, view, digest)
+        self.is_own(poll.phase, poll.view, &poll.digest)
+            && self.is_new(context, from, poll.view, &poll.digest)
     }
 
     /// Whether exactly a quorum's votes were received.
@@ -146,9 +143,12 @@ impl Node {
         ensures { (s : State) → RefinesState context.now.p.now self.now s →
             result ≡ is_reached context.now.p.now s view digest.now }
     {
-        self.votes
-            .count(context.p.setup.n as u8, PHASE, view, digest)
-            == context.p.setup.quorum
+        let poll = Poll {
+            phase: PHASE,
+            view,
+            digest: *digest,
+        };
+        self.votes.count(context.p.setup.n as u8, &poll) == context.p.setup.quorum
     }
 
     /// Whether the NewView message is counted: for a round that the replica leads, with a valid justification, the

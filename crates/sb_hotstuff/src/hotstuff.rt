@@ -14,7 +14,7 @@ ghost use Rattle.sb_hotstuff.specs.Refines.{RefinesState};
 use crate::accepting::{cast_slot, offered_slot};
 use crate::outcomes::{Outcome, Taken};
 use crate::state::{Node, PHASES};
-use hs_tree::{Certificate, Message, Protocol, claims};
+use hs_tree::{Certificate, Message, Poll, Protocol, claims};
 use hs_views::{Accepted, Proposal, SignedVote, keep_at, keep_what, pair};
 use iss_keys::Keys;
 use iss_request::{
@@ -197,12 +197,12 @@ impl HotStuff {
                 digest,
                 sig,
             } => {
-                let vote = SignedVote {
+                let poll = Poll {
                     phase,
                     view,
                     digest,
-                    sig,
                 };
+                let vote = SignedVote { poll, sig };
                 let outcome = self.node.count_vote(context, from, vote)?;
                 Ok(Taken::of(context.alloc, outcome))
             }

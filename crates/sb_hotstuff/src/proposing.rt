@@ -93,8 +93,8 @@ impl Node {
     fn is_ready(&self, context: &Context<HotStuff>, last: &Last) -> bool
         ensures { (s : State) → RefinesState self.now s → result ≡ is_last_ready context.now.p.now s last.now }
     {
-        self.is_reached(context, 1, last.view, &last.digest)
-            && self.is_reached(context, PHASES, last.view, &last.digest)
+        self.is_reached(context, &last.poll(1))
+            && self.is_reached(context, &last.poll(PHASES))
             && round_of(self.view) <= round_of(last.view)
     }
 
@@ -123,9 +123,7 @@ impl Node {
             Proposes context.now.p.now self.old self.new k (turn_after context.now.p.now k t) o) }
     {
         let n = context.p.setup.n as u8;
-        let just = self
-            .votes
-            .certificate(context.alloc, n, 1, last.view, &last.digest)?;
+        let just = self.votes.certificate(context.alloc, n, &last.poll(1))?;
         let view = last.view.saturating_add(1);
         if round_of(last.view) == 0 {
             return self.propose_cast(context, view, just, last.slots, last.view as usize);

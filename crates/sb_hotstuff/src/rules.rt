@@ -11,7 +11,7 @@ use crate::outcomes::Outcome;
 use crate::showing::shown_draft;
 use crate::state::Node;
 use hs_tree::signing::hash_node;
-use hs_tree::{Certificate, Protocol};
+use hs_tree::{Certificate, Poll, Protocol};
 use hs_views::{SignedVote, round_draft, round_of, vote_draft};
 use iss_request::{Batch, NoMemory, NodeId, Slot};
 use iss_sb::{Content, Input};
@@ -55,7 +55,12 @@ impl Node {
         let parent = just.digest();
         let node = hash_node(context.alloc, context.p, None, &parent, &what)?;
         let digest = node.digest;
-        let draft = vote_draft(context.alloc, Protocol::Basic, context.p, 1, view, digest)?;
+        let poll = Poll {
+            phase: 1,
+            view,
+            digest,
+        };
+        let draft = vote_draft(context.alloc, Protocol::Basic, context.p, poll)?;
         self.tree.add(digest, parent, what)?;
         self.view = view;
         self.second = false;
@@ -82,7 +87,12 @@ impl Node {
             return Ok(Outcome::nothing(context.alloc));
         }
         let digest = shown.digest();
-        let draft = vote_draft(context.alloc, Protocol::Basic, context.p, 2, view, digest)?;
+        let poll = Poll {
+            phase: 2,
+            view,
+            digest,
+        };
+        let draft = vote_draft(context.alloc, Protocol::Basic, context.p, poll)?;
         self.high = shown;
         self.second = true;
         Ok(Outcome::of(context.alloc, draft))
@@ -104,7 +114,12 @@ impl Node {
             return Ok(Outcome::nothing(context.alloc));
         }
         let digest = shown.digest();
-        let draft = vote_draft(context.alloc, Protocol::Basic, context.p, 3, view, digest)?;
+        let poll = Poll {
+            phase: 3,
+            view,
+            digest,
+        };
+        let draft = vote_draft(context.alloc, Protocol::Basic, context.p, poll)?;
         self.lock = shown;
         self.third = true;
         Ok(Outcome::of(context.alloc, draft))
@@ -120,23 +135,20 @@ impl Node {
     ) -> Result<Outcome, NoMemory>
         ensures { IfOk result (λ o. (s : State) → RefinesState self.old s →
             Does context.now.p.now self.old self.new s
-            (Input.Receive from (Vote vote.phase vote.view vote.digest vote.sig)) o) }
+            (Input.Receive from (Vote vote.poll.phase vote.poll.view vote.poll.digest vote.sig)) o) }
     {
-        let phase = vote.phase;
-        let view = vote.view;
-        let digest = vote.digest;
-        if !self.keeps_vote(context, from, phase, view, &digest) {
+        let poll = vote.poll;
+        let phase = poll.phase;
+        if !self.keeps_vote(context, from, &poll) {
             return Ok(Outcome::nothing(context.alloc));
         }
-        self.votes.keep(from.0, phase, view, digest, vote.sig)?;
-        if !self.is_reached(context, phase, view, &digest) {
+        self.votes.keep(from.0, poll, vote.sig)?;
+        if !self.is_reached(context, &poll) {
             return Ok(Outcome::nothing(context.alloc));
         }
         let n = context.p.setup.n as u8;
-        let shown = self
-            .votes
-            .certificate(context.alloc, n, phase, view, &digest)?;
-        let draft = shown_draft(context.alloc, context.p, phase, view, shown)?;
+        let shown = self.votes.certificate(context.alloc, n, &poll)?;
+        let draft = shown_draft(context.alloc, context.p, phase, poll.view, shown)?;
         if phase == 2 {
             return Ok(Outcome::of(context.alloc, draft));
         }

@@ -4,7 +4,7 @@ ghost use Rattle.iss_sb.specs.declared.effects.To.TheVariants.{All as To_all};
 ghost use Rattle.sb_hotstuff.specs.Drafts.{AreDrafts};
 ghost use Rattle.sb_hotstuff.specs.HotStuff.{shows};
 
-use hs_tree::signing::node_statement;
+use hs_tree::signing::{node_statement, start_statement};
 use hs_tree::wire::{COMMIT, DECIDE, PRE_COMMIT};
 use hs_tree::{Certificate, Message, Protocol};
 use hs_views::{Draft, Recipient};
@@ -47,7 +47,8 @@ pub fn shown_draft(
 {
     let tag = Protocol::Basic.tag();
     let digest = shown.digest();
-    let statement = node_statement(alloc, p, tag, shown_kind(phase), view, &digest)?;
+    let out = start_statement(alloc, p, tag)?;
+    let statement = node_statement(out, shown_kind(phase), view, &digest)?;
     let msg = shown_message(alloc, phase, view, shown);
     Ok(Draft {
         to: Recipient::All,

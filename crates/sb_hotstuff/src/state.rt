@@ -10,7 +10,7 @@ ghost use Rattle.sb_hotstuff.specs.Refines.{RefinesState};
 
 use crate::hotstuff::HotStuff;
 use hs_tree::certificates::is_phase;
-use hs_tree::{Certificate, Tree};
+use hs_tree::{Certificate, Poll, Tree};
 use hs_views::{Ballots, Turns, Words, leader_of, round_of};
 use iss_request::{Batch, NodeId, Seq, Slot};
 use iss_sb::{Content, Params, is_next};
@@ -143,40 +143,22 @@ impl Node {
     }
 
     /// Whether the vote is counted: for one of the replica's own turns, the sender's first, and below a quorum.
-    pub fn keeps_vote(
-        &self,
-        context: &Context<HotStuff>,
-        from: NodeId,
-        phase: u8,
-        view: u32,
-        digest: &[u8; 32],
-    ) -> bool
+    pub fn keeps_vote(&self, context: &Context<HotStuff>, from: NodeId, poll: &Poll) -> bool
         ensures { (s : State) → RefinesState self.now s →
-            result ≡ keeps_vote context.now.p.now s from.0 phase view digest.now }
+            result ≡ keeps_vote context.now.p.now s from.0 poll.now.phase poll.now.view poll.now.digest }
     {
-        is_phase(PHASES, phase)
-            && self.turns.has(view, digest)
-            && !self.votes.has(from.0, phase, view, digest)
-            && self
-                .votes
-                .count(context.p.setup.n as u8, phase, view, digest)
-                < context.p.setup.quorum
+        is_phase(PHASES, poll.phase)
+            && self.turns.has(poll.view, &poll.digest)
+            && !self.votes.has(from.0, poll)
+            && self.votes.count(context.p.setup.n as u8, poll) < context.p.setup.quorum
     }
 
     /// Whether exactly a quorum's votes were received.
-    pub fn is_reached(
-        &self,
-        context: &Context<HotStuff>,
-        phase: u8,
-        view: u32,
-        digest: &[u8; 32],
-    ) -> bool
+    pub fn is_reached(&self, context: &Context<HotStuff>, poll: &Poll) -> bool
         ensures { (s : State) → RefinesState self.now s →
-            result ≡ is_reached context.now.p.now s phase view digest.now }
+            result ≡ is_reached context.now.p.now s poll.now.phase poll.now.view poll.now.digest }
     {
-        self.votes
-            .count(context.p.setup.n as u8, phase, view, digest)
-            == context.p.setup.quorum
+        self.votes.count(context.p.setup.n as u8, poll) == context.p.setup.quorum
     }
 
     /// Whether the NewView message is counted: for a round that the replica leads, with a valid justification, the

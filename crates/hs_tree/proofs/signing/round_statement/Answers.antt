@@ -3,8 +3,7 @@ use Rattle.hs_tree.proofs.Stated.{round-written}
 use Rattle.hs_tree.proofs.signing.round_statement.Goals as goal
 
 pub returns : goal.returns
-returns c form tag =
+returns c form p start =
     let low : c.args.round < 2 ^ 16 = omega arith in
     let small : c.args.view < 2 ^ 32 = omega arith in
-    c.into_bytes.ensures ∙ round-written c.args.p.now form c.args.module_tag c.args.round c.args.view c.args.p.now.setup.version _ _ _ _ low small tag (rw c.new-out.ensures at c.in_ok-put_head.ensures) c.in_ok-put_u8.ensures.ok c.in_ok-put_u16.ensures.ok
-    c.in_ok-put_u32.ensures.ok
+    c.into_bytes.ensures ∙ round-written p form c.args.round c.args.view c.args.out _ _ _ low small start c.in_ok-put_u8.ensures.ok c.in_ok-put_u16.ensures.ok c.in_ok-put_u32.ensures.ok

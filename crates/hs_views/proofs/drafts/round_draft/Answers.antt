@@ -6,4 +6,4 @@ pub returns : goal.returns
 returns c =
     let form = form_of c.args.protocol in
     round-drafted form c.args.p.now c.args.round c.view.result c.args.high c.new-sig.result c.in_ok-statement.statement c.new-sig.ensures c.view.ensures
-    (c.in_ok-statement.ensures form c.tag-tag.ensures)
+    (c.in_ok-statement.ensures form c.args.p.now (c.in_ok-out.ensures form c.tag-tag.ensures))

@@ -3,4 +3,4 @@ use Rattle.hs_views.specs.Counts.{count_at}
 use Rattle.hs_views.proofs.ballots.Ballots.count.Given as goal
 
 abbrev pub invariant-loop-by : goal.invariant-loop-by
-invariant-loop-by l = (l.count ≡ count_at l.self l.by l.phase l.view l.digest) × (l.count ≤ l.by)
+invariant-loop-by l = (l.count ≡ count_at l.self l.by l.poll.phase l.poll.view l.poll.digest) × (l.count ≤ l.by)

@@ -9,7 +9,7 @@ use Rattle.hs_views.proofs.ballots.Ballots.keep.Goals as goal
 
 pub returns : goal.returns
 returns c v vs is h =
-    let key : Ballot = record { by = c.args.by; phase = c.args.phase; view = c.args.view; digest = c.args.digest } in
+    let key : Ballot = record { by = c.args.by; phase = c.args.poll.phase; view = c.args.poll.view; digest = c.args.poll.digest } in
     let new : Ballots = record { all = c.insert.new.self } in
     votes-more c.args.self.now new key v vs (ap (λ (z : Kept). z.by) (sym is)) (ap (λ (z : Kept). z.phase) (sym is)) (ap (λ (z : Kept). z.view) (sym is)) (ap (λ (z : Kept). z.digest) (sym is)) h
     (λ k phase view d. c.in_ok-insert.ensures.updates.0 (record { by = k; phase = phase; view = view; digest = d })

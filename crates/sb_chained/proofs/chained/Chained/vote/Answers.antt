@@ -12,8 +12,8 @@ returns-then-not-is_reached c =
     let m = c.args.self.now in
     let node : Node = record m.node { votes = c.keep.new.self } in
     let mid : Chained = record m { node = node } in
-    kept-vote p c.args.from c.args.vote.phase c.args.vote.view c.args.vote.digest c.args.vote.sig m mid c.keeps_vote.result c.if-not-keeps_vote.false (λ s h. c.keeps_vote.ensures s h) refl refl refl
-    (λ s h. vote-kept p m.node s h c.args.from.0 c.args.vote.view c.args.vote.digest c.args.vote.sig c.keep.new.self (c.in_ok-keep.ensures _ s.votes refl h.votes))
+    kept-vote p c.args.from c.args.vote.poll.phase c.args.vote.poll.view c.args.vote.poll.digest c.args.vote.sig m mid c.keeps_vote.result c.if-not-keeps_vote.false (λ s h. c.keeps_vote.ensures s h) refl refl refl
+    (λ s h. vote-kept p m.node s h c.args.from.0 c.args.vote.poll.view c.args.vote.poll.digest c.args.vote.sig c.keep.new.self (c.in_ok-keep.ensures _ s.votes refl h.votes))
     c.is_reached.result (λ k h. c.is_reached.ensures k h) c.of-then-not-is_reached.result c.nothing-then-not-is_reached.result c.of-then-not-is_reached.ensures c.nothing-then-not-is_reached.ensures c.if-not-is_reached.true
 
 pub returns : goal.returns
@@ -24,8 +24,8 @@ returns c =
     let mid : Chained = record m { node = node } in
     let shown = c.show.new.self in
     let last : Chained = record shown { node = c.next.new.self } in
-    reached-vote p c.args.from c.args.vote.phase c.args.vote.view c.args.vote.digest c.args.vote.sig m mid c.keeps_vote.result c.if-not-keeps_vote.false (λ s h. c.keeps_vote.ensures s h) refl refl refl
-    (λ s h. vote-kept p m.node s h c.args.from.0 c.args.vote.view c.args.vote.digest c.args.vote.sig c.keep.new.self (c.in_ok-keep.ensures _ s.votes refl h.votes))
+    reached-vote p c.args.from c.args.vote.poll.phase c.args.vote.poll.view c.args.vote.poll.digest c.args.vote.sig m mid c.keeps_vote.result c.if-not-keeps_vote.false (λ s h. c.keeps_vote.ensures s h) refl refl refl
+    (λ s h. vote-kept p m.node s h c.args.from.0 c.args.vote.poll.view c.args.vote.poll.digest c.args.vote.sig c.keep.new.self (c.in_ok-keep.ensures _ s.votes refl h.votes))
     c.is_reached.result (λ k h. c.is_reached.ensures k h) shown last c.in_ok-outcome.outcome c.in_ok-shown.shown c.in_ok-delivers.delivers c.if-not-is_reached.false
-    (λ s h. c.in_ok-shown.ensures (with_vote s c.args.from.0 c.args.vote.view c.args.vote.digest c.args.vote.sig).votes (c.in_ok-keep.ensures _ s.votes refl h.votes))
+    (λ s h. c.in_ok-shown.ensures (with_vote s c.args.from.0 c.args.vote.poll.view c.args.vote.poll.digest c.args.vote.sig).votes (c.in_ok-keep.ensures _ s.votes refl h.votes))
     c.in_ok-delivers.ensures.inside (λ k h. c.in_ok-delivers.ensures.shown k h) c.in_ok-delivers.ensures.accepted refl refl (λ k h. c.in_ok-outcome.ensures k h)

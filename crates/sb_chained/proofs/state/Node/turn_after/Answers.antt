@@ -14,7 +14,7 @@ returns-then-last-len c =
     IfOk-weaker c.propose.result _ _ (λ o d k t is low h.
     let len = c.len.ensures in
     let full = c.if-last-len.true in
-    after-mark c.args.context.now.p.now c.args.self.now c.propose.new.self k o t c.args.last is low h c.args.context.now.good.few (omega arith) c.saturating_add-view.result c.in_ok-just.just c.saturating_add-view.ensures (c.in_ok-just.ensures k.votes h.votes)
+    after-mark c.args.context.now.p.now c.args.self.now c.propose.new.self k o t c.args.last is low h c.args.context.now.good.few (omega arith) c.saturating_add-view.result c.in_ok-just.just c.saturating_add-view.ensures ((rw c.poll.ensures at c.in_ok-just.ensures) k.votes h.votes)
     (omega (arith, len, full)) c.is_marked.result (c.is_marked.ensures k h) c.if-not-is_marked.false (omega arith) (d k)) c.propose.ensures
 
 pub returns-then-round_of-eq0 : goal.returns-then-round_of-eq0
@@ -22,7 +22,7 @@ returns-then-round_of-eq0 c =
     IfOk-weaker c.propose_cast.result _ _ (λ o d k t is low h.
     let len = c.len.ensures in
     let room = c.if-last-len.false in
-    after-cast c.args.context.now.p.now c.args.self.now c.propose_cast.new.self k o t c.args.last is low h c.args.context.now.good.few (omega arith) c.saturating_add-view.result c.in_ok-just.just c.saturating_add-view.ensures (c.in_ok-just.ensures k.votes h.votes)
+    after-cast c.args.context.now.p.now c.args.self.now c.propose_cast.new.self k o t c.args.last is low h c.args.context.now.good.few (omega arith) c.saturating_add-view.result c.in_ok-just.just c.saturating_add-view.ensures ((rw c.poll.ensures at c.in_ok-just.ensures) k.votes h.votes)
     (omega (arith, len, room)) c.round_of.result c.round_of.ensures c.if-round_of-eq0.true (d k)) c.propose_cast.ensures
 
 pub returns : goal.returns
@@ -31,5 +31,5 @@ returns c =
     let len = c.len.ensures in
     let room = c.if-last-len.false in
     let later = c.if-round_of-eq0.false in
-    after-nil c.args.context.now.p.now c.args.self.now c.propose-2.new.self k o t c.args.last is low h c.args.context.now.good.few (omega arith) c.saturating_add-view.result c.in_ok-just.just c.saturating_add-view.ensures (c.in_ok-just.ensures k.votes h.votes)
+    after-nil c.args.context.now.p.now c.args.self.now c.propose-2.new.self k o t c.args.last is low h c.args.context.now.good.few (omega arith) c.saturating_add-view.result c.in_ok-just.just c.saturating_add-view.ensures ((rw c.poll.ensures at c.in_ok-just.ensures) k.votes h.votes)
     (omega (arith, len, room)) c.round_of.result c.round_of.ensures (omega (arith, later)) (d k)) c.propose-2.ensures

@@ -7,8 +7,8 @@ use Rattle.sb_hotstuff.proofs.hotstuff.HotStuff.receive.Goals as goal
 
 pub returns-in-NewView : goal.returns-in-NewView
 returns-in-NewView c =
-    rw c.in-NewView.is (rule-takes c.args.context.now.p.now c.args.self.now c.count_new_view.new.self (Receive c.args.from (NewView c.in-NewView.round c.in-NewView.high c.in-NewView.sig)) c.in_ok-outcome.outcome _ c.of.ensures
-    (λ s h. c.in_ok-outcome.ensures s c.in-NewView.sig h) (λ s old h. refl) (λ s k. refl))
+    rw c.in-NewView.is (rule-takes c.args.context.now.p.now c.args.self.now c.count_new_view.new.self (Receive c.args.from (NewView c.in-NewView.round c.in-NewView.high c.in-NewView.sig)) c.in_ok-outcome-in-NewView.outcome _ c.of.ensures
+    (λ s h. c.in_ok-outcome-in-NewView.ensures s c.in-NewView.sig h) (λ s old h. refl) (λ s k. refl))
 
 pub returns-in-Prepare : goal.returns-in-Prepare
 returns-in-Prepare c = rw c.in-Prepare.is (IfOk-weaker c.accept_proposal.result _ _ (λ t h. h c.in-Prepare.sig) c.accept_proposal.ensures)
@@ -26,7 +26,7 @@ returns-in-Commit c =
 pub returns-in-Decide : goal.returns-in-Decide
 returns-in-Decide c = rw c.in-Decide.is (IfOk-weaker c.deliver.result _ _ (λ t h. h c.args.from c.in-Decide.sig) c.deliver.ensures)
 
-pub returns-in-Vote : goal.returns-in-Vote
-returns-in-Vote c =
+pub returns : goal.returns
+returns c =
     rw c.in-Vote.is (rule-takes c.args.context.now.p.now c.args.self.now c.count_vote.new.self (Receive c.args.from (Vote c.in-Vote.phase c.in-Vote.view c.in-Vote.digest c.in-Vote.sig)) c.in_ok-outcome-in-Vote.outcome _ c.of-in-Vote.ensures
     (λ s h. c.in_ok-outcome-in-Vote.ensures s h) (λ s old h. refl) (λ s k. refl))

@@ -8,7 +8,7 @@ returns-then-round_of-eq0 c =
     IfOk-weaker c.propose_cast.result _ _ (λ o d k t is low h.
     let fits = c.round_of.type_inv in
     after-cast c.args.context.now.p.now c.args.self.now c.propose_cast.new.self k o t c.args.last is low h c.saturating_add-view.result c.round_of.result c.in_ok-just.just c.round_of.ensures (omega (arith, fits)) c.saturating_add-view.ensures
-    (c.in_ok-just.ensures k.votes h.votes) c.if-round_of-eq0.true c.args.last.slots refl (d k)) c.propose_cast.ensures
+    ((rw c.poll.ensures at c.in_ok-just.ensures) k.votes h.votes) c.if-round_of-eq0.true c.args.last.slots refl (d k)) c.propose_cast.ensures
 
 pub returns : goal.returns
 returns c =
@@ -19,4 +19,4 @@ returns c =
     let room = c.if-last-len.false in
     let few = c.args.context.now.good.few in
     after-nil c.args.context.now.p.now c.args.self.now c.propose.new.self k o t c.args.last is low h c.saturating_add-view.result c.round_of.result c.in_ok-just.just c.round_of.ensures (omega (arith, fits)) c.saturating_add-view.ensures
-    (c.in_ok-just.ensures k.votes h.votes) (omega (arith, later)) (omega (arith, len, room)) few (d k)) c.propose.ensures
+    ((rw c.poll.ensures at c.in_ok-just.ensures) k.votes h.votes) (omega (arith, later)) (omega (arith, len, room)) few (d k)) c.propose.ensures
