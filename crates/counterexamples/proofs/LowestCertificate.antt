@@ -21,7 +21,7 @@ use Rattle.iss_sb.specs.Statements.{signature}
 use Rattle.iss_sb.proofs.Signatures.{signature-verifies}
 use Rattle.pbft_wire.specs.declared.messages.Certificate.{Certificate}
 use Rattle.pbft_wire.specs.declared.messages.Message.{Message}
-use Rattle.pbft_wire.specs.declared.messages.Message.TheVariants.{PrePrepare, Prepare, Commit, NewView}
+use Rattle.pbft_wire.specs.Signed.{PrePrepare, Prepare, Commit, NewView}
 use Rattle.pbft_wire.specs.Certificates.{fits_certificate}
 use Rattle.pbft_wire.specs.Messages.{fits}
 use Rattle.pbft_wire.specs.Statements.{state_at, state_change, state_new}

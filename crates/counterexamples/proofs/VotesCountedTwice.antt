@@ -15,7 +15,7 @@ use Rattle.iss_sb.specs.Evidence.{Item, World, IsHashed, IsReached, IsSigned, Is
 use Rattle.iss_sb.specs.Laws.{IsSafe}
 use Rattle.iss_sb.specs.Statements.{signature}
 use Rattle.pbft_wire.specs.declared.messages.Message.{Message}
-use Rattle.pbft_wire.specs.declared.messages.Message.TheVariants.{Prepare, Commit, NewView}
+use Rattle.pbft_wire.specs.Signed.{Prepare, Commit, NewView}
 use Rattle.pbft_wire.specs.Messages.{fits}
 use Rattle.pbft_wire.specs.Statements.{state_at, state_change, state_new, string_of}
 use Rattle.pbft_views.specs.Claims.{claims}

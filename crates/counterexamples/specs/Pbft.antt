@@ -12,11 +12,12 @@ use Rattle.iss_sb.specs.declared.effects.Params.{Params}
 use Rattle.iss_sb.specs.Evidence.{Item, Made, Module}
 use Rattle.pbft_wire.specs.declared.messages.Certificate.{Certificate}
 use Rattle.pbft_wire.specs.declared.messages.Change.{Change}
+use Rattle.pbft_wire.specs.declared.messages.Body.{Body}
+use Rattle.pbft_wire.specs.declared.messages.Body.TheVariants.{NewView}
 use Rattle.pbft_wire.specs.declared.messages.Message.{Message}
-use Rattle.pbft_wire.specs.declared.messages.Message.TheVariants.{PrePrepare, Prepare, Commit, ViewChange, NewView}
-use Rattle.pbft_wire.specs.Statements.{digest_of, state_new}
+use Rattle.pbft_wire.specs.Statements.{digest_of, stated}
 use Rattle.pbft_views.specs.Choice.{certificates_of}
-use Rattle.pbft_views.specs.Claims.{changes_claims, chosen_claims, claims}
+use Rattle.pbft_views.specs.Claims.{changes_claims, chosen_claims, claimed_inside}
 use Rattle.sb_pbft.specs.Makes.{choice_sigs, inputs, makes}
 use Rattle.sb_pbft.specs.Pbft.{asks, decided, pbft}
 use Rattle.sb_pbft.specs.Rules.{Ballot, commit_in, lowest, mode, prepare_in, proposal, voters, when}
@@ -69,13 +70,13 @@ abbrev pub lowered : List Change → List Change
 lowered xs = lowered_to (certificates_of xs) xs
 
 -- an input as such a replica reads it
+abbrev pub body_seen : Body → Body
+body_seen (NewView v xs sigs) = NewView v (lowered xs) sigs
+body_seen other = other
+
 abbrev pub seen : Input Message → Input Message
 seen (Cast slot batch) = Cast slot batch
-seen (Receive from (PrePrepare v slot x sig)) = Receive from (PrePrepare v slot x sig)
-seen (Receive from (Prepare v slot d sig)) = Receive from (Prepare v slot d sig)
-seen (Receive from (Commit v slot d sig)) = Receive from (Commit v slot d sig)
-seen (Receive from (ViewChange v cs sig)) = Receive from (ViewChange v cs sig)
-seen (Receive from (NewView v xs sigs sig)) = Receive from (NewView v (lowered xs) sigs sig)
+seen (Receive from msg) = Receive from (record msg { body = body_seen msg.body })
 seen Timeout = Timeout
 
 abbrev pub all_seen : List (Item Message) → List (Item Message)
@@ -83,12 +84,12 @@ all_seen [] = []
 all_seen (x ∷ xs) = record x { input = seen x.input } ∷ all_seen xs
 
 -- a primary signs PrePrepares for the lowest certificates
+abbrev pub body_resigned : Params → ℕ → ℕ → Body → Body
+body_resigned p me leaf (NewView v xs sigs) = NewView v xs (choice_sigs p me leaf v (lowered xs) p.slots)
+body_resigned p me leaf other = other
+
 abbrev pub resigned : Params → ℕ → ℕ → Message → Message
-resigned p me leaf (PrePrepare v slot x sig) = PrePrepare v slot x sig
-resigned p me leaf (Prepare v slot d sig) = Prepare v slot d sig
-resigned p me leaf (Commit v slot d sig) = Commit v slot d sig
-resigned p me leaf (ViewChange v cs sig) = ViewChange v cs sig
-resigned p me leaf (NewView v xs sigs sig) = NewView v xs (choice_sigs p me leaf v (lowered xs) p.slots) sig
+resigned p me leaf msg = record msg { body = body_resigned p me leaf msg.body }
 
 abbrev pub resign_all : Params → ℕ → ℕ → List (To × Message) → List (To × Message)
 resign_all p me leaf [] = []
@@ -100,13 +101,13 @@ makes_seen p me xs i leaf =
     record made { sends = resign_all p me leaf made.sends }
 
 -- and a NewView claims these signatures
+abbrev pub inside_seen : Params → ℕ → Body → List Claim → List Claim
+inside_seen p by (NewView v xs sigs) others =
+    changes_claims p xs ++ (chosen_claims p by v (lowered xs) p.slots sigs ++ others)
+inside_seen p by other others = claimed_inside p by other others
+
 abbrev pub claims_seen : Params → ℕ → Message → List Claim
-claims_seen p by (PrePrepare v slot x sig) = claims p by (PrePrepare v slot x sig)
-claims_seen p by (Prepare v slot d sig) = claims p by (Prepare v slot d sig)
-claims_seen p by (Commit v slot d sig) = claims p by (Commit v slot d sig)
-claims_seen p by (ViewChange v cs sig) = claims p by (ViewChange v cs sig)
-claims_seen p by (NewView v xs sigs sig) =
-    changes_claims p xs ++ (chosen_claims p by v (lowered xs) p.slots sigs ++ claim by (state_new p v) sig ∷ [])
+claims_seen p by msg = inside_seen p by msg.body (claim by (stated p msg.body) msg.sig ∷ [])
 
 abbrev pub asks_seen : Params → ℕ → List (Item Message) → Input Message → Option (Slot × Batch)
 asks_seen p me xs i = asks p me (all_seen xs) (seen i)

@@ -9,11 +9,12 @@ use Rattle.iss_sb.specs.Statements.{claim, statement_head, two_bytes}
 use Rattle.pbft_wire.specs.declared.messages.Certificate.{Certificate}
 use Rattle.pbft_wire.specs.declared.messages.Change.{Change}
 use Rattle.iss_sb.specs.declared.signers.Signed.{Signed}
+use Rattle.pbft_wire.specs.declared.messages.Body.{Body}
+use Rattle.pbft_wire.specs.declared.messages.Body.TheVariants.{PrePrepare, Prepare, Commit, ViewChange, NewView}
 use Rattle.pbft_wire.specs.declared.messages.Message.{Message}
-use Rattle.pbft_wire.specs.declared.messages.Message.TheVariants.{PrePrepare, Prepare, Commit, ViewChange, NewView}
-use Rattle.pbft_wire.specs.Statements.{digest_of, state_at, statement, tag}
+use Rattle.pbft_wire.specs.Statements.{digest_of, state_at, stated, statement, tag}
 use Rattle.pbft_views.specs.Choice.{choice}
-use Rattle.pbft_views.specs.Claims.{certificate_claims, certificates_claims, change_claims, changes_claims, chosen_claims, claims, vote_claims}
+use Rattle.pbft_views.specs.Claims.{certificate_claims, certificates_claims, change_claims, changes_claims, chosen_claims, claimed_inside, claims, vote_claims}
 use Rattle.pbft_views.specs.Good.{primary}
 
 -- ---- each claim names its instance
@@ -59,14 +60,24 @@ chosen-named p by v xs [] sigs = named-none p
 chosen-named p by v xs (s ∷ ss) [] = named-none p
 chosen-named p by v xs (s ∷ ss) (sig ∷ sigs) = named-more p by 1 v _ sig _ (chosen-named p by v xs ss sigs)
 
+-- the sender's own claim
+own-named : (p : Params) (by : ℕ) (body : Body) (sig : List ℕ) → AreNamed p (claim by (stated p body) sig ∷ [])
+own-named p by (PrePrepare v slot x) sig = named-more p by 1 v _ sig [] (named-none p)
+own-named p by (Prepare v slot d) sig = named-more p by 2 v _ sig [] (named-none p)
+own-named p by (Commit v slot d) sig = named-more p by 3 v _ sig [] (named-none p)
+own-named p by (ViewChange v cs) sig = named-more p by 4 v _ sig [] (named-none p)
+own-named p by (NewView v xs sigs) sig = named-more p by 5 v [] sig [] (named-none p)
+
+inside-named : (p : Params) (by : ℕ) (body : Body) (others : List Claim) → AreNamed p others → AreNamed p (claimed_inside p by body others)
+inside-named p by (PrePrepare v slot x) others h = h
+inside-named p by (Prepare v slot d) others h = h
+inside-named p by (Commit v slot d) others h = h
+inside-named p by (ViewChange v cs) others h = named-both p (certificates_claims p cs) others (certificates-named p cs) h
+inside-named p by (NewView v xs sigs) others h =
+    named-both p (changes_claims p xs) _ (changes-named p xs) (named-both p (chosen_claims p by v xs p.slots sigs) others (chosen-named p by v xs p.slots sigs) h)
+
 pub named : (p : Params) (by : ℕ) (msg : Message) → AreNamed p (claims p by msg)
-named p by (PrePrepare v slot x sig) = named-more p by 1 v _ sig [] (named-none p)
-named p by (Prepare v slot d sig) = named-more p by 2 v _ sig [] (named-none p)
-named p by (Commit v slot d sig) = named-more p by 3 v _ sig [] (named-none p)
-named p by (ViewChange v cs sig) = change-named p by v cs sig
-named p by (NewView v xs sigs sig) =
-    named-both p (changes_claims p xs) _ (changes-named p xs)
-    (named-both p (chosen_claims p by v xs p.slots sigs) _ (chosen-named p by v xs p.slots sigs) (named-more p by 5 v [] sig [] (named-none p)))
+named p by msg = inside-named p by msg.body _ (own-named p by msg.body msg.sig)
 
 -- ---- the origin of claims
 

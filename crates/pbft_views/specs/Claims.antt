@@ -7,9 +7,10 @@ use Rattle.iss_sb.specs.Statements.{claim}
 use Rattle.pbft_wire.specs.declared.messages.Certificate.{Certificate}
 use Rattle.pbft_wire.specs.declared.messages.Change.{Change}
 use Rattle.iss_sb.specs.declared.signers.Signed.{Signed}
+use Rattle.pbft_wire.specs.declared.messages.Body.{Body}
+use Rattle.pbft_wire.specs.declared.messages.Body.TheVariants.{PrePrepare, Prepare, Commit, ViewChange, NewView}
 use Rattle.pbft_wire.specs.declared.messages.Message.{Message}
-use Rattle.pbft_wire.specs.declared.messages.Message.TheVariants.{PrePrepare, Prepare, Commit, ViewChange, NewView}
-use Rattle.pbft_wire.specs.Statements.{digest_of, state_at, state_change, state_new}
+use Rattle.pbft_wire.specs.Statements.{digest_of, state_at, state_change, stated}
 use Rattle.pbft_views.specs.Choice.{choice}
 use Rattle.pbft_views.specs.Good.{primary}
 
@@ -42,11 +43,14 @@ chosen_claims p by v xs (s ∷ ss) [] = []
 chosen_claims p by v xs (s ∷ ss) (sig ∷ sigs) =
     claim by (state_at p 1 v s.0 (digest_of p (choice xs s.0))) sig ∷ chosen_claims p by v xs ss sigs
 
+-- the claims of the signatures inside a body, before others
+abbrev pub claimed_inside : Params → ℕ → Body → List Claim → List Claim
+claimed_inside p by (PrePrepare v slot x) others = others
+claimed_inside p by (Prepare v slot d) others = others
+claimed_inside p by (Commit v slot d) others = others
+claimed_inside p by (ViewChange v cs) others = certificates_claims p cs ++ others
+claimed_inside p by (NewView v xs sigs) others = changes_claims p xs ++ (chosen_claims p by v xs p.slots sigs ++ others)
+
 -- rule: PBFT: A message claims each signature in it, in the order of its bytes
 abbrev pub claims : Params → ℕ → Message → List Claim
-claims p by (PrePrepare v slot x sig) = claim by (state_at p 1 v slot.0 (digest_of p x)) sig ∷ []
-claims p by (Prepare v slot d sig) = claim by (state_at p 2 v slot.0 d) sig ∷ []
-claims p by (Commit v slot d sig) = claim by (state_at p 3 v slot.0 d) sig ∷ []
-claims p by (ViewChange v cs sig) = change_claims p by v cs sig
-claims p by (NewView v xs sigs sig) =
-    changes_claims p xs ++ (chosen_claims p by v xs p.slots sigs ++ claim by (state_new p v) sig ∷ [])
+claims p by msg = claimed_inside p by msg.body (claim by (stated p msg.body) msg.sig ∷ [])

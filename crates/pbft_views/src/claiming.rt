@@ -1,12 +1,13 @@
 //! The claims of a message: the statements that it says replicas have signed.
-ghost use Rattle.std.specs.Prelude.{◌≡◌, ◌++◌, ◌∷◌, [], map, IfOk, OnOk};
+ghost use Rattle.std.specs.Prelude.{◌≡◌, ◌++◌, ◌∷◌, [], List, map, IfOk, OnOk};
 ghost use Rattle.iss_request.specs.Setup.{IsGoodSetup};
 ghost use Rattle.pbft_wire.specs.Marks.{mark_of};
-ghost use Rattle.pbft_wire.specs.Statements.{digest_of, state_at, state_change};
-ghost use Rattle.pbft_wire.specs.declared.messages.Message.TheVariants.{NewView, ViewChange};
+ghost use Rattle.pbft_wire.specs.Statements.{digest_of, state_at, state_change, stated};
+ghost use Rattle.iss_sb.specs.declared.effects.Claim.{Claim};
+ghost use Rattle.pbft_wire.specs.declared.messages.Body.TheVariants.{NewView};
 ghost use Rattle.pbft_views.specs.Choice.{choice};
 ghost use Rattle.iss_sb.specs.Statements.{claim};
-ghost use Rattle.pbft_views.specs.Claims.{certificate_claims, certificates_claims, change_claims, changes_claims, chosen_claims, claims, vote_claims};
+ghost use Rattle.pbft_views.specs.Claims.{certificate_claims, certificates_claims, change_claims, changes_claims, chosen_claims, claimed_inside, claims, vote_claims};
 
 use crate::choosing::choice_digest;
 use crate::goodness::primary;
@@ -14,7 +15,7 @@ use iss_request::{Bytes, NoMemory, NodeId, Seq, Slot};
 use iss_sb::{Claim, Params, Signed};
 use pbft_wire::signing::{COMMIT, PRE_PREPARE, PREPARE};
 use pbft_wire::{
-    Certificate, Change, Mark, Message, digest_of, mark_of, state_at, state_marked, state_new,
+    Body, Certificate, Change, Mark, Message, digest_of, mark_of, state_at, state_marked, state_new,
 };
 use std::alloc::Global;
 
@@ -147,9 +148,10 @@ fn put_changes_claims(
     }
 }
 
-// The PrePrepares of a NewView: their primary, their view, and the ViewChanges that choose their values.
+// The PrePrepares of a NewView in an instance: their primary, their view, and the ViewChanges that choose their values.
 #[derive(Drop)]
 struct NewProposals<'a> {
+    p: &'a Params,
     by: NodeId,
     view: u16,
     changes: &'a [Change],
@@ -158,32 +160,30 @@ struct NewProposals<'a> {
 // The claim of a new primary's PrePrepare, which is for the choice at the slot.
 fn put_chosen_claim(
     alloc: Global,
-    p: &Params,
     new: &NewProposals,
     slot: Slot,
     sig: &Bytes,
     all: &mut Seq<Claim>,
 ) -> Result<(), NoMemory>
-    ensures { OnOk result (all.new ≡ all.old ++ claim new.now.by.0
-        (state_at p.now 1 new.now.view slot.0 (digest_of p.now (choice new.now.changes.now slot.0))) sig.now ∷ []) }
+    ensures { OnOk result (let p = new.now.p.now in all.new ≡ all.old ++ claim new.now.by.0
+        (state_at p 1 new.now.view slot.0 (digest_of p (choice new.now.changes.now slot.0))) sig.now ∷ []) }
 {
-    let digest = choice_digest(alloc, p, slot, new.changes);
+    let digest = choice_digest(alloc, new.p, slot, new.changes);
     let view = new.view;
     let mark = Mark { slot, view, digest };
-    let statement = state_at(alloc, p, PRE_PREPARE, &mark)?;
+    let statement = state_at(alloc, new.p, PRE_PREPARE, &mark)?;
     put_claim(new.by, statement, sig, all)
 }
 
 fn put_chosen_claims(
     alloc: Global,
-    p: &Params,
     new: &NewProposals,
     slots: &[Slot],
     signatures: &[Bytes],
     all: &mut Seq<Claim>,
 ) -> Result<(), NoMemory>
     ensures { OnOk result (all.new ≡ all.old ++
-        chosen_claims p.now new.now.by.0 new.now.view new.now.changes.now slots.now signatures.now) }
+        chosen_claims new.now.p.now new.now.by.0 new.now.view new.now.changes.now slots.now signatures.now) }
 {
     let [slot, slots @ ..] = slots else {
         return Ok(());
@@ -191,24 +191,11 @@ fn put_chosen_claims(
     let [sig, signatures @ ..] = signatures else {
         return Ok(());
     };
-    put_chosen_claim(alloc, p, new, *slot, sig, all)?;
-    put_chosen_claims(alloc, p, new, slots, signatures, all)
+    put_chosen_claim(alloc, new, *slot, sig, all)?;
+    put_chosen_claims(alloc, new, slots, signatures, all)
 }
 
-// ---- the claims of each kind of message
-
-fn one_claim(
-    alloc: Global,
-    by: NodeId,
-    statement: Bytes,
-    sig: &Bytes,
-) -> Result<Seq<Claim>, NoMemory>
-    ensures { IfOk result (λ all. all ≡ claim by.0 statement sig.now ∷ []) }
-{
-    let mut all = Seq::new(alloc);
-    put_claim(by, statement, sig, &mut all)?;
-    Ok(all)
-}
+// ---- the claims of a message
 
 fn mark(view: u16, slot: Slot, digest: [u8; 32]) -> Mark
     ensures { result ≡ record { slot = slot; view = view; digest = digest } }
@@ -216,55 +203,63 @@ fn mark(view: u16, slot: Slot, digest: [u8; 32]) -> Mark
     Mark { slot, view, digest }
 }
 
-fn claims_at(
+// Appends the claims of the ViewChanges and the PrePrepares in a NewView.
+fn put_new_view_claims(
     alloc: Global,
-    p: &Params,
-    from: NodeId,
-    kind: u8,
-    mark: &Mark,
-    sig: &Bytes,
-) -> Result<Seq<Claim>, NoMemory>
-    ensures { IfOk result (λ all. all ≡ claim from.0
-        (state_at p.now kind mark.now.view mark.now.slot.0 mark.now.digest) sig.now ∷ []) }
-{
-    let statement = state_at(alloc, p, kind, mark)?;
-    one_claim(alloc, from, statement, sig)
-}
-
-fn claims_of_change(
-    alloc: Global,
-    p: &Params,
-    from: NodeId,
-    view: u16,
-    certificates: &[Certificate],
-    sig: &Bytes,
-) -> Result<Seq<Claim>, NoMemory>
-    requires { IsGoodSetup p.now.setup }
-    ensures { IfOk result (λ all. all ≡ claims p.now from.0 (ViewChange view certificates.now sig.now)) }
-{
-    let mut all = Seq::new(alloc);
-    let statement = change_statement(alloc, p, view, certificates, &mut all)?;
-    put_claim(from, statement, sig, &mut all)?;
-    Ok(all)
-}
-
-fn claims_of_new_view(
-    alloc: Global,
-    p: &Params,
     new: &NewProposals,
     signatures: &[Bytes],
-    sig: &Bytes,
-) -> Result<Seq<Claim>, NoMemory>
-    requires { IsGoodSetup p.now.setup }
-    ensures { IfOk result (λ all. all ≡ claims p.now new.now.by.0
-        (NewView new.now.view new.now.changes.now signatures.now sig.now)) }
+    all: &mut Seq<Claim>,
+) -> Result<(), NoMemory>
+    requires { IsGoodSetup new.now.p.now.setup }
+    ensures { OnOk result ((others : List Claim) → all.new ++ others ≡ all.old ++ claimed_inside new.now.p.now
+        new.now.by.0 (NewView new.now.view new.now.changes.now signatures.now) others) }
 {
-    let mut all = Seq::new(alloc);
-    put_changes_claims(alloc, p, new.changes, &mut all)?;
-    put_chosen_claims(alloc, p, new, p.slots.as_slice(), signatures, &mut all)?;
-    let statement = state_new(alloc, p, new.view)?;
-    put_claim(new.by, statement, sig, &mut all)?;
-    Ok(all)
+    put_changes_claims(alloc, new.p, new.changes, all)?;
+    put_chosen_claims(alloc, new, new.p.slots.as_slice(), signatures, all)
+}
+
+// Appends the claims of the signatures inside a body, and returns the body's statement.
+fn body_statement(
+    alloc: Global,
+    p: &Params,
+    by: NodeId,
+    body: &Body,
+    all: &mut Seq<Claim>,
+) -> Result<Bytes, NoMemory>
+    requires { IsGoodSetup p.now.setup }
+    ensures statement { IfOk result (λ s. s ≡ stated p.now body.now) }
+    ensures claimed { OnOk result ((others : List Claim) →
+        all.new ++ others ≡ all.old ++ claimed_inside p.now by.0 body.now others) }
+{
+    match body {
+        Body::PrePrepare { view, slot, value } => {
+            let digest = digest_of(alloc, p, value);
+            state_at(alloc, p, PRE_PREPARE, &mark(*view, *slot, digest))
+        }
+        Body::Prepare { view, slot, digest } => {
+            state_at(alloc, p, PREPARE, &mark(*view, *slot, *digest))
+        }
+        Body::Commit { view, slot, digest } => {
+            state_at(alloc, p, COMMIT, &mark(*view, *slot, *digest))
+        }
+        Body::ViewChange { view, certificates } => {
+            change_statement(alloc, p, *view, certificates.as_slice(), all)
+        }
+        Body::NewView {
+            view,
+            changes,
+            signatures,
+        } => {
+            let new = NewProposals {
+                p,
+                by,
+                view: *view,
+                changes: changes.as_slice(),
+            };
+            put_new_view_claims(alloc, &new, signatures.as_slice(), all)?;
+            state_new(alloc, p, *view)
+        }
+    }
 }
 
 /// The claims of a message, in the order of its bytes: the signatures inside it, and then its own. A ViewChange with
@@ -279,52 +274,8 @@ pub fn claims(
     requires { IsGoodSetup p.now.setup }
     ensures { IfOk result (λ all. all ≡ claims p.now from.0 msg.now) }
 {
-    match msg {
-        Message::PrePrepare {
-            view,
-            slot,
-            value,
-            sig,
-        } => {
-            let digest = digest_of(alloc, p, value);
-            let at = mark(*view, *slot, digest);
-            claims_at(alloc, p, from, PRE_PREPARE, &at, sig)
-        }
-        Message::Prepare {
-            view,
-            slot,
-            digest,
-            sig,
-        } => {
-            let at = mark(*view, *slot, *digest);
-            claims_at(alloc, p, from, PREPARE, &at, sig)
-        }
-        Message::Commit {
-            view,
-            slot,
-            digest,
-            sig,
-        } => {
-            let at = mark(*view, *slot, *digest);
-            claims_at(alloc, p, from, COMMIT, &at, sig)
-        }
-        Message::ViewChange {
-            view,
-            certificates,
-            sig,
-        } => claims_of_change(alloc, p, from, *view, certificates.as_slice(), sig),
-        Message::NewView {
-            view,
-            changes,
-            signatures,
-            sig,
-        } => {
-            let new = NewProposals {
-                by: from,
-                view: *view,
-                changes: changes.as_slice(),
-            };
-            claims_of_new_view(alloc, p, &new, signatures.as_slice(), sig)
-        }
-    }
+    let mut all = Seq::new(alloc);
+    let statement = body_statement(alloc, p, from, &msg.body, &mut all)?;
+    put_claim(from, statement, &msg.sig, &mut all)?;
+    Ok(all)
 }

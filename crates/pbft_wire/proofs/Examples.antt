@@ -11,7 +11,7 @@ use Rattle.iss_request.specs.declared.requests.Value.TheVariants.{Nil as Value_n
 use Rattle.iss_sb.specs.declared.signers.Signed.{Signed}
 use Rattle.pbft_wire.specs.declared.messages.Certificate.{Certificate}
 use Rattle.pbft_wire.specs.declared.messages.Change.{Change}
-use Rattle.pbft_wire.specs.declared.messages.Message.TheVariants.{PrePrepare, Prepare, Commit, ViewChange, NewView}
+use Rattle.pbft_wire.specs.Signed.{PrePrepare, Prepare, Commit, ViewChange, NewView}
 use Rattle.pbft_wire.specs.Certificates.{count, parse_change}
 use Rattle.pbft_wire.specs.Messages.{parse, parse_at, parse_new_view, parse_view_change, spell}
 

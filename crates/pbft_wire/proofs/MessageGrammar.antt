@@ -15,9 +15,11 @@ use Rattle.iss_request.specs.declared.requests.Value.{Value}
 use Rattle.pbft_wire.specs.declared.messages.Certificate.{Certificate}
 use Rattle.pbft_wire.specs.declared.messages.Change.{Change}
 use Rattle.pbft_wire.specs.declared.messages.Message.{Message}
-use Rattle.pbft_wire.specs.declared.messages.Message.TheVariants.{PrePrepare, Prepare, Commit, ViewChange, NewView}
+use Rattle.pbft_wire.specs.declared.messages.Body.{Body}
+use Rattle.pbft_wire.specs.declared.messages.Body.TheVariants.{PrePrepare as Pre_prepare_body, Prepare as Prepare_body, Commit as Commit_body, ViewChange as View_change_body, NewView as New_view_body}
+use Rattle.pbft_wire.specs.Signed.{PrePrepare, ViewChange, NewView, signed}
 use Rattle.pbft_wire.specs.Certificates.{change_bytes, fits_change, fits_count, fits_slot, fits_value, fits_view}
-use Rattle.pbft_wire.specs.Messages.{as_is, at_bytes, commit, fields_of, fits, fits_at, fits_changes, is_known, message_bytes, node_change_bytes, parse, parse_at, parse_node_change, node_of_change, fits_node_change, parse_new_view, parse_pre_prepare, parse_view_change, prepare, spell}
+use Rattle.pbft_wire.specs.Messages.{as_is, at_bytes, commit, fields_of, fits, fits_at, fits_signed, fits_changes, is_known, message_bytes, node_change_bytes, parse, parse_at, parse_node_change, node_of_change, fits_node_change, parse_new_view, parse_pre_prepare, parse_view_change, prepare, signed_bytes, spell}
 use Rattle.iss_sb.proofs.Ascending.{AreText, IsExact, IsText, ascending-again, ascending-parts, in-front}
 use Rattle.pbft_wire.proofs.Fields.{count-again, count-parts, slot-again, slot-parts, value-again, value-parts, view-again, view-parts}
 use Rattle.pbft_wire.proofs.CertificateGrammar.{change-again, change-parts, counted-twice, fits_one, four, text_one}
@@ -300,13 +302,17 @@ module _ (version : ℕ) where
       fields_of version n (bytes ++ rest) ≡ Good msg rest → parse version ((n ∷ bytes) ++ rest) ≡ Good msg rest
   kind-again n bytes rest msg k h = rw parse-is (then_good (such_that is_known byte) (fields_of version) (n ∷ (bytes ++ rest)) (bytes ++ rest) rest n msg (test_passed is_known byte _ _ n (byte_again n (bytes ++ rest)) k) h)
 
+  signed-again : (body : Body) (sig rest : List ℕ) → fits_signed version body sig ≡ true →
+      parse version (signed_bytes version body sig ++ rest) ≡ Good (signed body sig) rest
+  signed-again (Pre_prepare_body v slot x) sig rest e = kind-again 1 (at_bytes v slot.0 (spell_value version x ++ sig)) rest _ refl (pre_prepare-again v slot x sig rest e)
+  signed-again (Prepare_body v slot d) sig rest e = kind-again 2 (at_bytes v slot.0 (d ++ sig)) rest _ refl (at-again prepare v slot d sig rest e)
+  signed-again (Commit_body v slot d) sig rest e = kind-again 3 (at_bytes v slot.0 (d ++ sig)) rest _ refl (at-again commit v slot d sig rest e)
+  signed-again (View_change_body v cs) sig rest e = kind-again 4 (change_bytes version v cs sig) rest _ refl (change_message-again v cs sig rest e)
+  signed-again (New_view_body v xs sigs) sig rest e = kind-again 5 (to_be_bytes w16 v ++ (length xs ∷ (flat_map (node_change_bytes version) xs ++ (length sigs ∷ (flat_map as_is sigs ++ sig))))) rest _ refl (new_view-again v xs sigs sig rest e)
+
   pub message-again : (msg : Message) (rest : List ℕ) → fits version msg ≡ true →
       parse version (message_bytes version msg ++ rest) ≡ Good msg rest
-  message-again (PrePrepare v slot x sig) rest e = kind-again 1 (at_bytes v slot.0 (spell_value version x ++ sig)) rest _ refl (pre_prepare-again v slot x sig rest e)
-  message-again (Prepare v slot d sig) rest e = kind-again 2 (at_bytes v slot.0 (d ++ sig)) rest _ refl (at-again prepare v slot d sig rest e)
-  message-again (Commit v slot d sig) rest e = kind-again 3 (at_bytes v slot.0 (d ++ sig)) rest _ refl (at-again commit v slot d sig rest e)
-  message-again (ViewChange v cs sig) rest e = kind-again 4 (change_bytes version v cs sig) rest _ refl (change_message-again v cs sig rest e)
-  message-again (NewView v xs sigs sig) rest e = kind-again 5 (to_be_bytes w16 v ++ (length xs ∷ (flat_map (node_change_bytes version) xs ++ (length sigs ∷ (flat_map as_is sigs ++ sig))))) rest _ refl (new_view-again v xs sigs sig rest e)
+  message-again msg rest e = signed-again msg.body msg.sig rest e
 
   -- an encoding that is the number of no message
   none : (rest : List ℕ) → IsBad (parse version (0 ∷ rest))

@@ -13,9 +13,10 @@ use Rattle.iss_sb.proofs.SignerGrammar.{signers-are, signers-fit}
 use Rattle.pbft_wire.specs.declared.messages.Certificate.{Certificate}
 use Rattle.pbft_wire.specs.declared.messages.Change.{Change}
 use Rattle.pbft_wire.specs.declared.messages.Message.{Message}
-use Rattle.pbft_wire.specs.declared.messages.Message.TheVariants.{PrePrepare, Prepare, Commit, ViewChange, NewView}
+use Rattle.pbft_wire.specs.declared.messages.Body.{Body}
+use Rattle.pbft_wire.specs.declared.messages.Body.TheVariants.{PrePrepare as Pre_prepare_body, Prepare as Prepare_body, Commit as Commit_body, ViewChange as View_change_body, NewView as New_view_body}
 use Rattle.pbft_wire.specs.Certificates.{AreSpelledCertificates, IsSpelledCertificate, IsSpelledChange, certificate_bytes, change_bytes, fits_certificate, fits_certificates, fits_change, fits_count, fits_slot, fits_value, fits_view}
-use Rattle.pbft_wire.specs.Messages.{AreSpelledChanges, AreSpelledSignatures, IsSpelledAt, IsSpelledMessage, as_is, at_bytes, fits, fits_at, fits_changes, message_bytes, node_change_bytes, parse}
+use Rattle.pbft_wire.specs.Messages.{AreSpelledChanges, AreSpelledSignatures, IsSpelledAt, IsSpelledMessage, IsSpelledSigned, as_is, at_bytes, fits, fits_at, fits_changes, fits_signed, message_bytes, node_change_bytes, parse, signed_bytes}
 use Rattle.pbft_wire.proofs.Fields.{value-bytes, value-fits, value-spelled}
 use Rattle.pbft_wire.proofs.MessageGrammar.{message-again, message-parts}
 
@@ -149,16 +150,16 @@ module _ (version : ℕ) where
     is = h.row;
   }
 
-  message-table : (msg : Message) → fits version msg ≡ true → IsSpelledMessage version msg (message_bytes version msg)
-  message-table (PrePrepare v slot x sig) h =
+  message-table : (body : Body) (sig : List ℕ) → fits_signed version body sig ≡ true → IsSpelledSigned version body sig (signed_bytes version body sig)
+  message-table (Pre_prepare_body v slot x) sig h =
       let a = and-true (fits_view v) (fits_slot slot.0 && (fits_value version x && is_signature sig)) h in
       let b = and-true (fits_slot slot.0) (fits_value version x && is_signature sig) a.1 in
       let c = and-true (fits_value version x) (is_signature sig) b.1 in
       (ltb-true v (2 ^ 16) a.0, ltb-true slot.0 (2 ^ 64) b.0, c.1, (spell_value version x, value-spelled version x c.0, refl))
-  message-table (Prepare v slot d sig) h = at-table 2 v slot.0 d sig h
-  message-table (Commit v slot d sig) h = at-table 3 v slot.0 d sig h
-  message-table (ViewChange v cs sig) h = (change_bytes version v cs sig, change-table v cs sig h, refl)
-  message-table (NewView v xs sigs sig) h =
+  message-table (Prepare_body v slot d) sig h = at-table 2 v slot.0 d sig h
+  message-table (Commit_body v slot d) sig h = at-table 3 v slot.0 d sig h
+  message-table (View_change_body v cs) sig h = (change_bytes version v cs sig, change-table v cs sig h, refl)
+  message-table (New_view_body v xs sigs) sig h =
       let a = and-true (fits_view v) _ h in
       let b = and-true (fits_count (length xs) && fits_changes version 0 xs) _ a.1 in
       let c = and-true (fits_count (length xs)) (fits_changes version 0 xs) b.0 in
@@ -180,18 +181,18 @@ module _ (version : ℕ) where
       (1 ∷ (to_be_bytes w16 v ++ (to_be_bytes w64 s ++ (value ++ sig)))) ≡ 1 ∷ at_bytes v s (spelled ++ sig)
   pre_prepare-row v s sig value spelled h = ap (λ (z : List ℕ). 1 ∷ at_bytes v s (z ++ sig)) h
 
-  message-row : (msg : Message) (bytes : List ℕ) → IsSpelledMessage version msg bytes →
-      Spells (fits version msg) (message_bytes version msg) bytes
-  message-row (PrePrepare v slot x sig) bytes h = record {
+  message-row : (body : Body) (sig bytes : List ℕ) → IsSpelledSigned version body sig bytes →
+      Spells (fits_signed version body sig) (signed_bytes version body sig) bytes
+  message-row (Pre_prepare_body v slot x) sig bytes h = record {
     fits = both _ _ (lt-ltb v (2 ^ 16) h.0) (both _ _ (lt-ltb slot.0 (2 ^ 64) h.1) (both _ _ (value-fits version x h.3.0 h.3.1) h.2));
     is = h.3.2 ∙ pre_prepare-row v slot.0 sig h.3.0 (spell_value version x) (value-bytes version x h.3.0 h.3.1);
   }
-  message-row (Prepare v slot d sig) bytes h = at-bytes 2 v slot.0 d sig bytes h
-  message-row (Commit v slot d sig) bytes h = at-bytes 3 v slot.0 d sig bytes h
-  message-row (ViewChange v cs sig) bytes h =
+  message-row (Prepare_body v slot d) sig bytes h = at-bytes 2 v slot.0 d sig bytes h
+  message-row (Commit_body v slot d) sig bytes h = at-bytes 3 v slot.0 d sig bytes h
+  message-row (View_change_body v cs) sig bytes h =
       let change = change-bytes v cs sig h.0 h.1 in
       record { fits = change.fits; is = h.2 ∙ ap (λ (z : List ℕ). 4 ∷ z) change.is }
-  message-row (NewView v xs sigs sig) bytes h =
+  message-row (New_view_body v xs sigs) sig bytes h =
       let all = changes-bytes 0 xs h.changes h.changes_are in
       let signed = signatures-bytes sigs h.signatures h.signatures_are in
       record {
@@ -206,8 +207,8 @@ module _ (version : ℕ) where
   message-related msg bytes = (
     (λ h.
         let t = message-parts version bytes [] msg h in
-        subst (λ (z : List ℕ). IsSpelledMessage version msg z) (sym (t.parts ∙ append-nil (message_bytes version msg))) (message-table msg t.fits)),
+        subst (λ (z : List ℕ). IsSpelledMessage version msg z) (sym (t.parts ∙ append-nil (message_bytes version msg))) (message-table msg.body msg.sig t.fits)),
     (λ h.
-        let r = message-row msg bytes h in
+        let r = message-row msg.body msg.sig bytes h in
         ap (parse version) (r.is ∙ sym (append-nil (message_bytes version msg))) ∙ message-again version msg [] r.fits),
   )

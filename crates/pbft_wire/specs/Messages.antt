@@ -1,7 +1,7 @@
 -- How the messages of PBFT are encoded and decoded. The table is also stated as a relation, so each message has
 -- exactly one encoding. Numbers have their highest byte first.
 --
---   message      its number (1 byte), its fields, its sender's signature
+--   message      its number (1 byte), the fields of its body, its sender's signature
 --   PrePrepare   1: view (2), slot (8), value
 --   Prepare      2: view (2), slot (8), digest (32)
 --   Commit       3: view (2), slot (8), digest (32)
@@ -17,7 +17,9 @@ use Rattle.iss_request.specs.declared.ids.Slot.{Slot}
 use Rattle.iss_sb.specs.Ascending.{all_ascend, ascending}
 use Rattle.pbft_wire.specs.declared.messages.Change.{Change}
 use Rattle.pbft_wire.specs.declared.messages.Message.{Message}
-use Rattle.pbft_wire.specs.declared.messages.Message.TheVariants.{PrePrepare, Prepare, Commit, ViewChange, NewView}
+use Rattle.pbft_wire.specs.declared.messages.Body.{Body}
+use Rattle.pbft_wire.specs.declared.messages.Body.TheVariants.{PrePrepare as Pre_prepare_body, Prepare as Prepare_body, Commit as Commit_body, ViewChange as View_change_body, NewView as New_view_body}
+use Rattle.pbft_wire.specs.Signed.{PrePrepare, Prepare, Commit, ViewChange, NewView}
 use Rattle.pbft_wire.specs.Certificates.{IsSpelledChange, change_bytes, count, fits_change, fits_count, fits_slot, fits_value, fits_view, parse_change}
 
 -- ---- which messages have an encoding
@@ -35,14 +37,17 @@ fits_changes version from xs = all_ascend (fits_node_change version) node_of_cha
 abbrev pub fits_at : ℕ → ℕ → List ℕ → List ℕ → Bool
 fits_at v s d sig = fits_view v && (fits_slot s && ((length d == 32) && is_signature sig))
 
-abbrev pub fits : ℕ → Message → Bool
-fits version (PrePrepare v slot x sig) = fits_view v && (fits_slot slot.0 && (fits_value version x && is_signature sig))
-fits version (Prepare v slot d sig) = fits_at v slot.0 d sig
-fits version (Commit v slot d sig) = fits_at v slot.0 d sig
-fits version (ViewChange v cs sig) = fits_change version v cs sig
-fits version (NewView v xs sigs sig) =
+abbrev pub fits_signed : ℕ → Body → List ℕ → Bool
+fits_signed version (Pre_prepare_body v slot x) sig = fits_view v && (fits_slot slot.0 && (fits_value version x && is_signature sig))
+fits_signed version (Prepare_body v slot d) sig = fits_at v slot.0 d sig
+fits_signed version (Commit_body v slot d) sig = fits_at v slot.0 d sig
+fits_signed version (View_change_body v cs) sig = fits_change version v cs sig
+fits_signed version (New_view_body v xs sigs) sig =
     fits_view v && ((fits_count (length xs) && fits_changes version 0 xs) &&
     ((fits_count (length sigs) && list_all is_signature sigs) && is_signature sig))
+
+abbrev pub fits : ℕ → Message → Bool
+fits version msg = fits_signed version msg.body msg.sig
 
 -- ---- encoding. A message without one is written as the number of no message
 
@@ -60,12 +65,15 @@ new_bytes version v xs sigs sig =
     to_be_bytes w16 v ++
     (length xs ∷ (flat_map (node_change_bytes version) xs ++ (length sigs ∷ (flat_map as_is sigs ++ sig))))
 
+abbrev pub signed_bytes : ℕ → Body → List ℕ → List ℕ
+signed_bytes version (Pre_prepare_body v slot x) sig = 1 ∷ at_bytes v slot.0 (spell_value version x ++ sig)
+signed_bytes version (Prepare_body v slot d) sig = 2 ∷ at_bytes v slot.0 (d ++ sig)
+signed_bytes version (Commit_body v slot d) sig = 3 ∷ at_bytes v slot.0 (d ++ sig)
+signed_bytes version (View_change_body v cs) sig = 4 ∷ change_bytes version v cs sig
+signed_bytes version (New_view_body v xs sigs) sig = 5 ∷ new_bytes version v xs sigs sig
+
 abbrev pub message_bytes : ℕ → Message → List ℕ
-message_bytes version (PrePrepare v slot x sig) = 1 ∷ at_bytes v slot.0 (spell_value version x ++ sig)
-message_bytes version (Prepare v slot d sig) = 2 ∷ at_bytes v slot.0 (d ++ sig)
-message_bytes version (Commit v slot d sig) = 3 ∷ at_bytes v slot.0 (d ++ sig)
-message_bytes version (ViewChange v cs sig) = 4 ∷ change_bytes version v cs sig
-message_bytes version (NewView v xs sigs sig) = 5 ∷ new_bytes version v xs sigs sig
+message_bytes version msg = signed_bytes version msg.body msg.sig
 
 abbrev pub no_message : List ℕ
 no_message = 0 ∷ []
@@ -107,16 +115,19 @@ pub record IsSpelledNew (version v : ℕ) (xs : List Change) (sigs : List (List 
   pub signed : is_signature sig ≡ true
   pub row : bytes ≡ 5 ∷ (to_be_bytes w16 v ++ (length xs ∷ (changes ++ (length sigs ∷ (signatures ++ sig)))))
 
--- rule: PBFT: A message has one encoding, with replicas and slots strictly ascending
-abbrev pub IsSpelledMessage : ℕ → Message → List ℕ → Type 0
-IsSpelledMessage version (PrePrepare v slot x sig) bytes =
+abbrev pub IsSpelledSigned : ℕ → Body → List ℕ → List ℕ → Type 0
+IsSpelledSigned version (Pre_prepare_body v slot x) sig bytes =
     (v < 2 ^ 16) × (slot.0 < 2 ^ 64) × (is_signature sig ≡ true) ×
     ((value : List ℕ) × IsSpelledValue version x value × (bytes ≡ 1 ∷ at_bytes v slot.0 (value ++ sig)))
-IsSpelledMessage version (Prepare v slot d sig) bytes = IsSpelledAt 2 v slot.0 d sig bytes
-IsSpelledMessage version (Commit v slot d sig) bytes = IsSpelledAt 3 v slot.0 d sig bytes
-IsSpelledMessage version (ViewChange v cs sig) bytes =
+IsSpelledSigned version (Prepare_body v slot d) sig bytes = IsSpelledAt 2 v slot.0 d sig bytes
+IsSpelledSigned version (Commit_body v slot d) sig bytes = IsSpelledAt 3 v slot.0 d sig bytes
+IsSpelledSigned version (View_change_body v cs) sig bytes =
     (fields : List ℕ) × IsSpelledChange version v cs sig fields × (bytes ≡ 4 ∷ fields)
-IsSpelledMessage version (NewView v xs sigs sig) bytes = IsSpelledNew version v xs sigs sig bytes
+IsSpelledSigned version (New_view_body v xs sigs) sig bytes = IsSpelledNew version v xs sigs sig bytes
+
+-- rule: PBFT: A message has one encoding, with replicas and slots strictly ascending
+abbrev pub IsSpelledMessage : ℕ → Message → List ℕ → Type 0
+IsSpelledMessage version msg bytes = IsSpelledSigned version msg.body msg.sig bytes
 
 -- ---- decoding
 

@@ -10,6 +10,8 @@ use Rattle.iss_request.specs.Formats.{value_string}
 use Rattle.iss_request.specs.declared.requests.Value.{Value}
 use Rattle.iss_sb.specs.declared.effects.Params.{Params}
 use Rattle.iss_sb.specs.Statements.{eight_bytes, statement_head, two_bytes}
+use Rattle.pbft_wire.specs.declared.messages.Body.{Body}
+use Rattle.pbft_wire.specs.declared.messages.Body.TheVariants.{PrePrepare, Prepare, Commit, ViewChange, NewView}
 use Rattle.pbft_wire.specs.declared.messages.Certificate.{Certificate}
 
 abbrev pub tag : ℕ
@@ -42,3 +44,11 @@ state_change p v cs = statement p 4 v (length cs ∷ marks p cs)
 
 abbrev pub state_new : Params → ℕ → List ℕ
 state_new p v = statement p 5 v []
+
+-- the statement of a body, which its sender signs
+abbrev pub stated : Params → Body → List ℕ
+stated p (PrePrepare v slot x) = state_at p 1 v slot.0 (digest_of p x)
+stated p (Prepare v slot d) = state_at p 2 v slot.0 d
+stated p (Commit v slot d) = state_at p 3 v slot.0 d
+stated p (ViewChange v cs) = state_change p v cs
+stated p (NewView v xs sigs) = state_new p v

@@ -11,7 +11,7 @@ pub mod writing;
 
 pub use copies::{copy_certificates, copy_changes};
 pub use laws::messages_are_exact;
-pub use messages::{Certificate, Change, Message};
+pub use messages::{Body, Certificate, Change, Message};
 pub use reading::read;
 pub use signing::{
     Mark, digest_of, mark_of, state_at, state_change, state_marked, state_new, string_of,

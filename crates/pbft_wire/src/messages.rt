@@ -22,38 +22,40 @@ pub struct Change {
     pub sig: Bytes,
 }
 
-/// A message of PBFT. A PrePrepare is the primary's proposal; a Prepare says that its sender accepted it, a Commit
+/// The body of a message. A PrePrepare is the primary's proposal; a Prepare says that its sender accepted it, a Commit
 /// that it is prepared. A ViewChange asks for a view and shows the sender's prepared certificates. A NewView starts a
 /// view: `signatures` are the primary's on its PrePrepares, in the order of the slots.
 #[derive(Drop)]
-pub enum Message {
+pub enum Body {
     PrePrepare {
         view: u16,
         slot: Slot,
         value: Value,
-        sig: Bytes,
     },
     Prepare {
         view: u16,
         slot: Slot,
         digest: [u8; 32],
-        sig: Bytes,
     },
     Commit {
         view: u16,
         slot: Slot,
         digest: [u8; 32],
-        sig: Bytes,
     },
     ViewChange {
         view: u16,
         certificates: Seq<Certificate>,
-        sig: Bytes,
     },
     NewView {
         view: u16,
         changes: Seq<Change>,
         signatures: Seq<Bytes>,
-        sig: Bytes,
     },
+}
+
+/// A message of PBFT: its body, and its sender's signature of the body's statement.
+#[derive(Drop)]
+pub struct Message {
+    pub body: Body,
+    pub sig: Bytes,
 }

@@ -10,7 +10,7 @@ ghost use Rattle.pbft_wire.specs.Certificates.{count, parse_certificate, parse_c
 ghost use Rattle.pbft_wire.specs.Messages.{commit, parse, parse_at, parse_changes, parse_new_view, parse_node_change, parse_pre_prepare, parse_view_change, prepare};
 ghost use Rattle.pbft_wire.specs.declared.messages.Message.{Message};
 
-use crate::messages::{Certificate, Change, Message};
+use crate::messages::{Body, Certificate, Change, Message};
 use crate::signing::{COMMIT, NEW_VIEW, PRE_PREPARE, PREPARE, VIEW_CHANGE};
 use iss_request::{Bytes, DecodeError, Fields, NodeId, Seq, Slot, read_signature, read_value};
 use iss_sb::read_signers;
@@ -205,12 +205,12 @@ fn read_pre_prepare(alloc: Global, f: &mut Fields) -> Result<Message, DecodeErro
     let slot = f.read_u64()?;
     let value = read_value(alloc, f)?;
     let sig = read_signature(alloc, f)?;
-    Ok(Message::PrePrepare {
+    let body = Body::PrePrepare {
         view,
         slot: Slot(slot),
         value,
-        sig,
-    })
+    };
+    Ok(Message { body, sig })
 }
 
 // The fields of a Prepare or a Commit.
@@ -251,12 +251,8 @@ fn read_prepare(alloc: Global, f: &mut Fields) -> Result<Message, DecodeError>
         digest,
         sig,
     } = at;
-    Ok(Message::Prepare {
-        view,
-        slot,
-        digest,
-        sig,
-    })
+    let body = Body::Prepare { view, slot, digest };
+    Ok(Message { body, sig })
 }
 
 fn read_commit(alloc: Global, f: &mut Fields) -> Result<Message, DecodeError>
@@ -270,12 +266,8 @@ fn read_commit(alloc: Global, f: &mut Fields) -> Result<Message, DecodeError>
         digest,
         sig,
     } = at;
-    Ok(Message::Commit {
-        view,
-        slot,
-        digest,
-        sig,
-    })
+    let body = Body::Commit { view, slot, digest };
+    Ok(Message { body, sig })
 }
 
 fn read_view_change(alloc: Global, f: &mut Fields) -> Result<Message, DecodeError>
@@ -291,11 +283,8 @@ fn read_view_change(alloc: Global, f: &mut Fields) -> Result<Message, DecodeErro
         sig,
         ..
     } = change;
-    Ok(Message::ViewChange {
-        view,
-        certificates,
-        sig,
-    })
+    let body = Body::ViewChange { view, certificates };
+    Ok(Message { body, sig })
 }
 
 fn read_new_view(alloc: Global, f: &mut Fields) -> Result<Message, DecodeError>
@@ -309,10 +298,10 @@ fn read_new_view(alloc: Global, f: &mut Fields) -> Result<Message, DecodeError>
     let second = read_count(f)?;
     let signatures = read_signatures(alloc, second, f)?;
     let sig = read_signature(alloc, f)?;
-    Ok(Message::NewView {
+    let body = Body::NewView {
         view,
         changes,
         signatures,
-        sig,
-    })
+    };
+    Ok(Message { body, sig })
 }

@@ -5,12 +5,12 @@ ghost use Rattle.iss_request.specs.Fields.{and_bytes};
 ghost use Rattle.iss_request.specs.Formats.{has_spelling, is_signature, spell_value};
 ghost use Rattle.pbft_wire.specs.Certificates.{certificate_bytes, change_bytes};
 ghost use Rattle.pbft_wire.specs.Certificates.{fits_certificate, fits_certificates, fits_change, fits_value};
-ghost use Rattle.pbft_wire.specs.declared.messages.Message.TheVariants.{NewView, PrePrepare};
+ghost use Rattle.pbft_wire.specs.Signed.{NewView, PrePrepare};
 ghost use Rattle.pbft_wire.specs.Messages.{as_is, at_bytes, fits, fits_at, fits_changes, message_bytes, new_bytes, node_change_bytes, spell};
 
-use crate::messages::{Certificate, Change, Message};
+use crate::messages::{Body, Certificate, Change, Message};
 use crate::reading::{node_follows, slot_follows};
-use crate::signing::{COMMIT, NEW_VIEW, PRE_PREPARE, PREPARE, VIEW_CHANGE};
+use crate::signing::{COMMIT, Mark, NEW_VIEW, PRE_PREPARE, PREPARE, VIEW_CHANGE};
 use iss_request::{
     Bytes, NoMemory, Request, Slot, Value, Writer, has_shape, is_spellable, requests_most,
     write_value,
@@ -125,39 +125,25 @@ fn new_view_fits(
 fn is_well_formed(version: u8, msg: &Message) -> bool
     ensures { result ≡ fits version msg.now }
 {
-    match msg {
-        Message::PrePrepare {
-            view,
-            slot,
-            value,
-            sig,
-        } => proposal_fits(version, *view, *slot, value, sig.as_slice()),
-        Message::Prepare {
-            view,
-            slot,
-            digest,
-            sig,
-        } => vote_fits(*view, *slot, digest, sig.as_slice()),
-        Message::Commit {
-            view,
-            slot,
-            digest,
-            sig,
-        } => vote_fits(*view, *slot, digest, sig.as_slice()),
-        Message::ViewChange {
-            view,
-            certificates,
-            sig,
-        } => change_fits(version, *view, certificates.as_slice(), sig.as_slice()),
-        Message::NewView {
+    let sig = msg.sig.as_slice();
+    match &msg.body {
+        Body::PrePrepare { view, slot, value } => proposal_fits(version, *view, *slot, value, sig),
+        Body::Prepare { view, slot, digest } => vote_fits(*view, *slot, digest, sig),
+        Body::Commit { view, slot, digest } => vote_fits(*view, *slot, digest, sig),
+        Body::ViewChange { view, certificates } => {
+            change_fits(version, *view, certificates.as_slice(), sig)
+        }
+        Body::NewView {
             view,
             changes,
             signatures,
+        } => new_view_fits(
+            version,
+            *view,
+            changes.as_slice(),
+            signatures.as_slice(),
             sig,
-        } => {
-            let all = signatures.as_slice();
-            new_view_fits(version, *view, changes.as_slice(), all, sig.as_slice())
-        }
+        ),
     }
 }
 
@@ -228,19 +214,14 @@ fn put_signatures(signatures: &[Bytes], out: &mut Writer) -> Result<(), NoMemory
     Ok(())
 }
 
-fn put_at(
-    kind: u8,
-    view: u16,
-    slot: Slot,
-    digest: &[u8; 32],
-    sig: &[u8],
-    out: &mut Writer,
-) -> Result<(), NoMemory>
-    ensures { OnOk result (out.new ≡ and_bytes out.old (kind ∷ at_bytes view slot.0 (digest.now ++ sig.now))) }
+fn put_at(kind: u8, mark: &Mark, sig: &[u8], out: &mut Writer) -> Result<(), NoMemory>
+    ensures { OnOk result (out.new ≡
+        and_bytes out.old (kind ∷ at_bytes mark.now.view mark.now.slot.0 (mark.now.digest ++ sig.now))) }
 {
     out.put_u8(kind)?;
-    out.put_u16(view)?;
-    out.put_u64(slot.0)?;
+    out.put_u16(mark.view)?;
+    out.put_u64(mark.slot.0)?;
+    let digest = &mark.digest;
     out.put_bytes(digest)?;
     out.put_bytes(sig)
 }
@@ -298,46 +279,37 @@ fn put_view_change(
     put_change(view, certificates, sig, out)
 }
 
+fn mark(view: u16, slot: Slot, digest: &[u8; 32]) -> Mark
+    ensures { result ≡ record { slot = slot; view = view; digest = digest.now } }
+{
+    Mark {
+        slot,
+        view,
+        digest: *digest,
+    }
+}
+
 fn put_message(msg: &Message, out: &mut Writer) -> Result<(), NoMemory>
     requires { fits out.old.version msg.now ≡ true }
     ensures { OnOk result (out.new ≡ and_bytes out.old (message_bytes out.old.version msg.now)) }
 {
-    match msg {
-        Message::PrePrepare {
-            view,
-            slot,
-            value,
-            sig,
-        } => put_pre_prepare(*view, *slot, value, sig.as_slice(), out),
-        Message::Prepare {
-            view,
-            slot,
-            digest,
-            sig,
-        } => put_at(PREPARE, *view, *slot, digest, sig.as_slice(), out),
-        Message::Commit {
-            view,
-            slot,
-            digest,
-            sig,
-        } => put_at(COMMIT, *view, *slot, digest, sig.as_slice(), out),
-        Message::ViewChange {
-            view,
-            certificates,
-            sig,
-        } => put_view_change(*view, certificates.as_slice(), sig.as_slice(), out),
-        Message::NewView {
+    let sig = msg.sig.as_slice();
+    match &msg.body {
+        Body::PrePrepare { view, slot, value } => put_pre_prepare(*view, *slot, value, sig, out),
+        Body::Prepare { view, slot, digest } => {
+            put_at(PREPARE, &mark(*view, *slot, digest), sig, out)
+        }
+        Body::Commit { view, slot, digest } => {
+            put_at(COMMIT, &mark(*view, *slot, digest), sig, out)
+        }
+        Body::ViewChange { view, certificates } => {
+            put_view_change(*view, certificates.as_slice(), sig, out)
+        }
+        Body::NewView {
             view,
             changes,
             signatures,
-            sig,
-        } => put_new_view(
-            *view,
-            changes.as_slice(),
-            signatures.as_slice(),
-            sig.as_slice(),
-            out,
-        ),
+        } => put_new_view(*view, changes.as_slice(), signatures.as_slice(), sig, out),
     }
 }
 

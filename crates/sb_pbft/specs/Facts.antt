@@ -17,7 +17,7 @@ use Rattle.iss_sb.specs.Legal.{Front}
 use Rattle.pbft_wire.specs.declared.messages.Certificate.{Certificate}
 use Rattle.pbft_wire.specs.declared.messages.Change.{Change}
 use Rattle.pbft_wire.specs.declared.messages.Message.{Message}
-use Rattle.pbft_wire.specs.declared.messages.Message.TheVariants.{Commit, ViewChange}
+use Rattle.pbft_wire.specs.Signed.{Commit, ViewChange}
 use Rattle.pbft_wire.specs.Certificates.{fits_value}
 use Rattle.pbft_wire.specs.Statements.{digest_of, state_at, state_change, string_of}
 use Rattle.pbft_views.specs.Choice.{choice}

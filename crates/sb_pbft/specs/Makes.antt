@@ -2,6 +2,7 @@
 -- strings that it hashes. It keeps a certificate for each Commit that it sends.
 use Rattle.std.specs.Prelude.{ℕ, suc, ◌+◌, ◌*◌, ◌==◌, ◌&&◌, ◌||◌, Bool, false, not, cond, List, [], ◌∷◌, ◌++◌, length, take, Option, Some, None, is_some}
 use Rattle.iss_base.specs.Lists.{first_of}
+use Rattle.iss_request.specs.declared.ids.NodeId.{NodeId}
 use Rattle.iss_request.specs.declared.ids.Slot.{Slot}
 use Rattle.iss_request.specs.declared.requests.Batch.{Batch}
 use Rattle.iss_request.specs.declared.requests.Value.{Value}
@@ -17,8 +18,9 @@ use Rattle.iss_sb.specs.Statements.{signature}
 use Rattle.pbft_wire.specs.declared.messages.Certificate.{Certificate}
 use Rattle.pbft_wire.specs.declared.messages.Change.{Change}
 use Rattle.pbft_wire.specs.declared.messages.Message.{Message}
-use Rattle.pbft_wire.specs.declared.messages.Message.TheVariants.{PrePrepare, Prepare, Commit, ViewChange, NewView}
-use Rattle.pbft_wire.specs.Statements.{digest_of, state_at, state_change, state_new, string_of}
+use Rattle.pbft_wire.specs.declared.messages.Body.{Body}
+use Rattle.pbft_wire.specs.declared.messages.Body.TheVariants.{PrePrepare, Prepare, Commit, ViewChange, NewView}
+use Rattle.pbft_wire.specs.Statements.{digest_of, state_at, stated, string_of}
 use Rattle.pbft_views.specs.Choice.{best, certificates_of, choice}
 use Rattle.pbft_views.specs.Good.{all_good, primary}
 use Rattle.sb_pbft.specs.Rules.{asked, change_of, changes, completes, cons_some, enters, mode, Mode, offer, passes, prepared, prepares, when}
@@ -29,14 +31,15 @@ inputs (x ∷ xs) = x.input ∷ inputs xs
 
 -- ---- the signature of a proposal's PrePrepare
 
+-- the signature of a PrePrepare
+abbrev pub sig_heard : Body → List ℕ → List ℕ
+sig_heard (PrePrepare v slot x) sig = sig
+sig_heard other sig = []
+
 -- in view 0: the leader's own, which is the first signature of a step that accepts a cast, or that of the PrePrepare
 abbrev pub first_sig : Params → ℕ → ℕ → Slot × Batch → Input Message → List ℕ
 first_sig p me leaf a (Cast slot batch) = signature p me leaf (state_at p 1 0 a.0.0 (digest_of p (Value_batch a.1)))
-first_sig p me leaf a (Receive from (PrePrepare v slot x sig)) = sig
-first_sig p me leaf a (Receive from (Prepare v slot d sig)) = []
-first_sig p me leaf a (Receive from (Commit v slot d sig)) = []
-first_sig p me leaf a (Receive from (ViewChange v cs sig)) = []
-first_sig p me leaf a (Receive from (NewView v xs sigs sig)) = []
+first_sig p me leaf a (Receive from msg) = sig_heard msg.body msg.sig
 first_sig p me leaf a Timeout = []
 
 abbrev pub offered_sig : Params → ℕ → Option (Slot × Batch) → ℕ → ℕ → Item Message → Option (List ℕ)
@@ -49,14 +52,14 @@ sig_for s [] sigs = None
 sig_for s (t ∷ ts) [] = None
 sig_for s (t ∷ ts) (sig ∷ sigs) = cond (t.0 == s) (Some sig) (sig_for s ts sigs)
 
+abbrev pub chosen_sig_heard : Params → Mode → ℕ → Body → ℕ → ℕ → Option (List ℕ)
+chosen_sig_heard p m from (NewView w xs sigs) v s =
+    cond ((v == w) && (has_slot s p.slots && enters p m from w xs sigs)) (sig_for s p.slots sigs) None
+chosen_sig_heard p m from other v s = None
+
 abbrev pub chosen_sig : Params → Mode → Input Message → ℕ → ℕ → Option (List ℕ)
 chosen_sig p m (Cast slot batch) v s = None
-chosen_sig p m (Receive from (PrePrepare w slot x sig)) v s = None
-chosen_sig p m (Receive from (Prepare w slot d sig)) v s = None
-chosen_sig p m (Receive from (Commit w slot d sig)) v s = None
-chosen_sig p m (Receive from (ViewChange w cs sig)) v s = None
-chosen_sig p m (Receive from (NewView w xs sigs sig)) v s =
-    cond ((v == w) && (has_slot s p.slots && enters p m from.0 w xs sigs)) (sig_for s p.slots sigs) None
+chosen_sig p m (Receive from msg) v s = chosen_sig_heard p m from.0 msg.body v s
 chosen_sig p m Timeout v s = None
 
 -- the signature of the PrePrepare of 'proposal', by the same recursion
@@ -128,30 +131,28 @@ first_draft p me (Some a) =
     (DraftPrepare 0 a.0 (digest_of p (Value_batch a.1))) ∷ []
 
 -- the messages that come first: for an accepted batch, a due NewView, or a timeout
+abbrev pub lead_heard : Params → ℕ → List (Item Message) → Input Message → Body → List Draft
+lead_heard p me xs i (PrePrepare v slot x) = first_draft p me (asked p me (inputs xs) i)
+lead_heard p me xs i (ViewChange v cs) =
+    cond (completes p me (inputs xs) i v) (DraftNewView v (changes p (i ∷ inputs xs) v) ∷ []) []
+lead_heard p me xs i other = []
+
 abbrev pub lead : Params → ℕ → List (Item Message) → Input Message → List Draft
 lead p me xs (Cast slot batch) = first_draft p me (asked p me (inputs xs) (Cast slot batch))
-lead p me xs (Receive from (PrePrepare v slot x sig)) =
-    first_draft p me (asked p me (inputs xs) (Receive from (PrePrepare v slot x sig)))
-lead p me xs (Receive from (Prepare v slot d sig)) = []
-lead p me xs (Receive from (Commit v slot d sig)) = []
-lead p me xs (Receive from (ViewChange v cs sig)) =
-    cond (completes p me (inputs xs) (Receive from (ViewChange v cs sig)) v)
-    (DraftNewView v (changes p (Receive from (ViewChange v cs sig) ∷ inputs xs) v) ∷ []) []
-lead p me xs (Receive from (NewView v changes sigs sig)) = []
+lead p me xs (Receive from msg) = lead_heard p me xs (Receive from msg) msg.body
 lead p me xs Timeout =
     cond (passes (mode p (inputs xs)))
     (DraftViewChange ((mode p (inputs xs)).view + 1) (tops (kept p me xs) p.slots) ∷ []) []
 
 -- the Prepare of a backup for the slot when it enters a new view
+abbrev pub answer_heard : Params → ℕ → Mode → ℕ → Body → Slot → List Draft
+answer_heard p me m from (NewView v xs sigs) s =
+    cond (enters p m from v xs sigs && not (me == primary p v)) (DraftPrepare v s (digest_of p (choice xs s.0)) ∷ []) []
+answer_heard p me m from other s = []
+
 abbrev pub answer : Params → ℕ → Mode → Input Message → Slot → List Draft
 answer p me m (Cast slot batch) s = []
-answer p me m (Receive from (PrePrepare v slot x sig)) s = []
-answer p me m (Receive from (Prepare v slot d sig)) s = []
-answer p me m (Receive from (Commit v slot d sig)) s = []
-answer p me m (Receive from (ViewChange v cs sig)) s = []
-answer p me m (Receive from (NewView v xs sigs sig)) s =
-    cond (enters p m from.0 v xs sigs && not (me == primary p v))
-    (DraftPrepare v s (digest_of p (choice xs s.0)) ∷ []) []
+answer p me m (Receive from msg) s = answer_heard p me m from.0 msg.body s
 answer p me m Timeout s = []
 
 -- the Commit for the slot, if one is due
@@ -186,16 +187,19 @@ uses p (DraftCommit v slot d) = 1
 uses p (DraftViewChange v cs) = 1
 uses p (DraftNewView v xs) = length p.slots + 1
 
+-- the body, with the signature of its statement by this leaf
+abbrev pub signed_by : Params → ℕ → ℕ → Body → Message
+signed_by p me leaf body = record { body = body; sig = signature p me leaf (stated p body) }
+
 -- a NewView signs its PrePrepares first, and then itself
 -- rule: PBFT: A new view's primary signs a PrePrepare of each slot's choice, and then its NewView
 abbrev pub sign : Params → ℕ → ℕ → Draft → Message
-sign p me leaf (DraftPrePrepare slot x) =
-    PrePrepare 0 slot x (signature p me leaf (state_at p 1 0 slot.0 (digest_of p x)))
-sign p me leaf (DraftPrepare v slot d) = Prepare v slot d (signature p me leaf (state_at p 2 v slot.0 d))
-sign p me leaf (DraftCommit v slot d) = Commit v slot d (signature p me leaf (state_at p 3 v slot.0 d))
-sign p me leaf (DraftViewChange v cs) = ViewChange v cs (signature p me leaf (state_change p v cs))
+sign p me leaf (DraftPrePrepare slot x) = signed_by p me leaf (PrePrepare 0 slot x)
+sign p me leaf (DraftPrepare v slot d) = signed_by p me leaf (Prepare v slot d)
+sign p me leaf (DraftCommit v slot d) = signed_by p me leaf (Commit v slot d)
+sign p me leaf (DraftViewChange v cs) = signed_by p me leaf (ViewChange v cs)
 sign p me leaf (DraftNewView v xs) =
-    NewView v xs (choice_sigs p me leaf v xs p.slots) (signature p me (leaf + length p.slots) (state_new p v))
+    signed_by p me (leaf + length p.slots) (NewView v xs (choice_sigs p me leaf v xs p.slots))
 
 -- each message is sent to all
 abbrev pub sign_all : Params → ℕ → ℕ → List Draft → List (To × Message)
@@ -222,18 +226,18 @@ asked_strings p (Some a) = string_of p (Value_batch a.1) ∷ []
 
 -- the strings that an input hashes: of an accepted batch; of the values in a stored ViewChange, or in a NewView that
 -- is entered. A NewView that is sent or entered adds those of its choices, slot by slot
+abbrev pub strings_heard : Params → ℕ → List (Input Message) → NodeId → Message → Body → List (List ℕ)
+strings_heard p me l from msg (PrePrepare v slot x) = asked_strings p (asked p me l (Receive from msg))
+strings_heard p me l from msg (ViewChange v cs) =
+    cond (all_good p v cs && not (is_some (change_of p l v from.0))) (value_strings p cs) [] ++
+    cond (completes p me l (Receive from msg) v) (choice_strings p (changes p (Receive from msg ∷ l) v) p.slots) []
+strings_heard p me l from msg (NewView v xs sigs) =
+    cond (enters p (mode p l) from.0 v xs sigs) (value_strings p (certificates_of xs) ++ choice_strings p xs p.slots) []
+strings_heard p me l from msg other = []
+
 abbrev pub strings : Params → ℕ → List (Input Message) → Input Message → List (List ℕ)
 strings p me l (Cast slot batch) = asked_strings p (asked p me l (Cast slot batch))
-strings p me l (Receive from (PrePrepare v slot x sig)) =
-    asked_strings p (asked p me l (Receive from (PrePrepare v slot x sig)))
-strings p me l (Receive from (Prepare v slot d sig)) = []
-strings p me l (Receive from (Commit v slot d sig)) = []
-strings p me l (Receive from (ViewChange v cs sig)) =
-    cond (all_good p v cs && not (is_some (change_of p l v from.0))) (value_strings p cs) [] ++
-    cond (completes p me l (Receive from (ViewChange v cs sig)) v)
-    (choice_strings p (changes p (Receive from (ViewChange v cs sig) ∷ l) v) p.slots) []
-strings p me l (Receive from (NewView v xs sigs sig)) =
-    cond (enters p (mode p l) from.0 v xs sigs) (value_strings p (certificates_of xs) ++ choice_strings p xs p.slots) []
+strings p me l (Receive from msg) = strings_heard p me l from msg msg.body
 strings p me l Timeout = []
 
 abbrev pub made_of : Params → ℕ → ℕ → Option (Slot × Batch) → List (List ℕ) → List Draft → Made Message

@@ -4,10 +4,11 @@
 -- ViewChange.
 use Rattle.std.specs.Prelude.{ℕ, zero, suc, ◌+◌, ◌*◌, ◌==◌, ◌&&◌, ◌||◌, Bool, true, false, not, cond, nat_lt, nat_le, List, [], ◌∷◌, length, Option, Some, None}
 use Rattle.iss_base.specs.Lists.{first_of, same_bytes}
+use Rattle.iss_request.specs.declared.ids.NodeId.{NodeId}
 use Rattle.iss_request.specs.declared.ids.Slot.{Slot}
 use Rattle.iss_request.specs.declared.requests.Batch.{Batch}
 use Rattle.iss_request.specs.declared.requests.Value.{Value}
-use Rattle.iss_request.specs.declared.requests.Value.TheVariants.{Nil as Value_nil, Batch as Value_batch}
+use Rattle.iss_request.specs.declared.requests.Value.TheVariants.{Batch as Value_batch}
 use Rattle.iss_sb.specs.declared.effects.Input.{Input}
 use Rattle.iss_sb.specs.declared.effects.Input.TheVariants.{Cast, Receive, Timeout}
 use Rattle.iss_sb.specs.declared.effects.Params.{Params}
@@ -15,7 +16,8 @@ use Rattle.iss_sb.specs.Calls.{has_slot}
 use Rattle.pbft_wire.specs.declared.messages.Change.{Change}
 use Rattle.iss_sb.specs.declared.signers.Signed.{Signed}
 use Rattle.pbft_wire.specs.declared.messages.Message.{Message}
-use Rattle.pbft_wire.specs.declared.messages.Message.TheVariants.{PrePrepare, Prepare, Commit, ViewChange, NewView}
+use Rattle.pbft_wire.specs.declared.messages.Body.{Body}
+use Rattle.pbft_wire.specs.declared.messages.Body.TheVariants.{PrePrepare, Prepare, Commit, ViewChange, NewView}
 use Rattle.pbft_wire.specs.Statements.{digest_of}
 use Rattle.pbft_views.specs.Choice.{choice}
 use Rattle.pbft_views.specs.Good.{all_good, are_enough, primary}
@@ -44,14 +46,13 @@ enters p m from v xs sigs =
 abbrev pub passes : Mode → Bool
 passes m = nat_lt m.view 65535
 
+abbrev pub mode_heard : Params → Mode → ℕ → Body → Mode
+mode_heard p m from (NewView v xs sigs) = cond (enters p m from v xs sigs) (record { view = v; active = true }) m
+mode_heard p m from other = m
+
 abbrev pub mode_after : Params → Mode → Input Message → Mode
 mode_after p m (Cast slot batch) = m
-mode_after p m (Receive from (PrePrepare v slot x sig)) = m
-mode_after p m (Receive from (Prepare v slot d sig)) = m
-mode_after p m (Receive from (Commit v slot d sig)) = m
-mode_after p m (Receive from (ViewChange v cs sig)) = m
-mode_after p m (Receive from (NewView v xs sigs sig)) =
-    cond (enters p m from.0 v xs sigs) (record { view = v; active = true }) m
+mode_after p m (Receive from msg) = mode_heard p m from.0 msg.body
 mode_after p m Timeout = cond (passes m) (record { view = m.view + 1; active = false }) m
 
 abbrev pub mode : Params → List (Input Message) → Mode
@@ -65,18 +66,18 @@ mode p (i ∷ l) = mode_after p (mode p l) i
 abbrev pub is_open : Params → Mode → ℕ → Bool
 is_open p m s = (m.view == 0) && (m.active && has_slot s p.slots)
 
+-- the batch that a body proposes in view 0
+abbrev pub offer_heard : Params → ℕ → Mode → ℕ → Body → Option (Slot × Batch)
+offer_heard p me m from (PrePrepare v slot (Value_batch b)) =
+    when ((not (me == p.leader.0) && (from == p.leader.0)) && ((v == 0) && is_open p m slot.0)) (slot, b)
+offer_heard p me m from other = None
+
 -- the batch that an input proposes in view 0, whether or not there is a proposal already: a cast at the leader, or
 -- the leader's PrePrepare at a backup
 -- rule: PBFT: The leader alone casts, and replicas take a batch from the leader alone
 abbrev pub offer : Params → ℕ → Mode → Input Message → Option (Slot × Batch)
 offer p me m (Cast slot batch) = when ((me == p.leader.0) && is_open p m slot.0) (slot, batch)
-offer p me m (Receive from (PrePrepare v slot Value_nil sig)) = None
-offer p me m (Receive from (PrePrepare v slot (Value_batch b) sig)) =
-    when ((not (me == p.leader.0) && (from.0 == p.leader.0)) && ((v == 0) && is_open p m slot.0)) (slot, b)
-offer p me m (Receive from (Prepare v slot d sig)) = None
-offer p me m (Receive from (Commit v slot d sig)) = None
-offer p me m (Receive from (ViewChange v cs sig)) = None
-offer p me m (Receive from (NewView v xs sigs sig)) = None
+offer p me m (Receive from msg) = offer_heard p me m from.0 msg.body
 offer p me m Timeout = None
 
 -- the value that an offer proposes at (v, s)
@@ -85,14 +86,14 @@ offered None v s = None
 offered (Some a) v s = when ((v == 0) && (s == a.0.0)) (Value_batch a.1)
 
 -- the value that a NewView proposes at (v, s)
+abbrev pub chosen_heard : Params → Mode → ℕ → Body → ℕ → ℕ → Option Value
+chosen_heard p m from (NewView w xs sigs) v s =
+    when ((v == w) && (has_slot s p.slots && enters p m from w xs sigs)) (choice xs s)
+chosen_heard p m from other v s = None
+
 abbrev pub chosen : Params → Mode → Input Message → ℕ → ℕ → Option Value
 chosen p m (Cast slot batch) v s = None
-chosen p m (Receive from (PrePrepare w slot x sig)) v s = None
-chosen p m (Receive from (Prepare w slot d sig)) v s = None
-chosen p m (Receive from (Commit w slot d sig)) v s = None
-chosen p m (Receive from (ViewChange w cs sig)) v s = None
-chosen p m (Receive from (NewView w xs sigs sig)) v s =
-    when ((v == w) && (has_slot s p.slots && enters p m from.0 w xs sigs)) (choice xs s)
+chosen p m (Receive from msg) v s = chosen_heard p m from.0 msg.body v s
 chosen p m Timeout v s = None
 
 -- the replica's proposal at (v, s): the value of the PrePrepare that it sent or accepted
@@ -124,15 +125,15 @@ pub record Ballot : Type 0 where
 abbrev pub is_at : ℕ → ℕ → ℕ → ℕ → ℕ → ℕ → Bool
 is_at from w t v s k = (from == k) && ((v == w) && (s == t))
 
+abbrev pub prepare_heard : Params → ℕ → Body → List ℕ → ℕ → ℕ → ℕ → Option Ballot
+prepare_heard p from (Prepare w slot d) sig v s k =
+    when (is_at from w slot.0 v s k && (has_slot slot.0 p.slots && not (from == primary p w)))
+    (record { digest = d; sig = sig })
+prepare_heard p from other sig v s k = None
+
 abbrev pub prepare_in : Params → Input Message → ℕ → ℕ → ℕ → Option Ballot
 prepare_in p (Cast slot batch) v s k = None
-prepare_in p (Receive from (PrePrepare w slot x sig)) v s k = None
-prepare_in p (Receive from (Prepare w slot d sig)) v s k =
-    when (is_at from.0 w slot.0 v s k && (has_slot slot.0 p.slots && not (from.0 == primary p w)))
-    (record { digest = d; sig = sig })
-prepare_in p (Receive from (Commit w slot d sig)) v s k = None
-prepare_in p (Receive from (ViewChange w cs sig)) v s k = None
-prepare_in p (Receive from (NewView w xs sigs sig)) v s k = None
+prepare_in p (Receive from msg) v s k = prepare_heard p from.0 msg.body msg.sig v s k
 prepare_in p Timeout v s k = None
 
 -- rule: PBFT: A replica's first Prepare and first Commit count, once a view and slot
@@ -141,14 +142,14 @@ abbrev pub prepare_of : Params → List (Input Message) → ℕ → ℕ → ℕ 
 prepare_of p [] v s k = None
 prepare_of p (i ∷ l) v s k = first_of (prepare_of p l v s k) (prepare_in p i v s k)
 
+abbrev pub commit_heard : Params → ℕ → Body → List ℕ → ℕ → ℕ → ℕ → Option Ballot
+commit_heard p from (Commit w slot d) sig v s k =
+    when (is_at from w slot.0 v s k && has_slot slot.0 p.slots) (record { digest = d; sig = sig })
+commit_heard p from other sig v s k = None
+
 abbrev pub commit_in : Params → Input Message → ℕ → ℕ → ℕ → Option Ballot
 commit_in p (Cast slot batch) v s k = None
-commit_in p (Receive from (PrePrepare w slot x sig)) v s k = None
-commit_in p (Receive from (Prepare w slot d sig)) v s k = None
-commit_in p (Receive from (Commit w slot d sig)) v s k =
-    when (is_at from.0 w slot.0 v s k && has_slot slot.0 p.slots) (record { digest = d; sig = sig })
-commit_in p (Receive from (ViewChange w cs sig)) v s k = None
-commit_in p (Receive from (NewView w xs sigs sig)) v s k = None
+commit_in p (Receive from msg) v s k = commit_heard p from.0 msg.body msg.sig v s k
 commit_in p Timeout v s k = None
 
 abbrev pub commit_of : Params → List (Input Message) → ℕ → ℕ → ℕ → Option Ballot
@@ -195,15 +196,15 @@ lowest in_view (suc v) = first_of (lowest in_view v) (in_view (suc v))
 -- ---- ViewChanges
 
 -- the ViewChange that an input brings, if it is good
-abbrev pub change_in : Params → Input Message → ℕ → ℕ → Option Change
-change_in p (Cast slot batch) v k = None
-change_in p (Receive from (PrePrepare w slot x sig)) v k = None
-change_in p (Receive from (Prepare w slot d sig)) v k = None
-change_in p (Receive from (Commit w slot d sig)) v k = None
-change_in p (Receive from (ViewChange w cs sig)) v k =
+abbrev pub change_heard : Params → NodeId → Body → List ℕ → ℕ → ℕ → Option Change
+change_heard p from (ViewChange w cs) sig v k =
     when (((from.0 == k) && (v == w)) && all_good p w cs)
     (record { node = from; view = w; certificates = cs; sig = sig })
-change_in p (Receive from (NewView w xs sigs sig)) v k = None
+change_heard p from other sig v k = None
+
+abbrev pub change_in : Params → Input Message → ℕ → ℕ → Option Change
+change_in p (Cast slot batch) v k = None
+change_in p (Receive from msg) v k = change_heard p from msg.body msg.sig v k
 change_in p Timeout v k = None
 
 -- rule: PBFT: A replica's first good ViewChange of a view is kept

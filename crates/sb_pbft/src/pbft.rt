@@ -3,6 +3,7 @@ ghost use Rattle.std.specs.Prelude.{◌≡◌, ◌≤◌, ◌*◌, ◌+◌, ℕ,
 ghost use Rattle.iss_keys.specs.KeyStates.{left_of};
 ghost use Rattle.iss_sb.specs.Calls.{IsGoodInput, IsGoodParams, IsTrueStep, named};
 ghost use Rattle.iss_sb.specs.Evidence.{Item};
+ghost use Rattle.pbft_wire.specs.Signed.{PrePrepare};
 ghost use Rattle.sb_pbft.specs.Pbft.{asks, pbft};
 ghost use Rattle.sb_pbft.specs.Internal.Refines.{Does, Refines};
 
@@ -17,7 +18,7 @@ use iss_request::{
     quorum,
 };
 use iss_sb::{Claim, Effects, Input, Params, Sequenced, asks_if};
-use pbft_wire::Message;
+use pbft_wire::{Body, Message};
 use sb_context::{Context, Modelled};
 use std::alloc::Global;
 use std::collections::BTreeSet;
@@ -58,7 +59,7 @@ impl Pbft {
     ) -> Result<Effects<Message>, NoMemory>
         requires { 2 * length context.now.p.now.slots + 1 ≤ left_of keys.old }
         ensures { IfOk result (λ e. Does context.now.p.now self.old self.new (Input.Receive offer.from
-            (Message.PrePrepare offer.view offer.slot value offer.sig)) keys.old keys.new e) }
+            (PrePrepare offer.view offer.slot value offer.sig)) keys.old keys.new e) }
     {
         match value {
             Value::Nil => Ok(Effects::nothing(context.alloc)),
@@ -72,13 +73,8 @@ impl Pbft {
         ensures { (me : ℕ) (xs : List (Item Message)) → Refines self.now p.now me xs →
             named result ≡ asks p.now me xs (Input.Receive from msg.now) }
     {
-        match msg {
-            Message::PrePrepare {
-                view,
-                slot,
-                value,
-                ..
-            } => match value {
+        match &msg.body {
+            Body::PrePrepare { view, slot, value } => match value {
                 Value::Batch(batch) => {
                     if self.may_take(p, from, *view, *slot) {
                         Some((*slot, batch))
@@ -104,47 +100,28 @@ impl Pbft {
         ensures { IfOk result (λ e.
             Does context.now.p.now self.old self.new (Input.Receive from msg) keys.old keys.new e) }
     {
-        match msg {
-            Message::PrePrepare {
-                view,
-                slot,
-                value,
-                sig,
-            } => {
+        let sig = msg.sig;
+        match msg.body {
+            Body::PrePrepare { view, slot, value } => {
                 let offer = Envelope::of(from, view, slot, sig);
                 Ok(self.take_proposal(context, offer, value, keys)?)
             }
-            Message::Prepare {
-                view,
-                slot,
-                digest,
-                sig,
-            } => {
+            Body::Prepare { view, slot, digest } => {
                 let vote = Envelope::of(from, view, slot, sig);
                 Ok(self.take_prepare(context, vote, digest, keys)?)
             }
-            Message::Commit {
-                view,
-                slot,
-                digest,
-                sig,
-            } => {
+            Body::Commit { view, slot, digest } => {
                 let vote = Envelope::of(from, view, slot, sig);
                 Ok(self.take_commit(context, vote, digest, keys)?)
             }
-            Message::ViewChange {
-                view,
-                certificates,
-                sig,
-            } => {
+            Body::ViewChange { view, certificates } => {
                 let change = change_of(from, view, certificates, sig);
                 Ok(self.take_change(context, change, keys)?)
             }
-            Message::NewView {
+            Body::NewView {
                 view,
                 changes,
                 signatures,
-                ..
             } => {
                 let new = NewView::of(from, view, changes, signatures);
                 Ok(self.take_new_view(context, new, keys)?)

@@ -1,6 +1,7 @@
 //! Proposals of view 0: batches that are cast to the leader, and the leader's PrePrepares.
 ghost use Rattle.std.specs.Prelude.{◌≡◌, ◌≤◌, ◌*◌, ◌+◌, length, IfOk};
 ghost use Rattle.iss_keys.specs.KeyStates.{left_of};
+ghost use Rattle.pbft_wire.specs.Signed.{PrePrepare};
 ghost use Rattle.sb_pbft.specs.Internal.Refines.{Does, HasAccepted, held, is_free, may_cast, may_take};
 
 use crate::pbft::Pbft;
@@ -13,7 +14,7 @@ use iss_request::{Batch, NoMemory, NodeId, Slot, Value};
 use iss_sb::{Effects, Input, Params, To};
 use pbft_views::has_slot;
 use pbft_wire::signing::PRE_PREPARE;
-use pbft_wire::{Mark, Message, string_of};
+use pbft_wire::{Body, Mark, Message, string_of};
 use sb_context::Context;
 
 // Accepts a batch at a slot. Returns the value that holds it, the value's digest, and the effects: an accepted batch
@@ -80,13 +81,12 @@ impl Pbft {
         let sig = sign_at(context, PRE_PREPARE, &mark, keys)?;
         let said = value.copy()?;
         let tag = sig.copy()?;
-        let msg = Message::PrePrepare {
+        let body = Body::PrePrepare {
             view,
             slot,
             value: said,
-            sig: tag,
         };
-        effects.sends.push((To::All, msg))?;
+        effects.sends.push((To::All, Message { body, sig: tag }))?;
         let proposal = Proposal { value, digest, sig };
         self.proposals.put(view, slot, proposal)?;
         let answers = false;
@@ -105,7 +105,7 @@ impl Pbft {
     ) -> Result<Effects<Message>, NoMemory>
         requires { 2 * length context.now.p.now.slots + 1 ≤ left_of keys.old }
         ensures { IfOk result (λ e. Does context.now.p.now self.old self.new (Input.Receive offer.from
-            (Message.PrePrepare offer.view offer.slot (Value.Batch batch) offer.sig)) keys.old keys.new e) }
+            (PrePrepare offer.view offer.slot (Value.Batch batch) offer.sig)) keys.old keys.new e) }
     {
         if !self.may_take(context.p, offer.from, offer.view, offer.slot) {
             return Ok(Effects::nothing(context.alloc));

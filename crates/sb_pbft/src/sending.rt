@@ -15,7 +15,7 @@ use iss_request::{Bytes, NoMemory, Seq, Slot};
 use iss_sb::{To, sign};
 use pbft_views::choice_digest;
 use pbft_wire::signing::{COMMIT, PRE_PREPARE, PREPARE};
-use pbft_wire::{Certificate, Change, Mark, Message, state_at, state_change, state_new};
+use pbft_wire::{Body, Certificate, Change, Mark, Message, state_at, state_change, state_new};
 use sb_context::Context;
 
 /// Signs the statement of a PrePrepare, a Prepare or a Commit (`kind`) with the next one-time key.
@@ -49,13 +49,12 @@ pub fn send_prepare(
     ensures left { OnOk result (left_of keys.new + 1 ≡ left_of keys.old) }
 {
     let sig = sign_at(context, PREPARE, mark, keys)?;
-    let msg = Message::Prepare {
+    let body = Body::Prepare {
         view: mark.view,
         slot: mark.slot,
         digest: mark.digest,
-        sig,
     };
-    sends.push((To::All, msg))?;
+    sends.push((To::All, Message { body, sig }))?;
     Ok(())
 }
 
@@ -72,13 +71,12 @@ pub fn send_commit(
     ensures left { OnOk result (left_of keys.new + 1 ≡ left_of keys.old) }
 {
     let sig = sign_at(context, COMMIT, mark, keys)?;
-    let msg = Message::Commit {
+    let body = Body::Commit {
         view: mark.view,
         slot: mark.slot,
         digest: mark.digest,
-        sig,
     };
-    sends.push((To::All, msg))?;
+    sends.push((To::All, Message { body, sig }))?;
     Ok(())
 }
 
@@ -97,12 +95,8 @@ pub fn send_change(
 {
     let statement = state_change(context.alloc, context.p, view, certificates.as_slice())?;
     let sig = sign(&statement, keys)?;
-    let msg = Message::ViewChange {
-        view,
-        certificates,
-        sig,
-    };
-    sends.push((To::All, msg))?;
+    let body = Body::ViewChange { view, certificates };
+    sends.push((To::All, Message { body, sig }))?;
     Ok(())
 }
 
@@ -171,12 +165,11 @@ pub fn send_new_view(
     sign_choices(context, &choices, slots, keys, &mut signatures)?;
     let statement = state_new(context.alloc, context.p, view)?;
     let sig = sign(&statement, keys)?;
-    let msg = Message::NewView {
+    let body = Body::NewView {
         view,
         changes,
         signatures,
-        sig,
     };
-    sends.push((To::All, msg))?;
+    sends.push((To::All, Message { body, sig }))?;
     Ok(())
 }

@@ -3,6 +3,7 @@ ghost use Rattle.std.specs.Prelude.{◌≡◌, ◌≤◌, ◌*◌, ◌+◌, ◌=
 ghost use Rattle.iss_keys.specs.KeyStates.{left_of};
 ghost use Rattle.iss_sb.specs.Calls.{has_slot};
 ghost use Rattle.pbft_views.specs.Good.{primary};
+ghost use Rattle.pbft_wire.specs.Signed.{Commit, Prepare};
 ghost use Rattle.sb_pbft.specs.Internal.Refines.{Does};
 
 use crate::pbft::Pbft;
@@ -37,7 +38,7 @@ impl Pbft {
         requires { 2 * length context.now.p.now.slots + 1 ≤ left_of keys.old }
         ensures { IfOk result (λ e.
             Does context.now.p.now self.old self.new (Input.Receive vote.from
-            (Message.Prepare vote.view vote.slot digest vote.sig)) keys.old keys.new e) }
+            (Prepare vote.view vote.slot digest vote.sig)) keys.old keys.new e) }
     {
         if !counts(context, &vote) {
             return Ok(Effects::nothing(context.alloc));
@@ -64,7 +65,7 @@ impl Pbft {
         requires { 2 * length context.now.p.now.slots + 1 ≤ left_of keys.old }
         ensures { IfOk result (λ e.
             Does context.now.p.now self.old self.new (Input.Receive vote.from
-            (Message.Commit vote.view vote.slot digest vote.sig)) keys.old keys.new e) }
+            (Commit vote.view vote.slot digest vote.sig)) keys.old keys.new e) }
     {
         if !has_slot(context.p, vote.slot) {
             return Ok(Effects::nothing(context.alloc));

@@ -21,7 +21,7 @@ use Rattle.iss_sb.proofs.Read.{batch-read}
 use Rattle.iss_sb.proofs.Setups.{good-by}
 use Rattle.iss_sb.proofs.Signatures.{signature-shape, signature-verifies}
 use Rattle.pbft_wire.specs.declared.messages.Message.{Message}
-use Rattle.pbft_wire.specs.declared.messages.Message.TheVariants.{Prepare, Commit}
+use Rattle.pbft_wire.specs.Signed.{Prepare, Commit}
 use Rattle.pbft_wire.specs.Certificates.{fits_certificate}
 use Rattle.pbft_wire.specs.Messages.{fits}
 use Rattle.pbft_wire.specs.Statements.{state_at, state_change, state_new, string_of}

@@ -12,7 +12,7 @@ use Rattle.iss_sb.specs.Laws.{IsBroadcast}
 use Rattle.iss_sb.specs.Legal.{Front}
 use Rattle.iss_sb.proofs.Cases.{different}
 use Rattle.pbft_wire.specs.declared.messages.Message.{Message}
-use Rattle.pbft_wire.specs.declared.messages.Message.TheVariants.{Commit}
+use Rattle.pbft_wire.specs.Signed.{Commit}
 use Rattle.pbft_wire.specs.Statements.{state_change, string_of}
 use Rattle.pbft_views.specs.Claims.{certificate_claims}
 use Rattle.sb_pbft.specs.Facts.{HasVoted, IsCertificate, IsDecidedView, IsKnown, IsRooted}

@@ -14,7 +14,9 @@ use Rattle.iss_sb.specs.declared.effects.Input.TheVariants.{Cast, Receive, Timeo
 use Rattle.iss_sb.specs.declared.effects.Params.{Params}
 use Rattle.pbft_wire.specs.Statements.{digest_of}
 use Rattle.pbft_wire.specs.declared.messages.Message.{Message}
-use Rattle.pbft_wire.specs.declared.messages.Message.TheVariants.{Commit, NewView, PrePrepare, Prepare, ViewChange}
+use Rattle.pbft_wire.specs.declared.messages.Body.{Body}
+use Rattle.pbft_wire.specs.declared.messages.Body.TheVariants.{PrePrepare as Pre_prepare_body, Prepare as Prepare_body, Commit as Commit_body, ViewChange as View_change_body, NewView as New_view_body}
+use Rattle.pbft_wire.specs.Signed.{signed}
 use Rattle.pbft_views.specs.Choice.{choice}
 use Rattle.sb_pbft.specs.Rules.{Mode, asked, asked_of, chosen, commits, committed, committed_with, enters, is_open, lowest, mode, offer, offered, prepared, prepared_with, prepares, proposal, unless}
 use Rattle.sb_pbft.proofs.Basics.{IsWhen, when-is}
@@ -55,20 +57,24 @@ cast-when p me m s b a h = when-is {A = Slot × Batch} (cast_test p me m s) (s, 
 abbrev word_test : Params → ℕ → Mode → NodeId → ℕ → Slot → Bool
 word_test p me m from v s = (not (me == p.leader.0) && (from.0 == p.leader.0)) && ((v == 0) && is_open p m s.0)
 
+offer-within-heard : (p : Params) (me : ℕ) (m : Mode) (from : NodeId) (body : Body) (sig : List ℕ) (a : Slot × Batch) →
+    ◌≡◌ {A = Option (Slot × Batch)} (offer p me m (Receive from (signed body sig))) (Some a) → has_slot a.0.0 p.slots ≡ true
+offer-within-heard p me m from (Pre_prepare_body v s Value_nil) sig a h = absurd (cc)
+offer-within-heard p me m from (Pre_prepare_body v s (Value_batch b)) sig a h =
+    let w = when-is {A = Slot × Batch} (word_test p me m from v s) (s, b) a h in
+    let t = and-true (not (me == p.leader.0) && (from.0 == p.leader.0)) ((v == 0) && is_open p m s.0) w.test in
+    subst (λ (z : Slot × Batch). has_slot z.0.0 p.slots ≡ true) w.is (open-slot p m s.0 (and-true (v == 0) (is_open p m s.0) t.1).1)
+offer-within-heard p me m from (Prepare_body v s d) sig a h = absurd (cc)
+offer-within-heard p me m from (Commit_body v s d) sig a h = absurd (cc)
+offer-within-heard p me m from (View_change_body v cs) sig a h = absurd (cc)
+offer-within-heard p me m from (New_view_body v xs sigs) sig a h = absurd (cc)
+
 pub offer-within : (p : Params) (me : ℕ) (m : Mode) (i : Input Message) (a : Slot × Batch) →
     ◌≡◌ {A = Option (Slot × Batch)} (offer p me m i) (Some a) → has_slot a.0.0 p.slots ≡ true
 offer-within p me m (Cast s b) a h =
     let w = cast-when p me m s b a h in
     subst (λ (z : Slot × Batch). has_slot z.0.0 p.slots ≡ true) w.is (open-slot p m s.0 (and-true (me == p.leader.0) (is_open p m s.0) w.test).1)
-offer-within p me m (Receive from (PrePrepare v s Value_nil sig)) a h = absurd (cc)
-offer-within p me m (Receive from (PrePrepare v s (Value_batch b) sig)) a h =
-    let w = when-is {A = Slot × Batch} (word_test p me m from v s) (s, b) a h in
-    let t = and-true (not (me == p.leader.0) && (from.0 == p.leader.0)) ((v == 0) && is_open p m s.0) w.test in
-    subst (λ (z : Slot × Batch). has_slot z.0.0 p.slots ≡ true) w.is (open-slot p m s.0 (and-true (v == 0) (is_open p m s.0) t.1).1)
-offer-within p me m (Receive from (Prepare v s d sig)) a h = absurd (cc)
-offer-within p me m (Receive from (Commit v s d sig)) a h = absurd (cc)
-offer-within p me m (Receive from (ViewChange v cs sig)) a h = absurd (cc)
-offer-within p me m (Receive from (NewView v xs sigs sig)) a h = absurd (cc)
+offer-within p me m (Receive from msg) a h = offer-within-heard p me m from msg.body msg.sig a h
 offer-within p me m Timeout a h = absurd (cc)
 
 -- ---- decided values
@@ -80,16 +86,20 @@ offered-slot (Some a) v s x h =
     let w = when-is ((v == 0) && (s == a.0.0)) (Value_batch a.1) x h in
     (a, refl, is-eq s a.0.0 (and-true (v == 0) (s == a.0.0) w.test).1)
 
+chosen-within-heard : (p : Params) (m : Mode) (from : NodeId) (body : Body) (sig : List ℕ) (v s : ℕ) (x : Value) → chosen p m (Receive from (signed body sig)) v s ≡ Some x →
+    has_slot s p.slots ≡ true
+chosen-within-heard p m from (Pre_prepare_body w slot y) sig v s x h = absurd (cc)
+chosen-within-heard p m from (Prepare_body w slot d) sig v s x h = absurd (cc)
+chosen-within-heard p m from (Commit_body w slot d) sig v s x h = absurd (cc)
+chosen-within-heard p m from (View_change_body w cs) sig v s x h = absurd (cc)
+chosen-within-heard p m from (New_view_body w xs sigs) sig v s x h =
+    let t = when-is ((v == w) && (has_slot s p.slots && enters p m from.0 w xs sigs)) (choice xs s) x h in
+    (and-true (has_slot s p.slots) (enters p m from.0 w xs sigs) (and-true (v == w) (has_slot s p.slots && enters p m from.0 w xs sigs) t.test).1).0
+
 chosen-within : (p : Params) (m : Mode) (i : Input Message) (v s : ℕ) (x : Value) → chosen p m i v s ≡ Some x →
     has_slot s p.slots ≡ true
 chosen-within p m (Cast slot b) v s x h = absurd (cc)
-chosen-within p m (Receive from (PrePrepare w slot y sig)) v s x h = absurd (cc)
-chosen-within p m (Receive from (Prepare w slot d sig)) v s x h = absurd (cc)
-chosen-within p m (Receive from (Commit w slot d sig)) v s x h = absurd (cc)
-chosen-within p m (Receive from (ViewChange w cs sig)) v s x h = absurd (cc)
-chosen-within p m (Receive from (NewView w xs sigs sig)) v s x h =
-    let t = when-is ((v == w) && (has_slot s p.slots && enters p m from.0 w xs sigs)) (choice xs s) x h in
-    (and-true (has_slot s p.slots) (enters p m from.0 w xs sigs) (and-true (v == w) (has_slot s p.slots && enters p m from.0 w xs sigs) t.test).1).0
+chosen-within p m (Receive from msg) v s x h = chosen-within-heard p m from msg.body msg.sig v s x h
 chosen-within p m Timeout v s x h = absurd (cc)
 
 pub proposal-within : (p : Params) (me : ℕ) (l : List (Input Message)) (v s : ℕ) (x : Value) →

@@ -17,7 +17,9 @@ use Rattle.pbft_wire.specs.Statements.{digest_of}
 use Rattle.pbft_wire.specs.declared.messages.Certificate.{Certificate}
 use Rattle.pbft_wire.specs.declared.messages.Change.{Change}
 use Rattle.pbft_wire.specs.declared.messages.Message.{Message}
-use Rattle.pbft_wire.specs.declared.messages.Message.TheVariants.{Commit, NewView, PrePrepare, Prepare, ViewChange}
+use Rattle.pbft_wire.specs.declared.messages.Body.{Body}
+use Rattle.pbft_wire.specs.declared.messages.Body.TheVariants.{PrePrepare as Pre_prepare_body, Prepare as Prepare_body, Commit as Commit_body, ViewChange as View_change_body, NewView as New_view_body}
+use Rattle.pbft_wire.specs.Signed.{PrePrepare, Prepare, ViewChange, NewView, signed}
 use Rattle.pbft_views.specs.Choice.{choice}
 use Rattle.pbft_views.specs.Good.{primary}
 use Rattle.sb_pbft.specs.Makes.{Draft, DraftCommit, DraftNewView, DraftPrePrepare, DraftPrepare, DraftViewChange, answer, by_slot, commit_draft, drafts, first_draft, inputs, kept, lead, makes, ready, sign, sign_all, tops, uses}
@@ -61,31 +63,39 @@ first-rule p me xs i d (Some a) e h = go (me == p.leader.0) refl h
     go false q (inl k) = by_proposal a e q k
     go false q (inr k) = absurd k
 
+lead-rule-heard : (p : Params) (me : ℕ) (xs : List (Item Message)) (from : NodeId) (body : Body) (sig : List ℕ) (d : Draft) → In d (lead p me xs (Receive from (signed body sig))) →
+    Rule p me xs (Receive from (signed body sig)) d
+lead-rule-heard p me xs from (Pre_prepare_body v s x) sig d h = first-rule p me xs (Receive from (PrePrepare v s x sig)) d (asked p me (inputs xs) (Receive from (PrePrepare v s x sig))) refl h
+lead-rule-heard p me xs from (Prepare_body v s e) sig d h = absurd h
+lead-rule-heard p me xs from (Commit_body v s e) sig d h = absurd h
+lead-rule-heard p me xs from (View_change_body v cs) sig d h =
+    let a = in-cond (completes p me (inputs xs) (Receive from (ViewChange v cs sig)) v) d (DraftNewView v (changes p (Receive from (ViewChange v cs sig) ∷ inputs xs) v) ∷ []) h in
+    elim a.1 [ inl k ↦ by_changes from v cs sig refl a.0 k | inr k ↦ absurd k ]
+lead-rule-heard p me xs from (New_view_body v ys sigs) sig d h = absurd h
+
 lead-rule : (p : Params) (me : ℕ) (xs : List (Item Message)) (i : Said) (d : Draft) → In d (lead p me xs i) →
     Rule p me xs i d
 lead-rule p me xs (Cast s b) d h = first-rule p me xs (Cast s b) d (asked p me (inputs xs) (Cast s b)) refl h
-lead-rule p me xs (Receive from (PrePrepare v s x sig)) d h = first-rule p me xs (Receive from (PrePrepare v s x sig)) d (asked p me (inputs xs) (Receive from (PrePrepare v s x sig))) refl h
-lead-rule p me xs (Receive from (Prepare v s e sig)) d h = absurd h
-lead-rule p me xs (Receive from (Commit v s e sig)) d h = absurd h
-lead-rule p me xs (Receive from (ViewChange v cs sig)) d h =
-    let a = in-cond (completes p me (inputs xs) (Receive from (ViewChange v cs sig)) v) d (DraftNewView v (changes p (Receive from (ViewChange v cs sig) ∷ inputs xs) v) ∷ []) h in
-    elim a.1 [ inl k ↦ by_changes from v cs sig refl a.0 k | inr k ↦ absurd k ]
-lead-rule p me xs (Receive from (NewView v ys sigs sig)) d h = absurd h
+lead-rule p me xs (Receive from msg) d h = lead-rule-heard p me xs from msg.body msg.sig d h
 lead-rule p me xs Timeout d h =
     let a = in-cond (passes (mode p (inputs xs))) d (DraftViewChange ((mode p (inputs xs)).view + 1) (tops (kept p me xs) p.slots) ∷ []) h in
     elim a.1 [ inl k ↦ by_timeout refl a.0 k | inr k ↦ absurd k ]
 
-answer-rule : (p : Params) (me : ℕ) (xs : List (Item Message)) (i : Said) (s : Slot) (d : Draft) → In s p.slots →
-    In d (answer p me (mode p (inputs xs)) i s) → Rule p me xs i d
-answer-rule p me xs (Cast t b) s d w h = absurd h
-answer-rule p me xs (Receive from (PrePrepare v t x sig)) s d w h = absurd h
-answer-rule p me xs (Receive from (Prepare v t e sig)) s d w h = absurd h
-answer-rule p me xs (Receive from (Commit v t e sig)) s d w h = absurd h
-answer-rule p me xs (Receive from (ViewChange v cs sig)) s d w h = absurd h
-answer-rule p me xs (Receive from (NewView v ys sigs sig)) s d w h =
+answer-rule-heard : (p : Params) (me : ℕ) (xs : List (Item Message)) (from : NodeId) (body : Body) (sig : List ℕ) (s : Slot) (d : Draft) → In s p.slots →
+    In d (answer p me (mode p (inputs xs)) (Receive from (signed body sig)) s) → Rule p me xs (Receive from (signed body sig)) d
+answer-rule-heard p me xs from (Pre_prepare_body v t x) sig s d w h = absurd h
+answer-rule-heard p me xs from (Prepare_body v t e) sig s d w h = absurd h
+answer-rule-heard p me xs from (Commit_body v t e) sig s d w h = absurd h
+answer-rule-heard p me xs from (View_change_body v cs) sig s d w h = absurd h
+answer-rule-heard p me xs from (New_view_body v ys sigs) sig s d w h =
     let a = in-cond (enters p (mode p (inputs xs)) from.0 v ys sigs && not (me == primary p v)) d (DraftPrepare v s (digest_of p (choice ys s.0)) ∷ []) h in
     let b = and-true (enters p (mode p (inputs xs)) from.0 v ys sigs) (not (me == primary p v)) a.0 in
     elim a.1 [ inl k ↦ by_view from v ys sigs sig s refl b.0 (not-true (me == primary p v) b.1) w k | inr k ↦ absurd k ]
+
+answer-rule : (p : Params) (me : ℕ) (xs : List (Item Message)) (i : Said) (s : Slot) (d : Draft) → In s p.slots →
+    In d (answer p me (mode p (inputs xs)) i s) → Rule p me xs i d
+answer-rule p me xs (Cast t b) s d w h = absurd h
+answer-rule p me xs (Receive from msg) s d w h = answer-rule-heard p me xs from msg.body msg.sig s d w h
 answer-rule p me xs Timeout s d w h = absurd h
 
 commit-rule : (p : Params) (me : ℕ) (xs : List (Item Message)) (i : Said) (s : Slot) (d : Draft) (o : Option Value) →

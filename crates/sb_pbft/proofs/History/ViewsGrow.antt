@@ -16,7 +16,9 @@ use Rattle.iss_sb.specs.declared.effects.Params.{Params}
 use Rattle.iss_sb.proofs.Slots.{node-is}
 use Rattle.pbft_wire.specs.declared.messages.Change.{Change}
 use Rattle.pbft_wire.specs.declared.messages.Message.{Message}
-use Rattle.pbft_wire.specs.declared.messages.Message.TheVariants.{Commit, NewView, PrePrepare, Prepare, ViewChange}
+use Rattle.pbft_wire.specs.declared.messages.Body.{Body}
+use Rattle.pbft_wire.specs.declared.messages.Body.TheVariants.{PrePrepare as Pre_prepare_body, Prepare as Prepare_body, Commit as Commit_body, ViewChange as View_change_body, NewView as New_view_body}
+use Rattle.pbft_wire.specs.Signed.{PrePrepare, NewView, signed}
 use Rattle.pbft_views.specs.Choice.{choice}
 use Rattle.pbft_views.specs.Good.{are_enough, primary}
 use Rattle.sb_pbft.specs.Rules.{Mode, asked, chosen, enters, is_newer, is_open, mode, mode_after, offer, offered, passes, proposal}
@@ -72,17 +74,20 @@ grows-if : (m u : Mode) (b : Bool) → (b ≡ true → Grows m u) → Grows m (c
 grows-if m u true h = h refl
 grows-if m u false h = stays m
 
-pub grows : (p : Params) (m : Mode) (i : Said) → Grows m (mode_after p m i)
-grows p m (Cast s b) = stays m
-grows p m (Receive from (PrePrepare v s x sig)) = stays m
-grows p m (Receive from (Prepare v s d sig)) = stays m
-grows p m (Receive from (Commit v s d sig)) = stays m
-grows p m (Receive from (ViewChange v cs sig)) = stays m
-grows p m (Receive from (NewView v xs sigs sig)) = grows-if m (record { view = v; active = true }) (enters p m from.0 v xs sigs) (λ h. up v (entered p m from.0 v xs sigs h).newer)
+grows-heard : (p : Params) (m : Mode) (from : NodeId) (body : Body) (sig : List ℕ) → Grows m (mode_after p m (Receive from (signed body sig)))
+grows-heard p m from (Pre_prepare_body v s x) sig = stays m
+grows-heard p m from (Prepare_body v s d) sig = stays m
+grows-heard p m from (Commit_body v s d) sig = stays m
+grows-heard p m from (View_change_body v cs) sig = stays m
+grows-heard p m from (New_view_body v xs sigs) sig = grows-if m (record { view = v; active = true }) (enters p m from.0 v xs sigs) (λ h. up v (entered p m from.0 v xs sigs h).newer)
   where
     up : (v : ℕ) → IsNewer m v → Grows m (record { view = v; active = true })
     up v (inl l) = record { view = omega arith; active = λ e a. refl }
     up v (inr e) = let q = e.0 in record { view = omega arith; active = λ e a. refl }
+
+pub grows : (p : Params) (m : Mode) (i : Said) → Grows m (mode_after p m i)
+grows p m (Cast s b) = stays m
+grows p m (Receive from msg) = grows-heard p m from msg.body msg.sig
 grows p m Timeout = grows-if m (record { view = m.view + 1; active = false }) (passes m) (λ h. record { view = omega arith; active = λ e a. absurd (omega arith) })
 
 -- ---- the origin of a proposal
@@ -97,14 +102,13 @@ pub record IsChosen (p : Params) (m : Mode) (i : Said) (v s : ℕ) (x : Value) :
   pub within : has_slot s p.slots ≡ true
   pub value : choice changes s ≡ x
 
-pub chosen-is : (p : Params) (m : Mode) (i : Said) (v s : ℕ) (x : Value) → chosen p m i v s ≡ Some x →
-    IsChosen p m i v s x
-chosen-is p m (Cast t b) v s x h = absurd (cc)
-chosen-is p m (Receive from (PrePrepare w t y sig)) v s x h = absurd (cc)
-chosen-is p m (Receive from (Prepare w t d sig)) v s x h = absurd (cc)
-chosen-is p m (Receive from (Commit w t d sig)) v s x h = absurd (cc)
-chosen-is p m (Receive from (ViewChange w cs sig)) v s x h = absurd (cc)
-chosen-is p m (Receive from (NewView w xs sigs sig)) v s x h =
+chosen-is-heard : (p : Params) (m : Mode) (from : NodeId) (body : Body) (sig : List ℕ) (v s : ℕ) (x : Value) → chosen p m (Receive from (signed body sig)) v s ≡ Some x →
+    IsChosen p m (Receive from (signed body sig)) v s x
+chosen-is-heard p m from (Pre_prepare_body w t y) sig v s x h = absurd (cc)
+chosen-is-heard p m from (Prepare_body w t d) sig v s x h = absurd (cc)
+chosen-is-heard p m from (Commit_body w t d) sig v s x h = absurd (cc)
+chosen-is-heard p m from (View_change_body w cs) sig v s x h = absurd (cc)
+chosen-is-heard p m from (New_view_body w xs sigs) sig v s x h =
     let a = when-is ((v == w) && (has_slot s p.slots && enters p m from.0 w xs sigs)) (choice xs s) x h in
     let b = and-true (v == w) (has_slot s p.slots && enters p m from.0 w xs sigs) a.test in
     let c = and-true (has_slot s p.slots) (enters p m from.0 w xs sigs) b.1 in
@@ -119,6 +123,11 @@ chosen-is p m (Receive from (NewView w xs sigs sig)) v s x h =
       within = c.0;
       value = a.is;
     }
+
+pub chosen-is : (p : Params) (m : Mode) (i : Said) (v s : ℕ) (x : Value) → chosen p m i v s ≡ Some x →
+    IsChosen p m i v s x
+chosen-is p m (Cast t b) v s x h = absurd (cc)
+chosen-is p m (Receive from msg) v s x h = chosen-is-heard p m from msg.body msg.sig v s x h
 chosen-is p m Timeout v s x h = absurd (cc)
 
 pub record IsOffered (v s : ℕ) (x : Value) (o : Option (Slot × Batch)) : Type 0 where
@@ -157,15 +166,10 @@ open-is p m s h =
     let b = and-true m.active (has_slot s p.slots) a.1 in
     (eqb-true m.view 0 a.0, b.0, b.1)
 
-pub offer-is : (p : Params) (me : ℕ) (m : Mode) (i : Said) (a : Slot × Batch) →
-    ◌≡◌ {A = Option (Slot × Batch)} (offer p me m i) (Some a) → Offers p me m i a
-offer-is p me m (Cast s b) a h =
-    let w = when-is {A = Slot × Batch} ((me == p.leader.0) && is_open p m s.0) (s, b) a h in
-    let t = and-true (me == p.leader.0) (is_open p m s.0) w.test in
-    let o = open-is p m s.0 t.1 in
-    subst (λ (z : Slot × Batch). Offers p me m (Cast s b) z) w.is (record { view = o.0; active = o.1; within = o.2; cause = inl (record { leads = eqb-true me p.leader.0 t.0; input = refl }) })
-offer-is p me m (Receive from (PrePrepare v s Value_nil sig)) a h = absurd (cc)
-offer-is p me m (Receive from (PrePrepare v s (Value_batch b) sig)) a h =
+offer-is-heard : (p : Params) (me : ℕ) (m : Mode) (from : NodeId) (body : Body) (sig : List ℕ) (a : Slot × Batch) →
+    ◌≡◌ {A = Option (Slot × Batch)} (offer p me m (Receive from (signed body sig))) (Some a) → Offers p me m (Receive from (signed body sig)) a
+offer-is-heard p me m from (Pre_prepare_body v s Value_nil) sig a h = absurd (cc)
+offer-is-heard p me m from (Pre_prepare_body v s (Value_batch b)) sig a h =
     let w = when-is {A = Slot × Batch} ((not (me == p.leader.0) && (from.0 == p.leader.0)) && ((v == 0) && is_open p m s.0)) (s, b) a h in
     let t = and-true (not (me == p.leader.0) && (from.0 == p.leader.0)) ((v == 0) && is_open p m s.0) w.test in
     let u = and-true (not (me == p.leader.0)) (from.0 == p.leader.0) t.0 in
@@ -175,10 +179,19 @@ offer-is p me m (Receive from (PrePrepare v s (Value_batch b) sig)) a h =
     let start : v ≡ 0 = eqb-true v 0 k.0 in
     let input : SameInput (Receive from (PrePrepare v s (Value_batch b) sig)) (Receive p.leader (PrePrepare 0 s (Value_batch b) sig)) = ap (λ (z : NodeId). Receive z (PrePrepare v s (Value_batch b) sig)) leader ∙ ap (λ (z : ℕ). Receive p.leader (PrePrepare z s (Value_batch b) sig)) start in
     subst (λ (z : Slot × Batch). Offers p me m (Receive from (PrePrepare v s (Value_batch b) sig)) z) w.is (record { view = o.0; active = o.1; within = o.2; cause = inr (record { follows = not-true (me == p.leader.0) u.0; sig = sig; input = input }) })
-offer-is p me m (Receive from (Prepare v s d sig)) a h = absurd (cc)
-offer-is p me m (Receive from (Commit v s d sig)) a h = absurd (cc)
-offer-is p me m (Receive from (ViewChange v cs sig)) a h = absurd (cc)
-offer-is p me m (Receive from (NewView v xs sigs sig)) a h = absurd (cc)
+offer-is-heard p me m from (Prepare_body v s d) sig a h = absurd (cc)
+offer-is-heard p me m from (Commit_body v s d) sig a h = absurd (cc)
+offer-is-heard p me m from (View_change_body v cs) sig a h = absurd (cc)
+offer-is-heard p me m from (New_view_body v xs sigs) sig a h = absurd (cc)
+
+pub offer-is : (p : Params) (me : ℕ) (m : Mode) (i : Said) (a : Slot × Batch) →
+    ◌≡◌ {A = Option (Slot × Batch)} (offer p me m i) (Some a) → Offers p me m i a
+offer-is p me m (Cast s b) a h =
+    let w = when-is {A = Slot × Batch} ((me == p.leader.0) && is_open p m s.0) (s, b) a h in
+    let t = and-true (me == p.leader.0) (is_open p m s.0) w.test in
+    let o = open-is p m s.0 t.1 in
+    subst (λ (z : Slot × Batch). Offers p me m (Cast s b) z) w.is (record { view = o.0; active = o.1; within = o.2; cause = inl (record { leads = eqb-true me p.leader.0 t.0; input = refl }) })
+offer-is p me m (Receive from msg) a h = offer-is-heard p me m from msg.body msg.sig a h
 offer-is p me m Timeout a h = absurd (cc)
 
 -- ---- proposals never change

@@ -10,7 +10,9 @@ use Rattle.iss_request.specs.declared.ids.Slot.{Slot}
 use Rattle.iss_sb.specs.Calls.{has_slot}
 use Rattle.iss_sb.specs.declared.effects.Input.TheVariants.{Cast, Receive, Timeout}
 use Rattle.iss_sb.specs.declared.effects.Params.{Params}
-use Rattle.pbft_wire.specs.declared.messages.Message.TheVariants.{Commit, NewView, PrePrepare, Prepare, ViewChange}
+use Rattle.pbft_wire.specs.declared.messages.Body.{Body}
+use Rattle.pbft_wire.specs.declared.messages.Body.TheVariants.{PrePrepare as Pre_prepare_body, Prepare as Prepare_body, Commit as Commit_body, ViewChange as View_change_body, NewView as New_view_body}
+use Rattle.pbft_wire.specs.Signed.{Prepare, Commit, signed}
 use Rattle.iss_sb.specs.declared.signers.Signed.{Signed}
 use Rattle.pbft_views.specs.Good.{primary}
 use Rattle.pbft_views.specs.Laws.{nodes_of}
@@ -29,11 +31,10 @@ pub record IsPrepare (p : Params) (v s k : ℕ) (b : Ballot) (i : Said) : Type 0
   pub at_slot : slot.0 ≡ s
   pub other : (k == primary p v) ≡ false
 
-pub prepare-in-is : (p : Params) (i : Said) (v s k : ℕ) (b : Ballot) → prepare_in p i v s k ≡ Some b →
-    IsPrepare p v s k b i
-prepare-in-is p (Cast t c) v s k b h = absurd (cc)
-prepare-in-is p (Receive from (PrePrepare w t x sig)) v s k b h = absurd (cc)
-prepare-in-is p (Receive from (Prepare w t d sig)) v s k b h =
+prepare-in-is-heard : (p : Params) (from : NodeId) (body : Body) (sig : List ℕ) (v s k : ℕ) (b : Ballot) → prepare_in p (Receive from (signed body sig)) v s k ≡ Some b →
+    IsPrepare p v s k b (Receive from (signed body sig))
+prepare-in-is-heard p from (Pre_prepare_body w t x) sig v s k b h = absurd (cc)
+prepare-in-is-heard p from (Prepare_body w t d) sig v s k b h =
     let ballot : Ballot = record { digest = d; sig = sig } in
     let a = when-is (is_at from.0 w t.0 v s k && (has_slot t.0 p.slots && not (from.0 == primary p w))) ballot b h in
     let c = and-true (is_at from.0 w t.0 v s k) (has_slot t.0 p.slots && not (from.0 == primary p w)) a.test in
@@ -51,9 +52,14 @@ prepare-in-is p (Receive from (Prepare w t d sig)) v s k b h =
       at_slot = sym (eqb-true s t.0 f.1);
       other = subst (λ (z : ℕ). (z == primary p v) ≡ false) who (subst (λ (z : ℕ). (from.0 == primary p z) ≡ false) view other);
     })
-prepare-in-is p (Receive from (Commit w t d sig)) v s k b h = absurd (cc)
-prepare-in-is p (Receive from (ViewChange w cs sig)) v s k b h = absurd (cc)
-prepare-in-is p (Receive from (NewView w xs sigs sig)) v s k b h = absurd (cc)
+prepare-in-is-heard p from (Commit_body w t d) sig v s k b h = absurd (cc)
+prepare-in-is-heard p from (View_change_body w cs) sig v s k b h = absurd (cc)
+prepare-in-is-heard p from (New_view_body w xs sigs) sig v s k b h = absurd (cc)
+
+pub prepare-in-is : (p : Params) (i : Said) (v s k : ℕ) (b : Ballot) → prepare_in p i v s k ≡ Some b →
+    IsPrepare p v s k b i
+prepare-in-is p (Cast t c) v s k b h = absurd (cc)
+prepare-in-is p (Receive from msg) v s k b h = prepare-in-is-heard p from msg.body msg.sig v s k b h
 prepare-in-is p Timeout v s k b h = absurd (cc)
 
 pub prepare-of-is : (p : Params) (l : List Said) (v s k : ℕ) (b : Ballot) → prepare_of p l v s k ≡ Some b →
@@ -71,11 +77,10 @@ pub record IsCommit (v s k : ℕ) (b : Ballot) (i : Said) : Type 0 where
   pub by : from.0 ≡ k
   pub at_slot : slot.0 ≡ s
 
-pub commit-in-is : (p : Params) (i : Said) (v s k : ℕ) (b : Ballot) → commit_in p i v s k ≡ Some b → IsCommit v s k b i
-commit-in-is p (Cast t c) v s k b h = absurd (cc)
-commit-in-is p (Receive from (PrePrepare w t x sig)) v s k b h = absurd (cc)
-commit-in-is p (Receive from (Prepare w t d sig)) v s k b h = absurd (cc)
-commit-in-is p (Receive from (Commit w t d sig)) v s k b h =
+commit-in-is-heard : (p : Params) (from : NodeId) (body : Body) (sig : List ℕ) (v s k : ℕ) (b : Ballot) → commit_in p (Receive from (signed body sig)) v s k ≡ Some b → IsCommit v s k b (Receive from (signed body sig))
+commit-in-is-heard p from (Pre_prepare_body w t x) sig v s k b h = absurd (cc)
+commit-in-is-heard p from (Prepare_body w t d) sig v s k b h = absurd (cc)
+commit-in-is-heard p from (Commit_body w t d) sig v s k b h =
     let ballot : Ballot = record { digest = d; sig = sig } in
     let a = when-is (is_at from.0 w t.0 v s k && has_slot t.0 p.slots) ballot b h in
     let c = and-true (is_at from.0 w t.0 v s k) (has_slot t.0 p.slots) a.test in
@@ -88,8 +93,12 @@ commit-in-is p (Receive from (Commit w t d sig)) v s k b h =
       by = eqb-true from.0 k e.0;
       at_slot = sym (eqb-true s t.0 f.1);
     })
-commit-in-is p (Receive from (ViewChange w cs sig)) v s k b h = absurd (cc)
-commit-in-is p (Receive from (NewView w xs sigs sig)) v s k b h = absurd (cc)
+commit-in-is-heard p from (View_change_body w cs) sig v s k b h = absurd (cc)
+commit-in-is-heard p from (New_view_body w xs sigs) sig v s k b h = absurd (cc)
+
+pub commit-in-is : (p : Params) (i : Said) (v s k : ℕ) (b : Ballot) → commit_in p i v s k ≡ Some b → IsCommit v s k b i
+commit-in-is p (Cast t c) v s k b h = absurd (cc)
+commit-in-is p (Receive from msg) v s k b h = commit-in-is-heard p from msg.body msg.sig v s k b h
 commit-in-is p Timeout v s k b h = absurd (cc)
 
 pub commit-of-is : (p : Params) (l : List Said) (v s k : ℕ) (b : Ballot) → commit_of p l v s k ≡ Some b →

@@ -26,7 +26,9 @@ use Rattle.pbft_wire.specs.Statements.{digest_of, state_at, state_change, state_
 use Rattle.pbft_wire.specs.declared.messages.Certificate.{Certificate}
 use Rattle.pbft_wire.specs.declared.messages.Change.{Change}
 use Rattle.pbft_wire.specs.declared.messages.Message.{Message}
-use Rattle.pbft_wire.specs.declared.messages.Message.TheVariants.{Commit, NewView, PrePrepare, Prepare, ViewChange}
+use Rattle.pbft_wire.specs.declared.messages.Body.{Body}
+use Rattle.pbft_wire.specs.declared.messages.Body.TheVariants.{PrePrepare as Pre_prepare_body, Prepare as Prepare_body, Commit as Commit_body, ViewChange as View_change_body, NewView as New_view_body}
+use Rattle.pbft_wire.specs.Signed.{PrePrepare, Prepare, Commit, ViewChange, NewView, signed}
 use Rattle.iss_sb.specs.declared.signers.Signed.{Signed}
 use Rattle.pbft_views.specs.Choice.{choice}
 use Rattle.pbft_views.specs.Claims.{certificate_claims, certificates_claims, change_claims, changes_claims, chosen_claims, claims}
@@ -45,12 +47,15 @@ use Rattle.sb_pbft.proofs.History.VotersAreDistinct.{commit-of-is, in-take, in-v
 
 -- ---- the statements that a message is the first to make
 
+abbrev pub StatesFirst : Params → Body → List ℕ → Type 0
+StatesFirst p (Pre_prepare_body v slot x) t = t ≡ state_at p 1 v slot.0 (digest_of p x)
+StatesFirst p (Prepare_body v slot d) t = t ≡ state_at p 2 v slot.0 d
+StatesFirst p (Commit_body v slot d) t = t ≡ state_at p 3 v slot.0 d
+StatesFirst p (View_change_body v cs) t = t ≡ state_change p v cs
+StatesFirst p (New_view_body v xs sigs) t = ((s : Slot) × In s p.slots × (t ≡ state_at p 1 v s.0 (digest_of p (choice xs s.0)))) ⊎ (t ≡ state_new p v)
+
 abbrev pub States : Params → ℕ → Message → List ℕ → Type 0
-States p me (PrePrepare v slot x sig) t = t ≡ state_at p 1 v slot.0 (digest_of p x)
-States p me (Prepare v slot d sig) t = t ≡ state_at p 2 v slot.0 d
-States p me (Commit v slot d sig) t = t ≡ state_at p 3 v slot.0 d
-States p me (ViewChange v cs sig) t = t ≡ state_change p v cs
-States p me (NewView v xs sigs sig) t = ((s : Slot) × In s p.slots × (t ≡ state_at p 1 v s.0 (digest_of p (choice xs s.0)))) ⊎ (t ≡ state_new p v)
+States p me msg t = StatesFirst p msg.body t
 
 -- ---- inputs and their items
 

@@ -6,6 +6,7 @@ use Rattle.std.specs.Prelude.{nat_le, ◌==◌}
 use Rattle.iss_base.specs.Lists.{In, first_of}
 use Rattle.iss_base.proofs.Lists.{and-true, first-cases}
 use Rattle.iss_request.specs.Formats.{is_signature, spell_value}
+use Rattle.iss_request.specs.declared.ids.NodeId.{NodeId}
 use Rattle.iss_request.specs.declared.ids.Slot.{Slot}
 use Rattle.iss_request.specs.declared.requests.Batch.{Batch}
 use Rattle.iss_request.specs.declared.requests.Value.{Value}
@@ -22,7 +23,9 @@ use Rattle.pbft_wire.specs.Statements.{digest_of, state_at}
 use Rattle.pbft_wire.specs.declared.messages.Certificate.{Certificate}
 use Rattle.pbft_wire.specs.declared.messages.Change.{Change}
 use Rattle.pbft_wire.specs.declared.messages.Message.{Message}
-use Rattle.pbft_wire.specs.declared.messages.Message.TheVariants.{Commit, NewView, PrePrepare, Prepare, ViewChange}
+use Rattle.pbft_wire.specs.declared.messages.Body.{Body}
+use Rattle.pbft_wire.specs.declared.messages.Body.TheVariants.{PrePrepare as Pre_prepare_body, Prepare as Prepare_body, Commit as Commit_body, ViewChange as View_change_body, NewView as New_view_body}
+use Rattle.pbft_wire.specs.Signed.{PrePrepare, NewView, signed}
 use Rattle.pbft_wire.proofs.Fields.{value-parts}
 use Rattle.pbft_wire.proofs.MessageGrammar.{fits-read}
 use Rattle.pbft_views.specs.Choice.{best, certificates_of, choice, value_or_nil}
@@ -65,14 +68,17 @@ low-if : (b : Bool) (u m : Mode) → (b ≡ true → u.view < 65536) → m.view 
 low-if true u m h k = h refl
 low-if false u m h k = k
 
+mode-after-low-heard : (p : Params) (m : Mode) (from : NodeId) (body : Body) (sig : List ℕ) → FitsInput p (Receive from (signed body sig)) → m.view < 65536 → (mode_after p m (Receive from (signed body sig))).view < 65536
+mode-after-low-heard p m from (Pre_prepare_body v s x) sig f h = h
+mode-after-low-heard p m from (Prepare_body v s d) sig f h = h
+mode-after-low-heard p m from (Commit_body v s d) sig f h = h
+mode-after-low-heard p m from (View_change_body v cs) sig f h = h
+mode-after-low-heard p m from (New_view_body v xs sigs) sig f h =
+    low-if (enters p m from.0 v xs sigs) (record { view = v; active = true }) m (λ e. ltb-true v 65536 (and-true (fits_view v) _ f).0) h
+
 mode-after-low : (p : Params) (m : Mode) (i : Said) → FitsInput p i → m.view < 65536 → (mode_after p m i).view < 65536
 mode-after-low p m (Cast s b) f h = h
-mode-after-low p m (Receive from (PrePrepare v s x sig)) f h = h
-mode-after-low p m (Receive from (Prepare v s d sig)) f h = h
-mode-after-low p m (Receive from (Commit v s d sig)) f h = h
-mode-after-low p m (Receive from (ViewChange v cs sig)) f h = h
-mode-after-low p m (Receive from (NewView v xs sigs sig)) f h =
-    low-if (enters p m from.0 v xs sigs) (record { view = v; active = true }) m (λ e. ltb-true v 65536 (and-true (fits_view v) _ f).0) h
+mode-after-low p m (Receive from msg) f h = mode-after-low-heard p m from msg.body msg.sig f h
 mode-after-low p m Timeout f h = low-if (passes m) (record { view = m.view + 1; active = false }) m (λ e. let l = ltb-true m.view 65535 e in omega (arith, l)) h
 
 pub mode-low : (p : Params) (l : List Said) → AreFit p l → (mode p l).view < 65536
@@ -192,13 +198,12 @@ sig-for s (t ∷ ss) (sig ∷ sigs) h n a = go (t.0 == s) refl (λ k. sig-for s 
     go false q r = let k : has_slot s ss ≡ true = rw q at h in let z = r k in record { sig = z.sig; is = rw q z.is; shape = z.shape }
 
 module _ (p : Params) (good : IsGoodParams pbft p) (me : ℕ) where
-  paired-chosen : (m : Mode) (i : Said) (v s : ℕ) → FitsInput p i → Paired (chosen p m i v s) (chosen_sig p m i v s)
-  paired-chosen m (Cast t b) v s f = neither_one refl refl
-  paired-chosen m (Receive from (PrePrepare w t x sig)) v s f = neither_one refl refl
-  paired-chosen m (Receive from (Prepare w t d sig)) v s f = neither_one refl refl
-  paired-chosen m (Receive from (Commit w t d sig)) v s f = neither_one refl refl
-  paired-chosen m (Receive from (ViewChange w cs sig)) v s f = neither_one refl refl
-  paired-chosen m (Receive from (NewView w xs sigs sig)) v s f = go ((v == w) && (has_slot s p.slots && enters p m from.0 w xs sigs)) refl
+  paired-chosen-heard : (m : Mode) (from : NodeId) (body : Body) (sig : List ℕ) (v s : ℕ) → FitsInput p (Receive from (signed body sig)) → Paired (chosen p m (Receive from (signed body sig)) v s) (chosen_sig p m (Receive from (signed body sig)) v s)
+  paired-chosen-heard m from (Pre_prepare_body w t x) sig v s f = neither_one refl refl
+  paired-chosen-heard m from (Prepare_body w t d) sig v s f = neither_one refl refl
+  paired-chosen-heard m from (Commit_body w t d) sig v s f = neither_one refl refl
+  paired-chosen-heard m from (View_change_body w cs) sig v s f = neither_one refl refl
+  paired-chosen-heard m from (New_view_body w xs sigs) sig v s f = go ((v == w) && (has_slot s p.slots && enters p m from.0 w xs sigs)) refl
     where
       go : (b : Bool) → ((v == w) && (has_slot s p.slots && enters p m from.0 w xs sigs)) ≡ b →
           Paired (when b (choice xs s)) (cond b (sig_for s p.slots sigs) None)
@@ -208,6 +213,10 @@ module _ (p : Params) (good : IsGoodParams pbft p) (me : ℕ) where
           let e = entered p m from.0 w xs sigs a.1 in
           let z = sig-for s p.slots sigs a.0 e.signed (new-fits p.setup.version w xs sigs sig f).signed in
           both_are (choice xs s) z.sig refl z.is z.shape
+
+  paired-chosen : (m : Mode) (i : Said) (v s : ℕ) → FitsInput p i → Paired (chosen p m i v s) (chosen_sig p m i v s)
+  paired-chosen m (Cast t b) v s f = neither_one refl refl
+  paired-chosen m (Receive from msg) v s f = paired-chosen-heard m from msg.body msg.sig v s f
   paired-chosen m Timeout v s f = neither_one refl refl
 
   first-shape : (m : Mode) (i : Said) (leaf : ℕ) (a : Slot × Batch) → FitsInput p i → Offers p me m i a →

@@ -26,7 +26,7 @@ use Rattle.pbft_wire.specs.Statements.{digest_of, state_at, state_change, state_
 use Rattle.pbft_wire.specs.declared.messages.Certificate.{Certificate}
 use Rattle.pbft_wire.specs.declared.messages.Change.{Change}
 use Rattle.pbft_wire.specs.declared.messages.Message.{Message}
-use Rattle.pbft_wire.specs.declared.messages.Message.TheVariants.{NewView, Prepare, ViewChange}
+use Rattle.pbft_wire.specs.Signed.{NewView, Prepare, ViewChange}
 use Rattle.iss_sb.specs.declared.signers.Signed.{Signed}
 use Rattle.iss_sb.specs.Signers.{are_signers}
 use Rattle.pbft_wire.proofs.MessageGrammar.{fits-again}

@@ -18,7 +18,9 @@ use Rattle.iss_sb.specs.declared.effects.To.TheVariants.{All as To_all, One as T
 use Rattle.iss_sb.proofs.Slots.{has_slot-In}
 use Rattle.pbft_wire.specs.Statements.{digest_of}
 use Rattle.pbft_wire.specs.declared.messages.Message.{Message}
-use Rattle.pbft_wire.specs.declared.messages.Message.TheVariants.{Commit, NewView, PrePrepare, Prepare, ViewChange}
+use Rattle.pbft_wire.specs.declared.messages.Body.{Body}
+use Rattle.pbft_wire.specs.declared.messages.Body.TheVariants.{PrePrepare as Pre_prepare_body, Prepare as Prepare_body, Commit as Commit_body, ViewChange as View_change_body, NewView as New_view_body}
+use Rattle.pbft_wire.specs.Signed.{PrePrepare, Prepare, Commit, ViewChange, NewView, signed}
 use Rattle.pbft_views.specs.Choice.{choice}
 use Rattle.pbft_views.specs.Good.{primary}
 use Rattle.pbft_views.proofs.Claimed.{named}
@@ -110,35 +112,39 @@ up-to : (p : Params) (ds : List Draft) (a b : ℕ) → uses_all p ds ≤ a + b �
     uses_all p ds ≤ 2 * length p.slots + 1
 up-to p ds a b h k = omega (arith, h, k)
 
+drafts-uses-heard : (p : Params) (me : ℕ) (xs : List (Item Message)) (from : NodeId) (body : Body) (sig : List ℕ) →
+    uses_all p (drafts p me xs (Receive from (signed body sig))) ≤ 2 * length p.slots + 1
+drafts-uses-heard p me xs from (Pre_prepare_body v s x) sig =
+    let i : Input Message = Receive from (PrePrepare v s x sig) in
+    let l = first-uses p me (asked p me (inputs xs) i) in
+    let r = one-a-slot p me xs i p.slots (λ s. refl) in
+    let u = both-uses p me xs i 1 (length p.slots) l r in omega (arith, u)
+drafts-uses-heard p me xs from (Prepare_body v s d) sig =
+    let i : Input Message = Receive from (Prepare v s d sig) in
+    let r = one-a-slot p me xs i p.slots (λ s. refl) in
+    let u = both-uses p me xs i 0 (length p.slots) (omega arith) r in omega (arith, u)
+drafts-uses-heard p me xs from (Commit_body v s d) sig =
+    let i : Input Message = Receive from (Commit v s d sig) in
+    let r = one-a-slot p me xs i p.slots (λ s. refl) in
+    let u = both-uses p me xs i 0 (length p.slots) (omega arith) r in omega (arith, u)
+drafts-uses-heard p me xs from (View_change_body v cs) sig =
+    let i : Input Message = Receive from (ViewChange v cs sig) in
+    let l = when-uses p (completes p me (inputs xs) i v) (DraftNewView v (changes p (i ∷ inputs xs) v)) in
+    let r = one-a-slot p me xs i p.slots (λ s. refl) in
+    let u = both-uses p me xs i (length p.slots + 1) (length p.slots) l r in omega (arith, u)
+drafts-uses-heard p me xs from (New_view_body v ys sigs) sig =
+    let i : Input Message = Receive from (NewView v ys sigs sig) in
+    let m : Mode = mode p (inputs xs) in
+    let r = two-a-slot p me xs i p.slots (λ s. when-uses p (enters p m from.0 v ys sigs && not (me == primary p v)) (DraftPrepare v s (digest_of p (choice ys s.0)))) in
+    let u = both-uses p me xs i 0 (2 * length p.slots) (omega arith) r in omega (arith, u)
+
 drafts-uses : (p : Params) (me : ℕ) (xs : List (Item Message)) (i : Input Message) →
     uses_all p (drafts p me xs i) ≤ 2 * length p.slots + 1
 drafts-uses p me xs (Cast s b) =
     let l = first-uses p me (asked p me (inputs xs) (Cast s b)) in
     let r = one-a-slot p me xs (Cast s b) p.slots (λ s. refl) in
     let u = both-uses p me xs (Cast s b) 1 (length p.slots) l r in omega (arith, u)
-drafts-uses p me xs (Receive from (PrePrepare v s x sig)) =
-    let i : Input Message = Receive from (PrePrepare v s x sig) in
-    let l = first-uses p me (asked p me (inputs xs) i) in
-    let r = one-a-slot p me xs i p.slots (λ s. refl) in
-    let u = both-uses p me xs i 1 (length p.slots) l r in omega (arith, u)
-drafts-uses p me xs (Receive from (Prepare v s d sig)) =
-    let i : Input Message = Receive from (Prepare v s d sig) in
-    let r = one-a-slot p me xs i p.slots (λ s. refl) in
-    let u = both-uses p me xs i 0 (length p.slots) (omega arith) r in omega (arith, u)
-drafts-uses p me xs (Receive from (Commit v s d sig)) =
-    let i : Input Message = Receive from (Commit v s d sig) in
-    let r = one-a-slot p me xs i p.slots (λ s. refl) in
-    let u = both-uses p me xs i 0 (length p.slots) (omega arith) r in omega (arith, u)
-drafts-uses p me xs (Receive from (ViewChange v cs sig)) =
-    let i : Input Message = Receive from (ViewChange v cs sig) in
-    let l = when-uses p (completes p me (inputs xs) i v) (DraftNewView v (changes p (i ∷ inputs xs) v)) in
-    let r = one-a-slot p me xs i p.slots (λ s. refl) in
-    let u = both-uses p me xs i (length p.slots + 1) (length p.slots) l r in omega (arith, u)
-drafts-uses p me xs (Receive from (NewView v ys sigs sig)) =
-    let i : Input Message = Receive from (NewView v ys sigs sig) in
-    let m : Mode = mode p (inputs xs) in
-    let r = two-a-slot p me xs i p.slots (λ s. when-uses p (enters p m from.0 v ys sigs && not (me == primary p v)) (DraftPrepare v s (digest_of p (choice ys s.0)))) in
-    let u = both-uses p me xs i 0 (2 * length p.slots) (omega arith) r in omega (arith, u)
+drafts-uses p me xs (Receive from msg) = drafts-uses-heard p me xs from msg.body msg.sig
 drafts-uses p me xs Timeout =
     let l = when-uses p (passes (mode p (inputs xs))) (DraftViewChange _ _) in
     let r = one-a-slot p me xs Timeout p.slots (λ s. refl) in

@@ -14,7 +14,7 @@ use Rattle.iss_sb.specs.declared.effects.Params.{Params}
 use Rattle.pbft_wire.specs.Statements.{digest_of}
 use Rattle.pbft_wire.specs.declared.messages.Change.{Change}
 use Rattle.pbft_wire.specs.declared.messages.Message.{Message}
-use Rattle.pbft_wire.specs.declared.messages.Message.TheVariants.{Commit, NewView, Prepare}
+use Rattle.pbft_wire.specs.Signed.{Commit, NewView, Prepare}
 use Rattle.pbft_views.specs.Choice.{certificates_of, choice}
 use Rattle.pbft_views.specs.Good.{primary}
 use Rattle.sb_pbft.specs.Makes.{Draft, DraftPrepare, DraftViewChange, answer, by_slot, choice_strings, inputs, kept, lead, proposal_sig, ready, sig_for, strings, tops, value_strings}

@@ -17,7 +17,7 @@ use Rattle.iss_sb.proofs.Slots.{has_slot-In}
 use Rattle.pbft_wire.specs.Statements.{digest_of}
 use Rattle.pbft_wire.specs.declared.messages.Change.{Change}
 use Rattle.pbft_wire.specs.declared.messages.Message.{Message}
-use Rattle.pbft_wire.specs.declared.messages.Message.TheVariants.{NewView}
+use Rattle.pbft_wire.specs.Signed.{NewView}
 use Rattle.pbft_views.specs.Choice.{certificates_of, choice}
 use Rattle.pbft_views.specs.Good.{primary}
 use Rattle.sb_pbft.specs.Makes.{DraftPrepare, answer, choice_strings, inputs, proposal_sig, sig_for, value_strings}

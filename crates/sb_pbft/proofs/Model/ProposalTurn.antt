@@ -17,7 +17,7 @@ use Rattle.iss_sb.specs.declared.effects.Input.TheVariants.{Cast, Receive}
 use Rattle.iss_sb.specs.declared.effects.Params.{Params}
 use Rattle.iss_sb.proofs.Slots.{has_slot-In}
 use Rattle.pbft_wire.specs.declared.messages.Message.{Message}
-use Rattle.pbft_wire.specs.declared.messages.Message.TheVariants.{PrePrepare}
+use Rattle.pbft_wire.specs.Signed.{PrePrepare}
 use Rattle.sb_pbft.specs.Makes.{Draft, answer, asked_strings, by_slot, chosen_sig, first_draft, first_sig, inputs, kept, lead, offered_sig, proposal_sig, strings}
 use Rattle.sb_pbft.specs.Rules.{Mode, asked, asked_of, change_in, change_of, chosen, commit_in, commit_of, committed, mode, mode_after, offer, offered, prepare_in, prepare_of, prepared, proposal, unless, when}
 use Rattle.sb_pbft.specs.Internal.Turns.{Held, TurnsTo, accepts_of, and_said, asked_at, at_slots, bare, drafts_all, first_proposal, free, model, placed, with_proposal}

@@ -4,6 +4,7 @@ use Rattle.std.proofs.lemmas.Bool.{false≢true}
 use Rattle.std.specs.Prelude.{is_some, ◌==◌}
 use Rattle.iss_base.specs.Lists.{first_of}
 use Rattle.iss_base.proofs.Lists.{and-true}
+use Rattle.iss_request.specs.declared.ids.NodeId.{NodeId}
 use Rattle.iss_request.specs.declared.ids.Slot.{Slot}
 use Rattle.iss_request.specs.declared.requests.Batch.{Batch}
 use Rattle.iss_request.specs.declared.requests.Value.TheVariants.{Batch as Value_batch}
@@ -12,7 +13,9 @@ use Rattle.iss_sb.specs.Evidence.{Item}
 use Rattle.iss_sb.specs.declared.effects.Input.TheVariants.{Cast, Receive, Timeout}
 use Rattle.iss_sb.specs.declared.effects.Params.{Params}
 use Rattle.pbft_wire.specs.declared.messages.Message.{Message}
-use Rattle.pbft_wire.specs.declared.messages.Message.TheVariants.{Commit, NewView, PrePrepare, Prepare, ViewChange}
+use Rattle.pbft_wire.specs.declared.messages.Body.{Body}
+use Rattle.pbft_wire.specs.declared.messages.Body.TheVariants.{PrePrepare as Pre_prepare_body, Prepare as Prepare_body, Commit as Commit_body, ViewChange as View_change_body, NewView as New_view_body}
+use Rattle.pbft_wire.specs.Signed.{signed}
 use Rattle.pbft_views.specs.Choice.{choice}
 use Rattle.sb_pbft.specs.Makes.{chosen_sig, first_sig, inputs, offered_sig, proposal_sig, sig_for}
 use Rattle.sb_pbft.specs.Rules.{Mode, chosen, enters, mode, offer, offered, proposal, when}
@@ -37,13 +40,12 @@ has-sig s (t ∷ ss) (sig ∷ sigs) h n = go (t.0 == s) h (λ k. has-sig s ss si
     go false k r = r k
 
 module _ (p : Params) (me : ℕ) where
-  pub chosen-signed : (m : Mode) (i : Said) (v s : ℕ) → is_some (chosen p m i v s) ≡ is_some (chosen_sig p m i v s)
-  chosen-signed m (Cast t b) v s = refl
-  chosen-signed m (Receive from (PrePrepare w t x sig)) v s = refl
-  chosen-signed m (Receive from (Prepare w t d sig)) v s = refl
-  chosen-signed m (Receive from (Commit w t d sig)) v s = refl
-  chosen-signed m (Receive from (ViewChange w cs sig)) v s = refl
-  chosen-signed m (Receive from (NewView w xs sigs sig)) v s = go ((v == w) && (has_slot s p.slots && enters p m from.0 w xs sigs)) refl
+  chosen-signed-heard : (m : Mode) (from : NodeId) (body : Body) (sig : List ℕ) (v s : ℕ) → is_some (chosen p m (Receive from (signed body sig)) v s) ≡ is_some (chosen_sig p m (Receive from (signed body sig)) v s)
+  chosen-signed-heard m from (Pre_prepare_body w t x) sig v s = refl
+  chosen-signed-heard m from (Prepare_body w t d) sig v s = refl
+  chosen-signed-heard m from (Commit_body w t d) sig v s = refl
+  chosen-signed-heard m from (View_change_body w cs) sig v s = refl
+  chosen-signed-heard m from (New_view_body w xs sigs) sig v s = go ((v == w) && (has_slot s p.slots && enters p m from.0 w xs sigs)) refl
     where
       go : (b : Bool) → ((v == w) && (has_slot s p.slots && enters p m from.0 w xs sigs)) ≡ b →
           is_some (when b (choice xs s)) ≡ is_some (cond b (sig_for s p.slots sigs) None)
@@ -51,6 +53,10 @@ module _ (p : Params) (me : ℕ) where
       go true q =
           let a = and-true (has_slot s p.slots) (enters p m from.0 w xs sigs) (and-true (v == w) _ q).1 in
           has-sig s p.slots sigs a.0 (entered p m from.0 w xs sigs a.1).signed
+
+  pub chosen-signed : (m : Mode) (i : Said) (v s : ℕ) → is_some (chosen p m i v s) ≡ is_some (chosen_sig p m i v s)
+  chosen-signed m (Cast t b) v s = refl
+  chosen-signed m (Receive from msg) v s = chosen-signed-heard m from msg.body msg.sig v s
   chosen-signed m Timeout v s = refl
 
   offered-signed : (o : Option (Slot × Batch)) (v s : ℕ) (x : Item Message) →

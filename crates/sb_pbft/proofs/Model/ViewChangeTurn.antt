@@ -10,7 +10,7 @@ use Rattle.iss_sb.specs.declared.effects.Input.TheVariants.{Receive}
 use Rattle.iss_sb.specs.declared.effects.Params.{Params}
 use Rattle.pbft_wire.specs.declared.messages.Certificate.{Certificate}
 use Rattle.pbft_wire.specs.declared.messages.Message.{Message}
-use Rattle.pbft_wire.specs.declared.messages.Message.TheVariants.{ViewChange}
+use Rattle.pbft_wire.specs.Signed.{ViewChange}
 use Rattle.sb_pbft.specs.Makes.{Draft, DraftNewView, inputs, kept, proposal_sig, ready}
 use Rattle.sb_pbft.specs.Pbft.{pbft}
 use Rattle.sb_pbft.specs.Rules.{change_in, change_of, changes, commit_of, completes, prepare_of, proposal}

@@ -11,7 +11,7 @@ use Rattle.iss_sb.specs.declared.effects.Input.TheVariants.{Receive}
 use Rattle.iss_sb.specs.declared.effects.Params.{Params}
 use Rattle.iss_sb.proofs.Slots.{has_slot-In}
 use Rattle.pbft_wire.specs.declared.messages.Message.{Message}
-use Rattle.pbft_wire.specs.declared.messages.Message.TheVariants.{Commit, Prepare}
+use Rattle.pbft_wire.specs.Signed.{Commit, Prepare}
 use Rattle.sb_pbft.specs.Makes.{inputs, proposal_sig}
 use Rattle.sb_pbft.specs.Pbft.{pbft}
 use Rattle.sb_pbft.specs.Rules.{Ballot, change_of, commit_in, commit_of, prepare_in, prepare_of, proposal}

@@ -15,7 +15,7 @@ use Rattle.iss_sb.proofs.Slots.{has_slot-In}
 use Rattle.pbft_wire.specs.Statements.{digest_of}
 use Rattle.pbft_wire.specs.declared.messages.Certificate.{Certificate}
 use Rattle.pbft_wire.specs.declared.messages.Message.{Message}
-use Rattle.pbft_wire.specs.declared.messages.Message.TheVariants.{Commit, Prepare}
+use Rattle.pbft_wire.specs.Signed.{Commit, Prepare}
 use Rattle.pbft_views.specs.Good.{primary}
 use Rattle.sb_pbft.specs.Makes.{has, inputs, kept, ready}
 use Rattle.sb_pbft.specs.Rules.{Ballot, commit_of, committed, committed_with, is_at, mode, prepare_of, prepared, prepared_with, proposal, voters, when}

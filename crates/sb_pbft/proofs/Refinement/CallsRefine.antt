@@ -17,7 +17,9 @@ use Rattle.iss_sb.specs.declared.effects.Params.{Params}
 use Rattle.iss_sb.specs.Calls.{Delivers, IsGoodParams, IsTaken, IsTrueStep}
 use Rattle.iss_sb.specs.Evidence.{Item, and_then}
 use Rattle.pbft_wire.specs.declared.messages.Message.{Message}
-use Rattle.pbft_wire.specs.declared.messages.Message.TheVariants.{PrePrepare}
+use Rattle.pbft_wire.specs.declared.messages.Body.{Body}
+use Rattle.pbft_wire.specs.declared.messages.Body.TheVariants.{PrePrepare as Pre_prepare_body}
+use Rattle.pbft_wire.specs.Signed.{PrePrepare, signed}
 use Rattle.sb_pbft.specs.declared.pbft.Pbft.{Pbft}
 use Rattle.sb_pbft.specs.Makes.{Draft, sign_all, uses_all}
 use Rattle.sb_pbft.specs.Pbft.{asks, pbft}
@@ -123,12 +125,12 @@ module _ (p : Params) (good : IsGoodParams pbft p) (m : Pbft) (me : ℕ) (xs : L
   asks-of-cast i slot batch t is may =
       ap (λ (z : Bool). let x : Slot × Batch = (slot, batch) in when z x) may ∙ sym (asks-cast slot batch) ∙ ap (λ (z : Input Message). asks p me xs z) (sym is)
 
-  pub asks-of-told : (i : Input Message) (from : NodeId) (msg : Message) (v : ℕ) (slot : Slot) (x : Value) (batch : Batch) (sig : List ℕ) (t : Bool) →
-      i ≡ Receive from msg → msg ≡ PrePrepare v slot x sig → x ≡ Value_batch batch → t ≡ may_take p m from.0 v slot.0 →
+  pub asks-of-told : (i : Input Message) (from : NodeId) (msg : Message) (v : ℕ) (slot : Slot) (x : Value) (batch : Batch) (t : Bool) →
+      i ≡ Receive from msg → msg.body ≡ Pre_prepare_body v slot x → x ≡ Value_batch batch → t ≡ may_take p m from.0 v slot.0 →
       ◌≡◌ {A = Option (Slot × Batch)} (when {A = Slot × Batch} t (slot, batch)) (asks p me xs i)
-  asks-of-told i from msg v slot x batch sig t is says holds may =
-      ap (λ (z : Bool). let x : Slot × Batch = (slot, batch) in when z x) may ∙ sym (asks-told from v slot batch sig)
-      ∙ ap (λ (z : Value). asks p me xs (Receive from (PrePrepare v slot z sig))) (sym holds) ∙ ap (λ (z : Message). asks p me xs (Receive from z)) (sym says)
+  asks-of-told i from msg v slot x batch t is says holds may =
+      ap (λ (z : Bool). let x : Slot × Batch = (slot, batch) in when z x) may ∙ sym (asks-told from v slot batch msg.sig)
+      ∙ ap (λ (z : Value). asks p me xs (Receive from (PrePrepare v slot z msg.sig))) (sym holds) ∙ ap (λ (z : Body). asks p me xs (Receive from (signed z msg.sig))) (sym says)
       ∙ ap (λ (z : Input Message). asks p me xs z) (sym is)
 
   when-some : (t : Bool) (x : Slot × Batch) → t ≡ true → ◌≡◌ {A = Option (Slot × Batch)} (when t x) (Some x)
@@ -150,3 +152,9 @@ pub nil-idle : (p : Params) (m : Pbft) (from : NodeId) (v : ℕ) (slot : Slot) (
     x ≡ Value_nil →
     turn p m.me.0 leaf (held m) (Receive from (PrePrepare v slot x sig)) ≡ idle (held m)
 nil-idle p m from v slot x sig leaf is = ap (λ (z : Value). turn p m.me.0 leaf (held m) (Receive from (PrePrepare v slot z sig))) is
+
+-- ---- A message by its body
+
+pub by-body : (p : Params) (old new : Pbft) (from : NodeId) (msg : Message) (body : Body) (k l : KeyState) (e : Effects Message) → msg.body ≡ body →
+    Does p old new (Receive from (signed body msg.sig)) k l e → Does p old new (Receive from msg) k l e
+by-body p old new from msg body k l e is d = subst (λ (z : Body). Does p old new (Receive from (signed z msg.sig)) k l e) (sym is) d

@@ -17,7 +17,7 @@ use Rattle.iss_sb.specs.declared.effects.To.{To}
 use Rattle.iss_sb.specs.declared.effects.To.TheVariants.{All as To_all}
 use Rattle.iss_sb.specs.Statements.{signature}
 use Rattle.pbft_wire.specs.declared.messages.Message.{Message}
-use Rattle.pbft_wire.specs.declared.messages.Message.TheVariants.{PrePrepare}
+use Rattle.pbft_wire.specs.Signed.{PrePrepare}
 use Rattle.pbft_wire.specs.Statements.{digest_of, state_at, string_of}
 use Rattle.sb_pbft.specs.declared.pbft.Pbft.{Pbft}
 use Rattle.sb_pbft.specs.declared.proposals.Proposal.{Proposal}

@@ -6,7 +6,7 @@ use Rattle.iss_request.specs.declared.ids.Slot.{Slot}
 use Rattle.iss_sb.specs.declared.effects.Input.TheVariants.{Receive}
 use Rattle.iss_sb.specs.declared.effects.Params.{Params}
 use Rattle.iss_sb.specs.Calls.{has_slot}
-use Rattle.pbft_wire.specs.declared.messages.Message.TheVariants.{Prepare, Commit}
+use Rattle.pbft_wire.specs.Signed.{Prepare, Commit}
 use Rattle.pbft_views.specs.Good.{primary}
 use Rattle.sb_pbft.specs.declared.pbft.Pbft.{Pbft}
 use Rattle.sb_pbft.specs.declared.tallies.Votes.{Votes}

@@ -16,7 +16,7 @@ use Rattle.iss_sb.specs.declared.effects.To.{To}
 use Rattle.pbft_wire.specs.declared.messages.Certificate.{Certificate}
 use Rattle.pbft_wire.specs.declared.messages.Change.{Change}
 use Rattle.pbft_wire.specs.declared.messages.Message.{Message}
-use Rattle.pbft_wire.specs.declared.messages.Message.TheVariants.{ViewChange, NewView}
+use Rattle.pbft_wire.specs.Signed.{ViewChange, NewView}
 use Rattle.pbft_wire.specs.Statements.{string_of}
 use Rattle.pbft_views.specs.Choice.{certificates_of}
 use Rattle.pbft_views.specs.Good.{all_good, primary}

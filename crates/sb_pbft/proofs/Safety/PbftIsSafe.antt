@@ -14,7 +14,7 @@ use Rattle.iss_sb.specs.declared.effects.To.{To}
 use Rattle.iss_sb.proofs.Legal.{legal-reached, made-at, made-front}
 use Rattle.pbft_wire.specs.declared.messages.Certificate.{Certificate}
 use Rattle.pbft_wire.specs.declared.messages.Message.{Message}
-use Rattle.pbft_wire.specs.declared.messages.Message.TheVariants.{Commit, ViewChange}
+use Rattle.pbft_wire.specs.Signed.{Commit, ViewChange}
 use Rattle.sb_pbft.specs.Facts.{AreChosen, AreDecided, AreFixed, AreQuiet, AreRooted, AreShown, HaveOneDigest, HaveOneVote, IsCertificate, IsChosen, IsRooted}
 use Rattle.sb_pbft.specs.Makes.{Draft, DraftCommit, DraftNewView, DraftPrePrepare, DraftPrepare, DraftViewChange, drafts, inputs, sign}
 use Rattle.sb_pbft.specs.Pbft.{pbft}

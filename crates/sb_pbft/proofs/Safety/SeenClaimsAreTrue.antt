@@ -21,7 +21,7 @@ use Rattle.pbft_wire.specs.Statements.{digest_of, state_at, string_of}
 use Rattle.pbft_wire.specs.declared.messages.Certificate.{Certificate}
 use Rattle.pbft_wire.specs.declared.messages.Change.{Change}
 use Rattle.pbft_wire.specs.declared.messages.Message.{Message}
-use Rattle.pbft_wire.specs.declared.messages.Message.TheVariants.{NewView, PrePrepare}
+use Rattle.pbft_wire.specs.Signed.{NewView, PrePrepare}
 use Rattle.iss_sb.specs.declared.signers.Signed.{Signed}
 use Rattle.pbft_wire.proofs.MessageGrammar.{fits-read}
 use Rattle.pbft_views.specs.Choice.{certificates_of, choice}

@@ -16,7 +16,7 @@ use Rattle.pbft_wire.specs.Statements.{digest_of}
 use Rattle.pbft_wire.specs.declared.messages.Certificate.{Certificate}
 use Rattle.pbft_wire.specs.declared.messages.Change.{Change}
 use Rattle.pbft_wire.specs.declared.messages.Message.{Message}
-use Rattle.pbft_wire.specs.declared.messages.Message.TheVariants.{NewView}
+use Rattle.pbft_wire.specs.Signed.{NewView}
 use Rattle.pbft_views.specs.Choice.{choice}
 use Rattle.sb_pbft.specs.Makes.{DraftCommit, DraftNewView, DraftPrePrepare, DraftPrepare, DraftViewChange, drafts, inputs, kept}
 use Rattle.sb_pbft.specs.Rules.{enters, mode, proposal}

@@ -15,7 +15,7 @@ use Rattle.pbft_wire.specs.Statements.{digest_of, state_at, state_change, state_
 use Rattle.pbft_wire.specs.declared.messages.Certificate.{Certificate}
 use Rattle.pbft_wire.specs.declared.messages.Change.{Change}
 use Rattle.pbft_wire.specs.declared.messages.Message.{Message}
-use Rattle.pbft_wire.specs.declared.messages.Message.TheVariants.{NewView, ViewChange}
+use Rattle.pbft_wire.specs.Signed.{NewView, ViewChange}
 use Rattle.pbft_views.specs.Choice.{certificates_of, choice}
 use Rattle.iss_sb.specs.Statements.{claim}
 use Rattle.pbft_views.specs.Claims.{certificates_claims, change_claims, changes_claims, chosen_claims}

@@ -15,7 +15,9 @@ use Rattle.pbft_wire.specs.Statements.{digest_of}
 use Rattle.pbft_wire.specs.declared.messages.Certificate.{Certificate}
 use Rattle.pbft_wire.specs.declared.messages.Change.{Change}
 use Rattle.pbft_wire.specs.declared.messages.Message.{Message}
-use Rattle.pbft_wire.specs.declared.messages.Message.TheVariants.{Commit, NewView, PrePrepare, Prepare, ViewChange}
+use Rattle.pbft_wire.specs.declared.messages.Body.{Body}
+use Rattle.pbft_wire.specs.declared.messages.Body.TheVariants.{PrePrepare as Pre_prepare_body, Prepare as Prepare_body, Commit as Commit_body, ViewChange as View_change_body, NewView as New_view_body}
+use Rattle.pbft_wire.specs.Signed.{ViewChange, NewView, signed}
 use Rattle.pbft_views.specs.Choice.{choice}
 use Rattle.pbft_views.specs.Good.{all_good, primary}
 use Rattle.sb_pbft.specs.Makes.{DraftCommit, DraftNewView, DraftPrePrepare, DraftPrepare, DraftViewChange, drafts, inputs}
@@ -32,12 +34,11 @@ pub record IsKeptChange (p : Params) (v k : ℕ) (x : Change) (i : Said) : Type 
   pub view : x.view ≡ v
   pub good : all_good p v x.certificates ≡ true
 
-pub change-in-is : (p : Params) (i : Said) (v k : ℕ) (x : Change) → change_in p i v k ≡ Some x → IsKeptChange p v k x i
-change-in-is p (Cast s b) v k x h = absurd (cc)
-change-in-is p (Receive from (PrePrepare w s y sig)) v k x h = absurd (cc)
-change-in-is p (Receive from (Prepare w s d sig)) v k x h = absurd (cc)
-change-in-is p (Receive from (Commit w s d sig)) v k x h = absurd (cc)
-change-in-is p (Receive from (ViewChange w cs sig)) v k x h =
+change-in-is-heard : (p : Params) (from : NodeId) (body : Body) (sig : List ℕ) (v k : ℕ) (x : Change) → change_in p (Receive from (signed body sig)) v k ≡ Some x → IsKeptChange p v k x (Receive from (signed body sig))
+change-in-is-heard p from (Pre_prepare_body w s y) sig v k x h = absurd (cc)
+change-in-is-heard p from (Prepare_body w s d) sig v k x h = absurd (cc)
+change-in-is-heard p from (Commit_body w s d) sig v k x h = absurd (cc)
+change-in-is-heard p from (View_change_body w cs) sig v k x h =
     let made : Change = record { node = from; view = w; certificates = cs; sig = sig } in
     let a = when-is (((from.0 == k) && (v == w)) && all_good p w cs) made x h in
     let b = and-true ((from.0 == k) && (v == w)) (all_good p w cs) a.test in
@@ -49,7 +50,11 @@ change-in-is p (Receive from (ViewChange w cs sig)) v k x h =
       view = e;
       good = subst (λ (z : ℕ). all_good p z cs ≡ true) e b.1;
     })
-change-in-is p (Receive from (NewView w xs sigs sig)) v k x h = absurd (cc)
+change-in-is-heard p from (New_view_body w xs sigs) sig v k x h = absurd (cc)
+
+pub change-in-is : (p : Params) (i : Said) (v k : ℕ) (x : Change) → change_in p i v k ≡ Some x → IsKeptChange p v k x i
+change-in-is p (Cast s b) v k x h = absurd (cc)
+change-in-is p (Receive from msg) v k x h = change-in-is-heard p from msg.body msg.sig v k x h
 change-in-is p Timeout v k x h = absurd (cc)
 
 pub change-of-is : (p : Params) (l : List Said) (v k : ℕ) (x : Change) → change_of p l v k ≡ Some x →

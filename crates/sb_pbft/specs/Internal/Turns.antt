@@ -16,7 +16,8 @@ use Rattle.iss_sb.specs.Evidence.{Item, and_then, delivered}
 use Rattle.pbft_wire.specs.declared.messages.Certificate.{Certificate}
 use Rattle.pbft_wire.specs.declared.messages.Change.{Change}
 use Rattle.pbft_wire.specs.declared.messages.Message.{Message}
-use Rattle.pbft_wire.specs.declared.messages.Message.TheVariants.{PrePrepare, Prepare, Commit, ViewChange, NewView}
+use Rattle.pbft_wire.specs.declared.messages.Body.{Body}
+use Rattle.pbft_wire.specs.declared.messages.Body.TheVariants.{PrePrepare, Prepare, Commit, ViewChange, NewView}
 use Rattle.pbft_wire.specs.Statements.{digest_of}
 use Rattle.pbft_views.specs.Choice.{best, certificates_of, choice}
 use Rattle.pbft_views.specs.Good.{all_good, primary}
@@ -249,21 +250,21 @@ gives_up p h = record (idle (record h { mode = record { view = h.mode.view + 1; 
   drafts = DraftViewChange (h.mode.view + 1) (tops_of h.top p.slots) ∷ [];
 }
 
+abbrev pub turn_heard : Params → ℕ → ℕ → Held → NodeId → Message → Body → Turn
+turn_heard p me leaf h from msg (PrePrepare v slot x) =
+    accepts_of p me leaf h (Receive from msg) (asked_at p me h (Receive from msg))
+turn_heard p me leaf h from msg (Prepare v slot d) =
+    cond (has_slot slot.0 p.slots && not (from.0 == primary p v))
+    (at_slots p (and_prepare p h (Receive from msg)) false v (slot ∷ [])) (idle h)
+turn_heard p me leaf h from msg (Commit v slot d) =
+    cond (has_slot slot.0 p.slots) (at_slots p (and_commit p h (Receive from msg)) false v (slot ∷ [])) (idle h)
+turn_heard p me leaf h from msg (ViewChange v cs) = changed p me h (and_change p h (Receive from msg)) from v cs
+turn_heard p me leaf h from msg (NewView v xs sigs) =
+    cond (enters p h.mode from.0 v xs sigs) (begins p me h v xs sigs) (idle h)
+
 abbrev pub turn : Params → ℕ → ℕ → Held → Input Message → Turn
 turn p me leaf h (Cast slot batch) = accepts_of p me leaf h (Cast slot batch) (asked_at p me h (Cast slot batch))
-turn p me leaf h (Receive from (PrePrepare v slot x sig)) =
-    accepts_of p me leaf h (Receive from (PrePrepare v slot x sig))
-    (asked_at p me h (Receive from (PrePrepare v slot x sig)))
-turn p me leaf h (Receive from (Prepare v slot d sig)) =
-    cond (has_slot slot.0 p.slots && not (from.0 == primary p v))
-    (at_slots p (and_prepare p h (Receive from (Prepare v slot d sig))) false v (slot ∷ [])) (idle h)
-turn p me leaf h (Receive from (Commit v slot d sig)) =
-    cond (has_slot slot.0 p.slots)
-    (at_slots p (and_commit p h (Receive from (Commit v slot d sig))) false v (slot ∷ [])) (idle h)
-turn p me leaf h (Receive from (ViewChange v cs sig)) =
-    changed p me h (and_change p h (Receive from (ViewChange v cs sig))) from v cs
-turn p me leaf h (Receive from (NewView v xs sigs sig)) =
-    cond (enters p h.mode from.0 v xs sigs) (begins p me h v xs sigs) (idle h)
+turn p me leaf h (Receive from msg) = turn_heard p me leaf h from msg msg.body
 turn p me leaf h Timeout = cond (passes h.mode) (gives_up p h) (idle h)
 
 -- the turn agrees with the definitions over the whole history

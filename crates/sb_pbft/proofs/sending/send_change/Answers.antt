@@ -2,7 +2,7 @@ use Rattle.std.proofs.Common.{◌∙◌, ℕ, List, refl, ap}
 use Rattle.iss_sb.specs.Statements.{signature}
 use Rattle.pbft_wire.specs.declared.messages.Certificate.{Certificate}
 use Rattle.pbft_wire.specs.Statements.{state_change}
-use Rattle.pbft_wire.specs.declared.messages.Message.TheVariants.{ViewChange}
+use Rattle.pbft_wire.specs.Signed.{ViewChange}
 use Rattle.sb_pbft.specs.Makes.{DraftViewChange}
 use Rattle.sb_pbft.proofs.Refinement.SettleRefines.{sent-one}
 use Rattle.sb_pbft.proofs.sending.send_change.Goals as goal

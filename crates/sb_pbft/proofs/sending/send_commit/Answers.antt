@@ -1,5 +1,5 @@
 use Rattle.std.proofs.Common.{ℕ, List, refl, ap}
-use Rattle.pbft_wire.specs.declared.messages.Message.TheVariants.{Commit}
+use Rattle.pbft_wire.specs.Signed.{Commit}
 use Rattle.sb_pbft.specs.Makes.{DraftCommit}
 use Rattle.sb_pbft.proofs.Refinement.SettleRefines.{sent-one}
 use Rattle.sb_pbft.proofs.sending.send_commit.Goals as goal

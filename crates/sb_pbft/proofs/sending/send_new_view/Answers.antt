@@ -3,7 +3,7 @@ use Rattle.iss_keys.specs.KeyStates.{KeyState}
 use Rattle.iss_request.specs.declared.ids.Slot.{Slot}
 use Rattle.iss_sb.specs.Statements.{signature}
 use Rattle.pbft_wire.specs.declared.messages.Change.{Change}
-use Rattle.pbft_wire.specs.declared.messages.Message.TheVariants.{NewView}
+use Rattle.pbft_wire.specs.Signed.{NewView}
 use Rattle.pbft_wire.specs.Statements.{state_new}
 use Rattle.sb_pbft.specs.Makes.{DraftNewView, choice_sigs}
 use Rattle.sb_pbft.proofs.Refinement.SettleRefines.{own-later, sent-by}

@@ -1,5 +1,5 @@
 use Rattle.std.proofs.Common.{ℕ, List, refl, ap}
-use Rattle.pbft_wire.specs.declared.messages.Message.TheVariants.{Prepare}
+use Rattle.pbft_wire.specs.Signed.{Prepare}
 use Rattle.sb_pbft.specs.Makes.{DraftPrepare}
 use Rattle.sb_pbft.proofs.Refinement.SettleRefines.{sent-one}
 use Rattle.sb_pbft.proofs.sending.send_prepare.Goals as goal

@@ -1,6 +1,6 @@
 use Rattle.std.proofs.Common.{sym}
 use Rattle.iss_sb.specs.declared.effects.Input.TheVariants.{Receive}
-use Rattle.pbft_wire.specs.declared.messages.Message.TheVariants.{ViewChange}
+use Rattle.pbft_wire.specs.Signed.{ViewChange}
 use Rattle.sb_pbft.proofs.Refinement.ViewChangeRefines.{change-does, change-idle}
 use Rattle.sb_pbft.proofs.Refinement.RulesCompose.{does-nothing}
 use Rattle.sb_pbft.proofs.pbft.Pbft.take_change.Goals as goal

@@ -1,7 +1,7 @@
 use Rattle.std.proofs.Common.{arith, refl, sym, [], ◌∷◌, false, None}
 use Rattle.iss_sb.proofs.Slots.{has_slot-In}
 use Rattle.iss_sb.specs.declared.effects.Input.TheVariants.{Receive}
-use Rattle.pbft_wire.specs.declared.messages.Message.TheVariants.{Commit}
+use Rattle.pbft_wire.specs.Signed.{Commit}
 use Rattle.sb_pbft.specs.Internal.Refines.{held}
 use Rattle.sb_pbft.specs.Internal.Turns.{and_commit}
 use Rattle.sb_pbft.proofs.Refinement.RulesCompose.{does-nothing, does-settled}

@@ -2,7 +2,7 @@ use Rattle.std.proofs.Common.{◌==◌, ◌&&◌, not, arith, refl, sym, [], ◌
 use Rattle.iss_base.proofs.Lists.{and-true}
 use Rattle.iss_request.specs.declared.requests.Value.TheVariants.{Batch as Value_batch}
 use Rattle.iss_sb.specs.declared.effects.Input.TheVariants.{Receive}
-use Rattle.pbft_wire.specs.declared.messages.Message.TheVariants.{PrePrepare}
+use Rattle.pbft_wire.specs.Signed.{PrePrepare}
 use Rattle.pbft_wire.specs.Statements.{string_of}
 use Rattle.sb_pbft.specs.Makes.{first_draft}
 use Rattle.sb_pbft.specs.Internal.Refines.{held, is_free}

@@ -3,7 +3,7 @@ use Rattle.iss_base.proofs.Lists.{and-true}
 use Rattle.iss_sb.specs.Calls.{has_slot}
 use Rattle.iss_sb.proofs.Slots.{has_slot-In}
 use Rattle.iss_sb.specs.declared.effects.Input.TheVariants.{Receive}
-use Rattle.pbft_wire.specs.declared.messages.Message.TheVariants.{Prepare}
+use Rattle.pbft_wire.specs.Signed.{Prepare}
 use Rattle.pbft_views.specs.Good.{primary}
 use Rattle.sb_pbft.specs.Internal.Refines.{held}
 use Rattle.sb_pbft.specs.Internal.Turns.{and_prepare}
