@@ -14,7 +14,9 @@ use Rattle.iss_sb.specs.declared.effects.To.{To}
 use Rattle.iss_sb.proofs.Legal.{legal-reached, made-at, made-front}
 use Rattle.pbft_wire.specs.declared.messages.Certificate.{Certificate}
 use Rattle.pbft_wire.specs.declared.messages.Message.{Message}
-use Rattle.pbft_wire.specs.Signed.{Commit, ViewChange}
+use Rattle.pbft_wire.specs.declared.messages.Body.{Body}
+use Rattle.pbft_wire.specs.declared.messages.Body.TheVariants.{Commit as Commit_body, ViewChange as View_change_body}
+use Rattle.pbft_wire.specs.Signed.{Commit, ViewChange, signed}
 use Rattle.sb_pbft.specs.Facts.{AreChosen, AreDecided, AreFixed, AreQuiet, AreRooted, AreShown, HaveOneDigest, HaveOneVote, IsCertificate, IsChosen, IsRooted}
 use Rattle.sb_pbft.specs.Makes.{Draft, DraftCommit, DraftNewView, DraftPrePrepare, DraftPrepare, DraftViewChange, drafts, inputs, sign}
 use Rattle.sb_pbft.specs.Pbft.{pbft}
@@ -31,28 +33,28 @@ use Rattle.sb_pbft.proofs.History.ViewsGrow.{grows}
 -- ---- messages that were sent
 
 module _ (p : Params) (me leaf : ℕ) where
-  sent-change : (d : Draft) (v : ℕ) (cs : List Certificate) (sig : List ℕ) → ViewChange v cs sig ≡ sign p me leaf d →
+  sent-change : (d : Draft) (v : ℕ) (cs : List Certificate) → View_change_body v cs ≡ (sign p me leaf d).body →
       SameDraft d (DraftViewChange v cs)
-  sent-change (DraftPrePrepare s x) v cs sig h = absurd (cc)
-  sent-change (DraftPrepare u s d) v cs sig h = absurd (cc)
-  sent-change (DraftCommit u s d) v cs sig h = absurd (cc)
-  sent-change (DraftViewChange u ds) v cs sig h =
+  sent-change (DraftPrePrepare s x) v cs h = absurd (cc)
+  sent-change (DraftPrepare u s d) v cs h = absurd (cc)
+  sent-change (DraftCommit u s d) v cs h = absurd (cc)
+  sent-change (DraftViewChange u ds) v cs h =
       let a : v ≡ u = cc in
       let b : cs ≡ ds = cc in
       ap (λ (z : ℕ). DraftViewChange z ds) (sym a) ∙ ap (λ (z : List Certificate). DraftViewChange v z) (sym b)
-  sent-change (DraftNewView u ys) v cs sig h = absurd (cc)
+  sent-change (DraftNewView u ys) v cs h = absurd (cc)
 
-  sent-commit : (e : Draft) (v : ℕ) (s : Slot) (d sig : List ℕ) → Commit v s d sig ≡ sign p me leaf e →
+  sent-commit : (e : Draft) (v : ℕ) (s : Slot) (d : List ℕ) → Commit_body v s d ≡ (sign p me leaf e).body →
       SameDraft e (DraftCommit v s d)
-  sent-commit (DraftPrePrepare t x) v s d sig h = absurd (cc)
-  sent-commit (DraftPrepare u t g) v s d sig h = absurd (cc)
-  sent-commit (DraftCommit u t g) v s d sig h =
+  sent-commit (DraftPrePrepare t x) v s d h = absurd (cc)
+  sent-commit (DraftPrepare u t g) v s d h = absurd (cc)
+  sent-commit (DraftCommit u t g) v s d h =
       let a : v ≡ u = cc in
       let b : s ≡ t = cc in
       let c : d ≡ g = cc in
       ap (λ (z : ℕ). DraftCommit z t g) (sym a) ∙ ap (λ (z : Slot). DraftCommit v z g) (sym b) ∙ ap (λ (z : List ℕ). DraftCommit v s z) (sym c)
-  sent-commit (DraftViewChange u ds) v s d sig h = absurd (cc)
-  sent-commit (DraftNewView u ys) v s d sig h = absurd (cc)
+  sent-commit (DraftViewChange u ds) v s d h = absurd (cc)
+  sent-commit (DraftNewView u ys) v s d h = absurd (cc)
 
 front-made : (p : Params) (me : ℕ) (xs before : List (Item Message)) (y : Item Message) → AreMade pbft p me xs →
     Front (y ∷ before) xs → AreMade pbft p me (y ∷ before)
@@ -80,12 +82,12 @@ module _ (p : Params) (good : IsGoodParams pbft p) (w : World Message) (reached 
       let m = made-at pbft p i x before made.1 k in
       let xs = subst (λ (z : Made Message). In {A = To × Message} (to, ViewChange v cs sig) z.sends) m.made h in
       let a = signed-draft p i x.leaf (drafts p i m.before x.input) to (ViewChange v cs sig) xs in
-      let change = sent-change p i a.leaf a.draft v cs sig a.is in
+      let change = sent-change p i a.leaf a.draft v cs (ap (λ (z : Message). z.body) a.is) in
       let drafted_change = drafted-in p i before m.before x (DraftViewChange v cs) m.front (subst (λ (z : Draft). In z (drafts p i m.before x.input)) change a.stands) in
       let low = change-view p i before v cs drafted_change in
       let ys = subst (λ (z : Made Message). In {A = To × Message} (other, Commit c slot d tag) z.sends) made.0 g in
       let b = signed-draft p i y.leaf (drafts p i before y.input) other (Commit c slot d tag) ys in
-      let commit = sent-commit p i b.leaf b.draft c slot d tag b.is in
+      let commit = sent-commit p i b.leaf b.draft c slot d (ap (λ (z : Message). z.body) b.is) in
       let r = commit-rule p i before y.input c slot d (rule-of p i before y.input (DraftCommit c slot d) (subst (λ (z : Draft). In z (drafts p i before y.input)) commit b.stands)) in
       let now_at = r.view in
       let more = (grows p (mode p (inputs before)) y.input).view in
