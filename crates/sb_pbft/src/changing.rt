@@ -4,7 +4,7 @@ ghost use Rattle.iss_base.specs.Lists.{first_of};
 ghost use Rattle.iss_keys.specs.KeyStates.{left_of};
 ghost use Rattle.pbft_views.specs.Choice.{certificates_of};
 ghost use Rattle.pbft_views.specs.Good.{all_good, primary};
-ghost use Rattle.pbft_wire.specs.Signed.{NewView, ViewChange};
+ghost use Rattle.pbft_wire.specs.Signed.{NewView as New_view, ViewChange};
 ghost use Rattle.sb_pbft.specs.Makes.{choice_strings, value_strings};
 ghost use Rattle.sb_pbft.specs.Places.{proposal_at};
 ghost use Rattle.sb_pbft.specs.Rules.{enters, is_newer, passes};
@@ -268,7 +268,7 @@ impl Pbft {
     ) -> Result<Effects<Message>, NoMemory>
         requires { 2 * length context.now.p.now.slots + 1 ≤ left_of keys.old }
         ensures { IfOk result (λ e. (sig : List ℕ) → Does context.now.p.now self.old self.new
-            (Input.Receive new.from (NewView new.view new.changes new.signatures sig)) keys.old keys.new e) }
+            (Input.Receive new.from (New_view new.view new.changes new.signatures sig)) keys.old keys.new e) }
     {
         let mut effects = Effects::nothing(context.alloc);
         let view = new.view;
