@@ -1,4 +1,4 @@
-use Rattle.std.proofs.Common.{sym, subst, ap, ◌≡◌, ◌∙◌, ◌<◌, ◌^◌, ◌++◌, List, ℕ, false}
+use Rattle.std.proofs.Common.{arith, sym, subst, ap, ◌≡◌, ◌∙◌, ◌<◌, ◌^◌, ◌++◌, List, ℕ, false}
 use Rattle.std.specs.Prelude.{reverse}
 use Rattle.iss_cluster.proofs.NodeLemmas.{epoch-is, prints-is}
 use Rattle.iss_cluster.specs.Nodes.{HasTaken, IsDurable}
@@ -15,11 +15,12 @@ returns-clause-block g c =
     let refines = g.M.Sequenced.refines in
     let history = g.D.Disk.history in
     let v = c.self.inside.kept in
+    let few : c.epoch.result.0 < 2 ^ 64 = omega arith in
     let text = c.of.ensures ∙ c.in_ok-put_node.ensures ∙ ap (λ (bytes : List ℕ). bytes ++ node_block c.self.inside.me.0 c.epoch.result.0 (reverse c.log.result.now.entries)) c.new-block.ensures.items in
     subst (λ (w : KeptState _ _ _). (B : NodeBehavior) (events : List NodeEvent) → HasTaken m refines w B events → (c.of.result ≡ B.prints events) × (B.epoch events < 2 ^ 64)) c.self.view_is
     (λ B events h. (
       text ∙ prints-is m refines history v B events h c.epoch.result.0 (reverse c.log.result.now.entries) c.self.inside.me.0 (ap (λ (i : NodeId). i.0) c.self.invariant.number) c.epoch.ensures.is c.log.ensures.is,
-      subst (λ (n : ℕ). n < 2 ^ 64) (epoch-is m refines history v B events h c.epoch.result.0 c.epoch.ensures.is) c.epoch.result.0-bound,
+      subst (λ (n : ℕ). n < 2 ^ 64) (epoch-is m refines history v B events h c.epoch.result.0 c.epoch.ensures.is) few,
     ))
 
 pub returns-clause-durable : goal.returns-clause-durable
