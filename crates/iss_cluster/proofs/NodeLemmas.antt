@@ -4,7 +4,7 @@ use Rattle.std.specs.Prelude.{filter, map, not}
 use Rattle.iss_base.proofs.Lists.{in_append, some-injective}
 use Rattle.iss_base.specs.Lists.{In, below}
 use Rattle.iss_cluster.proofs.EventLemmas.{accepted-more, named-more, since-more}
-use Rattle.iss_cluster.specs.Nodes.{AreAccepted, BeginsWith, HasGoneOn, HasRead, HasTaken, IsCutShort, IsDurable, IsNodeRun, IsRefused, IsRunning, Leaves, WasCutShort, as_step, block_of, is_taken, newest_entry, node_behavior_of, sends_of, stored_since}
+use Rattle.iss_cluster.specs.Nodes.{BeginsWith, HasRead, HasTaken, IsCutShort, IsDurable, IsNodeRun, IsRefused, IsRunning, Leaves, as_step, is_taken, newest_entry, node_behavior_of, sends_of, stored_since}
 use Rattle.iss_config.specs.Configs.{setup_of}
 use Rattle.iss_config.specs.declared.configs.Config.{Config}
 use Rattle.iss_disk.specs.Calls.{EachState, HasCause, IfTold}
@@ -17,13 +17,13 @@ use Rattle.iss_keep.specs.Cores.{core_of, shown_of, step_of, stored_after, store
 use Rattle.iss_keep.specs.Entries.{NamesNode, spell_event}
 use Rattle.iss_keep.specs.Recovery.{AreNamed, Recovers}
 use Rattle.iss_keep.specs.State.{KeptRefinesCore, KeptState, RefinesStored, stored_as}
-use Rattle.iss_keep.specs.Steps.{IsAnswer, IsAttached, IsDrop, IsJournaled, IsSame, IsTaken, IsTurn, Sight, Writes, entries_after, makes_stale}
+use Rattle.iss_keep.specs.Steps.{IsAnswer, IsAttached, IsDrop, IsJournaled, IsSame, IsTaken, IsTurn, Sight, Writes, makes_stale}
 use Rattle.iss_keep.specs.declared.answers.Answer.{Answer}
 use Rattle.iss_keep.specs.declared.answers.Answer.TheVariants.{Dropped as Kept_dropped, Failed, NoMemory, Stale, Taken as Kept_taken}
 use Rattle.iss_links.specs.Ends.{End}
 use Rattle.iss_loops.specs.Behavior.{AreNodes}
 use Rattle.iss_loops.specs.NodeBehavior.{FailsAt, GoTo, IsOpen, IsStep, NamesNodes, NodeBehavior}
-use Rattle.iss_loops.specs.NodeLoop.{Cuts, HasLooped, HasRun, HasSent, IsCut, begins, node_loop_of}
+use Rattle.iss_loops.specs.NodeLoop.{Cuts, HasLooped, begins, node_loop_of}
 use Rattle.iss_loops.specs.declared.node.NodeStep.TheVariants.{Taken as Step_taken, Dropped as Step_dropped}
 use Rattle.iss_loops.specs.declared.node.StepError.TheVariants.{DiskFault}
 use Rattle.iss_model.specs.Frames.{frame_of}
@@ -34,7 +34,7 @@ use Rattle.iss_node.specs.Steps.{IsOfNodes}
 use Rattle.iss_node.specs.State.{RefinesCore}
 use Rattle.iss_node.specs.declared.answers.Outcome.{Outcome}
 use Rattle.iss_rebuilt.specs.Reading.{Rebuilt}
-use Rattle.iss_rebuilt.specs.Stored.{Saved, Stored, stored_by}
+use Rattle.iss_rebuilt.specs.Stored.{Stored, stored_by}
 use Rattle.iss_replay.specs.Text.{node_block}
 use Rattle.iss_request.specs.declared.ids.NodeId.{NodeId}
 use Rattle.iss_request.specs.declared.setups.Setup.{Setup}

@@ -1,4 +1,4 @@
-use Rattle.std.proofs.Common.{ap, inr, ◌∙◌, ◌≡◌, ◌×◌, List}
+use Rattle.std.proofs.Common.{ap, inr, ◌∙◌}
 use Rattle.std.proofs.lemmas.Result.{err_from_is_err_and}
 use Rattle.iss_cluster.proofs.CauseLemmas.{loop-failed}
 use Rattle.iss_cluster.proofs.NodeLemmas.{cut-short, has-fresh, node-ran, opened-by, same-node}
