@@ -21,7 +21,8 @@ loop-k-preserved g c =
     let read = get_or (shared_in c.entries-entries.result.now) c.loop-k.k [] in
     let entry : read ≡ get_or (entries_of c.args.journal.now) c.loop-k.k [] =
     ap (λ (es : List (List ℕ)). get_or es c.loop-k.k []) c.entries-entries.ensures in
-    let same = subst (λ (o : Option (RebuildingView g.row.M.Denot g.row.M-Msg.Denot)). IfSome o _) c.in-Some.is c.in-Ok-read_at.ensures.same in (
+    let same = subst (λ (o : Option (RebuildingView g.row.M.Denot g.row.M-Msg.Denot)). IfSome o
+    (λ v. (v.state.setup ≡ c.loop-k.rebuilding.state.setup) × (v.state.me ≡ c.loop-k.rebuilding.state.me))) c.in-Some.is c.in-Ok-read_at.ensures.same in (
       read-on c.args.setup.now m refines c.args.me (entries_of c.args.journal.now) c.args.front c.requires.front c.loop-k.k lt c.loop-k.rebuilding c.in-Ok-read_at.next read entry
           c.loop-k.invariant.1 c.loop-k.invariant.0 c.in-Ok-read_at.ensures.read c.in-Some.next c.in-Some.is,
       still-reads c.args.setup.now m refines c.args.me (entries_of c.args.journal.now) c.args.front c.requires.front c.loop-k.k lt c.loop-k.rebuilding c.in-Ok-read_at.next read entry
