@@ -136,7 +136,8 @@ pub record HasRun (w : NodeState) (events : List NodeEvent) (ends : Option (List
   pub events_are : events ≡ w.events
   pub ends_are : ends ≡ Some w.ends
 
--- The disk failed at an event. The journal has the events before it, and perhaps this one. Nothing was sent of this one.
+-- The disk failed at an event. The journal has the events before it, and perhaps this one. Nothing was sent of this
+-- one.
 pub record IsCut (B now : NodeBehavior) (leaves : List NodeEvent → NodeEvent → Type 0) (events : List NodeEvent)
     (ends : Option (List End)) (progress : NodeProgress) (ends_now : Option (List End)) : Type 0 where
   pub kept : List NodeEvent
