@@ -6,6 +6,8 @@ pub mod Growth
 pub mod Inputs
 pub mod Parcels
 pub mod Ready
+pub mod Rebuilding
 pub mod Shape
+pub mod Storing
 pub mod Transfers
 pub mod Votes
