@@ -10,20 +10,22 @@ use Rattle.iss_disk.specs.States.{calls_of}
 use Rattle.iss_disk.specs.StoredViews.{history_of}
 use Rattle.iss_disk.specs.declared.stored.StoredFile.{StoredFile}
 use Rattle.iss_journal.specs.Frames.{AreShort, Reading, Reads, damaged, frames, holds}
+use Rattle.iss_journal.proofs.Retaining.{retained-twice}
 use Rattle.iss_journal.proofs.Showing.{shown_once}
 use Rattle.iss_journal.specs.Promises.{OnlyLeaves, Shows}
+use Rattle.iss_journal.specs.Retained.{retained}
 use Rattle.iss_journal.specs.RetainedViews.{shown_in}
 use Rattle.iss_journal.specs.Sound.{RestsOver, disk_of, entries_of}
 use Rattle.iss_journal.specs.declared.retained.Retained.{Retained}
 use Rattle.iss_journal.specs.declared.journal.Journal.{Journal}
 use Rattle.iss_keys.specs.Directories.{DirectoryView}
-use Rattle.iss_model.specs.Node.{Core}
+use Rattle.iss_rebuilt.specs.Reading.{Rebuilt}
 use Rattle.iss_node.specs.State.{NodeView}
 use Rattle.iss_request.specs.declared.ids.NodeId.{NodeId}
 use Rattle.iss_request.specs.declared.setups.Setup.{Setup}
 use Rattle.iss_sb.specs.Calls.{Relation}
 use Rattle.iss_sb.specs.Evidence.{Module}
-use Rattle.iss_keep.proofs.CoreLemmas.{stops-not}
+use Rattle.iss_keep.proofs.ReplayLemmas.{stops-not}
 use Rattle.iss_keep.specs.Cores.{StopsAt, core_of}
 use Rattle.iss_keep.specs.State.{IsKept, state_over}
 use Rattle.iss_keep.specs.Steps.{IsAttached, IsDamaged, IsWritten, LosesNone, Sight}
@@ -43,14 +45,15 @@ module _ (one : (bytes : List ℕ) (r q : Reading) → Reads bytes r → Reads b
       let read : Shows found file.content = subst (λ (h : List File). IfTold h (λ f. Shows found f.content)) told attached.read in
       shown_once found held file.content read reads
 
-  module _ {Msg : Type 0} (s : Setup) (m : Module Msg) (me : ℕ) (held found : List (List ℕ)) (c : Core Msg) (leads : core_of s m me held ≡ Some c) (at : ℕ)
+  module _ {Msg : Type 0} (s : Setup) (m : Module Msg) (me : ℕ) (held found : List (List ℕ)) (c : Rebuilt Msg) (leads : core_of s m me held ≡ Some c) (at : ℕ)
       (file : File) (past : List File) (reads : Shows held file.content) where
     damaged-not : IsDamaged s m me found (file ∷ past) at → ⊥
     damaged-not (inl broken) = never-both reads.all at (one file.content (holds reads.all) (damaged at) reads.read broken)
     damaged-not (inr (gates, read, stops)) =
         let shown : Shows found file.content = record { all = read.all; read = read.read; stay = read.stay } in
         let same : found ≡ held = shown_once found held file.content shown reads in
-        stops-not s m me held gates c at leads (subst (λ (es : List (List ℕ)). StopsAt s m me at es gates) same stops)
+        stops-not s m me held (subst (λ (es : List (List ℕ)). retained es ≡ es) same (ap retained read.stay ∙ retained-twice read.all ∙ sym read.stay))
+        gates c at leads (subst (λ (es : List (List ℕ)). StopsAt s m me at es gates) same stops)
 
     -- If the entries in the file lead to a core, reopening finds no damage.
     pub never-damaged : (history : List File) → history ≡ file ∷ past → IsDamaged s m me found history at → ⊥
@@ -122,7 +125,7 @@ module _ (entries : List (List ℕ)) where
       IfTold now.history (λ file. Image file file.kept) → IfTold before.history (λ file. Shows entries file.kept) →
       IfTold now.history (λ file. Shows later file.kept)
   written-synced entry before now later (Kept_taken outcome) w image h =
-      subst (λ (es : List (List ℕ)). AreSynced now.history es) (sym w.added) (leaves-synced (entries ++ entry ∷ []) now.history image w.file.1)
+      subst (λ (es : List (List ℕ)). AreSynced now.history es) (sym w.added) (leaves-synced (retained (entries ++ entry ∷ [])) now.history image w.file.1)
   written-synced entry before now later (Kept_dropped why) w image h = alike before.history now.history later w.file w.added h
   written-synced entry before now later Failed w image h = subst (λ (es : List (List ℕ)). AreSynced now.history es) (sym w.added) w.file.1
   written-synced entry before now later Stale w image h = alike before.history now.history later w.file w.added h

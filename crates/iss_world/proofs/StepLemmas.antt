@@ -42,7 +42,7 @@ use Rattle.iss_world.proofs.BookLemmas.{forged-append}
 use Rattle.iss_world.proofs.OverLemmas.{at-working, epoch-grown, log-grown, over-shows, over-stale}
 use Rattle.iss_world.specs.Books.{AreHashed, AreSigned}
 use Rattle.iss_world.specs.Internal.Shape.{IsNetworkOf, IsSimulation}
-use Rattle.iss_world.specs.Refines.{HasChanged, HasRetreated, IsLeft, IsLeftBy, RefinesMachine, RefinesMachines, RefinesOrShows, ShowsCore, end_of, spelled}
+use Rattle.iss_world.specs.Refines.{HasChanged, HasRetreated, IsLeft, IsLeftBy, RefinesMachine, RefinesMachines, RefinesOrShows, ShowsCore, end_of, shown_by}
 use Rattle.iss_world.specs.State.{SimulationState}
 use Rattle.iss_world.specs.Internal.Steps.{HasAnswered, IsBehind, IsKeptTurn, ends_by, forged_in, kept_at, kept_to, stepped_to}
 use Rattle.iss_world.specs.declared.ends.EventOutcome.{EventOutcome}
@@ -200,6 +200,12 @@ module _ {Msg : Type 0} (m : Module Msg) (s : Setup) (F : Formats Msg) (w : Mach
     machine-kept none = machine-goes working ∙ kept-step none its_step refl
 
 module _ {M Msg : Type 0} (m : Module Msg) (refines : Relation M Msg) where
+  -- the same node shows the same of the events that it keeps
+  shown-still : (g later : KeptState M Msg MemoryDisk) → IsSame g later → (events : List NodeEvent) →
+      shown_by m g.setup g.me.0 events ≡ shown_by m later.setup later.me.0 events
+  shown-still g later same events =
+      ap (λ (s : Setup). shown_by m s g.me.0 events) (sym same.setup) ∙ ap (λ (i : NodeId). shown_by m later.setup i.0 events) (sym same.me)
+
   -- ---- what the cores report
 
   core-shown : (v : SimulationState M Msg) (i : ℕ) (g : KeptState M Msg MemoryDisk) (c : Core Msg) → IsSimulation m v → slice_get v.nodes i ≡ Some g →
@@ -232,9 +238,9 @@ module _ {M Msg : Type 0} (m : Module Msg) (refines : Relation M Msg) where
   pub forged-left : (v : SimulationState M Msg) (w : Machines Msg) (i : ℕ) (g later : KeptState M Msg MemoryDisk) → IsSimulation m v → i < length v.nodes →
       RefinesMachines m refines v w → slice_get v.nodes i ≡ Some g →
       later.node.state.log.entries ≡ take (length g.node.state.log.entries) g.node.state.log.entries → later.node.state.epoch ≡ g.node.state.epoch →
-      later.stale ≡ true → later.entries ≡ g.entries →
+      later.stale ≡ true → later.entries ≡ g.entries → IsSame g later →
       IsLeftBy m refines (Some i) (record { setup = v.setup; nodes = set v.nodes i later; network = v.network; signed = v.signed; hashed = v.hashed }) w
-  forged-left v w i g later r lt st at cut back gone kept =
+  forged-left v w i g later r lt st at cut back gone kept same =
       let shown = runs-show v w r st i g at in
       let whole = take_all (length g.node.state.log.entries) g.node.state.log.entries (omega arith) in
       let retreated : HasRetreated m v.setup (node_of v.setup i) later (w.held.net.cores i) (w.disks i) =
@@ -244,7 +250,7 @@ module _ {M Msg : Type 0} (m : Module Msg) (refines : Relation M Msg) where
           log = shown.log ∙ ap (λ (xs : List Value). reverse xs) (sym (cut ∙ whole));
           epoch = back ∙ shown.epoch;
         };
-        entries = inl (kept ∙ (st.cores i g at).entries);
+        entries = inl (kept ∙ (st.cores i g at).entries ∙ shown-still g later same (w.disks i).kept);
       } in
       let left : IsLeft m refines (record { setup = v.setup; nodes = set v.nodes i later; network = v.network; signed = v.signed; hashed = v.hashed }) w =
       record {
@@ -476,7 +482,7 @@ module _ {M Msg : Type 0} (m : Module Msg) (refines : Relation M Msg) where
 
     -- The core retreats.
     module _ (g later : KeptState M Msg MemoryDisk) (at : slice_get v.nodes i ≡ Some g) (cut : later.node.state.log.entries ≡ take slots g.node.state.log.entries)
-        (back : later.node.state.epoch ≡ epoch) (gone : later.stale ≡ true) (kept : later.entries ≡ g.entries)
+        (back : later.node.state.epoch ≡ epoch) (gone : later.stale ≡ true) (kept : later.entries ≡ g.entries) (same : IsSame g later)
         (net : Network) (signed : List (List ℕ)) (hashed : List (List ℕ × List ℕ)) (same_net : net ≡ v.network) (same_signed : signed ≡ v.signed) where
       -- the node that retreats has one entry more than its core's disk
       retreated : HasRetreated m v.setup (node_of v.setup i) later (w.held.net.cores i) (w.disks i)
@@ -486,7 +492,11 @@ module _ {M Msg : Type 0} (m : Module Msg) (refines : Relation M Msg) where
           log = b.log g at ∙ ap (λ (xs : List Value). reverse xs) (sym cut);
           epoch = back ∙ b.epoch;
         };
-        entries = inr (event, kept ∙ (b.cores i g at).entries ∙ ap (λ (d : Disk). spelled d.kept) (set_at-same w.disks i (keeps (w.disks i) event)));
+        entries = inr (
+          event,
+          kept ∙ (b.cores i g at).entries ∙ ap (λ (d : Disk). shown_by m g.setup g.me.0 d.kept) (set_at-same w.disks i (keeps (w.disks i) event))
+              ∙ shown-still g later same (event ∷ (w.disks i).kept),
+        );
       }
 
       left-so : IsLeftBy m refines (Some i) (record { setup = v.setup; nodes = set v.nodes i later; network = net; signed = signed; hashed = hashed }) w

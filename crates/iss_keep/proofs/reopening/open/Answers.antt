@@ -18,7 +18,7 @@ returns-in-Ok-clause-attached g c =
     let now = c.attach.new.self in
     let h = g.D.Disk.history (disk_of c.args.journal.now) in
     let read : IsRead (entries_of now) (gates_of now) h = search rules in
-    when-ok c.replay.result _ (record {
+    when-ok c.recover.result _ (record {
       read = read-shows (entries_of now) (gates_of now) h read;
       rest = search rules;
       durable = search rules;
@@ -28,7 +28,7 @@ pub returns-in-Ok-clause-damaged : goal.returns-in-Ok-clause-damaged
 returns-in-Ok-clause-damaged g c = λ at is.
     let now = c.attach.new.self in
     let read : IsRead (entries_of now) (gates_of now) (g.D.Disk.history (disk_of c.args.journal.now)) = search rules in
-    inr (gates_of now, read, c.replay.ensures.damaged at is)
+    inr (gates_of now, read, c.recover.ensures.damaged at is)
 
 pub returns-in-Ok-clause-left : goal.returns-in-Ok-clause-left
 returns-in-Ok-clause-left g c = λ at is.
