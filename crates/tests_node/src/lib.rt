@@ -3,6 +3,8 @@
 
 pub mod configs;
 #[cfg(test)]
+mod snapshots;
+#[cfg(test)]
 mod tests;
 
-pub use configs::pbft_config;
+pub use configs::{pbft_config, relay_config};
