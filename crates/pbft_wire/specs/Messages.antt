@@ -38,7 +38,8 @@ abbrev pub fits_at : ℕ → ℕ → List ℕ → List ℕ → Bool
 fits_at v s d sig = fits_view v && (fits_slot s && ((length d == 32) && is_signature sig))
 
 abbrev pub fits_signed : ℕ → Body → List ℕ → Bool
-fits_signed version (Pre_prepare_body v slot x) sig = fits_view v && (fits_slot slot.0 && (fits_value version x && is_signature sig))
+fits_signed version (Pre_prepare_body v slot x) sig =
+    fits_view v && (fits_slot slot.0 && (fits_value version x && is_signature sig))
 fits_signed version (Prepare_body v slot d) sig = fits_at v slot.0 d sig
 fits_signed version (Commit_body v slot d) sig = fits_at v slot.0 d sig
 fits_signed version (View_change_body v cs) sig = fits_change version v cs sig
