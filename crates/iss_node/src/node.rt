@@ -76,7 +76,7 @@ impl<M: Sequenced> Node<M> {
         requires own { AreKeysOf me.0 setup.now.keys keys }
         ensures refines { IfOk result (λ v. RefinesCore M.spec M.refines v (record initial_core { leaf = keys.used })) }
         ensures same { IfOk result (λ v. (v.state.setup ≡ setup.now) × (v.state.me ≡ me)) }
-        ensures saved { IfOk result (λ v. v.state.saved ≡ record { from = 0; held = [] }) }
+        ensures saved { IfOk result (λ v. v.state.saved ≡ record { from = 0; low = 0; strays = [] }) }
     {
         epochs_are_fair();
         let standing = Standing::new();

@@ -44,7 +44,7 @@ unfinished-first m v shape =
     ]
 
 pub started-so : {M Msg : Type 0} (m : Module Msg) (refines : M → Params → ℕ → List (Item Msg) → Type 0) (v : StateView M Msg) → IsNodeState m v → (used : ℕ) → used ≡ 0 → StateRefinesCore m refines v (record initial_core { leaf = used }) →
-    v.saved ≡ record { from = 0; held = [] } → (early : List (Early Msg)) → early ≡ [] →
+    v.saved ≡ record { from = 0; low = 0; strays = [] } → (early : List (Early Msg)) → early ≡ [] →
     RefinesRebuilt m refines (record { state = v; early = early }) (record { core = initial_core; saved = nothing_saved })
 started-so {Msg = Msg} m refines v shape used none h saved early is = record {
   read = record {
