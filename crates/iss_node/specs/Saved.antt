@@ -12,9 +12,12 @@ pub record SavedState : Type 0 where
   pub low : ℕ
   pub strays : List ℕ
 
+abbrev pub stray : SavedState → ℕ → Bool
+stray s e = list_any (λ k. is_eq (nat_cmp e k)) s.strays
+
 -- whether a snapshot has the certificate of epoch e
 abbrev pub holds : SavedState → ℕ → Bool
-holds s e = nat_le (suc e) s.low || list_any (λ k. is_eq (nat_cmp e k)) s.strays
+holds s e = nat_le (suc e) s.low || stray s e
 
 abbrev pub saved_of : SavedState → Saved
 saved_of s = record { from = s.from; held = holds s }

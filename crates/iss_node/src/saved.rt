@@ -1,9 +1,7 @@
 //! What the snapshots of a node hold.
-ghost use Rattle.std.specs.Prelude.{◌≡◌, ◌+◌, ◌-◌, ◌^◌, ◌<◌, [], true, OnOk};
-ghost use Rattle.std.specs.List.{list_any};
-ghost use Rattle.std.specs.Ordering.{is_eq, nat_cmp};
+ghost use Rattle.std.specs.Prelude.{◌≡◌, ◌+◌, ◌-◌, ◌^◌, ◌<◌, ℕ, [], true, OnOk};
 ghost use Rattle.iss_node.specs.Internal.Marks.{HasPut, HoldsTheSame};
-ghost use Rattle.iss_node.specs.Saved.{HasSaved, holds};
+ghost use Rattle.iss_node.specs.Saved.{HasSaved, holds, stray};
 
 use iss_checkpoint::Cert;
 use iss_request::{Epoch, NoMemory};
@@ -93,7 +91,7 @@ impl Saved {
 
     // Moves the mark past an epoch whose certificate is held.
     fn step(&mut self)
-        requires held { list_any (λ k. is_eq (nat_cmp self.old.low k)) self.old.strays ≡ true }
+        requires held { stray self.old self.old.low ≡ true }
         requires more { self.old.low < 2 ^ 64 - 1 }
         ensures same { HoldsTheSame self.old self.new }
         ensures up { self.new.low ≡ self.old.low + 1 }

@@ -1,10 +1,13 @@
 use Rattle.std.proofs.Common.{arith, ◌≡◌, ◌∙◌, ℕ, suc, ap, sym, add-one}
 use Rattle.iss_base.specs.Lists.{below}
-use Rattle.iss_node.proofs.EpochEnd.SnapshotIsMade.{certs-next}
+use Rattle.iss_node.proofs.EpochEnd.SnapshotIsMade.{certs-from, certs-next}
 use Rattle.iss_node.specs.Saved.{holds}
 use Rattle.iss_node.specs.State.{StateView}
 use Rattle.iss_rebuilt.specs.Stored.{new_certs}
 use Rattle.iss_node.proofs.state.NodeState.new_certs.Goals as goal
+
+pub loop-epoch-init : goal.loop-epoch-init
+loop-epoch-init g c = λ votes certs kept. certs-from c.args.self.now.saved certs _ (omega (arith, c.min.ensures))
 
 pub loop-epoch-preserved : goal.loop-epoch-preserved
 loop-epoch-preserved g c = λ votes certs kept.
