@@ -3,7 +3,6 @@ ghost use Rattle.std.specs.Prelude.{◌≡◌, ◌≢◌, ◌<◌, ◌^◌, ◌+
 ghost use Rattle.iss_cluster.specs.Nodes.{HasRead, HasTaken, IsDurable, IsNodeRun, IsRefused, IsStopped, as_step, stored_since};
 ghost use Rattle.iss_config.specs.Configs.{IsInRange, setup_of};
 ghost use Rattle.iss_disk.specs.Calls.{HasCause as HasDiskCause};
-ghost use Rattle.iss_journal.specs.Frames.{version_1};
 ghost use Rattle.iss_journal.specs.Promises.{LosesNothing};
 ghost use Rattle.iss_keep.specs.Cores.{stored_of};
 ghost use Rattle.iss_keep.specs.Steps.{IsSame};
@@ -100,7 +99,7 @@ impl<M: Sequenced, D: Disk> RunningNode<M, D> {
         ensures cause { HasDiskCause (D.faults self.old.disk) (D.faults self.new.disk)
             (IsErrOf result AttachError.Failed) }
         ensures place { D.current self.new.disk ≡ D.current self.old.disk }
-        ensures loses { LosesNothing version_1 (D.history self.old.disk) (D.history self.new.disk) }
+        ensures loses { LosesNothing (D.history self.old.disk) (D.history self.new.disk) }
         ensures same { IsSame self.old self.new }
     {
         a_journal_recovers::<M>();

@@ -5,7 +5,6 @@
 use Rattle.std.specs.Prelude.{◌≡◌, ◌⊎◌, ℕ, ◌<◌, Bool, true, false, List, reverse, Some}
 use Rattle.iss_disk.specs.Calls.{IfTold, Room}
 use Rattle.iss_disk.specs.File.{File}
-use Rattle.iss_journal.specs.Frames.{version_1}
 use Rattle.iss_journal.specs.Promises.{OnlyLeaves, Shows}
 use Rattle.iss_journal.specs.Sound.{IsSound, disk_of, entries_of, is_attached}
 use Rattle.iss_journal.specs.declared.journal.Journal.{Journal}
@@ -99,6 +98,6 @@ pub record IsKept {M Msg D : Type 0} (m : Module Msg) (refines : Relation M Msg)
   pub number : v.node.state.me ≡ v.me
   pub sound : IsSound history room journal
   pub attached : v.stale ≡ false → is_attached journal ≡ true
-  pub durable : v.stale ≡ false → IfTold (history v.disk) (OnlyLeaves (Shows version_1 v.entries))
+  pub durable : v.stale ≡ false → IfTold (history v.disk) (OnlyLeaves (Shows v.entries))
   pub kept : (v.stale ≡ true)
       ⊎ ((st : Stored Msg) × RefinesStored m refines v st × IsStoredSince v.setup m v.me.0 st)
