@@ -1,20 +1,19 @@
 -- The snapshot that takes the place of an event in a journal: that of the core as it entered its newest epoch.
-use Rattle.std.specs.Prelude.{◌≡◌, ℕ, ◌&&◌, cond, nat_le, Bool, List, Option, Some, None, length}
+use Rattle.std.specs.Prelude.{◌≡◌, ℕ, cond, Bool, List, Option, Some, None}
 use Rattle.iss_ballots.specs.Ballots.{AreKept}
 use Rattle.iss_checkpoint.specs.declared.votes.Cert.{Cert}
 use Rattle.iss_checkpoint.specs.declared.votes.Vote.{Vote}
-use Rattle.iss_journal.specs.Frames.{max_entry}
 use Rattle.iss_model.specs.Frames.{Frame, frame_of}
 use Rattle.iss_model.specs.Node.{Core}
 use Rattle.iss_node.specs.Saved.{SavedState, saved_of}
 use Rattle.iss_node.specs.State.{RefinesPast, StateView, core_of, holding, seen_early}
 use Rattle.iss_node.specs.declared.answers.Early.{Early}
-use Rattle.iss_rebuilt.specs.Stored.{Saved, saved_after, snapshot_of}
+use Rattle.iss_rebuilt.specs.Stored.{Saved, is_storable, saved_after, snapshot_of}
 use Rattle.iss_request.specs.declared.setups.Setup.{Setup}
 use Rattle.iss_rules.specs.Past.{Past}
 use Rattle.iss_sb.specs.Calls.{Relation}
 use Rattle.iss_sb.specs.Evidence.{Module}
-use Rattle.iss_snapshot.specs.Snapshots.{fits, snapshot_row, spell_snapshot}
+use Rattle.iss_snapshot.specs.Snapshots.{spell_snapshot}
 use Rattle.iss_snapshot.specs.declared.snapshots.Snapshot.{Snapshot}
 
 -- the snapshot of a core, behind those that hold this
@@ -52,10 +51,6 @@ abbrev pub IsHeldEntered : {M Msg : Type 0} → Module Msg → StateView M Msg �
     Type 0
 IsHeldEntered m v None bytes = bytes ≡ None
 IsHeldEntered m v (Some d) bytes = bytes ≡ Some (encoded_by m v d)
-
--- whether a snapshot has an encoding that is not too long for an entry
-abbrev pub is_storable : ℕ → Snapshot → Bool
-is_storable version s = fits s && nat_le (length (snapshot_row version s)) max_entry
 
 -- The snapshot is handed out, unless it is too long.
 abbrev pub storable_of : ℕ → Snapshot → Option (List ℕ)

@@ -10,7 +10,7 @@ use Rattle.iss_model.specs.Frames.{frame_of}
 use Rattle.iss_model.specs.Node.{Core, Dropped as Step_dropped, Stepped, Taken as Step_taken, Turn, step}
 use Rattle.iss_node.proofs.Steps.EnteredLast.{IsLast, step-last}
 use Rattle.iss_node.proofs.Steps.SavedAfter.{saved-after}
-use Rattle.iss_node.specs.Entered.{IsHeldEntered, IsKeptEntry, encoded_by, is_storable, saved_by, saved_with, storable_of}
+use Rattle.iss_node.specs.Entered.{IsHeldEntered, IsKeptEntry, encoded_by, saved_by, saved_with, storable_of}
 use Rattle.iss_node.specs.Internal.Storing.{HasNoted, is_entry, storable}
 use Rattle.iss_node.specs.Saved.{HasSaved, SavedState, holds, saved_of}
 use Rattle.iss_node.specs.State.{RefinesPast, StateRefinesCore, StateView, bare}
@@ -18,7 +18,7 @@ use Rattle.iss_node.specs.Steps.{IsHeldStep, IsHeldStepOf, IsKeptStep, IsKeptSte
 use Rattle.iss_node.specs.declared.answers.Outcome.{Outcome}
 use Rattle.iss_node.specs.declared.answers.StepResult.{StepResult}
 use Rattle.iss_node.specs.declared.answers.StepResult.TheVariants.{Dropped as Result_dropped, Taken as Result_taken}
-use Rattle.iss_rebuilt.specs.Stored.{Kept, Saved, new_certs, or_event, saved_after, snapshot_kept, snapshot_of}
+use Rattle.iss_rebuilt.specs.Stored.{Saved, is_storable, new_certs, saved_after, snapshot_of}
 use Rattle.iss_request.specs.declared.ids.NodeId.{NodeId}
 use Rattle.iss_request.specs.declared.requests.Value.{Value}
 use Rattle.iss_request.specs.declared.setups.Setup.{Setup}
@@ -48,26 +48,6 @@ entry-is version s = go (fits s) refl
     go : (b : Bool) → fits s ≡ b → is_entry (cond b (snapshot_row version s) (0 ∷ [])) ≡ (b && nat_le (length (snapshot_row version s)) max_entry)
     go true q = alone (nat_le (length (snapshot_row version s)) max_entry)
     go false q = refl
-
--- A journal keeps the same, if the snapshot fits: what is handed out is its entry, and what is noted is its mark.
-pub kept-as : {M Msg : Type 0} (m : Module Msg) (v : StateView M Msg) (d : Core Msg) (new : SavedState) (bytes : Option (List ℕ)) → fits (saved_by m v d) ≡ true → IsKeptEntry m v (Some d) new bytes →
-    (bytes ≡ option_map (λ k. k.entry) (snapshot_kept (frame_of v.setup m) v.me.0 (saved_of v.saved) (Some d)))
-    × (saved_of new ≡ (or_event (snapshot_kept (frame_of v.setup m) v.me.0 (saved_of v.saved) (Some d)) [] (saved_of v.saved)).saved)
-kept-as m v d new bytes fitting h =
-    let s = saved_by m v d in
-    let short = nat_le (length (snapshot_row v.setup.version s)) max_entry in
-    let is : is_storable v.setup.version s ≡ short = ap (λ (b : Bool). b && short) fitting in (
-      h.0 ∙ (ap (λ (b : Bool). cond b (Some (spell_snapshot v.setup.version s)) None) is ∙ entry-row short (spell_snapshot v.setup.version s) (saved_after (saved_of v.saved) s)),
-      h.1 ∙ (ap (λ (b : Bool). saved_with b (saved_of v.saved) s) is ∙ saved-row short (spell_snapshot v.setup.version s) (saved_after (saved_of v.saved) s) (saved_of v.saved)),
-    )
-  where
-    entry-row : (b : Bool) (enc : List ℕ) (x : Saved) → cond b (Some enc) None ≡ option_map (λ (k : Kept). k.entry) (cond b (Some (record { entry = enc; saved = x })) None)
-    entry-row true enc x = refl
-    entry-row false enc x = refl
-
-    saved-row : (b : Bool) (enc : List ℕ) (x y : Saved) → cond b x y ≡ (or_event (cond b (Some (record { entry = enc; saved = x })) None) [] y).saved
-    saved-row true enc x y = refl
-    saved-row false enc x y = refl
 
 -- ---- only what snapshots hold changes
 
