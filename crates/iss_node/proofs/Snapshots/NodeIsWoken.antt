@@ -15,7 +15,7 @@ use Rattle.iss_node.proofs.Steps.OutcomesCompose.{nothing, nothing-made, nothing
 use Rattle.iss_node.proofs.Steps.VotesDoNotMatter.{each-held, held-parts}
 use Rattle.iss_node.specs.Internal.Ready.{IsOpen}
 use Rattle.iss_node.specs.Internal.Rebuilding.{IsReadAs}
-use Rattle.iss_node.specs.Internal.Shape.{AreFrom, IsNodeState}
+use Rattle.iss_node.specs.Internal.Shape.{AreFrom}
 use Rattle.iss_node.specs.Rebuilding.{HasRead, IsFirstBad, IsOf, IsReadOn, RebuildingView, RefinesRebuilt}
 use Rattle.iss_node.specs.Saved.{SavedState, saved_of}
 use Rattle.iss_node.specs.State.{NodeView, RefinesBareCore, RefinesCore, StateRefinesCore, StateView, bare, holding, seen_early}
@@ -25,38 +25,49 @@ use Rattle.iss_node.specs.declared.answers.Outcome.{Outcome}
 use Rattle.iss_rebuilt.specs.Reading.{Rebuilt, reads_entry, rebuilt, woken, woken_of}
 use Rattle.iss_rebuilt.specs.Stored.{nothing_saved}
 use Rattle.iss_request.specs.declared.requests.Value.{Value}
+use Rattle.iss_request.specs.declared.setups.Setup.{Setup}
 use Rattle.iss_rules.proofs.Logs.{newborn-log}
 use Rattle.iss_rules.specs.Concrete.{rules_of}
 use Rattle.iss_rules.specs.Formats.{formats_of}
 use Rattle.iss_rules.specs.Past.{initial_history, is_complete, start_of}
+use Rattle.iss_rules.specs.Setups.{IsSetupOf}
 use Rattle.iss_sb.specs.Evidence.{Item, Module}
 use Rattle.iss_sb.specs.declared.effects.Params.{Params}
 
 -- ---- no snapshot
 
 -- Nothing is in the log of a node that took no event, and an epoch has a slot.
-unfinished-first : {M Msg : Type 0} (m : Module Msg) (v : StateView M Msg) → IsNodeState m v → is_complete (rules_of v.setup) m v.me.0 initial_history ≡ false
-unfinished-first m v shape =
+unfinished-first : {M Msg : Type 0} (m : Module Msg) (v : StateView M Msg) → IsSetupOf m v.setup → is_complete (rules_of v.setup) m v.me.0 initial_history ≡ false
+unfinished-first m v good =
     ap (λ (log : List Value). nat_le (start_of (rules_of v.setup) log 1) (length log)) (newborn-log (rules_of v.setup) m v.me.0)
     ∙ elim (leb_tells (start_of (rules_of v.setup) [] 1) 0) [
-      | inl t ↦ let le = t.1 in let some : 0 < v.setup.epoch = (has-slots v.setup shape.good.good).some [] 0 in absurd (omega (arith, le, some))
+      | inl t ↦ let le = t.1 in let some : 0 < v.setup.epoch = (has-slots v.setup good.good).some [] 0 in absurd (omega (arith, le, some))
       | inr t ↦ t.0
     ]
 
-pub started-so : {M Msg : Type 0} (m : Module Msg) (refines : M → Params → ℕ → List (Item Msg) → Type 0) (v : StateView M Msg) → IsNodeState m v → (used : ℕ) → used ≡ 0 → StateRefinesCore m refines v (record initial_core { leaf = used }) →
+started-in : {M Msg : Type 0} (m : Module Msg) (refines : M → Params → ℕ → List (Item Msg) → Type 0) (v : StateView M Msg) → IsSetupOf m v.setup → (used : ℕ) → used ≡ 0 → StateRefinesCore m refines v (record initial_core { leaf = used }) →
     v.saved ≡ record { from = 0; low = 0; strays = [] } → (early : List (Early Msg)) → early ≡ [] →
     RefinesRebuilt m refines (record { state = v; early = early }) (record { core = initial_core; saved = nothing_saved })
-started-so {Msg = Msg} m refines v shape used none h saved early is = record {
+started-in {Msg = Msg} m refines v good used none h saved early is = record {
   read = record {
     core = subst (λ (k : ℕ). StateRefinesCore m refines v (record initial_core { leaf = k })) none h;
     saved = ap (λ (s : SavedState). saved_of s) saved;
     epoch = refl;
-    unfinished = unfinished-first m v shape;
+    unfinished = unfinished-first m v good;
     landed = refl;
   };
   early = ap (λ (xs : List (Early Msg)). seen_early xs) is;
   from = subst (λ (xs : List (Early Msg)). AreFrom v.setup.n xs) (sym is) tt;
 }
+
+-- The state of a node that has just started.
+pub started-so : {M Msg : Type 0} (m : Module Msg) (refines : M → Params → ℕ → List (Item Msg) → Type 0) (s : Setup) → IsSetupOf m s → (node : NodeView M Msg) → node.state.setup ≡ s →
+    (used : ℕ) → used ≡ 0 → RefinesCore m refines node (record initial_core { leaf = used }) → node.state.saved ≡ record { from = 0; low = 0; strays = [] } →
+    (v : StateView M Msg) → v ≡ node.state → (early : List (Early Msg)) → early ≡ [] →
+    RefinesRebuilt m refines (record { state = v; early = early }) (record { core = initial_core; saved = nothing_saved })
+started-so {M = M} {Msg = Msg} m refines s good node same used none h saved v v_is early is =
+    subst (λ (z : StateView M Msg). RefinesRebuilt m refines (record { state = z; early = early }) (record { core = initial_core; saved = nothing_saved })) (sym v_is)
+    (started-in m refines node.state (subst (λ (z : Setup). IsSetupOf m z) (sym same) good) used none h.held saved early is)
 
 -- ---- one snapshot more
 
@@ -77,6 +88,33 @@ read-some m refines (Some r) v h = (r, (refl, h))
 pub refused-none : {M Msg : Type 0} (m : Module Msg) (refines : M → Params → ℕ → List (Item Msg) → Type 0) (o : Option (Rebuilt Msg)) → IsReadOn m refines o None → o ≡ None
 refused-none m refines None h = refl
 refused-none m refines (Some r) h = absurd h
+
+-- What is read of the bytes, found as the next early messages or none, by the node with this state.
+module _ {M Msg : Type 0} (m : Module Msg) (refines : M → Params → ℕ → List (Item Msg) → Type 0) (v w : StateView M Msg) (old : List (Early Msg)) (bytes : List ℕ) (found : Option (List (Early Msg)))
+    (read : (r : Rebuilt Msg) → HasRead m refines v r → IsReadAs m refines (reads_entry (frame_of v.setup m) v.me.0 (Some r) bytes) w found) where
+  abbrev IsReadBy : RebuildingView M Msg → Option (RebuildingView M Msg) → Type 0
+  IsReadBy x next = (r : Rebuilt Msg) → RefinesRebuilt m refines x r → IsReadOn m refines (reads_entry (frame_of x.state.setup m) x.state.me.0 (Some r) bytes) next
+
+  here-next : (early : List (Early Msg)) → found ≡ Some early → IsReadBy (record { state = v; early = old }) (Some (record { state = w; early = early }))
+  here-next early found_is r h =
+      let o = reads_entry (frame_of v.setup m) v.me.0 (Some r) bytes in
+      read-on m refines o w early (subst (λ (f : Option (List (Early Msg))). IsReadAs m refines o w f) found_is (read r h.read))
+
+  here-refused : found ≡ None → IsReadBy (record { state = v; early = old }) None
+  here-refused none r h =
+      let o = reads_entry (frame_of v.setup m) v.me.0 (Some r) bytes in
+      read-none m refines o w (subst (λ (f : Option (List (Early Msg))). IsReadAs m refines o w f) none (read r h.read))
+
+  pub read-next : (x : RebuildingView M Msg) → record { state = v; early = old } ≡ x → (early : List (Early Msg)) → found ≡ Some early → IsReadBy x (Some (record { state = w; early = early }))
+  read-next x is early found_is = subst (λ (z : RebuildingView M Msg). IsReadBy z (Some (record { state = w; early = early }))) is (here-next early found_is)
+
+  pub read-refused : (x : RebuildingView M Msg) → record { state = v; early = old } ≡ x → found ≡ None → IsReadBy x None
+  read-refused x is none = subst (λ (z : RebuildingView M Msg). IsReadBy z None) is (here-refused none)
+
+  pub read-holds : (early : List (Early Msg)) → found ≡ Some early → (r : Rebuilt Msg) × RefinesRebuilt m refines (record { state = v; early = old }) r →
+      (s : Rebuilt Msg) × RefinesRebuilt m refines (record { state = w; early = early }) s
+  read-holds early found_is h =
+      let s = read-some m refines (reads_entry (frame_of v.setup m) v.me.0 (Some h.0) bytes) (record { state = w; early = early }) (here-next early found_is h.0 h.1) in (s.0, s.1.1)
 
 -- ---- all entries
 
