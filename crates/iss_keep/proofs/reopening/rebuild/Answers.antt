@@ -37,7 +37,7 @@ returns-in_default-next-clause-damaged g c = λ at is.
     ap (λ (es : List (List ℕ)). get_or es c.loop-k.k []) c.entries-entries.ensures in
     read-stops c.args.setup.now g.M.Sequenced.spec g.M.Sequenced.refines c.args.me (entries_of c.args.journal.now) c.args.front c.requires.front c.loop-k.k lt
     c.loop-k.rebuilding c.in-Ok-read_at.next read entry c.loop-k.invariant.1 c.loop-k.invariant.0 c.in-Ok-read_at.ensures.read c.in_default-next.is
-    (gates_of c.args.journal.now) at (same-gate _ at (sym (ap (λ (e : AttachError). fail e) c.damage_at.ensures) ∙ is))
+    (gates_of c.args.journal.now) at (same-gate (get_or (gates_of c.args.journal.now) c.loop-k.k 0) at (sym (ap (λ (e : AttachError). fail e) c.damage_at.ensures) ∙ is))
 
 pub returns-in-Ok-finish-clause-refines : goal.returns-in-Ok-finish-clause-refines
 returns-in-Ok-finish-clause-refines g c =

@@ -47,7 +47,7 @@ returns-then-not-taken-clause-damaged g c = λ at is.
     (λ (b : Bool). (found : Rebuilt g.row.M-Msg.Denot) → IsFound g.M.Sequenced.spec g.M.Sequenced.refines old found →
     GoesTo old.state.setup g.M.Sequenced.spec g.M.Sequenced.refines old.state.me.0 found read c.replay_at.new.node b)
     took c.replay_at.ensures.goes)
-    (gates_of c.args.journal.now) at (same-gate _ at (sym (ap (λ (e : AttachError). fail e) c.damage_at.ensures) ∙ is))
+    (gates_of c.args.journal.now) at (same-gate (get_or (gates_of c.args.journal.now) c.loop-k.k 0) at (sym (ap (λ (e : AttachError). fail e) c.damage_at.ensures) ∙ is))
 
 pub returns-clause-refines : goal.returns-clause-refines
 returns-clause-refines g c =
