@@ -50,7 +50,8 @@ returns-in-Taken-clause-stepped g c =
     ap (λ (vs : List Value). length vs) (c.entries-slots.ensures ∙ ap (λ (z : LogState). z.entries) c.log.ensures.shown) in
     stepped g.M.Sequenced.spec g.M.Sequenced.refines c.args.event c.args.node.now c.take.new.self outcome c.requires.good c.requires.refines c.take.ensures.same.0
     c.take.ensures.same.1 answer enters _ c.requires.entry
-    (length c.entries-slots.result.now) c.epoch-epoch.result.0 all c.epoch-epoch.ensures.shown c.append_or_retreat.new.node (released (Node_taken outcome) c.append_or_retreat.result) (c.append_or_retreat.ensures.ended outcome)
+    (length c.entries-slots.result.now) c.epoch-epoch.result.0 all c.epoch-epoch.ensures.shown c.append_or_retreat.new.node c.append_or_retreat.new.entered c.append_or_retreat.result
+    c.append_or_retreat.ensures.same (c.append_or_retreat.ensures.ended (record outcome { entered = c.append_or_retreat.new.entered }))
 
 pub returns-in-Taken-clause-same : goal.returns-in-Taken-clause-same
 returns-in-Taken-clause-same g c =
@@ -63,4 +64,4 @@ returns-in-Taken-clause-same g c =
     ap (λ (vs : List Value). length vs) (c.entries-slots.ensures ∙ ap (λ (z : LogState). z.entries) c.log.ensures.shown) in
     same-node g.M.Sequenced.spec g.M.Sequenced.refines c.args.event c.args.node.now c.take.new.self outcome c.requires.good c.requires.refines c.take.ensures.same.0
     c.take.ensures.same.1 answer enters _ c.requires.entry
-    (length c.entries-slots.result.now) c.epoch-epoch.result.0 all c.epoch-epoch.ensures.shown c.append_or_retreat.new.node (released (Node_taken outcome) c.append_or_retreat.result) (c.append_or_retreat.ensures.ended outcome)
+    (length c.entries-slots.result.now) c.epoch-epoch.result.0 all c.epoch-epoch.ensures.shown c.append_or_retreat.new.node outcome (released (Node_taken outcome) c.append_or_retreat.result) (c.append_or_retreat.ensures.ended outcome)
