@@ -11,6 +11,7 @@ use Rattle.iss_model.specs.Node.{Core, Early as Kept_early, Turn, initial_core, 
 use Rattle.iss_node.proofs.EpochEnd.EpochEndRefines.{complete-is}
 use Rattle.iss_node.proofs.Log.LogIsDelivered.{has-slots}
 use Rattle.iss_node.proofs.Steps.EntriesCompose.{nothing-entered}
+use Rattle.iss_node.proofs.Steps.SavedAfter.{nothing-held}
 use Rattle.iss_node.proofs.Steps.OutcomesCompose.{nothing, nothing-made, nothing-sent}
 use Rattle.iss_node.proofs.Steps.VotesDoNotMatter.{each-held, held-parts}
 use Rattle.iss_node.specs.Internal.Ready.{IsOpen}
@@ -51,7 +52,7 @@ started-in : {M Msg : Type 0} (m : Module Msg) (refines : M → Params → ℕ �
 started-in {Msg = Msg} m refines v good used none h saved early is = record {
   read = record {
     core = subst (λ (k : ℕ). StateRefinesCore m refines v (record initial_core { leaf = k })) none h;
-    saved = ap (λ (s : SavedState). saved_of s) saved;
+    saved = ap (λ (s : SavedState). saved_of s) saved ∙ nothing-held;
     epoch = refl;
     unfinished = unfinished-first m v good;
     landed = refl;

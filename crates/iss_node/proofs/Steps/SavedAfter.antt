@@ -9,7 +9,7 @@ use Rattle.std.specs.Ordering.{is_eq, nat_cmp}
 use Rattle.iss_base.proofs.Lists.{same_number}
 use Rattle.iss_checkpoint.specs.declared.votes.Cert.{Cert}
 use Rattle.iss_node.specs.Saved.{HasSaved, SavedState, holds, saved_of}
-use Rattle.iss_rebuilt.specs.Stored.{Saved, saved_after}
+use Rattle.iss_rebuilt.specs.Stored.{Saved, nothing_saved, saved_after}
 use Rattle.iss_rules.specs.Votes.{cert_on}
 use Rattle.iss_snapshot.specs.declared.snapshots.Snapshot.{Snapshot}
 
@@ -91,3 +91,7 @@ moved-up low e was now held h = elim (eqb_tells low e) [
       | inl t ↦ le-leb (suc e) (low + 1) (omega (arith, t.1)) ∙ sym t.0
       | inr t ↦ lt-leb (suc e) (low + 1) (omega (arith, t.1, ne)) ∙ sym t.0
     ]
+
+-- A node that took no event saved nothing.
+pub nothing-held : saved_of (record { from = 0; low = 0; strays = [] }) ≡ nothing_saved
+nothing-held = λ i. record { from = 0; held = fun_ext (λ e. ap (λ (b : Bool). b || false) (lt-leb (suc e) 0 (omega arith))) i }
