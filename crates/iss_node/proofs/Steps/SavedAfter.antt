@@ -81,11 +81,12 @@ moved-up low e was now held h = elim (eqb_tells low e) [
   | inr t ↦
       let stays : now ≡ was e = h ∙ (ap (λ (b : Bool). cond b false (was e)) (same_number low e ∙ t.0)) in
       ap (λ (b : Bool). nat_le (suc e) (low + 1) || b) stays ∙ ap (λ (b : Bool). b || was e) (same-side t.1)
-  ]
+]
   where
     or-true : (b : Bool) → (b || true) ≡ true
     or-true true = refl
     or-true false = refl
+
     same-side : (low ≡ e → ⊥) → nat_le (suc e) (low + 1) ≡ nat_le (suc e) low
     same-side ne = elim (leb_tells (suc e) low) [
       | inl t ↦ le-leb (suc e) (low + 1) (omega (arith, t.1)) ∙ sym t.0
