@@ -21,8 +21,8 @@ use iss_rules::NodeEvent;
 use iss_sb::Sequenced;
 use std::alloc::Global;
 
-// The entry of an event: its kind byte, and its content. That of a packet is its bytes, which are shared, not copied, if
-// they support that.
+// The entry of an event: its kind byte, and its content. That of a packet is its bytes, which are shared, not copied,
+// if they support that.
 #[derive(Drop)]
 struct Entry {
     kind: u8,
@@ -76,6 +76,7 @@ fn share(entered: &mut Option<Bytes>) -> Result<Option<Bytes>, NoMemory>
 
 // Appends the entry of an accepted event, or in its place the snapshot of the node that entered an epoch. The room of a
 // snapshot is made first: without it nothing is appended.
+// rule: Persistence: The snapshot of a node that entered an epoch takes the place of the event that ended the last one
 #[inline(always)]
 fn append_entry<D: Disk>(
     journal: &mut Journal<D>,

@@ -61,7 +61,7 @@ pub fn leaves_are_of_one_entry<M: Sequenced>()
 /// `signs`: each used leaf has one statement. Every signature of the node by that leaf is over that statement, or was
 /// received from elsewhere. `core`: the life that events give ends in the core that stored them. `taken`: an accepted
 /// event is the next deed. `again`: later events do not change earlier deeds.
-// rule: Persistence: No leaf signs two statements, over all restarts
+// rule: Signatures: A node signs at most one statement with each leaf
 pub fn leaves_are_of_one_statement<M: Sequenced>()
     ensures signs { (s : Setup) → IsSetupOf M.spec s → (me : ℕ) (events : List NodeEvent) →
         SignsOnceEach (frame_of s M.spec) me (life_of (frame_of s M.spec) me events) }

@@ -300,7 +300,7 @@ impl<M: Sequenced> Node<M> {
 
 impl<M: Sequenced> NodeState<M> {
     // Takes an event, and notes the snapshot that takes its place, unless that is too long.
-    // rule: Persistence: A snapshot takes the place of the event that ended an epoch, unless it is too long for an entry
+    // rule: Persistence: A snapshot takes the place of the event that ended an epoch, unless it is too long
     fn kept_turn(&mut self, alloc: Global, event: NodeEvent) -> Result<StepResult, NoMemory>
         requires { RefinesSome M.spec M.refines self.old }
         ensures answer { IfOk result (λ a. IsKeptStepOf M.spec M.refines (IsOfNodes self.old.setup.n event) self.old
