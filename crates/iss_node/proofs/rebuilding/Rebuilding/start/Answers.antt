@@ -12,8 +12,7 @@ keys_of_node-keys-requires g c = own-number c.args.setup.now c.args.me.0 c.direc
 pub invariant_of-result : goal.invariant_of-result
 invariant_of-result g c =
     let s = c.args.setup.now in
-    let unused : c.keys_of_node-keys.result.used ≡ 0 = ap (λ (k : KeyState). k.used) (c.keys_of_node-keys.ensures.made s.n s.clients s.keys (c.directory.ensures ∙ c.requires.directory)) in
-    (
+    let unused : c.keys_of_node-keys.result.used ≡ 0 = ap (λ (k : KeyState). k.used) (c.keys_of_node-keys.ensures.made s.n s.clients s.keys (c.directory.ensures ∙ c.requires.directory)) in (
       record { core = initial_core; saved = nothing_saved },
       started-so g.M.Sequenced.spec g.M.Sequenced.refines s c.requires.good c.in_ok-node.node c.in_ok-node.ensures.same.0 c.keys_of_node-keys.result.used unused c.in_ok-node.ensures.refines
           c.in_ok-node.ensures.saved c.into_state.result c.into_state.ensures c.new.result.items c.new.ensures.items,
