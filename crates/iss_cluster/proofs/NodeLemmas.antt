@@ -1,35 +1,41 @@
--- A running node, event by event: what it does is what its core does, and its journal holds the events.
-use Rattle.std.proofs.Common.{◌≡◌, true≢false, Result, Ok, Err, IfOk, IsErrOf, OnOk, is_ok, ◌∙◌, inl, inr, ℕ, zero, suc, ◌<◌, ◌≤◌, Bool, true, false, cond, List, [], ◌∷◌, ◌++◌, Option, Some, refl, sym, ap, subst, arith}
+-- A running node, event by event: what it does is what its core does, and its journal shows what stays of the events.
+use Rattle.std.proofs.Common.{◌≡◌, true≢false, Result, Ok, Err, IfOk, IsErrOf, OnOk, is_ok, ◌∙◌, inl, inr, ℕ, zero, suc, ◌<◌, ◌≤◌, ◌^◌, Bool, true, false, cond, get_or, List, [], ◌∷◌, ◌++◌, Option, Some, refl, sym, ap, subst, arith}
 use Rattle.std.specs.Prelude.{filter, map, not}
-use Rattle.iss_base.proofs.Lists.{in_append}
-use Rattle.iss_base.specs.Lists.{In, below, nth}
-use Rattle.iss_cluster.proofs.EventLemmas.{are-events, goes-on, nth-front, one-more}
-use Rattle.iss_cluster.specs.Nodes.{HasRead, IsCutShort, IsNodeRun, IsOpen, IsRefused, IsRunning, Leaves, as_step, block_of, core_after, entries_of, events_in, is_taken, node_behavior_of, sends_of}
+use Rattle.iss_base.proofs.Lists.{in_append, some-injective}
+use Rattle.iss_base.specs.Lists.{In, below}
+use Rattle.iss_cluster.proofs.EventLemmas.{accepted-more, named-more, since-more}
+use Rattle.iss_cluster.specs.Nodes.{BeginsWith, HasRead, HasTaken, IsCutShort, IsDurable, IsNodeRun, IsRefused, IsRunning, Leaves, as_step, is_taken, newest_entry, node_behavior_of, sends_of, stored_since}
 use Rattle.iss_config.specs.Configs.{setup_of}
 use Rattle.iss_config.specs.declared.configs.Config.{Config}
 use Rattle.iss_disk.specs.Calls.{EachState, HasCause, IfTold}
 use Rattle.iss_disk.specs.File.{File}
+use Rattle.iss_journal.specs.Frames.{version_1}
 use Rattle.iss_journal.proofs.Showing.{shows_either}
 use Rattle.iss_journal.specs.Promises.{HoldsWithOrWithout, LeavesOnly, LeavesWithOrWithout, OnlyLeaves, Shows, ShowsWithOrWithout}
 use Rattle.iss_journal.specs.Retained.{retained}
 use Rattle.iss_journal.specs.declared.errors.AttachError.{AttachError}
-use Rattle.iss_keep.proofs.EntryLemmas.{spelled-read}
-use Rattle.iss_keep.specs.Cores.{core_of, step_of}
+use Rattle.iss_keep.specs.Cores.{core_of, shown_of, step_of, stored_after, stored_of}
 use Rattle.iss_keep.specs.Entries.{NamesNode, spell_event}
-use Rattle.iss_keep.specs.State.{KeptRefinesCore, KeptState, RefinesEntries}
-use Rattle.iss_keep.specs.Steps.{IsAnswer, IsAttached, IsDrop, IsSame, IsTaken, IsTurn, Sight, Writes, entries_after, makes_stale}
+use Rattle.iss_keep.specs.Recovery.{AreNamed, Recovers}
+use Rattle.iss_keep.specs.State.{KeptRefinesCore, KeptState, RefinesStored, stored_as}
+use Rattle.iss_keep.specs.Steps.{IsAnswer, IsAttached, IsDrop, IsJournaled, IsSame, IsTaken, IsTurn, Sight, Writes, makes_stale}
 use Rattle.iss_keep.specs.declared.answers.Answer.{Answer}
 use Rattle.iss_keep.specs.declared.answers.Answer.TheVariants.{Dropped as Kept_dropped, Failed, NoMemory, Stale, Taken as Kept_taken}
 use Rattle.iss_links.specs.Ends.{End}
 use Rattle.iss_loops.specs.Behavior.{AreNodes}
-use Rattle.iss_loops.specs.NodeBehavior.{FailsAt, GoTo, IsStep, NamesNodes, NodeBehavior, StaysOpen}
-use Rattle.iss_loops.specs.NodeLoop.{HasRun, HasSent, IsCut, begins, node_loop_of}
+use Rattle.iss_loops.specs.NodeBehavior.{FailsAt, GoTo, IsOpen, IsStep, NamesNodes, NodeBehavior}
+use Rattle.iss_loops.specs.NodeLoop.{Cuts, HasLooped, begins, node_loop_of}
 use Rattle.iss_loops.specs.declared.node.NodeStep.TheVariants.{Taken as Step_taken, Dropped as Step_dropped}
 use Rattle.iss_loops.specs.declared.node.StepError.TheVariants.{DiskFault}
+use Rattle.iss_model.specs.Frames.{frame_of}
 use Rattle.iss_model.specs.Node.{Core, Stepped}
-use Rattle.iss_model.specs.Views.{unfilled}
+use Rattle.iss_model.specs.Slims.{IsPlaced, slim}
+use Rattle.iss_model.specs.Views.{is_castable_now, unfilled}
 use Rattle.iss_node.specs.Steps.{IsOfNodes}
+use Rattle.iss_node.specs.State.{RefinesCore}
 use Rattle.iss_node.specs.declared.answers.Outcome.{Outcome}
+use Rattle.iss_rebuilt.specs.Reading.{Rebuilt}
+use Rattle.iss_rebuilt.specs.Stored.{Stored, stored_by}
 use Rattle.iss_replay.specs.Text.{node_block}
 use Rattle.iss_request.specs.declared.ids.NodeId.{NodeId}
 use Rattle.iss_request.specs.declared.setups.Setup.{Setup}
@@ -42,6 +48,7 @@ use Rattle.iss_rules.specs.declared.events.NodeEvent.TheVariants.{Packet, Propos
 use Rattle.iss_rules.specs.declared.events.Why.{Why}
 use Rattle.iss_sb.specs.Calls.{AreToNodes, Relation}
 use Rattle.iss_sb.specs.Evidence.{Module}
+use Rattle.iss_world.proofs.OverLemmas.{StandsForSlims}
 
 -- ---- an event that names nodes
 
@@ -102,174 +109,184 @@ told-now P (file ∷ past) now moment =
     let here : LeavesOnly P (file ∷ past) now = moment in
     subst (λ (h : List File). IfTold h (OnlyLeaves P)) (sym here.1) (told-there P file past here.0 here.2 here.3)
 
-each-shows : (entries all : List (List ℕ)) (entry : List ℕ) → entries ≡ retained all → (now : List File) → IfTold now (OnlyLeaves (HoldsWithOrWithout all entry)) →
-    IfTold now (OnlyLeaves (ShowsWithOrWithout entries entry))
+each-shows : (entries all : List (List ℕ)) (entry : List ℕ) → entries ≡ retained all → (now : List File) → IfTold now (OnlyLeaves (HoldsWithOrWithout version_1 all entry)) →
+    IfTold now (OnlyLeaves (ShowsWithOrWithout version_1 entries entry))
 each-shows entries all entry stay [] h = tt
 each-shows entries all entry stay (file ∷ past) h = λ c image. shows_either entries all entry c stay (h c image)
 
 -- after an append that failed, too, each crash image shows the entries, with or without the new one
-left-now : (entries : List (List ℕ)) (entry : List ℕ) (before now : List File) → LeavesWithOrWithout entries entry before now →
-    IfTold now (OnlyLeaves (ShowsWithOrWithout entries entry))
-left-now entries entry [] now is = subst (λ (h : List File). IfTold h (OnlyLeaves (ShowsWithOrWithout entries entry))) (sym is) tt
-left-now entries entry (file ∷ past) now (all, stay, leaves) = each-shows entries all entry stay now (told-now (HoldsWithOrWithout all entry) (file ∷ past) now leaves)
+left-now : (entries : List (List ℕ)) (entry : List ℕ) (before now : List File) → LeavesWithOrWithout version_1 entries entry before now →
+    IfTold now (OnlyLeaves (ShowsWithOrWithout version_1 entries entry))
+left-now entries entry [] now is = subst (λ (h : List File). IfTold h (OnlyLeaves (ShowsWithOrWithout version_1 entries entry))) (sym is) tt
+left-now entries entry (file ∷ past) now (all, stay, leaves) = each-shows entries all entry stay now (told-now (HoldsWithOrWithout version_1 all entry) (file ∷ past) now leaves)
 
 module _ {M Msg D : Type 0} (m : Module Msg) (refines : Relation M Msg) (history : D → List File) where
-  abbrev does : KeptState M Msg D → NodeBehavior
-  does v = node_behavior_of v.setup m v.me.0
-
-  abbrev did : KeptState M Msg D → List NodeEvent
-  did v = events_in v.setup.n v.entries
-
-  abbrev core_now : KeptState M Msg D → Core Msg
-  core_now v = core_after v.setup m v.me.0 (did v)
+  abbrev Has : KeptState M Msg D → NodeBehavior → List NodeEvent → Type 0
+  Has v B events = HasTaken m refines v B events
 
   -- ---- an open node
 
-  module _ (v : KeptState M Msg D) (opened : IsOpen m refines history v) where
-    at-core : KeptRefinesCore m refines v opened.core.0
-    at-core = let h = opened.core.1 in record { fresh = h.fresh; node = h.node; cluster = h.cluster; number = h.number }
+  stored-at : (v : KeptState M Msg D) (st : Stored Msg) → RefinesStored m refines v st → KeptRefinesCore m refines v st.core
+  stored-at v st h = record { fresh = h.fresh; node = h.node; cluster = h.cluster; number = h.number }
 
-    core-is : core_now v ≡ opened.core.0
-    core-is = (are-events v.setup m v.me.0 v.entries opened.core.0 opened.core.1.core).1
+  module _ (v : KeptState M Msg D) (B : NodeBehavior) (events : List NodeEvent) (h : Has v B events) where
+    abbrev had : Stored Msg
+    had = stored_since v.setup m v.me.0 h.base events
 
-    pub entries-are : v.entries ≡ entries_of (did v)
-    entries-are = (are-events v.setup m v.me.0 v.entries opened.core.0 opened.core.1.core).0
+    pub is-there : KeptRefinesCore m refines v had.core
+    is-there = stored-at v had h.stored
 
-    -- the node is at the core of its events
-    pub is-there : KeptRefinesCore m refines v (core_now v)
-    is-there = subst (λ (c : Core Msg). KeptRefinesCore m refines v c) (sym core-is) at-core
+    pub has-fresh : v.stale ≡ false
+    has-fresh = h.stored.fresh
 
-    pub leads-there : core_of v.setup m v.me.0 v.entries ≡ Some (core_now v)
-    leads-there = opened.core.1.core ∙ ap (λ (c : Core Msg). let o : Option (Core Msg) = Some c in o) (sym core-is)
+    pub castable-is : (b : Bool) → ((c : Core Msg) → KeptRefinesCore m refines v c → b ≡ is_castable_now (rules_of v.setup) m v.me.0 c) → b ≡ B.castable events
+    castable-is b are = are had.core is-there ∙ ap (λ (x : NodeBehavior). x.castable events) (sym h.does)
 
-    module _ (leaders : List NodeId) (are : (c : Core Msg) → KeptRefinesCore m refines v c → map (λ (l : NodeId). l.0) leaders ≡ unfilled (rules_of v.setup) m v.setup.n v.me.0 c.past) where
-      pub leaders-are : leaders ≡ (does v).unfilled (did v)
-      leaders-are = sym (named-back leaders) ∙ ap (map (λ (l : ℕ). let i : NodeId = record { 0 = l } in i)) (are (core_now v) is-there)
+    pub leaders-are : (leaders : List NodeId) → ((c : Core Msg) → KeptRefinesCore m refines v c → map (λ (l : NodeId). l.0) leaders ≡ unfilled (rules_of v.setup) m v.setup.n v.me.0 c.past) → leaders ≡ B.unfilled events
+    leaders-are leaders are =
+        sym (named-back leaders) ∙ ap (map (λ (l : ℕ). let i : NodeId = record { 0 = l } in i)) (are had.core is-there)
+        ∙ ap (λ (x : NodeBehavior). x.unfilled events) (sym h.does)
 
-      pub leaders-nodes : AreNodes v.setup.n leaders
-      leaders-nodes node inside = in-below v.setup.n node.0 (in-filter _ (below v.setup.n) node.0
-          (subst (λ (ls : List ℕ). In node.0 ls) (are (core_now v) is-there) (in-map leaders node inside)))
+    pub leaders-nodes : (leaders : List NodeId) → ((c : Core Msg) → KeptRefinesCore m refines v c → map (λ (l : NodeId). l.0) leaders ≡ unfilled (rules_of v.setup) m v.setup.n v.me.0 c.past) → AreNodes v.setup.n leaders
+    leaders-nodes leaders are node inside = in-below v.setup.n node.0 (in-filter _ (below v.setup.n) node.0
+        (subst (λ (ls : List ℕ). In node.0 ls) (are had.core is-there) (in-map leaders node inside)))
+
+    pub nodes-is : B.setup.n ≡ v.setup.n
+    nodes-is = ap (λ (x : NodeBehavior). x.setup.n) h.does
+
+    pub me-is : B.me ≡ v.me.0
+    me-is = ap (λ (x : NodeBehavior). x.me) h.does
+
+    -- its journal shows what stays of the events
+    pub shows-is : v.entries ≡ B.shows events
+    shows-is = h.stored.entries ∙ ap (λ (x : NodeBehavior). x.shows events) (sym h.does)
+
+    pub prints-is : (epoch : ℕ) (values : List Value) (me : ℕ) → me ≡ v.me.0 → ((c : Core Msg) → KeptRefinesCore m refines v c → epoch ≡ c.past.epoch)
+        → ((c : Core Msg) → KeptRefinesCore m refines v c → log_of (rules_of v.setup) m v.me.0 c.past ≡ values) → node_block me epoch values ≡ B.prints events
+    prints-is epoch values me number epochs logs =
+        ap (λ (i : ℕ). node_block i epoch values) number ∙ ap (λ (e : ℕ). node_block v.me.0 e values) (epochs had.core is-there)
+        ∙ ap (λ (vs : List Value). node_block v.me.0 had.core.past.epoch vs) (sym (logs had.core is-there))
+        ∙ ap (λ (x : NodeBehavior). x.prints events) (sym h.does)
+
+    pub epoch-is : (epoch : ℕ) → ((c : Core Msg) → KeptRefinesCore m refines v c → epoch ≡ c.past.epoch) → epoch ≡ B.epoch events
+    epoch-is epoch epochs = epochs had.core is-there ∙ ap (λ (x : NodeBehavior). x.epoch events) (sym h.does)
 
   -- ---- one event
 
-  module _ (event : NodeEvent) (old new : KeptState M Msg D) (opened : IsOpen m refines history old) (same : IsSame old new) where
-    abbrev answered : Stepped Msg
-    answered = step_of old.setup m old.me.0 opened.core.0 event
+  module _ (event : NodeEvent) (old new : KeptState M Msg D) (same : IsSame old new) where
+    since-same : (base : Stored Msg) (events : List NodeEvent) → stored_since old.setup m old.me.0 base events ≡ stored_since new.setup m new.me.0 base events
+    since-same base events =
+        ap (λ (s : Setup). stored_since s m old.me.0 base events) (sym same.setup) ∙ ap (λ (i : NodeId). stored_since new.setup m i.0 base events) (sym same.me)
 
-    pub does-same : does new ≡ does old
-    does-same = ap (λ (s : Setup). node_behavior_of s m new.me.0) same.setup ∙ ap (λ (i : NodeId). node_behavior_of old.setup m i.0) same.me
+    does-same : (base : Stored Msg) → node_behavior_of old.setup m old.me.0 base ≡ node_behavior_of new.setup m new.me.0 base
+    does-same base =
+        ap (λ (s : Setup). node_behavior_of s m old.me.0 base) (sym same.setup) ∙ ap (λ (i : NodeId). node_behavior_of new.setup m i.0 base) (sym same.me)
 
-    did-are : (entries : List (List ℕ)) → new.entries ≡ entries → did new ≡ events_in old.setup.n entries
-    did-are entries are = ap (λ (s : Setup). events_in s.n new.entries) same.setup ∙ ap (λ (es : List (List ℕ)). events_in old.setup.n es) are
+    module _ (names : NamesNodes old.setup.n event) (B : NodeBehavior) (events : List NodeEvent) (h : Has old B events) where
+      abbrev st : Stored Msg
+      st = stored_since old.setup m old.me.0 h.base events
 
-    step-is : (stepped : Stepped Msg) → answered ≡ stepped → step_of old.setup m old.me.0 (core_now old) event ≡ stepped
-    step-is stepped is = ap (λ (c : Core Msg). step_of old.setup m old.me.0 c event) (core-is old opened) ∙ is
+      abbrev stepped : Stepped Msg
+      stepped = step_of old.setup m old.me.0 st.core event
 
-    module _ (names : NamesNodes old.setup.n event) (outcome : Outcome) (turn : IsTurn m refines (IsOfNodes old.setup.n event) old opened.core.0 answered new outcome)
-        (added : new.entries ≡ old.entries ++ spell_event event ∷ []) where
-      taken-did : did new ≡ did old ++ event ∷ []
-      taken-did = did-are (old.entries ++ spell_event event ∷ []) added
-          ∙ one-more old.setup.n old.entries (spell_event event) event (spelled-read old.setup.n event (named old.setup.n event names))
+      abbrev StoresOn : Type 0
+      StoresOn = (z : Stored Msg) → RefinesStored m refines old z → new.stale ≡ false → RefinesStored m refines new (stored_after old.setup m old.me.0 z event)
 
-      pub taken-step : IsStep (does old) (did old) event (did new) (Step_taken outcome.sends)
-      taken-step = (ap is_taken (step-is _ turn.step_is), taken-did, turn.made.sends ∙ sym (ap sends_of (step-is _ turn.step_is)))
+      accepts-is : (t : Stepped Msg) → stepped ≡ t → B.accepts events event ≡ is_taken t
+      accepts-is t is = ap (λ (x : NodeBehavior). x.accepts events event) h.does ∙ ap is_taken is
 
-      pub taken-opened : IfTold (history new.disk) (OnlyLeaves (Shows (old.entries ++ spell_event event ∷ []))) → IsOpen m refines history new
-      taken-opened durable = record {
-        core = (turn.turn.core, turn.refined (of-nodes old.setup.n event names) opened.core.1);
-        durable = subst (λ (es : List (List ℕ)). IfTold (history new.disk) (OnlyLeaves (Shows es))) (sym added) durable;
-      }
+      taken-step : (outcome : Outcome) → IsTurn m refines (IsOfNodes old.setup.n event) stepped new outcome → StoresOn → IsStep B events event (Has new B) (Step_taken outcome.sends)
+      taken-step outcome t stores =
+          let on : RefinesStored m refines new (stored_after old.setup m old.me.0 st event) = stores st h.stored t.at.fresh in
+          let is : stored_after old.setup m old.me.0 st event ≡ stored_since new.setup m new.me.0 h.base (events ++ event ∷ []) =
+          sym (since-more old.setup m old.me.0 h.base events event) ∙ since-same h.base (events ++ event ∷ []) in
+          let yes : B.accepts events event ≡ true = accepts-is _ t.step_is in (
+            yes,
+            record {
+              base = h.base;
+              does = h.does ∙ does-same h.base;
+              stored = subst (λ (z : Stored Msg). RefinesStored m refines new z) is on;
+              accepted = accepted-more B [] events event h.accepted yes;
+              named = subst (λ (s : Setup). AreNamed s.n (events ++ event ∷ [])) (sym same.setup) (named-more old.setup.n events event h.named (named old.setup.n event names));
+            },
+            t.made.sends ∙ sym (ap sends_of t.step_is) ∙ ap (λ (x : NodeBehavior). x.sends events event) (sym h.does),
+          )
 
-      pub taken-stays : new.stale ≡ false → StaysOpen (does old) (does new) (did old) (did new) new.stale
-      taken-stays fresh = record {
-        same = does-same;
-        fresh = fresh;
-        grown = λ k e at. subst (λ (es : List NodeEvent). nth es k ≡ Some e) (sym taken-did) (nth-front (did old) (event ∷ []) k e at);
-      }
+      dropped-step : (why : Why) → IsDrop m refines st.core stepped new why → StoresOn → IsStep B events event (Has new B) Step_dropped
+      dropped-step why d stores =
+          let on : RefinesStored m refines new (stored_after old.setup m old.me.0 st event) = stores st h.stored d.at.fresh in
+          let none : stored_after old.setup m old.me.0 st event ≡ st = ap (λ (t : Stepped Msg). stored_by (frame_of old.setup m) spell_event old.me.0 st event t) d.step_is in (
+            accepts-is _ d.step_is,
+            record {
+              base = h.base;
+              does = h.does ∙ does-same h.base;
+              stored = subst (λ (z : Stored Msg). RefinesStored m refines new z) (none ∙ since-same h.base events) on;
+              accepted = h.accepted;
+              named = subst (λ (s : Setup). AreNamed s.n events) (sym same.setup) h.named;
+            },
+          )
 
-    module _ (why : Why) (drop : IsDrop m refines old opened.core.0 answered new why) (kept : new.entries ≡ old.entries) where
-      pub dropped-step : IsStep (does old) (did old) event (did new) Step_dropped
-      dropped-step = (ap is_taken (step-is _ drop.step_is), did-are old.entries kept)
-
-      pub dropped-opened : history new.disk ≡ history old.disk → IsOpen m refines history new
-      dropped-opened file = record {
-        core = (opened.core.0, drop.refined opened.core.1);
-        durable = subst (λ (h : List File). IfTold h (OnlyLeaves (Shows new.entries))) (sym file)
-            (subst (λ (es : List (List ℕ)). IfTold (history old.disk) (OnlyLeaves (Shows es))) (sym kept) opened.durable);
-      }
-
-      pub dropped-stays : new.stale ≡ false → StaysOpen (does old) (does new) (did old) (did new) new.stale
-      dropped-stays fresh = record {
-        same = does-same;
-        fresh = fresh;
-        grown = λ k e at. subst (λ (es : List NodeEvent). nth es k ≡ Some e) (sym (did-are old.entries kept)) at;
-      }
-
-    -- the disk failed
-    module _ (names : NamesNodes old.setup.n event) (written : Writes old.entries (spell_event event) (history old.disk) (history new.disk) Failed) (taken : IsTaken answered) where
-      pub fails-at : FailsAt (does old) (does new) (λ (events : List NodeEvent) (e : NodeEvent). Leaves m new.setup new.me.0 (history new.disk) events e) (did old) event
-      fails-at = record {
-        same = does-same;
-        accepted = ap is_taken (step-is _ taken.1);
-        left = record {
-          accepted =
-              subst (λ (s : Setup). core_of s m new.me.0 (entries_of (did old)) ≡ Some (core_after s m new.me.0 (did old))) (sym same.setup)
-              (subst (λ (i : NodeId). core_of old.setup m i.0 (entries_of (did old)) ≡ Some (core_after old.setup m i.0 (did old))) (sym same.me)
-              (subst (λ (es : List (List ℕ)). core_of old.setup m old.me.0 es ≡ Some (core_now old)) (entries-are old opened) (leads-there old opened)));
-          left = subst (λ (es : List (List ℕ)). IfTold (history new.disk) (OnlyLeaves (ShowsWithOrWithout es (spell_event event)))) (entries-are old opened)
-              (left-now old.entries (spell_event event) (history old.disk) (history new.disk) written.0);
-        };
-      }
+      -- the disk failed
+      fails-at : (entry : List ℕ) → Writes old.entries entry (history old.disk) (history new.disk) Failed → (stored_after old.setup m old.me.0 st event).entries ≡ entry ∷ st.entries → IsTaken stepped
+          → FailsAt B (λ (es : List NodeEvent) (e : NodeEvent). Leaves new.setup.n (history new.disk) B es e) events event
+      fails-at entry written right t =
+          let kept : newest_entry (stored_after old.setup m old.me.0 st event) ≡ entry = ap (λ (es : List (List ℕ)). get_or es 0 []) right in
+          record {
+            accepted = accepts-is _ t.1;
+            left = record {
+              accepted = h.accepted;
+              named = subst (λ (s : Setup). AreNamed s.n events) (sym same.setup) h.named;
+              left = subst (λ (es : List (List ℕ)). IfTold (history new.disk) (OnlyLeaves (ShowsWithOrWithout version_1 es (B.keeps events event)))) (shows-is old B events h)
+                  (subst (λ (e : List ℕ). IfTold (history new.disk) (OnlyLeaves (ShowsWithOrWithout version_1 old.entries e))) (sym kept ∙ ap (λ (x : NodeBehavior). x.keeps events event) (sym h.does))
+                  (left-now old.entries entry (history old.disk) (history new.disk) written.0));
+            };
+          }
 
     -- by the answer of the kept node
-    module _ (names : NamesNodes old.setup.n event) where
+    module _ (names : NamesNodes old.setup.n event) (stores : (z : Stored Msg) → RefinesStored m refines old z → new.stale ≡ false → RefinesStored m refines new (stored_after old.setup m old.me.0 z event)) where
       abbrev Says : Answer → Type 0
-      Says a = IsAnswer m refines (IsOfNodes old.setup.n event) old opened.core.0 answered new a
+      Says a = (c : Core Msg) → KeptRefinesCore m refines old c → IsAnswer m refines (IsOfNodes old.setup.n event) c (step_of old.setup m old.me.0 c event) new a
 
-      abbrev Adds : Answer → Type 0
-      Adds a = new.entries ≡ entries_after old.entries (spell_event event) a
+      pub by-step : (a : Answer) → Says a → IfOk (as_step a) (λ step. (B : NodeBehavior) (events : List NodeEvent) → Has old B events → IsStep B events event (Has new B) step)
+      by-step (Kept_taken outcome) says = λ B events h. taken-step names B events h outcome (says (stored_since old.setup m old.me.0 h.base events).core (is-there old B events h)) stores
+      by-step (Kept_dropped why) says = λ B events h. dropped-step names B events h why (says (stored_since old.setup m old.me.0 h.base events).core (is-there old B events h)) stores
+      by-step Failed says = tt
+      by-step Stale says = tt
+      by-step NoMemory says = tt
 
-      abbrev Stored : Answer → Type 0
-      Stored a = Writes old.entries (spell_event event) (history old.disk) (history new.disk) a
+      pub by-address : (a : Answer) → Says a → IsOpen (Has old) → IfOk (as_step a) (GoTo old.setup.n)
+      by-address (Kept_taken outcome) says o =
+          let h = o.2 in
+          let t = says (stored_since old.setup m old.me.0 h.base o.1).core (is-there old o.0 o.1 h) in
+          subst (λ (s : Setup). AreToNodes s.n outcome.sends) same.setup (t.addressed (of-nodes old.setup.n event names))
+      by-address (Kept_dropped why) says o = tt
+      by-address Failed says o = tt
+      by-address Stale says o = tt
+      by-address NoMemory says o = tt
 
-      pub said : (a : Answer) → ((c : Core Msg) → KeptRefinesCore m refines old c → IsAnswer m refines (IsOfNodes old.setup.n event) old c (step_of old.setup m old.me.0 c event) new a) → Says a
-      said a h = h opened.core.0 (at-core old opened)
+      pub by-cut : (before now : Sight) → before.history ≡ history old.disk → now.history ≡ history new.disk → (a : Answer) → Says a → IsJournaled m refines old event before now new.entries a → IsErrOf (as_step a) DiskFault
+          → (B : NodeBehavior) (events : List NodeEvent) → Has old B events → FailsAt B (λ (es : List NodeEvent) (e : NodeEvent). Leaves new.setup.n (history new.disk) B es e) events event
+      by-cut before now first last (Kept_taken outcome) says w q = absurd (cc)
+      by-cut before now first last (Kept_dropped why) says w q = absurd (cc)
+      by-cut before now first last Failed says w q = λ B events h.
+          fails-at names B events h w.entry
+          (subst (λ (x : List File). Writes old.entries w.entry x (history new.disk) Failed) first (subst (λ (x : List File). Writes old.entries w.entry before.history x Failed) last w.written.file))
+          (w.right refl (stored_since old.setup m old.me.0 h.base events) h.stored) (says (stored_since old.setup m old.me.0 h.base events).core (is-there old B events h))
+      by-cut before now first last Stale says w q = absurd (cc)
+      by-cut before now first last NoMemory says w q = absurd (cc)
 
-      pub by-step : (a : Answer) → Says a → Adds a → IfOk (as_step a) (IsStep (does old) (did old) event (did new))
-      by-step (Kept_taken outcome) turn added = taken-step names outcome turn added
-      by-step (Kept_dropped why) drop kept = dropped-step why drop kept
-      by-step Failed says adds = tt
-      by-step Stale says adds = tt
-      by-step NoMemory says adds = tt
-
-      pub by-address : (a : Answer) → Says a → IfOk (as_step a) (GoTo (does old).setup.n)
-      by-address (Kept_taken outcome) turn = subst (λ (s : Setup). AreToNodes s.n outcome.sends) same.setup (turn.addressed (of-nodes old.setup.n event names))
-      by-address (Kept_dropped why) drop = tt
-      by-address Failed says = tt
-      by-address Stale says = tt
-      by-address NoMemory says = tt
-
-      pub by-stay : (a : Answer) → Says a → Adds a → new.stale ≡ makes_stale a → OnOk (as_step a) (StaysOpen (does old) (does new) (did old) (did new) new.stale)
-      by-stay (Kept_taken outcome) turn added fresh = taken-stays names outcome turn added fresh
-      by-stay (Kept_dropped why) drop kept fresh = dropped-stays why drop kept fresh
-      by-stay Failed says adds stale = tt
-      by-stay Stale says adds stale = tt
-      by-stay NoMemory says adds stale = tt
-
-      pub by-open : (a : Answer) → Says a → Adds a → Stored a → new.stale ≡ makes_stale a → new.stale ≡ false → IsOpen m refines history new
-      by-open (Kept_taken outcome) turn added stored is fresh = taken-opened names outcome turn added stored.1
-      by-open (Kept_dropped why) drop kept stored is fresh = dropped-opened why drop kept stored
-      by-open Failed says adds stored is fresh = absurd (true≢false (sym is ∙ fresh))
-      by-open Stale says adds stored is fresh = absurd (true≢false (sym is ∙ fresh))
-      by-open NoMemory says adds stored is fresh = absurd (true≢false (sym is ∙ fresh))
-
-      pub by-cut : (a : Answer) → Says a → Stored a → IsErrOf (as_step a) DiskFault
-          → FailsAt (does old) (does new) (λ (events : List NodeEvent) (e : NodeEvent). Leaves m new.setup new.me.0 (history new.disk) events e) (did old) event
-      by-cut (Kept_taken outcome) says stored q = absurd (cc)
-      by-cut (Kept_dropped why) says stored q = absurd (cc)
-      by-cut Failed says stored q = fails-at names stored says
-      by-cut Stale says stored q = absurd (cc)
-      by-cut NoMemory says stored q = absurd (cc)
+    -- every crash image shows its entries after the answer, too
+    pub by-durable : (before now : Sight) → before.history ≡ history old.disk → now.history ≡ history new.disk → (a : Answer) → IsJournaled m refines old event before now new.entries a → new.stale ≡ makes_stale a
+        → (old.stale ≡ false → IsDurable history old) → old.stale ≡ false → new.stale ≡ false → IsDurable history new
+    by-durable before now first last (Kept_taken outcome) w is durable was fresh =
+        subst (λ (x : List File). IfTold x (OnlyLeaves (Shows version_1 new.entries))) last
+        (subst (λ (es : List (List ℕ)). IfTold now.history (OnlyLeaves (Shows version_1 es))) (sym w.written.added) w.written.file.1)
+    by-durable before now first last (Kept_dropped why) w is durable was fresh =
+        subst (λ (x : List File). IfTold x (OnlyLeaves (Shows version_1 new.entries))) (sym first ∙ sym w.written.file ∙ last)
+        (subst (λ (es : List (List ℕ)). IfTold (history old.disk) (OnlyLeaves (Shows version_1 es))) (sym w.written.added) (durable was))
+    by-durable before now first last Failed w is durable was fresh = absurd (true≢false (sym is ∙ fresh))
+    by-durable before now first last Stale w is durable was fresh = absurd (true≢false (sym is ∙ fresh))
+    by-durable before now first last NoMemory w is durable was fresh = absurd (true≢false (sym is ∙ fresh))
 
   pub by-cause : (a : Answer) (before now : ℕ) → HasCause before now (a ≡ Failed) → HasCause before now (IsErrOf (as_step a) DiskFault)
   by-cause (Kept_taken outcome) before now h = record { never_falls = h.never_falls; rose = λ q. absurd (cc) }
@@ -281,145 +298,156 @@ module _ {M Msg D : Type 0} (m : Module Msg) (refines : Relation M Msg) (history
   -- ---- from call to call
 
   pub starts : (s : Setup) (i me : NodeId) (nodes : ℕ) (v : KeptState M Msg D) → IsSetupOf m s → i.0 < s.n → nodes ≡ s.n → i ≡ me
-      → v.setup ≡ s → v.me ≡ me → v.stale ≡ true → IsRunning m refines history nodes i v
+      → v.setup ≡ s → v.me ≡ me → v.stale ≡ true → IsRunning m history nodes i v
   starts s i me nodes v good member count number setup is stale = record {
     good = subst (λ (t : Setup). IsSetupOf m t) (sym setup) good;
     member = subst (λ (t : Setup). v.me.0 < t.n) (sym setup) (subst (λ (k : NodeId). k.0 < s.n) (number ∙ sym is) member);
     count = count ∙ ap (λ (t : Setup). t.n) (sym setup);
     number = number ∙ sym is;
-    fresh = λ fresh. absurd (true≢false (sym stale ∙ fresh));
+    durable = λ fresh. absurd (true≢false (sym stale ∙ fresh));
   }
 
-  pub running-on : (nodes : ℕ) (me : NodeId) (old new : KeptState M Msg D) → IsRunning m refines history nodes me old → IsSame old new → (new.stale ≡ false → IsOpen m refines history new)
-      → IsRunning m refines history nodes me new
-  running-on nodes me old new runs same opened = record {
+  pub running-on : (nodes : ℕ) (me : NodeId) (old new : KeptState M Msg D) → IsRunning m history nodes me old → IsSame old new → (new.stale ≡ false → IsDurable history new)
+      → IsRunning m history nodes me new
+  running-on nodes me old new runs same durable = record {
     good = subst (λ (s : Setup). IsSetupOf m s) (sym same.setup) runs.good;
     member = subst (λ (s : Setup). new.me.0 < s.n) (sym same.setup) (subst (λ (i : NodeId). i.0 < old.setup.n) (sym same.me) runs.member);
     count = runs.count ∙ ap (λ (s : Setup). s.n) (sym same.setup);
     number = runs.number ∙ sym same.me;
-    fresh = opened;
+    durable = durable;
   }
 
   -- ---- reopening
 
   module _ (before now : Sight) (old new : KeptState M Msg D) (same : IsSame old new) (seen : now.history ≡ history new.disk) where
-    reopened-opened : (r : Result (Unit {0}) AttachError) → new.stale ≡ not (is_ok r) → OnOk r ((c : Core Msg) × RefinesEntries m refines new c) → OnOk r (IsAttached before now new.entries)
-        → new.stale ≡ false → IsOpen m refines history new
-    reopened-opened (Ok x) is core attached fresh = record {
-      core = core;
-      durable = subst (λ (h : List File). IfTold h (OnlyLeaves (Shows new.entries))) seen attached.durable;
-    }
-    reopened-opened (Err e) is core attached fresh = absurd (true≢false (sym is ∙ fresh))
+    abbrev Led : Type 0
+    Led = (found : Rebuilt Msg) × (core_of new.setup m new.me.0 new.entries ≡ Some found) × RefinesStored m refines new (stored_as new.entries found)
 
-    pub reopened-running : (nodes : ℕ) (me : NodeId) (r : Result (Unit {0}) AttachError) → IsRunning m refines history nodes me old → new.stale ≡ not (is_ok r)
-        → OnOk r ((c : Core Msg) × RefinesEntries m refines new c) → OnOk r (IsAttached before now new.entries) → IsRunning m refines history nodes me new
-    reopened-running nodes me r runs is core attached = running-on nodes me old new runs same (reopened-opened r is core attached)
+    reopened-durable : (r : Result (Unit {0}) AttachError) → new.stale ≡ not (is_ok r) → OnOk r (IsAttached before now new.entries) → new.stale ≡ false → IsDurable history new
+    reopened-durable (Ok x) is attached fresh = subst (λ (h : List File). IfTold h (OnlyLeaves (Shows version_1 new.entries))) seen attached.durable
+    reopened-durable (Err e) is attached fresh = absurd (true≢false (sym is ∙ fresh))
 
-    pub opens : (r : Result (Unit {0}) AttachError) → OnOk r ((c : Core Msg) × RefinesEntries m refines new c) → OnOk r (IsAttached before now new.entries) → OnOk r (IsOpen m refines history new)
-    opens (Ok x) core attached = record {
-      core = core;
-      durable = subst (λ (h : List File). IfTold h (OnlyLeaves (Shows new.entries))) seen attached.durable;
-    }
-    opens (Err e) core attached = tt
+    pub reopened-running : (nodes : ℕ) (me : NodeId) (r : Result (Unit {0}) AttachError) → IsRunning m history nodes me old → new.stale ≡ not (is_ok r)
+        → OnOk r (IsAttached before now new.entries) → IsRunning m history nodes me new
+    reopened-running nodes me r runs is attached = running-on nodes me old new runs same (reopened-durable r is attached)
 
-    pub has-read : (r : Result (Unit {0}) AttachError) → new.stale ≡ not (is_ok r) → OnOk r (IsAttached before now new.entries) → OnOk r (HasRead before.history new.stale new.entries)
-    has-read (Ok x) is attached = record { fresh = is; read = attached.read }
-    has-read (Err e) is attached = tt
+    -- what it had stored whose journal it read
+    module _ (slims : StandsForSlims m refines)
+        (recovers : (events : List NodeEvent) → AreNamed new.setup.n events → (stored_of new.setup m new.me.0 events).core.past.epoch < 2 ^ 64 →
+        Recovers new.setup m new.me.0 (shown_of (stored_of new.setup m new.me.0 events)) (stored_of new.setup m new.me.0 events)) (led : Led) where
+      by-events : (events : List NodeEvent) → new.entries ≡ shown_of (stored_of new.setup m new.me.0 events) → AreNamed new.setup.n events
+          → (stored_of new.setup m new.me.0 events).core.past.epoch < 2 ^ 64 → RefinesStored m refines new (stored_of new.setup m new.me.0 events)
+      by-events events entries names low =
+          let z : Stored Msg = stored_of new.setup m new.me.0 events in
+          let back = recovers events names low in
+          let for = led.2 in
+          let is : led.0 ≡ back.found = some-injective led.0 back.found (sym led.1 ∙ ap (λ (es : List (List ℕ)). core_of new.setup m new.me.0 es) entries ∙ back.is) in
+          let at-found : RefinesCore m refines new.node back.found.core = subst (λ (r : Rebuilt Msg). RefinesCore m refines new.node r.core) is for.node in
+          let at-wrote : RefinesCore m refines new.node z.core = slims new.node back.found.core z.core at-found
+          (subst (λ (s : Setup). IsPlaced (rules_of s) m new.node.state.me.0 z.core) (sym for.cluster)
+          (subst (λ (i : NodeId). IsPlaced (rules_of new.setup) m i.0 z.core) (sym for.number) back.known))
+          (subst (λ (s : Setup). slim (rules_of s) m new.node.state.me.0 back.found.core ≡ slim (rules_of s) m new.node.state.me.0 z.core) (sym for.cluster)
+          (subst (λ (i : NodeId). slim (rules_of new.setup) m i.0 back.found.core ≡ slim (rules_of new.setup) m i.0 z.core) (sym for.number) back.slims)) in
+          record {
+            fresh = for.fresh;
+            node = at-wrote;
+            cluster = for.cluster;
+            number = for.number;
+            entries = entries;
+            saved = for.saved ∙ ap (λ (r : Rebuilt Msg). r.saved) is ∙ back.saved;
+          }
 
-  -- ---- what it prints
+      stored-by : (base : Stored Msg) → BeginsWith new.setup m new.me.0 new.entries led.0 base → RefinesStored m refines new base
+      stored-by base (inl is) = subst (λ (z : Stored Msg). RefinesStored m refines new z) (sym is) led.2
+      stored-by base (inr (events, is, entries, names, low)) =
+          subst (λ (z : Stored Msg). RefinesStored m refines new z) (sym is)
+          (by-events events (entries ∙ ap (λ (z : Stored Msg). shown_of z) is) names (subst (λ (z : Stored Msg). z.core.past.epoch < 2 ^ 64) is low))
 
-  pub block-is : (v : KeptState M Msg D) → IsOpen m refines history v → (me epoch : ℕ) (values : List Value) → me ≡ v.me.0
-      → ((c : Core Msg) → KeptRefinesCore m refines v c → epoch ≡ c.past.epoch)
-      → ((c : Core Msg) → KeptRefinesCore m refines v c → log_of (rules_of v.setup) m v.me.0 c.past ≡ values)
-      → node_block me epoch values ≡ block_of v.setup m v.me.0 (core_now v)
-  block-is v opened me epoch values number epochs logs =
-      ap (λ (i : ℕ). node_block i epoch values) number
-      ∙ ap (λ (e : ℕ). node_block v.me.0 e values) (epochs (core_now v) (is-there v opened))
-      ∙ ap (λ (vs : List Value). node_block v.me.0 (core_now v).past.epoch vs) (sym (logs (core_now v) (is-there v opened)))
+      has-read : IsAttached before now new.entries → HasRead m refines before.history new
+      has-read attached = record { read = attached.read; found = led.0; leads = led.1; stored = stored-by }
+
+    pub read-by : StandsForSlims m refines → ((events : List NodeEvent) → AreNamed new.setup.n events → (stored_of new.setup m new.me.0 events).core.past.epoch < 2 ^ 64 →
+        Recovers new.setup m new.me.0 (shown_of (stored_of new.setup m new.me.0 events)) (stored_of new.setup m new.me.0 events))
+        → (r : Result (Unit {0}) AttachError) → OnOk r Led → OnOk r (IsAttached before now new.entries) → OnOk r (HasRead m refines before.history new)
+    read-by slims recovers (Ok x) led attached = has-read slims recovers led attached
+    read-by slims recovers (Err e) led attached = tt
 
   -- ---- a whole run
 
-  module _ (c : Config) (me : ℕ) (mid end : KeptState M Msg D) (opened : IsOpen m refines history mid) (later : IsOpen m refines history end) (setup : mid.setup ≡ setup_of c) (number : mid.me.0 ≡ me)
-      (stays : StaysOpen (does mid) (does end) (did mid) (did end) end.stale) where
-    more : (taken : List NodeEvent) × (did end ≡ did mid ++ taken)
-    more = goes-on (did mid) (did end) stays.grown
+  pub opened-by : (v : KeptState M Msg D) (before : List File) → HasRead m refines before v → IsOpen (Has v)
+  opened-by v before h =
+      let base : Stored Msg = stored_as v.entries h.found in
+      (node_behavior_of v.setup m v.me.0 base, [], record { base = base; does = refl; stored = h.stored base (inl refl); accepted = tt; named = λ e i. absurd i })
 
-    end-setup : end.setup ≡ setup_of c
-    end-setup = ap (λ (b : NodeBehavior). b.setup) stays.same ∙ setup
+  module _ (c : Config) (me : ℕ) (mid end : KeptState M Msg D) (setup : mid.setup ≡ setup_of c) (number : mid.me.0 ≡ me) (before : List File) (read : HasRead m refines before mid) where
+    -- the node had stored this, and took nothing yet
+    begun : (base : Stored Msg) → BeginsWith (setup_of c) m me mid.entries read.found base → Has mid (node_behavior_of (setup_of c) m me base) []
+    begun base origin =
+        let here : BeginsWith mid.setup m mid.me.0 mid.entries read.found base =
+        subst (λ (s : Setup). BeginsWith s m mid.me.0 mid.entries read.found base) (sym setup) (subst (λ (i : ℕ). BeginsWith (setup_of c) m i mid.entries read.found base) (sym number) origin) in
+        record {
+          base = base;
+          does = ap (λ (s : Setup). node_behavior_of s m me base) (sym setup) ∙ ap (λ (i : ℕ). node_behavior_of mid.setup m i base) (sym number);
+          stored = read.stored base here;
+          accepted = tt;
+          named = λ e i. absurd i;
+        }
 
-    end-me : end.me.0 ≡ me
-    end-me = ap (λ (b : NodeBehavior). b.me) stays.same ∙ number
-
-    end-entries : end.entries ≡ entries_of (did mid ++ more.0)
-    end-entries = entries-are end later ∙ ap entries_of more.1
-
-    end-leads : core_of (setup_of c) m me (entries_of (did mid ++ more.0)) ≡ Some (core_after (setup_of c) m me (did mid ++ more.0))
-    end-leads =
-        subst (λ (events : List NodeEvent). core_of (setup_of c) m me (entries_of (did mid ++ more.0)) ≡ Some (core_after (setup_of c) m me events)) more.1
-        (subst (λ (entries : List (List ℕ)). core_of (setup_of c) m me entries ≡ Some (core_after (setup_of c) m me (did end))) end-entries
-        (subst (λ (i : ℕ). core_of (setup_of c) m i end.entries ≡ Some (core_after (setup_of c) m i (did end))) end-me
-        (subst (λ (s : Setup). core_of s m end.me.0 end.entries ≡ Some (core_after s m end.me.0 (did end))) end-setup (leads-there end later))))
-
-    printed-is : (printed : List ℕ) → printed ≡ block_of end.setup m end.me.0 (core_now end)
-        → printed ≡ block_of (setup_of c) m me (core_after (setup_of c) m me (did mid ++ more.0))
-    printed-is printed is =
-        subst (λ (events : List NodeEvent). printed ≡ block_of (setup_of c) m me (core_after (setup_of c) m me events)) more.1
-        (subst (λ (i : ℕ). printed ≡ block_of (setup_of c) m i (core_after (setup_of c) m i (did end))) end-me
-        (subst (λ (s : Setup). printed ≡ block_of s m end.me.0 (core_after s m end.me.0 (did end))) end-setup is))
+    led-there : core_of (setup_of c) m me mid.entries ≡ Some read.found
+    led-there = subst (λ (i : ℕ). core_of (setup_of c) m i mid.entries ≡ Some read.found) number (subst (λ (s : Setup). core_of s m mid.me.0 mid.entries ≡ Some read.found) setup read.leads)
 
     module _ (ends ends_now : Option (List End)) where
-      pub node-ran : (before : List File) (printed : List ℕ) → HasRead before mid.stale mid.entries
-          → ((there : List End) → ends ≡ Some there → HasRun (node_loop_of (does mid) 200000 64 c.turns (did mid) there) (did end) ends_now)
-          → printed ≡ block_of end.setup m end.me.0 (core_now end) → IsNodeRun m c me ends ends_now before (history end.disk) printed
-      node-ran before printed read loops is = record {
-        held = did mid;
-        taken = more.0;
-        read = subst (λ (entries : List (List ℕ)). IfTold before (λ file. Shows entries file.content)) (entries-are mid opened) read.read;
-        kept = subst (λ (entries : List (List ℕ)). IfTold (history end.disk) (OnlyLeaves (Shows entries))) end-entries later.durable;
-        accepted = end-leads;
-        loops = λ there told.
-            subst (λ (events : List NodeEvent). HasRun (node_loop_of (node_behavior_of (setup_of c) m me) 200000 64 c.turns (did mid) there) events ends_now) more.1
-            (subst (λ (i : ℕ). HasRun (node_loop_of (node_behavior_of (setup_of c) m i) 200000 64 c.turns (did mid) there) (did end) ends_now) number
-            (subst (λ (s : Setup). HasRun (node_loop_of (node_behavior_of s m mid.me.0) 200000 64 c.turns (did mid) there) (did end) ends_now) setup (loops there told)));
-        block = printed-is printed is;
+      pub node-ran : (printed : List ℕ) → IsDurable history end
+          → ((B : NodeBehavior) (events : List NodeEvent) → Has mid B events → HasLooped events (Has end B) ends ends_now (node_loop_of B 200000 64 c.turns events))
+          → ((B : NodeBehavior) (events : List NodeEvent) → Has end B events → (printed ≡ B.prints events) × (B.epoch events < 2 ^ 64)) → IsNodeRun m c me ends ends_now before (history end.disk) printed
+      node-ran printed durable loops prints = record {
+        held = mid.entries;
+        found = read.found;
+        read = read.read;
+        leads = led-there;
+        went = λ base origin.
+            let B : NodeBehavior = node_behavior_of (setup_of c) m me base in
+            let l = loops B [] (begun base origin) in
+            let p = prints B l.later l.there in
+            record {
+              taken = l.later;
+              accepted = l.there.accepted;
+              named = subst (λ (n : ℕ). AreNamed n l.later) (sym (nodes-is end B l.later l.there)) l.there.named;
+              kept = subst (λ (es : List (List ℕ)). IfTold (history end.disk) (OnlyLeaves (Shows version_1 es))) (shows-is end B l.later l.there) durable;
+              loops = l.loops;
+              block = p.0;
+              low = p.1;
+            };
       }
 
-  -- ---- a run that the disk ends
-
-  module _ (c : Config) (me : ℕ) (mid end : KeptState M Msg D) (opened : IsOpen m refines history mid) (setup : mid.setup ≡ setup_of c) (number : mid.me.0 ≡ me) (ends ends_now : Option (List End)) where
-    abbrev leaves_at : Setup → ℕ → List NodeEvent → NodeEvent → Type 0
-    leaves_at s i events event = Leaves m s i (history end.disk) events event
-
-    module _ (cut : IsCut (does mid) (does end) (leaves_at end.setup end.me.0) (did mid) ends (record { count = 0; idle = true; idle_turns = 0 }) ends_now) where
-      cut-more : (taken : List NodeEvent) × (cut.kept ≡ did mid ++ taken)
-      cut-more = goes-on (did mid) cut.kept cut.grown
-
-      cut-setup : end.setup ≡ setup_of c
-      cut-setup = ap (λ (b : NodeBehavior). b.setup) cut.fails.same ∙ setup
-
-      cut-me : end.me.0 ≡ me
-      cut-me = ap (λ (b : NodeBehavior). b.me) cut.fails.same ∙ number
-
-      -- what the node does
-      cut-does : does mid ≡ node_behavior_of (setup_of c) m me
-      cut-does = ap (λ (s : Setup). node_behavior_of s m mid.me.0) setup ∙ ap (λ (i : ℕ). node_behavior_of (setup_of c) m i) number
-
-      pub cut-short : (before : List File) → HasRead before mid.stale mid.entries → IsCutShort m c me ends ends_now before (history end.disk)
-      cut-short before read = record {
-        held = did mid;
-        taken = cut-more.0;
-        failed = cut.failed;
-        read = subst (λ (entries : List (List ℕ)). IfTold before (λ file. Shows entries file.content)) (entries-are mid opened) read.read;
-        fails = subst (λ (events : List NodeEvent). is_taken (step_of (setup_of c) m me (core_after (setup_of c) m me events) cut.failed) ≡ true) cut-more.1
-            (subst (λ (b : NodeBehavior). b.accepts cut.kept cut.failed ≡ true) cut-does cut.fails.accepted);
-        kept = subst (λ (events : List NodeEvent). leaves_at (setup_of c) me events cut.failed) cut-more.1
-            (subst (λ (i : ℕ). leaves_at (setup_of c) i cut.kept cut.failed) cut-me
-            (subst (λ (s : Setup). leaves_at s end.me.0 cut.kept cut.failed) cut-setup cut.fails.left));
-        sent = λ there told.
-            subst (λ (events : List NodeEvent). HasSent (node_behavior_of (setup_of c) m me) (begins (did mid) there) events ends_now) cut-more.1
-            (subst (λ (b : NodeBehavior). HasSent b (begins (did mid) there) cut.kept ends_now) cut-does
-            (cut.sent (begins (did mid) there) (record { events_are = refl; ends_are = told; count = refl; idle = refl; idle_turns = refl })));
+      -- a run that the disk ends
+      pub cut-short : Cuts (Has mid) (λ (B : NodeBehavior) (es : List NodeEvent) (e : NodeEvent). Leaves end.setup.n (history end.disk) B es e) ends (record { count = 0; idle = true; idle_turns = 0 }) ends_now
+          → end.setup.n ≡ mid.setup.n → IsCutShort m c me ends ends_now before (history end.disk)
+      cut-short cuts nodes = record {
+        held = mid.entries;
+        found = read.found;
+        read = read.read;
+        leads = led-there;
+        went = λ base origin.
+            let B : NodeBehavior = node_behavior_of (setup_of c) m me base in
+            let cut = cuts B [] (begun base origin) in
+            record {
+              taken = cut.kept;
+              failed = cut.failed;
+              fails = cut.fails.accepted;
+              kept = subst (λ (n : ℕ). Leaves n (history end.disk) B cut.kept cut.failed) (nodes ∙ ap (λ (s : Setup). s.n) setup) cut.fails.left;
+              sent = λ there told. cut.sent (begins [] there) (record { events_are = refl; ends_are = told; count = refl; idle = refl; idle_turns = refl });
+            };
       }
+
+    -- the node is the same after its loop
+    pub same-node : (ends ends_now : Option (List End)) → ((B : NodeBehavior) (events : List NodeEvent) → Has mid B events → HasLooped events (Has end B) ends ends_now (node_loop_of B 200000 64 c.turns events))
+        → (end.setup ≡ mid.setup) × (end.me ≡ mid.me)
+    same-node ends ends_now loops =
+        let o = opened-by mid before read in
+        let l = loops o.0 o.1 o.2 in
+        let is : node_behavior_of end.setup m end.me.0 l.there.base ≡ node_behavior_of mid.setup m mid.me.0 o.2.base = sym l.there.does ∙ o.2.does in
+        (ap (λ (x : NodeBehavior). x.setup) is, ap (λ (k : ℕ). let i : NodeId = record { 0 = k } in i) (ap (λ (x : NodeBehavior). x.me) is))
 
   -- ---- a refusal
 

@@ -1,14 +1,16 @@
 -- What one node does, as functions of the events that it has accepted, by the model of a node. And what its journal and
 -- its links hold behind its loop, and what it prints.
-use Rattle.std.specs.Prelude.{◌≡◌, ◌⊎◌, ℕ, ◌<◌, Bool, true, false, List, [], Result, Ok, Err, filter_map, map, reverse, Option, Some, ◌++◌}
+use Rattle.std.specs.Prelude.{◌≡◌, ◌⊎◌, ℕ, ◌<◌, ◌^◌, Bool, true, false, List, [], ◌∷◌, Result, Ok, Err, get_or, map, reverse, Option, Some, ◌++◌}
 use Rattle.iss_config.specs.Configs.{setup_of}
 use Rattle.iss_config.specs.declared.configs.Config.{Config}
 use Rattle.iss_disk.specs.Calls.{IfTold}
 use Rattle.iss_disk.specs.File.{File}
+use Rattle.iss_journal.specs.Frames.{version_1}
 use Rattle.iss_journal.specs.Promises.{LosesNothing, OnlyLeaves, Shows, ShowsWithOrWithout}
-use Rattle.iss_keep.specs.Cores.{step_of, core_of as core_of_entries}
-use Rattle.iss_keep.specs.Entries.{event_in, spell_event}
-use Rattle.iss_keep.specs.State.{KeptState, RefinesEntries}
+use Rattle.iss_keep.specs.Cores.{core_of, shown_of, step_of, stored_after, stored_of}
+use Rattle.iss_keep.specs.Entries.{spell_event}
+use Rattle.iss_keep.specs.Recovery.{AreNamed}
+use Rattle.iss_keep.specs.State.{KeptState, RefinesStored, stored_as}
 use Rattle.iss_keep.specs.Steps.{IsDamaged, IsLeft}
 use Rattle.iss_keep.specs.declared.answers.Answer.{Answer}
 use Rattle.iss_keep.specs.declared.answers.Answer.TheVariants.{Dropped as Kept_dropped, Failed, NoMemory as NoMemory_kept, Stale, Taken as Kept_taken}
@@ -19,14 +21,15 @@ use Rattle.iss_loops.specs.declared.node.NodeStep.{NodeStep}
 use Rattle.iss_loops.specs.declared.node.NodeStep.TheVariants.{Dropped as Step_dropped, Taken as Step_taken}
 use Rattle.iss_loops.specs.declared.node.StepError.{StepError}
 use Rattle.iss_loops.specs.declared.node.StepError.TheVariants.{DiskFault, NoMemory}
-use Rattle.iss_model.specs.Courses.{core_of}
+use Rattle.iss_model.specs.Frames.{frame_of}
 use Rattle.iss_model.specs.Node.{Core, Stepped, Dropped, Taken}
 use Rattle.iss_model.specs.Views.{is_castable_now, unfilled}
+use Rattle.iss_rebuilt.specs.Reading.{Rebuilt}
+use Rattle.iss_rebuilt.specs.Stored.{Stored, stored_on}
 use Rattle.iss_replay.specs.Text.{node_block}
 use Rattle.iss_request.specs.declared.ids.NodeId.{NodeId}
 use Rattle.iss_request.specs.declared.setups.Setup.{Setup}
 use Rattle.iss_rules.specs.Concrete.{rules_of}
-use Rattle.iss_rules.specs.Formats.{formats_of}
 use Rattle.iss_rules.specs.Past.{log_of}
 use Rattle.iss_rules.specs.Setups.{IsSetupOf}
 use Rattle.iss_rules.specs.declared.events.NodeEvent.{NodeEvent}
@@ -36,9 +39,9 @@ use Rattle.iss_sb.specs.declared.effects.To.{To}
 
 -- ---- what a node does
 
--- the core of a node that has accepted these events, oldest first
-abbrev pub core_after : {Msg : Type 0} → Setup → Module Msg → ℕ → List NodeEvent → Core Msg
-core_after s M me events = core_of (formats_of s M) (rules_of s) M me (reverse events)
+-- What a node has stored that had stored this, and has accepted these events since, oldest first.
+abbrev pub stored_since : {Msg : Type 0} → Setup → Module Msg → ℕ → Stored Msg → List NodeEvent → Stored Msg
+stored_since s M me base events = stored_on (frame_of s M) spell_event me base (reverse events)
 
 -- whether a step accepts its event, and what it sends
 abbrev pub is_taken : {Msg : Type 0} → Stepped Msg → Bool
@@ -49,77 +52,119 @@ abbrev pub sends_of : {Msg : Type 0} → Stepped Msg → List (To × List ℕ)
 sends_of (Dropped why) = []
 sends_of (Taken turn) = turn.sends
 
--- what node `me` does, by the steps of its core
-abbrev pub node_behavior_of : {Msg : Type 0} → Setup → Module Msg → ℕ → NodeBehavior
-node_behavior_of s M me = record {
-  setup = s;
-  me = me;
-  accepts = λ events event. is_taken (step_of s M me (core_after s M me events) event);
-  sends = λ events event. sends_of (step_of s M me (core_after s M me events) event);
-  castable = λ events. is_castable_now (rules_of s) M me (core_after s M me events);
-  unfilled = λ events. map (λ l. record { 0 = l }) (unfilled (rules_of s) M s.n me (core_after s M me events).past);
-}
-
 -- the block of node `me` in a report, by its core
 abbrev pub block_of : {Msg : Type 0} → Setup → Module Msg → ℕ → Core Msg → List ℕ
 block_of s M me c = node_block me c.past.epoch (log_of (rules_of s) M me c.past)
 
+-- the entry that what was stored last ends with
+abbrev pub newest_entry : {Msg : Type 0} → Stored Msg → List ℕ
+newest_entry st = get_or st.entries 0 []
+
+-- What node `me` does that had stored this, by the steps of its core. A new node had stored nothing.
+abbrev pub node_behavior_of : {Msg : Type 0} → Setup → Module Msg → ℕ → Stored Msg → NodeBehavior
+node_behavior_of s M me base = record {
+  setup = s;
+  me = me;
+  accepts = λ events event. is_taken (step_of s M me (stored_since s M me base events).core event);
+  sends = λ events event. sends_of (step_of s M me (stored_since s M me base events).core event);
+  castable = λ events. is_castable_now (rules_of s) M me (stored_since s M me base events).core;
+  unfilled = λ events. map (λ l. record { 0 = l })
+      (unfilled (rules_of s) M s.n me (stored_since s M me base events).core.past);
+  shows = λ events. shown_of (stored_since s M me base events);
+  keeps = λ events event. newest_entry (stored_after s M me (stored_since s M me base events) event);
+  epoch = λ events. (stored_since s M me base events).core.past.epoch;
+  prints = λ events. block_of s M me (stored_since s M me base events).core;
+}
+
+-- each of these events, behind those before them, was accepted
+abbrev pub AreAccepted : NodeBehavior → (before events : List NodeEvent) → Type 0
+AreAccepted B before [] = Unit {0}
+AreAccepted B before (event ∷ events) =
+    (B.accepts before event ≡ true) × AreAccepted B (before ++ event ∷ []) events
+
 -- ---- its journal
 
--- the entries of a journal that holds these events
-abbrev pub entries_of : List NodeEvent → List (List ℕ)
-entries_of events = map spell_event events
+-- What a node had stored that reads these entries, which lead to this: the entries themselves; or what a replica stored
+-- of the events that it kept from the start, if a journal shows these entries of it.
+abbrev pub BeginsWith : {Msg : Type 0} → Setup → Module Msg → ℕ → List (List ℕ) → Rebuilt Msg → Stored Msg → Type 0
+BeginsWith s M me entries found base = (base ≡ stored_as entries found)
+    ⊎ ((events : List NodeEvent) × (base ≡ stored_of s M me events) × (entries ≡ shown_of base)
+    × AreNamed s.n events × (base.core.past.epoch < 2 ^ 64))
 
--- the events of a journal, in a cluster of n nodes: entries that are no event are left out
-abbrev pub events_in : ℕ → List (List ℕ) → List NodeEvent
-events_in n entries = filter_map (event_in n) entries
+-- The node does this, and has accepted these events since it was opened. Each of them names existing nodes.
+pub record HasTaken {M Msg D : Type 0} (m : Module Msg) (refines : Relation M Msg) (v : KeptState M Msg D)
+    (B : NodeBehavior) (events : List NodeEvent) : Type 0 where
+  pub base : Stored Msg
+  pub does : B ≡ node_behavior_of v.setup m v.me.0 base
+  pub stored : RefinesStored m refines v (stored_since v.setup m v.me.0 base events)
+  pub accepted : AreAccepted B [] events
+  pub named : AreNamed v.setup.n events
 
 -- ---- a run
 
--- A node ran. Its journal held some events; it holds these and behind them those that the node took, in order, in every
--- crash image. Each of them was accepted. Over links that record their frames all this is what the node's loop comes
--- to. The node prints the log of its journal's events.
+-- What became of a node that had stored this: it took these events, each of which it accepted. Its journal shows what
+-- stays of what it had stored and of them, in every crash image. Over links that record their frames all this is what
+-- the node's loop comes to. The node prints the log that all this led to.
+pub record HasGoneOn {Msg : Type 0} (M : Module Msg) (c : Config) (me : ℕ) (ends ends_now : Option (List End))
+    (now : List File) (printed : List ℕ) (base : Stored Msg) : Type 0 where
+  pub taken : List NodeEvent
+  pub accepted : AreAccepted (node_behavior_of (setup_of c) M me base) [] taken
+  pub named : AreNamed (setup_of c).n taken
+  pub kept : IfTold now (OnlyLeaves (Shows version_1 (shown_of (stored_since (setup_of c) M me base taken))))
+  pub loops : (there : List End) → ends ≡ Some there →
+      HasRun (node_loop_of (node_behavior_of (setup_of c) M me base) 200000 64 c.turns [] there) taken ends_now
+  pub block : printed ≡ block_of (setup_of c) M me (stored_since (setup_of c) M me base taken).core
+  pub low : (stored_since (setup_of c) M me base taken).core.past.epoch < 2 ^ 64
+
+-- A node ran. Its journal held these entries, which lead to a core. It goes on from what it had stored by them: from
+-- what they lead to, and from what a replica stored if they are what stays of it.
 -- rule: Loopback: A node's journal grows by the events that it takes, in their order
 -- rule: Loopback: A node prints its block of a report, which its journal's events give
 pub record IsNodeRun {Msg : Type 0} (M : Module Msg) (c : Config) (me : ℕ) (ends ends_now : Option (List End))
     (before now : List File) (printed : List ℕ) : Type 0 where
-  pub held : List NodeEvent
+  pub held : List (List ℕ)
+  pub found : Rebuilt Msg
+  pub read : IfTold before (λ file. Shows version_1 held file.content)
+  pub leads : core_of (setup_of c) M me held ≡ Some found
+  pub went : (base : Stored Msg) → BeginsWith (setup_of c) M me held found base →
+      HasGoneOn M c me ends ends_now now printed base
+
+-- A disk failed at an event, behind these events, which were all accepted. Every crash image of the journal shows what
+-- stays of them, or of them and this one.
+pub record Leaves (nodes : ℕ) (file : List File) (B : NodeBehavior) (events : List NodeEvent) (event : NodeEvent)
+    : Type 0 where
+  pub accepted : AreAccepted B [] events
+  pub named : AreNamed nodes events
+  pub left : IfTold file (OnlyLeaves (ShowsWithOrWithout version_1 (B.shows events) (B.keeps events event)))
+
+-- What became of a node that had stored this, until its disk failed at an event that it accepts. It took these events,
+-- and perhaps that one is in its journal. Over links that record their frames the node took frames, and sent what these
+-- events made: nothing of the one at which the disk failed.
+pub record WasCutShort {Msg : Type 0} (M : Module Msg) (c : Config) (me : ℕ) (ends ends_now : Option (List End))
+    (now : List File) (base : Stored Msg) : Type 0 where
   pub taken : List NodeEvent
-  pub read : IfTold before (λ file. Shows (entries_of held) file.content)
-  pub kept : IfTold now (OnlyLeaves (Shows (entries_of (held ++ taken))))
-  pub accepted : core_of_entries (setup_of c) M me (entries_of (held ++ taken))
-      ≡ Some (core_after (setup_of c) M me (held ++ taken))
-  pub loops : (there : List End) → ends ≡ Some there →
-      HasRun (node_loop_of (node_behavior_of (setup_of c) M me) 200000 64 c.turns held there) (held ++ taken) ends_now
-  pub block : printed ≡ block_of (setup_of c) M me (core_after (setup_of c) M me (held ++ taken))
+  pub failed : NodeEvent
+  pub fails : (node_behavior_of (setup_of c) M me base).accepts taken failed ≡ true
+  pub kept : Leaves (setup_of c).n now (node_behavior_of (setup_of c) M me base) taken failed
+  pub sent : (there : List End) → ends ≡ Some there →
+      HasSent (node_behavior_of (setup_of c) M me base) (begins [] there) taken ends_now
 
--- A disk failed at an event that the node accepts, with these events before it. They were all accepted. Every crash
--- image of the journal holds them, or them and this one.
-pub record Leaves {Msg : Type 0} (M : Module Msg) (s : Setup) (me : ℕ) (file : List File) (events : List NodeEvent)
-    (event : NodeEvent) : Type 0 where
-  pub accepted : core_of_entries s M me (entries_of events) ≡ Some (core_after s M me events)
-  pub left : IfTold file (OnlyLeaves (ShowsWithOrWithout (entries_of events) (spell_event event)))
-
--- A node ran until its disk failed at an event. Its journal held some events; it holds these and behind them those that
--- the node took, in order, and perhaps the one at which the disk failed. Over links that record their frames the node
--- took frames, and sent what its journal's events made: nothing of the one at which the disk failed.
+-- A node ran until its disk failed at an event. Its journal held these entries, which lead to a core.
 -- rule: Loopback: A node sends only what events in its journal made
 pub record IsCutShort {Msg : Type 0} (M : Module Msg) (c : Config) (me : ℕ) (ends ends_now : Option (List End))
     (before now : List File) : Type 0 where
-  pub held : List NodeEvent
-  pub taken : List NodeEvent
-  pub failed : NodeEvent
-  pub read : IfTold before (λ file. Shows (entries_of held) file.content)
-  pub fails : is_taken (step_of (setup_of c) M me (core_after (setup_of c) M me (held ++ taken)) failed) ≡ true
-  pub kept : Leaves M (setup_of c) me now (held ++ taken) failed
-  pub sent : (there : List End) → ends ≡ Some there →
-      HasSent (node_behavior_of (setup_of c) M me) (begins held there) (held ++ taken) ends_now
+  pub held : List (List ℕ)
+  pub found : Rebuilt Msg
+  pub read : IfTold before (λ file. Shows version_1 held file.content)
+  pub leads : core_of (setup_of c) M me held ≡ Some found
+  pub went : (base : Stored Msg) → BeginsWith (setup_of c) M me held found base →
+      WasCutShort M c me ends ends_now now base
 
 -- A disk failed. Either the node had not read its journal: then it sent nothing, and no crash lost an entry. Or it ran.
 abbrev pub IsStopped : {Msg : Type 0} → Module Msg → Config → ℕ → (ends ends_now : Option (List End)) →
     (before now : List File) → Type 0
 IsStopped M c me ends ends_now before now =
-    ((ends_now ≡ ends) × LosesNothing before now) ⊎ IsCutShort M c me ends ends_now before now
+    ((ends_now ≡ ends) × LosesNothing version_1 before now) ⊎ IsCutShort M c me ends ends_now before now
 
 -- The journal is damaged at this offset: the file itself, or an entry that is no event or that the node would drop.
 -- What it held stays.
@@ -139,22 +184,23 @@ as_step Failed = Err DiskFault
 as_step Stale = Err NoMemory
 as_step NoMemory_kept = Err NoMemory
 
--- The file held these entries, and the node that has read them need not be reopened.
-pub record HasRead (before : List File) (stale : Bool) (entries : List (List ℕ)) : Type 0 where
-  pub fresh : stale ≡ false
-  pub read : IfTold before (λ file. Shows entries file.content)
-
--- The node is at the core of its journal's entries, and every crash image of its file holds them.
-pub record IsOpen {M Msg D : Type 0} (m : Module Msg) (refines : Relation M Msg) (history : D → List File)
+-- The file held these entries, which lead to a core. The node that has read them stands for what it had stored by them.
+pub record HasRead {M Msg D : Type 0} (m : Module Msg) (refines : Relation M Msg) (before : List File)
     (v : KeptState M Msg D) : Type 0 where
-  pub core : (c : Core Msg) × RefinesEntries m refines v c
-  pub durable : IfTold (history v.disk) (OnlyLeaves (Shows v.entries))
+  pub read : IfTold before (λ file. Shows version_1 v.entries file.content)
+  pub found : Rebuilt Msg
+  pub leads : core_of v.setup m v.me.0 v.entries ≡ Some found
+  pub stored : (base : Stored Msg) → BeginsWith v.setup m v.me.0 v.entries found base → RefinesStored m refines v base
 
--- A running node knows its identity and how many nodes there are. Unless it has to be reopened, it is open.
-pub record IsRunning {M Msg D : Type 0} (m : Module Msg) (refines : Relation M Msg) (history : D → List File)
+-- every crash image of its file shows its entries
+abbrev pub IsDurable : {M Msg D : Type 0} → (history : D → List File) → KeptState M Msg D → Type 0
+IsDurable history v = IfTold (history v.disk) (OnlyLeaves (Shows version_1 v.entries))
+
+-- A running node knows its identity and how many nodes there are. Unless it has to be reopened, its journal is durable.
+pub record IsRunning {M Msg D : Type 0} (m : Module Msg) (history : D → List File)
     (nodes : ℕ) (me : NodeId) (v : KeptState M Msg D) : Type 0 where
   pub good : IsSetupOf m v.setup
   pub member : v.me.0 < v.setup.n
   pub count : nodes ≡ v.setup.n
   pub number : me ≡ v.me
-  pub fresh : v.stale ≡ false → IsOpen m refines history v
+  pub durable : v.stale ≡ false → IsDurable history v

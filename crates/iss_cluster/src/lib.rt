@@ -9,4 +9,4 @@ mod running;
 
 pub use clusters::{Traced, cluster};
 pub use errors::NodeFailure;
-pub use nodes::{RunningNode, node, start_node};
+pub use nodes::{RunningNode, node, runs_join, start_node};

@@ -1,20 +1,26 @@
 //! One node of a cluster, which runs over links and keeps its events in a journal.
-ghost use Rattle.std.specs.Prelude.{◌≡◌, ◌≢◌, ◌<◌, ℕ, false, IfOk, IsErrOf, OnOk};
-ghost use Rattle.iss_cluster.specs.Nodes.{HasRead, IsNodeRun, IsOpen, IsRefused, IsStopped, as_step, block_of, core_after, events_in};
+ghost use Rattle.std.specs.Prelude.{◌≡◌, ◌≢◌, ◌<◌, ◌^◌, ◌++◌, ℕ, List, reverse, false, IfOk, IsErrOf, OnOk};
+ghost use Rattle.iss_cluster.specs.Nodes.{HasRead, HasTaken, IsDurable, IsNodeRun, IsRefused, IsStopped, as_step, stored_since};
 ghost use Rattle.iss_config.specs.Configs.{IsInRange, setup_of};
 ghost use Rattle.iss_disk.specs.Calls.{HasCause as HasDiskCause};
+ghost use Rattle.iss_journal.specs.Frames.{version_1};
 ghost use Rattle.iss_journal.specs.Promises.{LosesNothing};
+ghost use Rattle.iss_keep.specs.Cores.{stored_of};
 ghost use Rattle.iss_keep.specs.Steps.{IsSame};
 ghost use Rattle.iss_links.specs.Calls.{HasCause};
+ghost use Rattle.iss_loops.specs.NodeBehavior.{NodeBehavior};
+ghost use Rattle.iss_request.specs.declared.setups.Setup.{Setup};
 ghost use Rattle.iss_rules.specs.Setups.{IsSetupOf};
+ghost use Rattle.iss_rules.specs.declared.events.NodeEvent.{NodeEvent as ModelEvent};
 
 use crate::errors::NodeFailure;
 use iss_config::Config;
 use iss_disk::Disk;
 use iss_journal::AttachError;
-use iss_keep::{Answer, Fresh, Kept};
+use iss_keep::{Answer, Fresh, Kept, a_journal_recovers};
 use iss_links::Links;
 use iss_loops::{JournaledNode, NodeStep, StepError, run_node_loop};
+use iss_node::nodes_stand_for_slims;
 use iss_replay::lines::put_node;
 use iss_request::{Bytes, NoMemory, NodeId, Seq};
 use iss_rules::NodeEvent;
@@ -44,7 +50,7 @@ impl<M: Sequenced, D: Disk> Model for RunningNode<M, D> {
 
     ghost view = { λ v. v.kept };
 
-    ghost invariant = { λ v. IsRunning M.spec M.refines D.history v.nodes v.me v.kept };
+    ghost invariant = { λ v. IsRunning M.spec D.history v.nodes v.me v.kept };
 }
 
 /// Node `me` of the cluster with this configuration, without a journal. The only error is out of memory.
@@ -86,27 +92,29 @@ impl<M: Sequenced, D: Disk> RunningNode<M, D> {
         self.kept.into_disk()
     }
 
-    // Reads the journal, and recovers the node from the events in it.
+    // Reads the journal, and recovers the node from the snapshots and the events in it.
     fn reopen(&mut self) -> Result<(), AttachError>
-        ensures read { OnOk result (HasRead (D.history self.old.disk) self.new.stale self.new.entries) }
-        ensures open { OnOk result (IsOpen M.spec M.refines D.history self.new) }
+        ensures read { OnOk result (HasRead M.spec M.refines (D.history self.old.disk) self.new) }
         ensures refused { (at : ℕ) → IsErrOf result (AttachError.Damaged at) → IsRefused M.spec self.old.setup
             self.old.me.0 (D.history self.old.disk) (D.history self.new.disk) at }
         ensures cause { HasDiskCause (D.faults self.old.disk) (D.faults self.new.disk)
             (IsErrOf result AttachError.Failed) }
         ensures place { D.current self.new.disk ≡ D.current self.old.disk }
-        ensures loses { LosesNothing (D.history self.old.disk) (D.history self.new.disk) }
+        ensures loses { LosesNothing version_1 (D.history self.old.disk) (D.history self.new.disk) }
         ensures same { IsSame self.old self.new }
     {
+        a_journal_recovers::<M>();
+        nodes_stand_for_slims::<M>();
         self.kept.reopen()
     }
 
-    // The node's block of a report. The node is open.
+    // The node's block of a report, which its events give. The node need not be reopened.
     fn block(&self, alloc: Global) -> Result<Bytes, NoMemory>
         requires { self.now.stale ≡ false }
-        ensures block { IfOk result (λ block. block ≡ block_of self.now.setup M.spec self.now.me.0
-            (core_after self.now.setup M.spec self.now.me.0 (events_in self.now.setup.n self.now.entries))) }
-        ensures open { IsOpen M.spec M.refines D.history self.now }
+        ensures block { IfOk result (λ block. (B : NodeBehavior) (events : List ModelEvent) →
+            HasTaken M.spec M.refines self.now B events →
+            (block ≡ B.prints events) × (B.epoch events < 2 ^ 64)) }
+        ensures durable { IsDurable D.history self.now }
     {
         let mut block = Vec::new(alloc);
         put_node(&mut block, self.me, self.kept.epoch(), self.kept.log())?;
@@ -115,19 +123,17 @@ impl<M: Sequenced, D: Disk> RunningNode<M, D> {
 }
 
 impl<M: Sequenced, D: Disk> JournaledNode for RunningNode<M, D> {
-    ghost use Rattle.iss_cluster.specs.Nodes.{Leaves, events_in, node_behavior_of};
+    ghost use Rattle.iss_cluster.specs.Nodes.{HasTaken, Leaves};
 
-    ghost behavior = { λ node. node_behavior_of node.setup M.spec node.me.0 };
+    ghost nodes = { λ node. node.setup.n };
 
-    ghost events = { λ node. events_in node.setup.n node.entries };
-
-    ghost stale = { λ node. node.stale };
+    ghost has = { λ node B events. HasTaken M.spec M.refines node B events };
 
     ghost faults = { λ node. D.faults node.disk };
 
     ghost place = { λ node. D.current node.disk };
 
-    ghost leaves = { λ node events event. Leaves M.spec node.setup node.me.0 (D.history node.disk) events event };
+    ghost leaves = { λ node B events event. Leaves node.setup.n (D.history node.disk) B events event };
 
     fn take(&mut self, event: NodeEvent) -> Result<NodeStep, StepError> {
         as_step(self.kept.take(event))
@@ -164,8 +170,8 @@ fn as_step(answer: Answer) -> Result<NodeStep, StepError>
     }
 }
 
-/// Runs a node over links, as the configuration says (`node_loop_of`), from the events that its journal holds. The
-/// links have the node's end. The answer is the node's block of a report.
+/// Runs a node over links, as the configuration says (`node_loop_of`), from what its journal leads to. The links have
+/// the node's end. The answer is the node's block of a report.
 ///
 /// # Errors
 ///
@@ -197,3 +203,11 @@ pub fn node<M: Sequenced, L: Links, D: Disk>(
     run_node_loop(running, links, FRAMES, PATIENCE, config.turns)?;
     Ok(running.block(alloc)?)
 }
+
+/// A node had stored what these events lead to, and took others behind them. What it has stored then is what all of
+/// them lead to. So a node that is opened again goes on from all that it ever took.
+pub fn runs_join<M: Sequenced>()
+    ensures { (s : Setup) (me : ℕ) (events taken : List ModelEvent) →
+        stored_since s M.spec me (stored_of s M.spec me events) taken
+        ≡ stored_of s M.spec me (reverse taken ++ events) }
+{}

@@ -1,8 +1,10 @@
 -- What each call of a kept node preserves and establishes.
-use Rattle.std.proofs.Common.{arith, append_assoc, inl, inr, ◌≡◌, ◌⊎◌, ℕ, ◌<◌, ◌≤◌, Bool, true, false, List, [], ◌∷◌, ◌++◌, length, Option, Some, refl, sym, ap, ◌∙◌, subst, true≢false}
+use Rattle.std.proofs.Common.{inl, inr, ◌≡◌, ◌⊎◌, ℕ, ◌<◌, Bool, true, false, List, [], ◌∷◌, ◌++◌, length, refl, sym, ap, ◌∙◌, subst, true≢false}
 use Rattle.iss_disk.specs.Calls.{IfTold, Room}
 use Rattle.iss_disk.specs.File.{File}
+use Rattle.iss_journal.specs.Frames.{version_1}
 use Rattle.iss_journal.specs.Promises.{OnlyLeaves, Shows}
+use Rattle.iss_journal.specs.Retained.{retained}
 use Rattle.iss_journal.specs.Sound.{IsSound, disk_of, entries_of, is_attached}
 use Rattle.iss_journal.specs.declared.journal.Journal.{Journal}
 use Rattle.iss_keys.specs.Directories.{AreKeysOf, DirectoryView, directory_of, node_secret}
@@ -10,30 +12,30 @@ use Rattle.iss_keys.specs.KeyStates.{KeyState}
 use Rattle.iss_keys.proofs.DirectoryLemmas.{length-nodes}
 use Rattle.iss_rules.specs.Concrete.{keys_of, rules_of}
 use Rattle.iss_rules.specs.Formats.{formats_of}
+use Rattle.iss_model.specs.Frames.{frame_of}
 use Rattle.iss_model.specs.Node.{Core, Stepped, Taken as Step_taken, Turn, step}
 use Rattle.iss_rules.specs.Setups.{IsSetupOf}
 use Rattle.iss_rules.specs.declared.events.NodeEvent.{NodeEvent}
-use Rattle.iss_rules.specs.declared.events.NodeEvent.TheVariants.{AskFrom as On_ask, Packet as On_packet, Propose as On_propose, Timeout as On_timeout}
 use Rattle.iss_rules.specs.declared.events.Why.{Why}
+use Rattle.iss_node.specs.Saved.{saved_of}
 use Rattle.iss_node.specs.State.{NodeView, RefinesCore}
 use Rattle.iss_node.specs.Steps.{IsAnswer as Node_answers, IsOfNodes}
 use Rattle.iss_node.specs.declared.answers.Answer.TheVariants.{Dropped as Node_dropped, Taken as Node_taken}
 use Rattle.iss_node.specs.declared.answers.Outcome.{Outcome}
+use Rattle.iss_rebuilt.specs.Stored.{Kept, Saved, Stored, kept_of, stored_by}
 use Rattle.iss_request.specs.declared.ids.NodeId.{NodeId}
 use Rattle.iss_request.specs.declared.setups.Setup.{Setup}
 use Rattle.iss_sb.specs.Evidence.{Module}
 use Rattle.iss_sb.specs.Calls.{AreToNodes, Relation}
-use Rattle.iss_keep.specs.Cores.{core_after, core_of, core_with, step_of}
-use Rattle.iss_keep.specs.Entries.{event_in, spell_event}
-use Rattle.iss_keep.specs.State.{AsksNobody, IsKept, KeptRefinesCore, KeptState, LeadsTo, state_over}
-use Rattle.iss_keep.specs.Internal.Keeping.{HasStepped}
+use Rattle.iss_keep.specs.Cores.{step_of, stored_after}
+use Rattle.iss_keep.specs.Entries.{spell_event}
+use Rattle.iss_keep.specs.State.{IsKept, IsStoredSince, KeptRefinesCore, KeptState, RefinesStored, state_over, stored_as}
+use Rattle.iss_keep.specs.Internal.Keeping.{HasStepped, IsKeptAs, kept_at}
 use Rattle.iss_keep.specs.Internal.Replays.{IsOf, IsReplayed}
-use Rattle.iss_keep.specs.Steps.{IsAnswer, IsDrop, IsTurn, ShowsAsBefore, Writes, entries_after, makes_stale}
+use Rattle.iss_keep.specs.Steps.{IsAnswer, IsDrop, IsTurn, ShowsAsBefore, Writes, entries_after, is_appended, makes_stale}
 use Rattle.iss_keep.specs.declared.answers.Answer.{Answer}
 use Rattle.iss_keep.specs.declared.answers.Answer.TheVariants.{Dropped as Kept_dropped, Failed, NoMemory, Stale, Taken as Kept_taken}
-use Rattle.iss_keep.proofs.CoreLemmas.{one-more}
-use Rattle.iss_keep.proofs.EntryLemmas.{spelled-read}
-use Rattle.iss_keep.proofs.TakenLemmas.{taken-named}
+use Rattle.iss_keep.proofs.RetainLemmas.{shows-more, shows-read}
 
 -- The keys of a replica, none of which is used.
 pub own-number : (s : Setup) (i : ℕ) (d : DirectoryView) → d ≡ keys_of s → i < s.n → i < length d.nodes
@@ -46,46 +48,25 @@ own-keys s i d k is made =
     let mine = made s.n s.clients s.keys is in
     (record { own = ap (λ (z : KeyState). z.secret) mine; tall = ap (λ (z : KeyState). z.height) mine }, ap (λ (z : KeyState). z.used) mine)
 
--- ---- who is asked
+-- ---- what is stored after an event
 
-order : (a b : ℕ) → (a < b) ⊎ (b ≤ a)
-order a b = grind arith
+module _ {Msg : Type 0} (s : Setup) (m : Module Msg) (me : ℕ) where
+  -- a further event
+  pub since-more : (st : Stored Msg) (event : NodeEvent) → IsStoredSince s m me st → IsStoredSince s m me (stored_after s m me st event)
+  since-more st event h = record {
+    read = h.read;
+    found = h.found;
+    is_read = h.is_read;
+    events = event ∷ h.events;
+    is = ap (λ (z : Stored Msg). stored_after s m me z event) h.is;
+  }
 
-asked : (n : ℕ) (peer : NodeId) → (peer.0 < n) ⊎ (n ≤ peer.0) → IsOfNodes n (On_ask peer) ⊎ ((p : NodeId) × (On_ask peer ≡ On_ask p) × (n ≤ p.0))
-asked n peer (inl lt) = inl lt
-asked n peer (inr ge) = inr (peer, refl, ge)
+  abbrev after_turn : Stored Msg → Kept → Core Msg → Stored Msg
+  after_turn st k c = record { entries = k.entry ∷ st.entries; saved = k.saved; core = c }
 
-of-nodes : (n : ℕ) (event : NodeEvent) → IsOfNodes n event ⊎ ((p : NodeId) × (event ≡ On_ask p) × (n ≤ p.0))
-of-nodes n (On_packet bytes) = inl tt
-of-nodes n On_propose = inl tt
-of-nodes n (On_timeout leader) = inl tt
-of-nodes n (On_ask peer) = asked n peer (order peer.0 n)
-
-nobody-asked : (n : ℕ) (entries : List (List ℕ)) (event : NodeEvent) (peer : NodeId) → event ≡ On_ask peer → n ≤ peer.0 →
-    AsksNobody n (entries ++ spell_event event ∷ [])
-nobody-asked n entries event peer is none = record {
-  front = entries;
-  peer = peer;
-  behind = [];
-  is = ap (λ (e : NodeEvent). entries ++ spell_event e ∷ []) is;
-  none = none;
-}
-
-still-nobody : (n : ℕ) (entries : List (List ℕ)) (entry : List ℕ) → AsksNobody n entries → AsksNobody n (entries ++ entry ∷ [])
-still-nobody n entries entry h = record {
-  front = h.front;
-  peer = h.peer;
-  behind = h.behind ++ entry ∷ [];
-  is = ap (λ (es : List (List ℕ)). es ++ entry ∷ []) h.is ∙ append_assoc h.front (spell_event (On_ask h.peer) ∷ h.behind) (entry ∷ []);
-  none = h.none;
-}
-
--- What the entries lead to after one more event.
-leads-on : (n : ℕ) (entries : List (List ℕ)) (event : NodeEvent) (before after : Type 0) → before ⊎ AsksNobody n entries → (IsOfNodes n event → before → after) →
-    IsOfNodes n event ⊎ ((p : NodeId) × (event ≡ On_ask p) × (n ≤ p.0)) → after ⊎ AsksNobody n (entries ++ spell_event event ∷ [])
-leads-on n entries event before after (inr nobody) more who = inr (still-nobody n entries (spell_event event) nobody)
-leads-on n entries event before after (inl h) more (inl of) = inl (more of h)
-leads-on n entries event before after (inl h) more (inr who) = inr (nobody-asked n entries event who.0 who.1 who.2)
+  pub turn-stored : (st : Stored Msg) (event : NodeEvent) (turn : Turn Msg) → step_of s m me st.core event ≡ Step_taken turn →
+      stored_after s m me st event ≡ after_turn st (kept_of (frame_of s m) me st.saved (spell_event event) turn) turn.core
+  turn-stored st event turn q = ap (λ (o : Stepped Msg). stored_by (frame_of s m) spell_event me st event o) q
 
 module _ {M Msg D : Type 0} (m : Module Msg) (refines : Relation M Msg) (history : D → List File) (room : D → Room) (directory : DirectoryView) where
   not-both : (b : Bool) (P : Type 0) → b ≡ true → b ≡ false → P
@@ -106,31 +87,38 @@ module _ {M Msg D : Type 0} (m : Module Msg) (refines : Relation M Msg) (history
     kept = inl stale;
   }
 
-  -- The invariant of a node that refines the core of its entries.
-  pub fresh-kept : (journal : Journal D) (v : KeptState M Msg D) (c : Core Msg) → IsSetupOf m v.setup → v.me.0 < v.setup.n → directory ≡ keys_of v.setup →
-      v.node.state.setup ≡ v.setup → v.node.state.me ≡ v.me → IsSound history room journal → is_attached journal ≡ true →
-      IfTold (history v.disk) (OnlyLeaves (Shows v.entries)) → KeptRefinesCore m refines v c → LeadsTo m v c → IsKept m refines history room directory journal v
-  fresh-kept journal v c good member keys cluster number sound attached durable at leads = record {
+  -- The invariant of a node that stands for what was stored.
+  pub fresh-kept : (journal : Journal D) (v : KeptState M Msg D) (st : Stored Msg) → IsSetupOf m v.setup → v.me.0 < v.setup.n → directory ≡ keys_of v.setup →
+      IsSound history room journal → is_attached journal ≡ true →
+      IfTold (history v.disk) (OnlyLeaves (Shows version_1 v.entries)) → RefinesStored m refines v st → IsStoredSince v.setup m v.me.0 st →
+      IsKept m refines history room directory journal v
+  fresh-kept journal v st good member keys sound attached durable stands since = record {
     good = good;
     member = member;
     keys = keys;
-    cluster = cluster;
-    number = number;
+    cluster = stands.cluster;
+    number = stands.number;
     sound = sound;
     attached = λ f. attached;
     durable = λ f. durable;
-    kept = inr (c, at, leads);
+    kept = inr (st, stands, since);
   }
 
-  -- A node that is not stale refines a core.
-  standing : (v : KeptState M Msg D) → (v.stale ≡ true) ⊎ ((c : Core Msg) × KeptRefinesCore m refines v c × LeadsTo m v c) → v.stale ≡ false →
-      (c : Core Msg) × KeptRefinesCore m refines v c × LeadsTo m v c
+  abbrev Stands : KeptState M Msg D → Type 0
+  Stands v = (st : Stored Msg) × RefinesStored m refines v st × IsStoredSince v.setup m v.me.0 st
+
+  -- A node that is not stale stands for what was stored.
+  standing : (v : KeptState M Msg D) → (v.stale ≡ true) ⊎ Stands v → v.stale ≡ false → Stands v
   standing v (inl stale) fresh = not-both v.stale _ stale fresh
   standing v (inr h) fresh = h
 
+  pub its-store : (journal : Journal D) (v : KeptState M Msg D) → IsKept m refines history room directory journal v → v.stale ≡ false → Stands v
+  its-store journal v kept fresh = standing v kept.kept fresh
+
+  -- So it refines a core.
   pub its-core : (journal : Journal D) (v : KeptState M Msg D) → IsKept m refines history room directory journal v → v.stale ≡ false →
-      (c : Core Msg) × KeptRefinesCore m refines v c × LeadsTo m v c
-  its-core journal v kept fresh = standing v kept.kept fresh
+      (c : Core Msg) × RefinesCore m refines v.node c
+  its-core journal v kept fresh = let h = its-store journal v kept fresh in (h.0.core, h.1.node)
 
   -- ---- a step of its node
 
@@ -149,110 +137,151 @@ module _ {M Msg D : Type 0} (m : Module Msg) (refines : Relation M Msg) (history
       own-peer : IsOfNodes old.setup.n event → IsOfNodes old.node.state.setup.n event
       own-peer h = subst (λ (s : Setup). IsOfNodes s.n event) (sym kept.cluster) h
 
-      -- Entries that lead to a core also lead on with the accepted event.
-      led : (c : Core Msg) (turn : Turn Msg) → step_of old.setup m old.me.0 c event ≡ Step_taken turn → IsOfNodes old.setup.n event →
-          core_of old.setup m old.me.0 old.entries ≡ Some c → core_of old.setup m old.me.0 (old.entries ++ spell_event event ∷ []) ≡ Some turn.core
-      led c turn is of before =
-          let named = taken-named old.setup m kept.good old.me.0 c event turn of is in
-          let with_event : core_with old.setup m old.me.0 c (event_in old.setup.n (spell_event event)) ≡ Some turn.core =
-          ap (λ (o : Option NodeEvent). core_with old.setup m old.me.0 c o) (spelled-read old.setup.n event named) ∙ ap core_after is in
-          one-more old.setup m old.me.0 (old.entries) (spell_event event) c turn.core before with_event
-
-      -- With the event in its journal, the node refines the core after the step.
-      pub took-turn : (journal : Journal D) → entries_of journal ≡ old.entries ++ spell_event event ∷ [] → (c : Core Msg) → KeptRefinesCore m refines old c →
-          IsTurn m refines (IsOfNodes old.setup.n event) old c (step_of old.setup m old.me.0 c event) (state_over old.setup old.me node journal false) outcome
-      took-turn journal entries c at =
+      -- The node refines the core after the step.
+      pub took-turn : (journal : Journal D) → (c : Core Msg) → KeptRefinesCore m refines old c →
+          IsTurn m refines (IsOfNodes old.setup.n event) (step_of old.setup m old.me.0 c event) (state_over old.setup old.me node journal false) outcome
+      took-turn journal c at =
           let a = answer c at.node in
           let is : step_of old.setup m old.me.0 c event ≡ Step_taken a.turn = sym (same-step c) ∙ a.step_is in
           record {
             turn = a.turn;
             step_is = is;
             at = record { fresh = refl; node = a.refined; cluster = setup ∙ kept.cluster; number = me ∙ kept.number };
-            refined = λ of for. record {
-              fresh = refl;
-              node = a.refined;
-              cluster = setup ∙ kept.cluster;
-              number = me ∙ kept.number;
-              core = subst (λ (es : List (List ℕ)). core_of old.setup m old.me.0 es ≡ Some a.turn.core) (sym entries) (led c a.turn is of for.core);
-            };
             made = a.made;
             addressed = λ of. subst (λ (s : Setup). AreToNodes s.n outcome.sends) (setup ∙ kept.cluster) (a.addressed (own-peer of));
           }
 
-      took-leads : (journal : Journal D) → entries_of journal ≡ old.entries ++ spell_event event ∷ [] → (c : Core Msg) (turn : Turn Msg) →
-          step_of old.setup m old.me.0 c event ≡ Step_taken turn → LeadsTo m old c → LeadsTo m (state_over old.setup old.me node journal false) turn.core
-      took-leads journal entries c turn is leads =
-          subst (λ (es : List (List ℕ)). (core_of old.setup m old.me.0 es ≡ Some turn.core) ⊎ AsksNobody old.setup.n es) (sym entries)
-          (leads-on old.setup.n old.entries event (core_of old.setup m old.me.0 old.entries ≡ Some c)
-          (core_of old.setup m old.me.0 (old.entries ++ spell_event event ∷ []) ≡ Some turn.core) leads (led c turn is) (of-nodes old.setup.n event))
-
     module _ (why : Why)
         (answer : (c : Core Msg) → RefinesCore m refines old.node c → Node_answers m refines (IsOfNodes old.node.state.setup.n event) c (node_step c) node (Node_dropped why)) where
-      pub dropped-turn : (journal : Journal D) → entries_of journal ≡ old.entries → (c : Core Msg) → KeptRefinesCore m refines old c →
-          IsDrop m refines old c (step_of old.setup m old.me.0 c event) (state_over old.setup old.me node journal false) why
-      dropped-turn journal entries c at =
+      pub dropped-turn : (journal : Journal D) → (c : Core Msg) → KeptRefinesCore m refines old c →
+          IsDrop m refines c (step_of old.setup m old.me.0 c event) (state_over old.setup old.me node journal false) why
+      dropped-turn journal c at =
           let a = answer c at.node in
           record {
             step_is = sym (same-step c) ∙ a.step_is;
             at = record { fresh = refl; node = a.refined; cluster = setup ∙ kept.cluster; number = me ∙ kept.number };
-            refined = λ for. record {
-              fresh = refl;
-              node = a.refined;
-              cluster = setup ∙ kept.cluster;
-              number = me ∙ kept.number;
-              core = subst (λ (es : List (List ℕ)). core_of old.setup m old.me.0 es ≡ Some c) (sym entries) for.core;
-            };
           }
+
+    -- ---- what the event is stored as
+
+    module _ (st : Stored Msg) (for : RefinesStored m refines old st) where
+      abbrev Here : Turn Msg → Kept
+      Here turn = kept_of (frame_of old.setup m) old.me.0 st.saved (spell_event event) turn
+
+      -- The node keeps as the model stores.
+      kept-here : (turn : Turn Msg) → kept_at m old.node event turn ≡ Here turn
+      kept-here turn =
+          ap (λ (s : Setup). kept_of (frame_of s m) old.node.state.me.0 (saved_of old.node.state.saved) (spell_event event) turn) for.cluster
+          ∙ (ap (λ (i : NodeId). kept_of (frame_of old.setup m) i.0 (saved_of old.node.state.saved) (spell_event event) turn) for.number
+          ∙ ap (λ (z : Saved). kept_of (frame_of old.setup m) old.me.0 z (spell_event event) turn) for.saved)
+
+      stored-entry : (turn : Turn Msg) (entry : List ℕ) → node_step st.core ≡ Step_taken turn → IsKeptAs m refines event old.node entry →
+          (stored_after old.setup m old.me.0 st event).entries ≡ entry ∷ st.entries
+      stored-entry turn entry q right =
+          ap (λ (z : Stored Msg). z.entries) (turn-stored old.setup m old.me.0 st event turn (sym (same-step st.core) ∙ q))
+          ∙ ap (λ (k : Kept). k.entry ∷ st.entries) (sym (kept-here turn))
+          ∙ ap (λ (bytes : List ℕ). bytes ∷ st.entries) (sym (right st.core turn for.node q))
+
+      -- What was written is what the event is stored as.
+      pub right-entry : (entry : List ℕ) (answer : Answer) → HasStepped m refines event old.node node entry answer → is_appended answer ≡ true →
+          (stored_after old.setup m old.me.0 st event).entries ≡ entry ∷ st.entries
+      right-entry entry (Kept_taken outcome) h on = let a = h.0 st.core for.node in stored-entry a.turn entry a.step_is h.1
+      right-entry entry (Kept_dropped why) h on = absurd (true≢false (sym on))
+      right-entry entry Failed h on = let t = h.1 st.core for.node in stored-entry t.0 entry t.1 h.2
+      right-entry entry Stale h on = absurd (true≢false (sym on))
+      right-entry entry NoMemory h on = absurd (true≢false (sym on))
+
+      -- After an accepted event the node stands for what is stored with it.
+      took-stored : (journal : Journal D) (entry : List ℕ) (outcome : Outcome) → HasStepped m refines event old.node node entry (Kept_taken outcome) →
+          entries_of journal ≡ retained (old.entries ++ entry ∷ []) →
+          RefinesStored m refines (state_over old.setup old.me node journal false) (stored_after old.setup m old.me.0 st event)
+      took-stored journal entry outcome h added =
+          let a = h.0 st.core for.node in
+          let is = turn-stored old.setup m old.me.0 st event a.turn (sym (same-step st.core) ∙ a.step_is) in
+          let more = stored-entry a.turn entry a.step_is h.1 in
+          record {
+            fresh = refl;
+            node = subst (λ (c : Core Msg). RefinesCore m refines node c) (sym (ap (λ (z : Stored Msg). z.core) is)) a.refined;
+            cluster = setup ∙ kept.cluster;
+            number = me ∙ kept.number;
+            entries = added ∙ shows-more st (stored_after old.setup m old.me.0 st event) old.entries entry for.entries more;
+            saved = h.2 st.core a.turn for.node a.step_is ∙ ap (λ (k : Kept). k.saved) (kept-here a.turn) ∙ sym (ap (λ (z : Stored Msg). z.saved) is);
+          }
+
+      -- A dropped event changes nothing.
+      dropped-stored : (journal : Journal D) (entry : List ℕ) (why : Why) → HasStepped m refines event old.node node entry (Kept_dropped why) →
+          entries_of journal ≡ old.entries →
+          RefinesStored m refines (state_over old.setup old.me node journal false) (stored_after old.setup m old.me.0 st event)
+      dropped-stored journal entry why h added =
+          let a = h.0 st.core for.node in
+          let is : stored_after old.setup m old.me.0 st event ≡ st =
+          ap (λ (o : Stepped Msg). stored_by (frame_of old.setup m) spell_event old.me.0 st event o) (sym (same-step st.core) ∙ a.step_is) in
+          subst (λ (z : Stored Msg). RefinesStored m refines (state_over old.setup old.me node journal false) z) (sym is) (record {
+            fresh = refl;
+            node = a.refined;
+            cluster = setup ∙ kept.cluster;
+            number = me ∙ kept.number;
+            entries = added ∙ for.entries;
+            saved = h.1 ∙ for.saved;
+          })
+
+      pub stores : (journal : Journal D) (entry : List ℕ) (answer : Answer) → HasStepped m refines event old.node node entry answer →
+          entries_of journal ≡ entries_after old.entries entry answer → makes_stale answer ≡ false →
+          RefinesStored m refines (state_over old.setup old.me node journal false) (stored_after old.setup m old.me.0 st event)
+      stores journal entry (Kept_taken outcome) h added on = took-stored journal entry outcome h added
+      stores journal entry (Kept_dropped why) h added on = dropped-stored journal entry why h added
+      stores journal entry Failed h added on = absurd (true≢false on)
+      stores journal entry Stale h added on = absurd (true≢false on)
+      stores journal entry NoMemory h added on = absurd (true≢false on)
 
     -- ---- the effect of the whole call on a node that was not stale
 
-    module _ (fresh : old.stale ≡ false) (journal : Journal D) where
+    module _ (fresh : old.stale ≡ false) (journal : Journal D) (entry : List ℕ) where
       abbrev left : Answer → KeptState M Msg D
       left answer = state_over old.setup old.me node journal (makes_stale answer)
 
-      pub answers : (answer : Answer) → HasStepped m refines event old.node node answer → entries_of journal ≡ entries_after old.entries (spell_event event) answer →
+      pub answers : (answer : Answer) → HasStepped m refines event old.node node entry answer →
           (c : Core Msg) → KeptRefinesCore m refines old c →
-          IsAnswer m refines (IsOfNodes old.setup.n event) old c (step_of old.setup m old.me.0 c event) (left answer) answer
-      answers (Kept_taken outcome) stepped added c at = took-turn outcome stepped journal added c at
-      answers (Kept_dropped why) stepped added c at = dropped-turn why stepped journal added c at
-      answers Failed stepped added c at = let t = stepped.1 c at.node in (t.0, sym (same-step c) ∙ t.1)
-      answers Stale stepped added c at = stepped
-      answers NoMemory stepped added c at = tt
+          IsAnswer m refines (IsOfNodes old.setup.n event) c (step_of old.setup m old.me.0 c event) (left answer) answer
+      answers (Kept_taken outcome) stepped c at = took-turn outcome stepped.0 journal c at
+      answers (Kept_dropped why) stepped c at = dropped-turn why stepped.0 journal c at
+      answers Failed stepped c at = let t = stepped.1 c at.node in (t.0, sym (same-step c) ∙ t.1)
+      answers Stale stepped c at = stepped
+      answers NoMemory stepped c at = tt
 
-      fresh-after : (c : Core Msg) → IsSound history room journal → is_attached journal ≡ true →
-          IfTold (history (disk_of journal)) (OnlyLeaves (Shows (entries_of journal))) → KeptRefinesCore m refines (state_over old.setup old.me node journal false) c →
-          LeadsTo m (state_over old.setup old.me node journal false) c → IsKept m refines history room directory journal (state_over old.setup old.me node journal false)
-      fresh-after c sound attached durable at leads =
-          fresh-kept journal (state_over old.setup old.me node journal false) c kept.good kept.member kept.keys (setup ∙ kept.cluster) (me ∙ kept.number) sound attached durable at leads
+      fresh-after : IsSound history room journal → is_attached journal ≡ true →
+          IfTold (history (disk_of journal)) (OnlyLeaves (Shows version_1 (entries_of journal))) →
+          ((st : Stored Msg) → RefinesStored m refines old st → RefinesStored m refines (state_over old.setup old.me node journal false) (stored_after old.setup m old.me.0 st event)) →
+          IsKept m refines history room directory journal (state_over old.setup old.me node journal false)
+      fresh-after sound attached durable on =
+          let h = its-store before old kept fresh in
+          fresh-kept journal (state_over old.setup old.me node journal false) (stored_after old.setup m old.me.0 h.0 event) kept.good kept.member kept.keys sound attached durable
+          (on h.0 h.1) (since-more old.setup m old.me.0 h.0 event h.2)
 
       stale-after : IsSound history room journal → IsKept m refines history room directory journal (state_over old.setup old.me node journal true)
       stale-after sound =
           stale-kept journal (state_over old.setup old.me node journal true) kept.good kept.member kept.keys (setup ∙ kept.cluster) (me ∙ kept.number) sound refl
 
-      durable-with : (es : List (List ℕ)) → entries_of journal ≡ es → IfTold (history (disk_of journal)) (OnlyLeaves (Shows es)) →
-          IfTold (history (disk_of journal)) (OnlyLeaves (Shows (entries_of journal)))
+      durable-with : (es : List (List ℕ)) → entries_of journal ≡ es → IfTold (history (disk_of journal)) (OnlyLeaves (Shows version_1 es)) →
+          IfTold (history (disk_of journal)) (OnlyLeaves (Shows version_1 (entries_of journal)))
       durable-with es added told =
-          subst (λ (xs : List (List ℕ)). IfTold (history (disk_of journal)) (OnlyLeaves (Shows xs))) (sym added) told
+          subst (λ (xs : List (List ℕ)). IfTold (history (disk_of journal)) (OnlyLeaves (Shows version_1 xs))) (sym added) told
 
-      pub kept-after : (answer : Answer) → HasStepped m refines event old.node node answer → entries_of journal ≡ entries_after old.entries (spell_event event) answer →
-          Writes old.entries (spell_event event) (history old.disk) (history (disk_of journal)) answer → IsSound history room journal →
+      pub kept-after : (answer : Answer) → HasStepped m refines event old.node node entry answer → entries_of journal ≡ entries_after old.entries entry answer →
+          Writes old.entries entry (history old.disk) (history (disk_of journal)) answer → IsSound history room journal →
           (makes_stale answer ≡ false → is_attached journal ≡ true) → IsKept m refines history room directory journal (left answer)
       kept-after (Kept_taken outcome) stepped added wrote sound attached =
-          let h = its-core before old kept fresh in
-          let t = took-turn outcome stepped journal added h.0 h.1 in
-          fresh-after t.turn.core sound (attached refl) (durable-with (old.entries ++ spell_event event ∷ []) added wrote.1) t.at
-          (took-leads outcome stepped journal added h.0 t.turn t.step_is h.2)
+          fresh-after sound (attached refl) (durable-with (retained (old.entries ++ entry ∷ [])) added wrote.1)
+          (λ st for. took-stored st for journal entry outcome stepped added)
       kept-after (Kept_dropped why) stepped added wrote sound attached =
-          let h = its-core before old kept fresh in
-          let told : IfTold (history (disk_of journal)) (OnlyLeaves (Shows old.entries)) =
-          subst (λ (f : List File). IfTold f (OnlyLeaves (Shows old.entries))) (sym wrote) (kept.durable fresh) in
-          fresh-after h.0 sound (attached refl) (durable-with old.entries added told) (dropped-turn why stepped journal added h.0 h.1).at
-          (subst (λ (es : List (List ℕ)). (core_of old.setup m old.me.0 es ≡ Some h.0) ⊎ AsksNobody old.setup.n es) (sym added) h.2)
+          let told : IfTold (history (disk_of journal)) (OnlyLeaves (Shows version_1 old.entries)) =
+          subst (λ (f : List File). IfTold f (OnlyLeaves (Shows version_1 old.entries))) (sym wrote) (kept.durable fresh) in
+          fresh-after sound (attached refl) (durable-with old.entries added told) (λ st for. dropped-stored st for journal entry why stepped added)
       kept-after Failed stepped added wrote sound attached = stale-after sound
       kept-after Stale stepped added wrote sound attached = stale-after sound
       kept-after NoMemory stepped added wrote sound attached = stale-after sound
 
-      shows-after : (answer : Answer) → HasStepped m refines event old.node node answer → makes_stale answer ≡ true → (later : Bool) →
+      shows-after : (answer : Answer) → HasStepped m refines event old.node node entry answer → makes_stale answer ≡ true → (later : Bool) →
           ShowsAsBefore old (state_over old.setup old.me node journal later)
       shows-after (Kept_taken outcome) stepped stale later = absurd (true≢false (sym stale))
       shows-after (Kept_dropped why) stepped stale later = absurd (true≢false (sym stale))
@@ -261,19 +290,25 @@ module _ {M Msg D : Type 0} (m : Module Msg) (refines : Relation M Msg) (history
       shows-after NoMemory stepped stale later = record { log = stepped.log; epoch = stepped.epoch }
 
       -- The same, with the new value of `stale`.
-      module _ (later : Bool) (answer : Answer) (is : later ≡ makes_stale answer) (stepped : HasStepped m refines event old.node node answer) where
-        pub take-answers : entries_of journal ≡ entries_after old.entries (spell_event event) answer → (c : Core Msg) → KeptRefinesCore m refines old c →
-            IsAnswer m refines (IsOfNodes old.setup.n event) old c (step_of old.setup m old.me.0 c event) (state_over old.setup old.me node journal later) answer
-        take-answers added c at =
-            subst (λ (b : Bool). IsAnswer m refines (IsOfNodes old.setup.n event) old c (step_of old.setup m old.me.0 c event) (state_over old.setup old.me node journal b) answer) (sym is)
-            (answers answer stepped added c at)
+      module _ (later : Bool) (answer : Answer) (is : later ≡ makes_stale answer) (stepped : HasStepped m refines event old.node node entry answer) where
+        pub take-answers : (c : Core Msg) → KeptRefinesCore m refines old c →
+            IsAnswer m refines (IsOfNodes old.setup.n event) c (step_of old.setup m old.me.0 c event) (state_over old.setup old.me node journal later) answer
+        take-answers c at =
+            subst (λ (b : Bool). IsAnswer m refines (IsOfNodes old.setup.n event) c (step_of old.setup m old.me.0 c event) (state_over old.setup old.me node journal b) answer) (sym is)
+            (answers answer stepped c at)
+
+        pub take-stores : entries_of journal ≡ entries_after old.entries entry answer → (st : Stored Msg) → RefinesStored m refines old st → later ≡ false →
+            RefinesStored m refines (state_over old.setup old.me node journal later) (stored_after old.setup m old.me.0 st event)
+        take-stores added st for on =
+            subst (λ (b : Bool). RefinesStored m refines (state_over old.setup old.me node journal b) (stored_after old.setup m old.me.0 st event)) (sym on)
+            (stores st for journal entry answer stepped added (sym is ∙ on))
 
         -- A node that becomes stale still reports the log and epoch that it had.
         pub take-shows : later ≡ true → ShowsAsBefore old (state_over old.setup old.me node journal later)
         take-shows stale = shows-after answer stepped (sym is ∙ stale) later
 
-        pub take-kept : entries_of journal ≡ entries_after old.entries (spell_event event) answer →
-            Writes old.entries (spell_event event) (history old.disk) (history (disk_of journal)) answer → IsSound history room journal →
+        pub take-kept : entries_of journal ≡ entries_after old.entries entry answer →
+            Writes old.entries entry (history old.disk) (history (disk_of journal)) answer → IsSound history room journal →
             (makes_stale answer ≡ false → is_attached journal ≡ true) → IsKept m refines history room directory journal (state_over old.setup old.me node journal later)
         take-kept added wrote sound attached =
             subst (λ (b : Bool). IsKept m refines history room directory journal (state_over old.setup old.me node journal b)) (sym is)
@@ -281,11 +316,16 @@ module _ {M Msg D : Type 0} (m : Module Msg) (refines : Relation M Msg) (history
 
   -- ---- reopening
 
-  module _ (journal : Journal D) (s : Setup) (i : NodeId) (node : NodeView M Msg) (good : IsSetupOf m s) (member : i.0 < s.n) (keys : directory ≡ keys_of s)
-      (sound : IsSound history room journal) where
-    pub reopened-kept : IsReplayed s m refines i.0 (entries_of journal) node → IsOf s i node → is_attached journal ≡ true →
-        IfTold (history (disk_of journal)) (OnlyLeaves (Shows (entries_of journal))) →
+  module _ (journal : Journal D) (s : Setup) (i : NodeId) (node : NodeView M Msg) (stay : retained (entries_of journal) ≡ entries_of journal)
+      (h : IsReplayed s m refines i.0 (entries_of journal) node) (own : IsOf s i node) where
+    -- The node stands for the entries that it has read.
+    pub reopened-stored : RefinesStored m refines (state_over s i node journal false) (stored_as (entries_of journal) h.0)
+    reopened-stored =
+        record { fresh = refl; node = h.1.0; cluster = own.cluster; number = own.number; entries = shows-read (entries_of journal) stay; saved = h.1.1 }
+
+    pub reopened-kept : IsSetupOf m s → i.0 < s.n → directory ≡ keys_of s → IsSound history room journal → is_attached journal ≡ true →
+        IfTold (history (disk_of journal)) (OnlyLeaves (Shows version_1 (entries_of journal))) →
         IsKept m refines history room directory journal (state_over s i node journal false)
-    reopened-kept h own attached durable =
-        fresh-kept journal (state_over s i node journal false) h.0 good member keys own.cluster own.number sound attached durable
-        (record { fresh = refl; node = h.1; cluster = own.cluster; number = own.number }) (inl h.2)
+    reopened-kept good member keys sound attached durable =
+        fresh-kept journal (state_over s i node journal false) (stored_as (entries_of journal) h.0) good member keys sound attached durable reopened-stored
+        (record { read = entries_of journal; found = h.0; is_read = h.2; events = []; is = refl })

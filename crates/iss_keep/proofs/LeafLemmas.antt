@@ -1,23 +1,19 @@
--- Every entry uses its own leaves, and appending entries does not change what earlier entries produced.
-use Rattle.std.proofs.Common.{arith, ◌≡◌, ◌⊎◌, inl, inr, ℕ, suc, ◌≤◌, List, [], ◌∷◌, ◌++◌, Option, Some, None, refl, ap, ◌∙◌, subst, sym}
-use Rattle.iss_journal.proofs.Showing.{shown_once}
-use Rattle.iss_journal.specs.Promises.{Shows, ShowsWithOrWithout}
-use Rattle.iss_journal.specs.Retained.{retained}
+-- Every event uses its own leaves, and later events do not change what earlier ones produced.
+use Rattle.std.proofs.Common.{arith, ◌≡◌, ℕ, suc, ◌≤◌, List, [], ◌∷◌, ◌++◌, reverse, refl, sym, ap, ◌∙◌}
+use Rattle.std.proofs.lemmas.List.{reverse-append}
 use Rattle.iss_model.proofs.Rows.{each-holds, settles-holds}
 use Rattle.iss_model.proofs.Steps.{Took, adopted, asked, cast, fired, handed, kept, received, sought, took, voted}
 use Rattle.iss_rules.specs.Concrete.{rules_of}
 use Rattle.iss_rules.specs.Formats.{formats_of}
+use Rattle.iss_model.specs.Courses.{after_step, core_of as core_after}
 use Rattle.iss_model.specs.Node.{Core, Dropped, Early, Stepped, Taken, Turn, adopts_piece, advance_epochs, initial_core, step, takes_each, then_turn}
 use Rattle.iss_rules.specs.Parcels.{Formats}
 use Rattle.iss_rules.specs.Rules.{Rules}
 use Rattle.iss_rules.specs.declared.events.NodeEvent.{NodeEvent}
 use Rattle.iss_request.specs.declared.setups.Setup.{Setup}
 use Rattle.iss_sb.specs.Evidence.{Module}
-use Rattle.iss_keep.specs.Cores.{core_after, core_from, core_of, core_with, from_core, step_of}
-use Rattle.iss_keep.specs.Entries.{event_in}
-use Rattle.iss_keep.specs.Internal.Makings.{AreApart, Making, made_on, makings_from, makings_of, turn_in, turn_with}
-use Rattle.iss_keep.proofs.CoreLemmas.{one-more}
-use Rattle.iss_keep.proofs.RetainLemmas.{events-stay}
+use Rattle.iss_keep.specs.Cores.{step_of}
+use Rattle.iss_keep.specs.Internal.Makings.{AreApart, Making, made_on, makings_from, makings_of}
 
 -- ---- a step never reuses a leaf
 
@@ -44,72 +40,61 @@ module _ {Msg : Type 0} (F : Formats Msg) (R : Rules) (m : Module Msg) (me : ℕ
   pub taken-more : (c : Core Msg) (event : NodeEvent) (t : Turn Msg) → step F R m me c event ≡ Taken t → c.leaf ≤ t.core.leaf
   taken-more c event t h = took-more c event t (took F R m me c event t h)
 
--- ---- a list of entries
+-- ---- a list of events
 
 module _ {Msg : Type 0} (s : Setup) (m : Module Msg) (me : ℕ) where
-  -- The turn of a core's step, if the step was accepted.
+  -- the turn of a core's step, if the step was accepted
   stepped-more : (c : Core Msg) (event : NodeEvent) (o : Stepped Msg) → step_of s m me c event ≡ o → (more : Core Msg → List (Making Msg)) →
-      ((d : Core Msg) → AreApart d.leaf (more d)) → AreApart c.leaf (made_on c (turn_in o) more)
-  stepped-more c event (Dropped why) q more rest = tt
+      ((d : Core Msg) → AreApart d.leaf (more d)) → AreApart c.leaf (made_on c o more)
+  stepped-more c event (Dropped why) q more rest = rest c
   stepped-more c event (Taken t) q more rest = (omega arith, taken-more (formats_of s m) (rules_of s) m me c event t q, rest t.core)
 
-  turned-more : (c : Core Msg) (o : Option NodeEvent) (more : Core Msg → List (Making Msg)) → ((d : Core Msg) → AreApart d.leaf (more d)) →
-      AreApart c.leaf (made_on c (turn_with s m me c o) more)
-  turned-more c None more rest = tt
-  turned-more c (Some event) more rest = stepped-more c event (step_of s m me c event) refl more rest
-
-  apart-from : (entries : List (List ℕ)) (c : Core Msg) → AreApart c.leaf (makings_from s m me entries c)
+  apart-from : (events : List NodeEvent) (c : Core Msg) → AreApart c.leaf (makings_from s m me events c)
   apart-from [] c = tt
-  apart-from (entry ∷ entries) c = turned-more c (event_in s.n entry) (makings_from s m me entries) (λ d. apart-from entries d)
+  apart-from (x ∷ xs) c = stepped-more c x (step_of s m me c x) refl (makings_from s m me xs) (λ d. apart-from xs d)
 
-  pub makings-apart : (entries : List (List ℕ)) → AreApart 0 (makings_of s m me entries)
-  makings-apart entries = apart-from entries initial_core
+  pub makings-apart : (events : List NodeEvent) → AreApart 0 (makings_of s m me events)
+  makings-apart events = apart-from events initial_core
 
-  -- ---- entries appended later
+  -- ---- later events
 
-  pub nowhere : (d : Core Msg) (P : Type 0) → None ≡ Some d → P
-  nowhere d P h = absurd (cc)
+  -- the core after events, oldest first, and newest first
+  abbrev after : List NodeEvent → Core Msg → Core Msg
+  after [] c = c
+  after (x ∷ xs) c = after xs (after_step c (step_of s m me c x))
 
-  pub same-core : (c d : Core Msg) → Some c ≡ Some d → c ≡ d
-  same-core c d h = cc
+  abbrev behind : Core Msg → List NodeEvent → Core Msg
+  behind c [] = c
+  behind c (x ∷ xs) = let d = behind c xs in after_step d (step_of s m me d x)
 
-  stepped-on : (c d : Core Msg) (o : Stepped Msg) (front more : List (List ℕ)) → from_core (core_after o) (core_from s m me front) ≡ Some d →
-      ((b : Core Msg) → core_from s m me front b ≡ Some d → makings_from s m me (front ++ more) b ≡ makings_from s m me front b ++ makings_from s m me more d) →
-      made_on c (turn_in o) (makings_from s m me (front ++ more)) ≡ made_on c (turn_in o) (makings_from s m me front) ++ makings_from s m me more d
-  stepped-on c d (Dropped why) front more h rest = nowhere d _ h
-  stepped-on c d (Taken t) front more h rest = ap (λ (xs : List (Making Msg)). record { first = c.leaf; turn = t } ∷ xs) (rest t.core h)
+  behind-last : (c : Core Msg) (xs : List NodeEvent) (x : NodeEvent) → behind c (xs ++ x ∷ []) ≡ behind (after_step c (step_of s m me c x)) xs
+  behind-last c [] x = refl
+  behind-last c (y ∷ ys) x = ap (λ (d : Core Msg). after_step d (step_of s m me d y)) (behind-last c ys x)
 
-  turned-on : (c d : Core Msg) (o : Option NodeEvent) (front more : List (List ℕ)) → from_core (core_with s m me c o) (core_from s m me front) ≡ Some d →
-      ((b : Core Msg) → core_from s m me front b ≡ Some d → makings_from s m me (front ++ more) b ≡ makings_from s m me front b ++ makings_from s m me more d) →
-      made_on c (turn_with s m me c o) (makings_from s m me (front ++ more)) ≡ made_on c (turn_with s m me c o) (makings_from s m me front) ++ makings_from s m me more d
-  turned-on c d None front more h rest = nowhere d _ h
-  turned-on c d (Some event) front more h rest = stepped-on c d (step_of s m me c event) front more h rest
+  behind-core : (xs : List NodeEvent) → behind initial_core xs ≡ core_after (formats_of s m) (rules_of s) m me xs
+  behind-core [] = refl
+  behind-core (x ∷ xs) = ap (λ (d : Core Msg). after_step d (step_of s m me d x)) (behind-core xs)
 
-  go-on : (front more : List (List ℕ)) (c d : Core Msg) → core_from s m me front c ≡ Some d →
-      makings_from s m me (front ++ more) c ≡ makings_from s m me front c ++ makings_from s m me more d
-  go-on [] more c d h = ap (λ (b : Core Msg). makings_from s m me more b) (same-core c d h)
-  go-on (entry ∷ front) more c d h = turned-on c d (event_in s.n entry) front more h (λ b k. go-on front more b d k)
+  turned : (xs : List NodeEvent) (c : Core Msg) → after xs c ≡ behind c (reverse xs)
+  turned [] c = refl
+  turned (x ∷ xs) c =
+      turned xs (after_step c (step_of s m me c x))
+      ∙ sym (ap (λ (ys : List NodeEvent). behind c ys) (reverse-append (x ∷ []) xs) ∙ behind-last c (reverse xs) x)
 
-  pub makings-go-on : (front more : List (List ℕ)) (c : Core Msg) → core_of s m me front ≡ Some c →
-      makings_of s m me (front ++ more) ≡ makings_of s m me front ++ makings_from s m me more c
-  makings-go-on front more c h = go-on front more initial_core c h
+  stepped-on : (c : Core Msg) (o : Stepped Msg) (front more : List NodeEvent) →
+      ((b : Core Msg) → makings_from s m me (front ++ more) b ≡ makings_from s m me front b ++ makings_from s m me more (after front b)) →
+      made_on c o (makings_from s m me (front ++ more)) ≡ made_on c o (makings_from s m me front) ++ makings_from s m me more (after front (after_step c o))
+  stepped-on c (Dropped why) front more rest = rest c
+  stepped-on c (Taken t) front more rest = ap (λ (xs : List (Making Msg)). record { first = c.leaf; turn = t } ∷ xs) (rest t.core)
 
-  -- ---- a crash
+  go-on : (front more : List NodeEvent) (c : Core Msg) →
+      makings_from s m me (front ++ more) c ≡ makings_from s m me front c ++ makings_from s m me more (after front c)
+  go-on [] more c = refl
+  go-on (x ∷ front) more c = stepped-on c (step_of s m me c x) front more (λ b. go-on front more b)
 
-  module _ (c : Core Msg) (event : NodeEvent) (t : Turn Msg)
-      (entries : List (List ℕ)) (entry : List ℕ) (before : core_of s m me entries ≡ Some c) (read : event_in s.n entry ≡ Some event)
-      (taken : step_of s m me c event ≡ Taken t) where
-    with-entry : core_of s m me (entries ++ entry ∷ []) ≡ Some t.core
-    with-entry = one-more s m me entries entry c t.core before (ap (λ (o : Option NodeEvent). core_with s m me c o) read ∙ ap core_after taken)
-
-    -- The entries are events, so none of them is dropped.
-    grown : retained (entries ++ entry ∷ []) ≡ entries ++ entry ∷ []
-    grown = events-stay s m me (entries ++ entry ∷ []) t.core with-entry
-
-    pub before-or-after : (bytes : List ℕ) (found : List (List ℕ)) → ShowsWithOrWithout entries entry bytes → Shows found bytes →
-        (core_of s m me found ≡ Some c) ⊎ (core_of s m me found ≡ Some t.core)
-    before-or-after bytes found (inl h) reads =
-        inl (subst (λ (es : List (List ℕ)). core_of s m me es ≡ Some c) (shown_once entries found bytes h reads) before)
-    before-or-after bytes found (inr h) reads =
-        inr (subst (λ (es : List (List ℕ)). core_of s m me es ≡ Some t.core)
-        (sym grown ∙ shown_once (retained (entries ++ entry ∷ [])) found bytes h reads) with-entry)
+  pub makings-go-on : (front more : List NodeEvent) →
+      makings_of s m me (front ++ more) ≡ makings_of s m me front
+      ++ makings_from s m me more (core_after (formats_of s m) (rules_of s) m me (reverse front))
+  makings-go-on front more =
+      go-on front more initial_core
+      ∙ ap (λ (d : Core Msg). makings_of s m me front ++ makings_from s m me more d) (turned front initial_core ∙ behind-core (reverse front))

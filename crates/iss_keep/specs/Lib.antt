@@ -1,6 +1,6 @@
 pub mod Cores
-pub mod Deeds
 pub mod Entries
 pub mod Internal
+pub mod Recovery
 pub mod State
 pub mod Steps

@@ -1,24 +1,29 @@
--- What is seen of a kept node: a node, the disk and entries of its journal, and whether it is stale. It refines a core
--- if it is not stale, its node refines that core, next leaf included, and the entries lead to it. In any case it is
--- stale, or every crash leaves these entries, and they lead to the core that its node refines, if each ask in them
--- names a node.
-use Rattle.std.specs.Prelude.{◌≡◌, ◌⊎◌, ℕ, ◌<◌, ◌≤◌, Bool, true, false, List, ◌∷◌, ◌++◌, Some}
+-- What is seen of a kept node: a node, the disk and entries of its journal, and whether it is stale. It stands for what
+-- was stored if it is not stale, its node refines the core that stored it, next leaf included, and the journal shows of
+-- it what stays. In any case it is stale, or every crash leaves these entries: those that it read, and behind them what
+-- later events stored.
+use Rattle.std.specs.Prelude.{◌≡◌, ◌⊎◌, ℕ, ◌<◌, Bool, true, false, List, reverse, Some}
 use Rattle.iss_disk.specs.Calls.{IfTold, Room}
 use Rattle.iss_disk.specs.File.{File}
+use Rattle.iss_journal.specs.Frames.{version_1}
 use Rattle.iss_journal.specs.Promises.{OnlyLeaves, Shows}
 use Rattle.iss_journal.specs.Sound.{IsSound, disk_of, entries_of, is_attached}
 use Rattle.iss_journal.specs.declared.journal.Journal.{Journal}
 use Rattle.iss_keys.specs.Directories.{DirectoryView}
 use Rattle.iss_rules.specs.Concrete.{keys_of}
+use Rattle.iss_model.specs.Frames.{frame_of}
 use Rattle.iss_model.specs.Node.{Core, initial_core}
 use Rattle.iss_rules.specs.Setups.{IsSetupOf}
-use Rattle.iss_rules.specs.declared.events.NodeEvent.TheVariants.{AskFrom as On_ask}
+use Rattle.iss_rules.specs.declared.events.NodeEvent.{NodeEvent}
+use Rattle.iss_node.specs.Saved.{saved_of}
 use Rattle.iss_node.specs.State.{NodeView, RefinesCore}
+use Rattle.iss_rebuilt.specs.Reading.{Rebuilt}
+use Rattle.iss_rebuilt.specs.Stored.{Stored, stored_on}
 use Rattle.iss_request.specs.declared.ids.NodeId.{NodeId}
 use Rattle.iss_request.specs.declared.setups.Setup.{Setup}
 use Rattle.iss_sb.specs.Calls.{Relation}
 use Rattle.iss_sb.specs.Evidence.{Module}
-use Rattle.iss_keep.specs.Cores.{core_of}
+use Rattle.iss_keep.specs.Cores.{core_of, shown_of}
 use Rattle.iss_keep.specs.Entries.{spell_event}
 
 pub record KeptState (M Msg D : Type 0) : Type 0 where
@@ -59,29 +64,31 @@ pub record KeptRefinesCore {M Msg D : Type 0} (m : Module Msg) (refines : Relati
   pub cluster : v.node.state.setup ≡ v.setup
   pub number : v.node.state.me ≡ v.me
 
--- The node is not stale and refines the core of its journal's entries, including the next leaf.
-pub record RefinesEntries {M Msg D : Type 0} (m : Module Msg) (refines : Relation M Msg)
-    (v : KeptState M Msg D) (c : Core Msg) : Type 0 where
+-- The node is not stale and refines the core that stored this, including the next leaf. Its journal shows what stays of
+-- it, and the next snapshot goes on where the last of these ended.
+pub record RefinesStored {M Msg D : Type 0} (m : Module Msg) (refines : Relation M Msg)
+    (v : KeptState M Msg D) (st : Stored Msg) : Type 0 where
   pub fresh : v.stale ≡ false
-  pub node : RefinesCore m refines v.node c
+  pub node : RefinesCore m refines v.node st.core
   pub cluster : v.node.state.setup ≡ v.setup
   pub number : v.node.state.me ≡ v.me
-  pub core : core_of v.setup m v.me.0 v.entries ≡ Some c
+  pub entries : v.entries ≡ shown_of st
+  pub saved : saved_of v.node.state.saved ≡ st.saved
 
--- One of the entries asks a peer that does not exist. Reopening reports damage there.
-pub record AsksNobody (n : ℕ) (entries : List (List ℕ)) : Type 0 where
-  pub front : List (List ℕ)
-  pub peer : NodeId
-  pub behind : List (List ℕ)
-  pub is : entries ≡ front ++ spell_event (On_ask peer) ∷ behind
-  pub none : n ≤ peer.0
+-- what entries, oldest first, and the core that they lead to are, as what was stored
+abbrev pub stored_as : {Msg : Type 0} → List (List ℕ) → Rebuilt Msg → Stored Msg
+stored_as entries found = record { entries = reverse entries; saved = found.saved; core = found.core }
 
--- The entries lead to this core, unless one of them asks a peer that does not exist.
-abbrev pub LeadsTo : {M Msg D : Type 0} → Module Msg → KeptState M Msg D → Core Msg → Type 0
-LeadsTo m v c = (core_of v.setup m v.me.0 v.entries ≡ Some c) ⊎ AsksNobody v.setup.n v.entries
+-- Entries that were read and lead to a core, and behind them what later events, newest first, stored.
+pub record IsStoredSince {Msg : Type 0} (s : Setup) (m : Module Msg) (me : ℕ) (st : Stored Msg) : Type 0 where
+  pub read : List (List ℕ)
+  pub found : Rebuilt Msg
+  pub is_read : core_of s m me read ≡ Some found
+  pub events : List NodeEvent
+  pub is : st ≡ stored_on (frame_of s m) spell_event me (stored_as read found) events
 
 -- The invariant of a kept node. Its set-up is good, it is a member, and its journal is sound. Unless it is stale, every
--- crash image holds its entries, and these lead to the core that it refines.
+-- crash image holds its entries, and it stands for what these were and what was stored behind them.
 pub record IsKept {M Msg D : Type 0} (m : Module Msg) (refines : Relation M Msg)
     (history : D → List File) (room : D → Room) (directory : DirectoryView) (journal : Journal D)
     (v : KeptState M Msg D) : Type 0 where
@@ -92,5 +99,6 @@ pub record IsKept {M Msg D : Type 0} (m : Module Msg) (refines : Relation M Msg)
   pub number : v.node.state.me ≡ v.me
   pub sound : IsSound history room journal
   pub attached : v.stale ≡ false → is_attached journal ≡ true
-  pub durable : v.stale ≡ false → IfTold (history v.disk) (OnlyLeaves (Shows v.entries))
-  pub kept : (v.stale ≡ true) ⊎ ((c : Core Msg) × KeptRefinesCore m refines v c × LeadsTo m v c)
+  pub durable : v.stale ≡ false → IfTold (history v.disk) (OnlyLeaves (Shows version_1 v.entries))
+  pub kept : (v.stale ≡ true)
+      ⊎ ((st : Stored Msg) × RefinesStored m refines v st × IsStoredSince v.setup m v.me.0 st)

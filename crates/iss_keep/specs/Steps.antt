@@ -1,58 +1,57 @@
 -- What a kept node answers. `take`: the event was taken with four device calls, was dropped with none, or was taken
--- while the disk failed. `reopen`: the entries are those of the file, which is brought to rest and loses none of them;
--- a refusal names the damaged place. A crash in between leaves the node as before the event or as after it. Meanwhile
--- a stale node shows the log and epoch from before.
+-- while the disk failed. The event is kept, or in its place the snapshot of the node that it let enter an epoch.
+-- `reopen`: the entries are those of the file, which is brought to rest and loses none of them; a refusal names the
+-- damaged place. A crash in between leaves the node as before the event or as after it. Meanwhile a stale node shows
+-- the log and epoch from before.
 use Rattle.std.specs.Prelude.{◌≡◌, ◌⊎◌, ℕ, Bool, true, false, List, [], ◌∷◌, ◌++◌}
 use Rattle.iss_disk.specs.Calls.{HasCause, IfTold, Passes, Place, Runs, StaysHere}
 use Rattle.iss_disk.specs.File.{File, settled}
-use Rattle.iss_journal.specs.Frames.{Reads, damaged}
+use Rattle.iss_journal.specs.Frames.{damaged, Reads, version_1}
 use Rattle.iss_journal.specs.Promises.{ComesToRest, LeavesWithOrWithout, LosesNothing, OnlyLeaves, Shows, Works}
+use Rattle.iss_journal.specs.Retained.{retained}
 use Rattle.iss_journal.specs.Sound.{IsRead}
 use Rattle.iss_model.specs.Node.{Core, Dropped as Step_dropped, Stepped, Taken as Step_taken, Turn}
+use Rattle.iss_rebuilt.specs.Stored.{Stored}
+use Rattle.iss_rules.specs.declared.events.NodeEvent.{NodeEvent}
 use Rattle.iss_rules.specs.declared.events.Why.{Why}
 use Rattle.iss_node.specs.Steps.{IsMade}
 use Rattle.iss_node.specs.declared.answers.Outcome.{Outcome}
 use Rattle.iss_request.specs.declared.setups.Setup.{Setup}
 use Rattle.iss_sb.specs.Calls.{AreToNodes, Relation}
 use Rattle.iss_sb.specs.Evidence.{Module}
-use Rattle.iss_keep.specs.Cores.{StopsAt}
-use Rattle.iss_keep.specs.State.{KeptRefinesCore, KeptState, RefinesEntries}
+use Rattle.iss_keep.specs.Cores.{StopsAt, stored_after}
+use Rattle.iss_keep.specs.State.{KeptRefinesCore, KeptState, RefinesStored}
 use Rattle.iss_keep.specs.declared.answers.Answer.{Answer}
 use Rattle.iss_keep.specs.declared.answers.Answer.TheVariants.{Dropped as Kept_dropped, Failed, NoMemory, Stale, Taken as Kept_taken}
 
 -- The event was accepted. The node refines the core after the step and releases what the step made. If the event asks
--- only existing peers, every send goes to an existing node. In that case entries that led to the core before the step
--- also lead to the core after it.
+-- only existing peers, every send goes to an existing node.
 pub record IsTurn {M Msg D : Type 0} (m : Module Msg) (refines : Relation M Msg) (asked : Type 0)
-    (old : KeptState M Msg D) (c : Core Msg) (stepped : Stepped Msg) (new : KeptState M Msg D)
-    (outcome : Outcome) : Type 0 where
+    (stepped : Stepped Msg) (new : KeptState M Msg D) (outcome : Outcome) : Type 0 where
   pub turn : Turn Msg
   pub step_is : stepped ≡ Step_taken turn
   pub at : KeptRefinesCore m refines new turn.core
-  pub refined : asked → RefinesEntries m refines old c → RefinesEntries m refines new turn.core
   pub made : IsMade turn outcome
   pub addressed : asked → AreToNodes new.setup.n outcome.sends
 
 -- The event was dropped, and nothing has changed.
-pub record IsDrop {M Msg D : Type 0} (m : Module Msg) (refines : Relation M Msg)
-    (old : KeptState M Msg D) (c : Core Msg) (stepped : Stepped Msg) (new : KeptState M Msg D)
-    (why : Why) : Type 0 where
+pub record IsDrop {M Msg D : Type 0} (m : Module Msg) (refines : Relation M Msg) (c : Core Msg)
+    (stepped : Stepped Msg) (new : KeptState M Msg D) (why : Why) : Type 0 where
   pub step_is : stepped ≡ Step_dropped why
   pub at : KeptRefinesCore m refines new c
-  pub refined : RefinesEntries m refines old c → RefinesEntries m refines new c
 
 -- The step was accepted.
 abbrev pub IsTaken : {Msg : Type 0} → Stepped Msg → Type 0
 IsTaken {Msg = Msg} stepped = (turn : Turn Msg) × (stepped ≡ Step_taken turn)
 
 -- The answer to the step of a core that the node refines. `asked` says that the event asks only existing peers.
-abbrev pub IsAnswer : {M Msg D : Type 0} → Module Msg → Relation M Msg → Type 0 → KeptState M Msg D → Core Msg →
-    Stepped Msg → KeptState M Msg D → Answer → Type 0
-IsAnswer m refines asked old c stepped new (Kept_taken outcome) = IsTurn m refines asked old c stepped new outcome
-IsAnswer m refines asked old c stepped new (Kept_dropped why) = IsDrop m refines old c stepped new why
-IsAnswer m refines asked old c stepped new Failed = IsTaken stepped
-IsAnswer m refines asked old c stepped new Stale = ⊥
-IsAnswer m refines asked old c stepped new NoMemory = Unit {0}
+abbrev pub IsAnswer : {M Msg D : Type 0} → Module Msg → Relation M Msg → Type 0 → Core Msg → Stepped Msg →
+    KeptState M Msg D → Answer → Type 0
+IsAnswer m refines asked c stepped new (Kept_taken outcome) = IsTurn m refines asked stepped new outcome
+IsAnswer m refines asked c stepped new (Kept_dropped why) = IsDrop m refines c stepped new why
+IsAnswer m refines asked c stepped new Failed = IsTaken stepped
+IsAnswer m refines asked c stepped new Stale = ⊥
+IsAnswer m refines asked c stepped new NoMemory = Unit {0}
 
 -- Whether the node has to be reopened after this answer.
 abbrev pub makes_stale : Answer → Bool
@@ -84,10 +83,10 @@ sight history passes faults current files disk =
       files = files disk;
     }
 
--- The journal's entries after this answer to an event with this entry.
+-- What a journal shows after this answer to an event that is kept as this entry. A snapshot drops the events before it.
 -- rule: Persistence: A dropped event changes nothing and is not kept
 abbrev pub entries_after : List (List ℕ) → List ℕ → Answer → List (List ℕ)
-entries_after entries entry (Kept_taken outcome) = entries ++ entry ∷ []
+entries_after entries entry (Kept_taken outcome) = retained (entries ++ entry ∷ [])
 entries_after entries entry (Kept_dropped why) = entries
 entries_after entries entry Failed = entries
 entries_after entries entry Stale = entries
@@ -99,10 +98,10 @@ entries_after entries entry NoMemory = entries
 -- rule: Persistence: An event is kept before its outcome is handed out
 abbrev pub Writes : List (List ℕ) → List ℕ → List File → List File → Answer → Type 0
 Writes entries entry before now (Kept_taken outcome) =
-    LeavesWithOrWithout entries entry before now
-    × IfTold now (OnlyLeaves (Shows (entries ++ entry ∷ [])))
+    LeavesWithOrWithout version_1 entries entry before now
+    × IfTold now (OnlyLeaves (Shows version_1 (retained (entries ++ entry ∷ []))))
 Writes entries entry before now Failed =
-    LeavesWithOrWithout entries entry before now × IfTold now (λ file. Shows entries file.kept)
+    LeavesWithOrWithout version_1 entries entry before now × IfTold now (λ file. Shows version_1 entries file.kept)
 Writes entries entry before now (Kept_dropped why) = now ≡ before
 Writes entries entry before now Stale = now ≡ before
 Writes entries entry before now NoMemory = now ≡ before
@@ -115,7 +114,8 @@ Calls before now Failed = Runs 4 before now false
 Calls before now Stale = now ≡ before
 Calls before now NoMemory = now ≡ before
 
--- The journal and its disk after an answer to an event with this entry. `later` is the journal's new entries.
+-- The journal and its disk after an answer to an event that is kept as this entry. `later` is what the journal shows
+-- then.
 -- rule: Persistence: Room for the entry is reserved before the node steps
 pub record IsWritten (entries : List (List ℕ)) (entry : List ℕ) (before now : Sight) (later : List (List ℕ))
     (answer : Answer) : Type 0 where
@@ -125,18 +125,35 @@ pub record IsWritten (entries : List (List ℕ)) (entry : List ℕ) (before now 
   pub cause : HasCause before.faults now.faults (answer ≡ Failed)
   pub others : StaysHere before.current now.current before.files now.files
 
+-- Whether an entry was written, in whole or in part.
+abbrev pub is_appended : Answer → Bool
+is_appended (Kept_taken outcome) = true
+is_appended (Kept_dropped why) = false
+is_appended Failed = true
+is_appended Stale = false
+is_appended NoMemory = false
+
+-- The same of an answer to this event. What was written is the event, or the snapshot that takes its place.
+-- rule: Persistence: The snapshot of a node that entered an epoch takes the place of the event that ended the last one
+pub record IsJournaled {M Msg D : Type 0} (m : Module Msg) (refines : Relation M Msg) (old : KeptState M Msg D)
+    (event : NodeEvent) (before now : Sight) (later : List (List ℕ)) (answer : Answer) : Type 0 where
+  pub entry : List ℕ
+  pub written : IsWritten old.entries entry before now later answer
+  pub right : is_appended answer ≡ true → (st : Stored Msg) → RefinesStored m refines old st →
+      (stored_after old.setup m old.me.0 st event).entries ≡ entry ∷ st.entries
+
 -- ---- reopening
 
 -- The journal was attached. It has the entries that the file held, the file's content is settled, and every crash image
 -- holds the entries from then on.
 pub record IsAttached (before now : Sight) (entries : List (List ℕ)) : Type 0 where
-  pub read : IfTold before.history (λ file. Shows entries file.content)
+  pub read : IfTold before.history (λ file. Shows version_1 entries file.content)
   pub rest : IfTold before.history (λ from. IfTold now.history (ComesToRest from.content))
-  pub durable : IfTold now.history (OnlyLeaves (Shows entries))
+  pub durable : IfTold now.history (OnlyLeaves (Shows version_1 entries))
 
 -- Holds for every result: a crash at any moment of the call lost no entry, and the call failed only if the disk did.
 pub record LosesNone (before now : Sight) (failed : Type 0) : Type 0 where
-  pub any_moment : LosesNothing before.history now.history
+  pub any_moment : LosesNothing version_1 before.history now.history
   pub cause : HasCause before.faults now.faults failed
   pub works : Works before.passes now.passes failed
   pub others : StaysHere before.current now.current before.files now.files
@@ -144,8 +161,8 @@ pub record LosesNone (before now : Sight) (failed : Type 0) : Type 0 where
 -- Either the file is damaged at this offset, or all entries are read and the node refuses the one after this gate.
 abbrev pub IsDamaged : {Msg : Type 0} → Setup → Module Msg → ℕ → List (List ℕ) → List File → ℕ → Type 0
 IsDamaged s m me entries before at =
-    IfTold before (λ file. Reads file.content (damaged at))
-    ⊎ ((gates : List ℕ) × IsRead entries gates before × StopsAt s m me at entries gates)
+    IfTold before (λ file. Reads version_1 file.content (damaged at))
+    ⊎ ((gates : List ℕ) × IsRead version_1 entries gates before × StopsAt s m me at entries gates)
 
 -- What a refusal at this offset leaves of the file. A damaged file stays byte for byte. A file that was read, and one
 -- of whose entries the node refuses, comes to rest: only what follows its last gate goes. So the next call finds the
@@ -153,8 +170,8 @@ IsDamaged s m me entries before at =
 -- rule: Journal: A damaged file stays byte for byte
 abbrev pub IsLeft : List (List ℕ) → List File → List File → ℕ → Type 0
 IsLeft entries before now at = IfTold before (λ from.
-    (Reads from.content (damaged at) × IfTold now (λ file. file ≡ settled from.content))
-    ⊎ (Shows entries from.content × IfTold now (ComesToRest from.content)))
+    (Reads version_1 from.content (damaged at) × IfTold now (λ file. file ≡ settled from.content))
+    ⊎ (Shows version_1 entries from.content × IfTold now (ComesToRest from.content)))
 
 -- ---- what does not change
 

@@ -1,11 +1,10 @@
-// One event of a node with an attached journal: reserve room for the entry, step the node, append the entry.
-ghost use Rattle.std.specs.Prelude.{◌≡◌, ◌≤◌, ◌++◌, ◌∷◌, [], false, true, length, is_ok, IfOk, IsErrOf, OnErr, OnOk};
-ghost use Rattle.iss_disk.specs.Calls.{HasCause, IfTold, Runs, StaysHere};
+// One event of a node with an attached journal: reserve room for the entry, step the node, append the entry or the
+// snapshot that takes its place.
+ghost use Rattle.std.specs.Prelude.{◌≡◌, ◌≤◌, ◌∷◌, [], false, true, length, IfOk, IsErrOf, OnOk};
 ghost use Rattle.iss_journal.specs.Frames.{max_entry};
-ghost use Rattle.iss_journal.specs.Retained.{is_snapshot};
 ghost use Rattle.iss_journal.specs.Sound.{IsSound, disk_of, entries_of, is_attached};
 ghost use Rattle.iss_keep.specs.Entries.{spell_event};
-ghost use Rattle.iss_keep.specs.Internal.Keeping.{HasEnded, HasStepped, released};
+ghost use Rattle.iss_keep.specs.Internal.Keeping.{HasEnded, HasStepped, entry_kept, entry_made, released};
 ghost use Rattle.iss_keep.specs.Steps.{IsWritten, makes_stale, sight};
 ghost use Rattle.iss_model.specs.Node.{Core};
 ghost use Rattle.iss_rules.specs.Setups.{IsSetupOf};
@@ -22,8 +21,8 @@ use iss_rules::NodeEvent;
 use iss_sb::Sequenced;
 use std::alloc::Global;
 
-// The entry of an event: its kind byte, and its content. That of a packet is its bytes, which are shared, not copied, if
-// they support that.
+// The entry of an event: its kind byte, and its content. That of a packet is its bytes, which are shared, not copied,
+// if they support that.
 #[derive(Drop)]
 struct Entry {
     kind: u8,
@@ -60,8 +59,52 @@ fn entry_len(entry: &Entry) -> u64
     entry.content.as_slice().len() as u64 + 1
 }
 
-// Appends the entry of an accepted event. If that fails, the node retreats to its earlier log (of `slots` slots) and
-// `epoch`.
+// The bytes of a snapshot, which its outcome and the journal share from now on: they are not copied. Without memory the
+// outcome loses them.
+#[inline(always)]
+fn share(entered: &mut Option<Bytes>) -> Result<Option<Bytes>, NoMemory>
+    ensures same { OnOk result (entered.new ≡ entered.old) }
+    ensures shared { IfOk result (λ snapshot. snapshot ≡ entered.old) }
+{
+    let Some(bytes) = entered.take() else {
+        return Ok(None);
+    };
+    let bytes = bytes.into_shared()?;
+    *entered = Some(bytes.copy()?);
+    Ok(Some(bytes))
+}
+
+// Appends the entry of an accepted event, or in its place the snapshot of the node that entered an epoch. The room of a
+// snapshot is made first: without it nothing is appended.
+// rule: Persistence: The snapshot of a node that entered an epoch takes the place of the event that ended the last one
+#[inline(always)]
+fn append_entry<D: Disk>(
+    journal: &mut Journal<D>,
+    entry: Entry,
+    entered: &mut Option<Bytes>,
+) -> Result<(), EndError>
+    requires sound { IsSound D.history D.room journal.old }
+    requires attached { is_attached journal.old ≡ true }
+    requires short { length (entry_kept entered.old (entry.kind ∷ entry.content)) ≤ max_entry }
+    ensures written { (outcome : Outcome) →
+        IsWritten (entries_of journal.old) (entry_kept entered.new (entry.kind ∷ entry.content))
+        (sight D.history D.passes D.faults D.current D.files (disk_of journal.old))
+        (sight D.history D.passes D.faults D.current D.files (disk_of journal.new)) (entries_of journal.new)
+        (released (Node_taken outcome) result) }
+    ensures same { (IsErrOf result EndError.NoMemory → ⊥) → entered.new ≡ entered.old }
+    ensures sound { IsSound D.history D.room journal.new }
+    ensures attached { OnOk result (is_attached journal.new ≡ true) }
+{
+    let Ok(snapshot) = share(entered) else {
+        return Err(EndError::NoMemory);
+    };
+    match snapshot {
+        Some(bytes) => journal.append(&[], bytes),
+        None => journal.append(&[entry.kind], entry.content),
+    }
+}
+
+// Appends as `append_entry` does. If that fails, the node retreats to its earlier number of slots and epoch.
 // rule: Recovery: An event takes four disk calls, and is kept only if all four pass
 // rule: Persistence: An event is kept before its outcome is handed out
 #[inline(always)]
@@ -69,38 +112,40 @@ fn append_or_retreat<M: Sequenced, D: Disk>(
     node: &mut Node<M>,
     journal: &mut Journal<D>,
     entry: Entry,
-    slots: usize,
-    epoch: Epoch,
+    entered: &mut Option<Bytes>,
+    savepoint: (usize, Epoch),
 ) -> Result<(), EndError>
     requires sound { IsSound D.history D.room journal.old }
     requires attached { is_attached journal.old ≡ true }
-    requires short { length (entry.kind ∷ entry.content) ≤ max_entry }
-    requires event { is_snapshot (entry.kind ∷ entry.content) ≡ false }
-    requires slots { slots ≤ length node.old.state.log.entries }
-    requires epoch { epoch.0 ≤ node.old.state.epoch }
-    ensures written { (outcome : Outcome) → IsWritten (entries_of journal.old) (entry.kind ∷ entry.content)
+    requires short { length (entry_kept entered.old (entry.kind ∷ entry.content)) ≤ max_entry }
+    requires slots { savepoint.0 ≤ length node.old.state.log.entries }
+    requires epoch { savepoint.1.0 ≤ node.old.state.epoch }
+    ensures written { (outcome : Outcome) →
+        IsWritten (entries_of journal.old) (entry_kept entered.new (entry.kind ∷ entry.content))
         (sight D.history D.passes D.faults D.current D.files (disk_of journal.old))
         (sight D.history D.passes D.faults D.current D.files (disk_of journal.new)) (entries_of journal.new)
         (released (Node_taken outcome) result) }
+    ensures same { (IsErrOf result EndError.NoMemory → ⊥) → entered.new ≡ entered.old }
     ensures ended { (outcome : Outcome) →
-        HasEnded outcome slots epoch.0 node.old node.new (released (Node_taken outcome) result) }
+        HasEnded outcome savepoint.0 savepoint.1.0 node.old node.new (released (Node_taken outcome) result) }
     ensures sound { IsSound D.history D.room journal.new }
     ensures attached { OnOk result (is_attached journal.new ≡ true) }
 {
-    match journal.append(&[entry.kind], entry.content) {
+    match append_entry(journal, entry, entered) {
         Ok(()) => Ok(()),
         Err(EndError::Failed) => {
-            node.retreat(slots, epoch);
+            node.retreat(savepoint.0, savepoint.1);
             Err(EndError::Failed)
         }
         Err(EndError::NoMemory) => {
-            node.retreat(slots, epoch);
+            node.retreat(savepoint.0, savepoint.1);
             Err(EndError::NoMemory)
         }
     }
 }
 
-// Applies `event`. If the node accepted it, appends its entry to the journal. The node's answer is left in `made`.
+// Applies `event`. If the node accepted it, appends its entry to the journal, or the snapshot that takes its place. The
+// node's answer is left in `made`.
 // rule: Persistence: A dropped event changes nothing and is not kept
 #[inline(always)]
 fn apply_then_append<M: Sequenced, D: Disk>(
@@ -116,11 +161,12 @@ fn apply_then_append<M: Sequenced, D: Disk>(
     requires sound { IsSound D.history D.room journal.old }
     requires attached { is_attached journal.old ≡ true }
     requires entry { entry.kind ∷ entry.content ≡ spell_event event }
-    ensures written { IsWritten (entries_of journal.old) (entry.kind ∷ entry.content)
+    ensures written { IsWritten (entries_of journal.old) (entry_made made.new (entry.kind ∷ entry.content))
         (sight D.history D.passes D.faults D.current D.files (disk_of journal.old))
         (sight D.history D.passes D.faults D.current D.files (disk_of journal.new)) (entries_of journal.new)
         (released made.new result) }
-    ensures stepped { HasStepped M.spec M.refines event node.old node.new (released made.new result) }
+    ensures stepped { HasStepped M.spec M.refines event node.old node.new
+        (entry_made made.new (entry.kind ∷ entry.content)) (released made.new result) }
     ensures sound { IsSound D.history D.room journal.new }
     ensures attached { makes_stale (released made.new result) ≡ false → is_attached journal.new ≡ true }
     ensures same { (node.new.state.setup ≡ node.old.state.setup) × (node.new.state.me ≡ node.old.state.me) }
@@ -129,13 +175,16 @@ fn apply_then_append<M: Sequenced, D: Disk>(
     let epoch = node.epoch();
     *made = node.take(alloc, event);
     match made {
-        NodeAnswer::Taken(_) => append_or_retreat(node, journal, entry, slots, epoch),
+        NodeAnswer::Taken(outcome) => {
+            append_or_retreat(node, journal, entry, &mut outcome.entered, (slots, epoch))
+        }
         _ => Ok(()),
     }
 }
 
-/// Reserves room for the entry, applies `event`, and appends the entry if the node accepted the event. Room comes
-/// first: an accepted event must not fail for memory. The node consumes the event, so its entry is made before.
+/// Reserves room for the entry, applies `event`, and appends the entry if the node accepted the event, or the snapshot
+/// that takes its place. Room comes first: an accepted event fails for memory only where its snapshot finds none. The
+/// node consumes the event, so its entry is made before.
 /// The node's answer is large; it is left in `made`, to be moved only once.
 // rule: Persistence: Room for the entry is reserved before the node steps
 #[inline(always)]
@@ -150,11 +199,12 @@ pub(crate) fn journal_and_apply<M: Sequenced, D: Disk>(
     requires refines { (c : Core M.Msg) × RefinesCore M.spec M.refines node.old c }
     requires sound { IsSound D.history D.room journal.old }
     requires attached { is_attached journal.old ≡ true }
-    ensures written { IsWritten (entries_of journal.old) (spell_event event)
+    ensures written { IsWritten (entries_of journal.old) (entry_made made.new (spell_event event))
         (sight D.history D.passes D.faults D.current D.files (disk_of journal.old))
         (sight D.history D.passes D.faults D.current D.files (disk_of journal.new)) (entries_of journal.new)
         (released made.new result) }
-    ensures stepped { HasStepped M.spec M.refines event node.old node.new (released made.new result) }
+    ensures stepped { HasStepped M.spec M.refines event node.old node.new (entry_made made.new (spell_event event))
+        (released made.new result) }
     ensures sound { IsSound D.history D.room journal.new }
     ensures attached { makes_stale (released made.new result) ≡ false → is_attached journal.new ≡ true }
     ensures same { (node.new.state.setup ≡ node.old.state.setup) × (node.new.state.me ≡ node.old.state.me) }

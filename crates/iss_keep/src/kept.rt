@@ -1,14 +1,16 @@
 //! A kept node: a replica with a journal of its events.
-ghost use Rattle.std.specs.Prelude.{◌≡◌, ◌<◌, ◌≤◌, ◌↔◌, ℕ, [], List, true, false, not, take, is_ok, length, IfOk, OnOk, OnErr, IsErrOf};
+ghost use Rattle.std.specs.Prelude.{◌≡◌, ◌<◌, ◌≤◌, ◌↔◌, ℕ, [], List, Some, true, false, not, take, is_ok, length, IfOk, OnOk, OnErr, IsErrOf};
 ghost use Rattle.iss_disk.specs.Calls.{Restarts, Stays, script, up_to};
-ghost use Rattle.iss_keep.specs.Cores.{step_of};
-ghost use Rattle.iss_keep.specs.Entries.{spell_event};
-ghost use Rattle.iss_keep.specs.State.{KeptRefinesCore, RefinesEntries};
-ghost use Rattle.iss_keep.specs.Steps.{IsAnswer, IsAttached, IsDamaged, IsLeft, IsSame, IsWritten, LosesNone, ShowsAsBefore, makes_stale, sight};
+ghost use Rattle.iss_keep.specs.Cores.{core_of, step_of, stored_after};
+ghost use Rattle.iss_keep.specs.State.{KeptRefinesCore, RefinesStored, stored_as};
+ghost use Rattle.iss_keep.specs.Steps.{IsAnswer, IsAttached, IsDamaged, IsJournaled, IsLeft, IsSame, LosesNone, ShowsAsBefore};
+ghost use Rattle.iss_keep.specs.Steps.{makes_stale, sight};
 ghost use Rattle.iss_rules.specs.Concrete.{keys_of};
 ghost use Rattle.iss_model.specs.Node.{Core};
 ghost use Rattle.iss_rules.specs.Setups.{IsSetupOf};
 ghost use Rattle.iss_node.specs.Steps.{IsOfNodes};
+ghost use Rattle.iss_rebuilt.specs.Reading.{Rebuilt};
+ghost use Rattle.iss_rebuilt.specs.Stored.{Stored};
 
 use crate::answers::{Answer, makes_stale, release};
 use crate::fresh::Fresh;
@@ -24,8 +26,8 @@ use iss_sb::Sequenced;
 use std::alloc::Global;
 use std::marker::Model;
 
-/// A replica whose journal holds every event that it accepted, before the event's outcome is released. Reopening the
-/// journal recovers the replica's state.
+/// A replica whose journal holds every event that it accepted, or the snapshot that took its place, before the event's
+/// outcome is released. Reopening the journal recovers the replica's state.
 #[derive(Drop)]
 pub struct Kept<M: Sequenced, D: Disk> {
     pub(crate) alloc: Global,
@@ -98,16 +100,19 @@ impl<M: Sequenced, D: Disk> Kept<M, D> {
     }
 
     /// Takes an event: reserves room for its entry, steps the node, appends the entry if the event was accepted, and
-    /// only then releases the outcome. Answers `Stale` if and only if the node has to be reopened. An ask is never
-    /// dropped; if its peer does not exist, `reopen` will report its entry as damage.
+    /// only then releases the outcome. If the event let the node enter an epoch, a snapshot is appended in its place,
+    /// unless that is too long. Answers `Stale` if and only if the node has to be reopened. An ask is never dropped; if
+    /// its peer does not exist, `reopen` will report its entry as damage, until a snapshot takes its place.
     // rule: Persistence: A stale node takes nothing and shows the log and epoch from before
     pub fn take(&mut self, event: NodeEvent) -> Answer
         ensures answer { (c : Core M.Msg) → KeptRefinesCore M.spec M.refines self.old c → IsAnswer M.spec M.refines
-            (IsOfNodes self.old.setup.n event) self.old c
-            (step_of self.old.setup M.spec self.old.me.0 c event) self.new result }
+            (IsOfNodes self.old.setup.n event) c (step_of self.old.setup M.spec self.old.me.0 c event)
+            self.new result }
+        ensures stored { (st : Stored M.Msg) → RefinesStored M.spec M.refines self.old st → self.new.stale ≡ false →
+            RefinesStored M.spec M.refines self.new (stored_after self.old.setup M.spec self.old.me.0 st event) }
         ensures refused { (result ≡ Answer.Stale) ↔ (self.old.stale ≡ true) }
         ensures stale { self.new.stale ≡ makes_stale result }
-        ensures written { IsWritten self.old.entries (spell_event event)
+        ensures written { IsJournaled M.spec M.refines self.old event
             (sight D.history D.passes D.faults D.current D.files self.old.disk)
             (sight D.history D.passes D.faults D.current D.files self.new.disk) self.new.entries result }
         ensures shown { self.new.stale ≡ true → ShowsAsBefore self.old self.new }
@@ -128,12 +133,15 @@ impl<M: Sequenced, D: Disk> Kept<M, D> {
         release(made, kept)
     }
 
-    /// Recovers the node by replaying its journal. `Damaged` if the file is damaged, or if an entry is no event or is
-    /// one that the node would drop at that point. A damaged file stays byte for byte, so that no later call takes it
-    /// for a new one. `Failed` only if the disk failed.
+    /// Recovers the node from its journal: rebuilds it from the snapshots, and replays the events behind them.
+    /// `Damaged` if the file is damaged, or if an entry is a snapshot that does not continue those before it, or no
+    /// event, or one that the node would drop at that point. A damaged file stays byte for byte, so that no later call
+    /// takes it for a new one. `Failed` only if the disk failed.
     pub fn reopen(&mut self) -> Result<(), AttachError>
         ensures stale { self.new.stale ≡ not (is_ok result) }
-        ensures core { OnOk result ((c : Core M.Msg) × RefinesEntries M.spec M.refines self.new c) }
+        ensures core { OnOk result ((found : Rebuilt M.Msg)
+            × (core_of self.new.setup M.spec self.new.me.0 self.new.entries ≡ Some found)
+            × RefinesStored M.spec M.refines self.new (stored_as self.new.entries found)) }
         ensures attached { OnOk result (IsAttached (sight D.history D.passes D.faults D.current D.files self.old.disk)
             (sight D.history D.passes D.faults D.current D.files self.new.disk) self.new.entries) }
         ensures damaged { (at : ℕ) → IsErrOf result (AttachError.Damaged at) →
@@ -160,6 +168,22 @@ impl<M: Sequenced, D: Disk> Kept<M, D> {
             }
             Err(error) => Err(error),
         }
+    }
+
+    /// The set-up of its cluster.
+    pub fn setup(&self) -> &Setup
+        ensures same { result.now ≡ self.now.setup }
+        ensures good { IsSetupOf M.spec result.now }
+    {
+        &self.setup
+    }
+
+    /// Which node it is.
+    pub fn me(&self) -> NodeId
+        ensures same { result ≡ self.now.me }
+        ensures member { result.0 < self.now.setup.n }
+    {
+        self.me
     }
 
     /// The disk.

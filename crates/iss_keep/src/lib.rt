@@ -14,4 +14,7 @@ pub use answers::Answer;
 pub use entries::{decode_entry, encode_entry, entries_are_exact};
 pub use fresh::Fresh;
 pub use kept::Kept;
-pub use laws::{a_crash_leaves_one_of_two, leaves_are_of_one_entry, leaves_are_of_one_statement};
+pub use laws::{
+    a_crash_leaves_one_of_two, a_journal_recovers, leaves_are_of_one_entry,
+    leaves_are_of_one_statement,
+};

@@ -1,22 +1,27 @@
-// Recovery: a node is rebuilt by replaying the entries of its journal.
-ghost use Rattle.std.specs.Prelude.{◌≡◌, ◌<◌, ℕ, [], true, length, slice_index_or, IfOk, IsErrOf, OnOk};
+// Recovery: a node is rebuilt from the snapshots of its journal, and replays the events behind them.
+ghost use Rattle.std.specs.Prelude.{◌≡◌, ◌<◌, ℕ, [], Some, true, get_or, length, slice_index_or, take, IfOk, IfSome, IsErrOf, OnOk};
+ghost use Rattle.iss_journal.specs.Retained.{is_snapshot, retained};
 ghost use Rattle.iss_journal.specs.SharedViews.{shared_in};
 ghost use Rattle.iss_journal.specs.Sound.{IsSound, disk_of, entries_of, gates_of, is_attached};
 ghost use Rattle.iss_keep.specs.Cores.{StopsAt};
-ghost use Rattle.iss_keep.specs.Internal.Replays.{GoesTo, IsOf, IsReplayed};
+ghost use Rattle.iss_keep.specs.Internal.Replays.{AreInFront, GoesTo, IsFound, IsOf, IsReplayed};
 ghost use Rattle.iss_keep.specs.Steps.{IsAttached, IsDamaged, IsLeft, LosesNone, sight};
 ghost use Rattle.iss_rules.specs.Concrete.{keys_of};
-ghost use Rattle.iss_model.specs.Node.{Core, initial_core};
+ghost use Rattle.iss_model.specs.Node.{initial_core};
 ghost use Rattle.iss_rules.specs.Setups.{IsSetupOf};
+ghost use Rattle.iss_model.specs.Frames.{frame_of};
+ghost use Rattle.iss_node.specs.Rebuilding.{IsReadOn, RefinesRebuilt};
 ghost use Rattle.iss_node.specs.State.{RefinesCore};
+ghost use Rattle.iss_rebuilt.specs.Reading.{Rebuilt, reads_entry};
 
 use crate::entries::decode_entry;
 use iss_disk::Disk;
 use iss_journal::{AttachError, Journal, SharedEntries};
 use iss_keys::SharedDirectory;
-use iss_node::{Answer, Node};
+use iss_node::{Answer, Node, Rebuilding};
 use iss_request::{NoMemory, NodeId, Setup};
 use iss_sb::Sequenced;
+use iss_snapshot::snapshots::KIND;
 use std::alloc::Global;
 
 /// A node that took no event, with unused keys.
@@ -36,6 +41,96 @@ pub(crate) fn start_fresh<M: Sequenced>(
     Node::start(alloc, setup, directory, me, keys)
 }
 
+// Whether an entry is a snapshot, by its first byte.
+fn is_snapshot(entry: &[u8]) -> bool
+    ensures { result ≡ is_snapshot entry.now }
+{
+    match entry {
+        [kind, ..] => *kind == KIND,
+        [] => false,
+    }
+}
+
+// The number of snapshots in front. None stands behind another entry.
+fn snapshots_in_front(alloc: Global, entries: &SharedEntries) -> Result<usize, NoMemory>
+    ensures { IfOk result (AreInFront (shared_in entries.now)) }
+{
+    for k in 0..entries.len() {
+        let entry = entries.get(alloc, k)?;
+        if !is_snapshot(&entry) {
+            return Ok(k);
+        }
+    }
+    Ok(entries.len())
+}
+
+// That entry `k` leads nowhere.
+fn damage_at<D: Disk>(journal: &Journal<D>, k: usize) -> AttachError
+    requires { k < length (entries_of journal.now) }
+    ensures { result ≡ AttachError.Damaged (get_or (gates_of journal.now) k 0) }
+{
+    AttachError::Damaged {
+        at: journal.gate_of(k),
+    }
+}
+
+// Reads entry `k` as a snapshot. `None` if it does not continue those before it.
+fn read_at<M: Sequenced>(
+    alloc: Global,
+    rebuilding: Rebuilding<M>,
+    entries: &SharedEntries,
+    k: usize,
+) -> Result<Option<Rebuilding<M>>, NoMemory>
+    requires k { k < length (shared_in entries.now) }
+    ensures read { IfOk result (λ next. (r : Rebuilt M.Msg) → RefinesRebuilt M.spec M.refines rebuilding r →
+        IsReadOn M.spec M.refines (reads_entry (frame_of rebuilding.state.setup M.spec) rebuilding.state.me.0 (Some r)
+        (slice_index_or (shared_in entries.now) k [])) next) }
+    ensures same { IfOk result (λ next. IfSome next
+        (λ v. (v.state.setup ≡ rebuilding.state.setup) × (v.state.me ≡ rebuilding.state.me))) }
+{
+    let entry = entries.get(alloc, k)?;
+    rebuilding.read(&entry)
+}
+
+// Rebuilds the node from the first `front` entries, which are snapshots. `Damaged` has the gate offset of the first
+// that does not continue those before it.
+fn rebuild<M: Sequenced, D: Disk>(
+    alloc: Global,
+    setup: &Setup,
+    directory: &SharedDirectory,
+    me: NodeId,
+    journal: &Journal<D>,
+    front: usize,
+) -> Result<Node<M>, AttachError>
+    requires good { IsSetupOf M.spec setup.now }
+    requires directory { directory.now ≡ keys_of setup.now }
+    requires me { me.0 < setup.now.n }
+    requires front { AreInFront (entries_of journal.now) front }
+    ensures refines { IfOk result (IsReplayed setup.now M.spec M.refines me.0 (take front (entries_of journal.now))) }
+    ensures same { IfOk result (IsOf setup.now me) }
+    ensures damaged { (at : ℕ) → IsErrOf result (AttachError.Damaged at) →
+        StopsAt setup.now M.spec me.0 at (entries_of journal.now) (gates_of journal.now) }
+    ensures sound { IsErrOf result AttachError.Failed → ⊥ }
+{
+    let Ok(mut rebuilding) = Rebuilding::<M>::start(alloc, setup, directory, me) else {
+        return Err(AttachError::NoMemory);
+    };
+    let entries = journal.entries();
+    for k in 0..front {
+        let Ok(next) = read_at(alloc, rebuilding, entries, k) else {
+            return Err(AttachError::NoMemory);
+        };
+        let Some(next) = next else {
+            return Err(damage_at(journal, k));
+        };
+        rebuilding = next;
+    }
+    match rebuilding.finish() {
+        Ok(node) => Ok(node),
+        Err(_) => Err(AttachError::NoMemory),
+    }
+}
+
 // Replays one entry. `false` if it does not decode or the node drops it; the node must not be used afterwards.
 fn replay_entry<M: Sequenced>(
     alloc: Global,
@@ -44,14 +139,14 @@ fn replay_entry<M: Sequenced>(
     entry: &[u8],
 ) -> Result<bool, NoMemory>
     requires { n ≡ node.old.state.setup.n }
-    ensures goes { IfOk result (λ taken. (c : Core M.Msg) → RefinesCore M.spec M.refines node.old c →
-        GoesTo node.old.state.setup M.spec M.refines node.old.state.me.0 c entry.now node.new taken) }
+    ensures goes { IfOk result (λ taken. (found : Rebuilt M.Msg) → IsFound M.spec M.refines node.old found →
+        GoesTo node.old.state.setup M.spec M.refines node.old.state.me.0 found entry.now node.new taken) }
     ensures same { (node.new.state.setup ≡ node.old.state.setup) × (node.new.state.me ≡ node.old.state.me) }
 {
     let Some(event) = decode_entry(alloc, n, entry)? else {
         return Ok(false);
     };
-    match node.take(alloc, event) {
+    match node.replay(alloc, event) {
         Answer::Taken(_outcome) => Ok(true),
         Answer::Dropped(_why) => Ok(false),
         Answer::NoMemory => Err(NoMemory),
@@ -69,22 +164,55 @@ fn replay_at<M: Sequenced>(
 ) -> Result<bool, NoMemory>
     requires n { n ≡ node.old.state.setup.n }
     requires k { k < length (shared_in entries.now) }
-    ensures goes { IfOk result (λ taken. (c : Core M.Msg) → RefinesCore M.spec M.refines node.old c →
-        GoesTo node.old.state.setup M.spec M.refines node.old.state.me.0 c (slice_index_or (shared_in entries.now) k [])
-        node.new taken) }
+    ensures goes { IfOk result (λ taken. (found : Rebuilt M.Msg) → IsFound M.spec M.refines node.old found →
+        GoesTo node.old.state.setup M.spec M.refines node.old.state.me.0 found
+        (slice_index_or (shared_in entries.now) k []) node.new taken) }
     ensures same { (node.new.state.setup ≡ node.old.state.setup) × (node.new.state.me ≡ node.old.state.me) }
 {
     let entry = entries.get(alloc, k)?;
     replay_entry(alloc, n, node, &entry)
 }
 
-// Replays all entries of the journal. `Damaged` has the gate offset of the first entry that does not decode or is
+// Replays the entries behind the first `front`. `Damaged` has the gate offset of the first that does not decode or is
 // dropped.
+fn replay_behind<M: Sequenced, D: Disk>(
+    alloc: Global,
+    setup: &Setup,
+    node: &mut Node<M>,
+    journal: &Journal<D>,
+    front: usize,
+) -> Result<(), AttachError>
+    requires front { AreInFront (entries_of journal.now) front }
+    requires cluster { node.old.state.setup ≡ setup.now }
+    requires begun { IsReplayed setup.now M.spec M.refines node.old.state.me.0
+        (take front (entries_of journal.now)) node.old }
+    requires stay { retained (entries_of journal.now) ≡ entries_of journal.now }
+    ensures refines { OnOk result (IsReplayed setup.now M.spec M.refines node.old.state.me.0
+        (entries_of journal.now) node.new) }
+    ensures same { IsOf setup.now node.old.state.me node.new }
+    ensures damaged { (at : ℕ) → IsErrOf result (AttachError.Damaged at) →
+        StopsAt setup.now M.spec node.old.state.me.0 at (entries_of journal.now) (gates_of journal.now) }
+    ensures sound { IsErrOf result AttachError.Failed → ⊥ }
+{
+    let entries = journal.entries();
+    for k in front..entries.len() {
+        let Ok(taken) = replay_at(alloc, setup.n, node, entries, k) else {
+            return Err(AttachError::NoMemory);
+        };
+        if !taken {
+            return Err(damage_at(journal, k));
+        }
+    }
+    Ok(())
+}
+
+// Rebuilds the node from the snapshots in front of the journal, and replays the events behind them. `Damaged` has the
+// gate offset of the first entry that leads nowhere.
 // rule: Persistence: A reopened node is that of its entries, with its next leaf
 // rule: Persistence: An entry that is no event of its node is damage, at the offset of its gate
 // rule: Persistence: No leaf is used by two entries, over all restarts
-// rule: Persistence: No leaf signs two statements, over all restarts
-fn replay<M: Sequenced, D: Disk>(
+// rule: Signatures: A node signs at most one statement with each leaf
+fn recover<M: Sequenced, D: Disk>(
     alloc: Global,
     setup: &Setup,
     directory: &SharedDirectory,
@@ -94,30 +222,22 @@ fn replay<M: Sequenced, D: Disk>(
     requires good { IsSetupOf M.spec setup.now }
     requires directory { directory.now ≡ keys_of setup.now }
     requires me { me.0 < setup.now.n }
+    requires stay { retained (entries_of journal.now) ≡ entries_of journal.now }
     ensures refines { IfOk result (IsReplayed setup.now M.spec M.refines me.0 (entries_of journal.now)) }
     ensures same { IfOk result (IsOf setup.now me) }
     ensures damaged { (at : ℕ) → IsErrOf result (AttachError.Damaged at) →
         StopsAt setup.now M.spec me.0 at (entries_of journal.now) (gates_of journal.now) }
     ensures sound { IsErrOf result AttachError.Failed → ⊥ }
 {
-    let Ok(mut node) = start_fresh::<M>(alloc, setup, directory, me) else {
+    let Ok(front) = snapshots_in_front(alloc, journal.entries()) else {
         return Err(AttachError::NoMemory);
     };
-    let entries = journal.entries();
-    for k in 0..entries.len() {
-        let Ok(taken) = replay_at(alloc, setup.n, &mut node, entries, k) else {
-            return Err(AttachError::NoMemory);
-        };
-        if !taken {
-            return Err(AttachError::Damaged {
-                at: journal.gate_of(k),
-            });
-        }
-    }
+    let mut node = rebuild::<M, D>(alloc, setup, directory, me, journal, front)?;
+    replay_behind(alloc, setup, &mut node, journal, front)?;
     Ok(node)
 }
 
-/// Attaches the journal and recovers the node from its entries. `Failed` if the disk failed, `Damaged` as `replay`
+/// Attaches the journal and recovers the node from its entries. `Failed` if the disk failed, `Damaged` as `recover`
 /// says, or if the file itself is damaged.
 pub(crate) fn open<M: Sequenced, D: Disk>(
     alloc: Global,
@@ -131,6 +251,7 @@ pub(crate) fn open<M: Sequenced, D: Disk>(
     requires me { me.0 < setup.now.n }
     requires sound { IsSound D.history D.room journal.old }
     ensures refines { IfOk result (IsReplayed setup.now M.spec M.refines me.0 (entries_of journal.new)) }
+    ensures stay { OnOk result (retained (entries_of journal.new) ≡ entries_of journal.new) }
     ensures same { IfOk result (IsOf setup.now me) }
     ensures attached { OnOk result
         (IsAttached (sight D.history D.passes D.faults D.current D.files (disk_of journal.old))
@@ -146,7 +267,7 @@ pub(crate) fn open<M: Sequenced, D: Disk>(
     ensures sound { IsSound D.history D.room journal.new }
 {
     match journal.attach() {
-        Ok(()) => replay(alloc, setup, directory, me, journal),
+        Ok(()) => recover(alloc, setup, directory, me, journal),
         Err(error) => Err(error),
     }
 }

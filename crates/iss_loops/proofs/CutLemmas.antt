@@ -1,12 +1,13 @@
 -- A loop that is cut short: its state comes of frames that were taken and of events that the node took.
-use Rattle.std.proofs.Common.{◌≡◌, ◌∙◌, ℕ, zero, suc, ◌+◌, ◌==◌, nat_lt, Bool, true, false, List, [], ◌∷◌, ◌++◌, Option, Some, None, Result, Ok, Err, IsErrOf, if◌then◌else◌, refl, ap, sym, subst}
-use Rattle.iss_base.specs.Lists.{nth}
+use Rattle.std.proofs.Common.{◌≡◌, ◌∙◌, ℕ, zero, suc, ◌+◌, ◌<◌, ◌≤◌, ◌==◌, nat_lt, Bool, true, false, List, [], ◌∷◌, ◌++◌, length, get_or, drop, Option, Some, None, Result, Ok, Err, IsErrOf, if◌then◌else◌, refl, ap, sym, subst, arith}
+use Rattle.std.proofs.lemmas.List.{drop_all, drop_more}
 use Rattle.iss_links.specs.Ends.{End, after_take, end_at}
 use Rattle.iss_links.specs.Frames.{Fragment}
 use Rattle.iss_links.specs.Reassembly.{completed_by}
+use Rattle.iss_loops.proofs.NodeLemmas.{Comes}
 use Rattle.iss_loops.specs.Loop.{packet_at, packet_of, packet_or, peer_of}
 use Rattle.iss_loops.specs.NodeBehavior.{FailsAt, NodeBehavior}
-use Rattle.iss_loops.specs.NodeLoop.{HasSent, IsAt, IsCut, NodeState, after_moves, arrives, asks, copies, moves_on, proposes, receives, rests, send_each, send_to, takes, times_out, turn, wakes}
+use Rattle.iss_loops.specs.NodeLoop.{GrowsTo, HasGone, HasLooped, HasSent, IsAt, IsCut, NodeState, after_moves, arrives, asks, copies, begins, moves_on, node_loop_of, proposes, receives, rests, send_each, send_to, takes, times_out, turn, turns, wakes}
 use Rattle.iss_loops.specs.declared.node_loop.NodeProgress.{NodeProgress}
 use Rattle.iss_loops.specs.Errors.{of_loop, of_step}
 use Rattle.iss_loops.specs.declared.errors.LoopError.{LoopError}
@@ -169,46 +170,67 @@ module _ (B : NodeBehavior) where
     pub reach : Reaches from now
 
   -- what is cut behind a part of the loop is cut behind its start
-  pub cut-behind : (later now : NodeBehavior) (leaves : List NodeEvent → NodeEvent → Type 0) (events0 events1 : List NodeEvent) (ends0 ends1 ends2 : Option (List End)) (progress0 progress1 : NodeProgress) (F : NodeState → NodeState)
-      → ((w : NodeState) → Reaches w (F w)) → later ≡ B → ((k : ℕ) (e : NodeEvent) → nth events0 k ≡ Some e → nth events1 k ≡ Some e)
-      → ((w : NodeState) → IsAt events0 ends0 progress0 w → IsAt events1 ends1 progress1 (F w))
-      → IsCut later now leaves events1 ends1 progress1 ends2 → IsCut B now leaves events0 ends0 progress0 ends2
-  cut-behind later now leaves events0 events1 ends0 ends1 ends2 progress0 progress1 F reach same grown goes c = record {
-    kept = c.kept;
-    failed = c.failed;
-    fails = subst (λ (x : NodeBehavior). FailsAt x now leaves c.kept c.failed) same c.fails;
-    grown = λ k e h. c.grown k e (grown k e h);
-    sent = λ w at. has-sent w (F w) c.kept ends2 (reach w) (subst (λ (x : NodeBehavior). HasSent x (F w) c.kept ends2) same (c.sent (F w) (goes w at)));
-  }
+  pub cut-behind : (leaves : List NodeEvent → NodeEvent → Type 0) (events : List NodeEvent) (has : List NodeEvent → Type 0) (ends0 ends1 ends2 : Option (List End)) (progress0 progress1 : NodeProgress) (F : NodeState → NodeState)
+      → ((w : NodeState) → Reaches w (F w)) → HasGone events has ends0 ends1 progress0 progress1 F → ((es : List NodeEvent) → has es → IsCut B leaves es ends1 progress1 ends2) → IsCut B leaves events ends0 progress0 ends2
+  cut-behind leaves events has ends0 ends1 ends2 progress0 progress1 F reach h cut =
+      let c = cut h.later h.there in
+      record {
+        kept = c.kept;
+        failed = c.failed;
+        fails = c.fails;
+        grown = λ k e g. c.grown k e (h.grown k e g);
+        sent = λ w at. has-sent w (F w) c.kept ends2 (reach w) (c.sent (F w) (h.goes w at));
+      }
 
-  -- the same, where it is not told how the part got there
-  pub cut-gone : (later now : NodeBehavior) (leaves : List NodeEvent → NodeEvent → Type 0) (events0 events1 : List NodeEvent) (ends0 ends1 ends2 : Option (List End)) (progress0 progress1 : NodeProgress)
-      → later ≡ B → ((k : ℕ) (e : NodeEvent) → nth events0 k ≡ Some e → nth events1 k ≡ Some e)
-      → ((w : NodeState) → IsAt events0 ends0 progress0 w → Gone events1 ends1 progress1 w)
-      → IsCut later now leaves events1 ends1 progress1 ends2 → IsCut B now leaves events0 ends0 progress0 ends2
-  cut-gone later now leaves events0 events1 ends0 ends1 ends2 progress0 progress1 same grown gone c = record {
-    kept = c.kept;
-    failed = c.failed;
-    fails = subst (λ (x : NodeBehavior). FailsAt x now leaves c.kept c.failed) same c.fails;
-    grown = λ k e h. c.grown k e (grown k e h);
-    sent = λ w at. let there = gone w at in
-        has-sent w there.now c.kept ends2 there.reach (subst (λ (x : NodeBehavior). HasSent x there.now c.kept ends2) same (c.sent there.now there.at));
+  -- A part of the loop has led here. What is left of it leads to the whole.
+  pub record IsPassing (events : List NodeEvent) (has : List NodeEvent → Type 0) (ends0 ends : Option (List End)) (progress0 progress : NodeProgress) (rest whole : NodeState → NodeState) : Type 0 where
+    pub later : List NodeEvent
+    pub there : has later
+    pub grown : GrowsTo events later
+    pub comes : (w : NodeState) → IsAt events ends0 progress0 w → Comes later ends progress rest (whole w)
+    pub gone : (w : NodeState) → IsAt events ends0 progress0 w → Gone later ends progress w
+
+  -- what is cut behind a part of the loop is cut behind its start
+  pub cut-passing : (leaves : List NodeEvent → NodeEvent → Type 0) (events : List NodeEvent) (has : List NodeEvent → Type 0) (ends0 ends1 ends2 : Option (List End)) (progress0 progress1 : NodeProgress) (rest whole : NodeState → NodeState)
+      → IsPassing events has ends0 ends1 progress0 progress1 rest whole → ((es : List NodeEvent) → has es → IsCut B leaves es ends1 progress1 ends2) → IsCut B leaves events ends0 progress0 ends2
+  cut-passing leaves events has ends0 ends1 ends2 progress0 progress1 rest whole u cut =
+      let c = cut u.later u.there in
+      record {
+        kept = c.kept;
+        failed = c.failed;
+        fails = c.fails;
+        grown = λ k e g. c.grown k e (u.grown k e g);
+        sent = λ w at. let there = u.gone w at in has-sent w there.now c.kept ends2 there.reach (c.sent there.now there.at);
+      }
+
+  -- it begins
+  pub passing-first : (events : List NodeEvent) (has : List NodeEvent → Type 0) (ends : Option (List End)) (progress : NodeProgress) (whole : NodeState → NodeState) → has events → IsPassing events has ends ends progress progress whole whole
+  passing-first events has ends progress whole there = record {
+    later = events;
+    there = there;
+    grown = λ k e h. h;
+    comes = λ w at. record { now = w; at = at; same = refl };
+    gone = λ w at. record { now = w; at = at; reach = stays w };
   }
 
   -- one part more
-  pub gone-on : (later : NodeBehavior) (events0 events1 events2 : List NodeEvent) (ends0 ends1 ends2 : Option (List End)) (progress0 progress1 progress2 : NodeProgress) (w : NodeState) (F : NodeBehavior → NodeState → NodeState)
-      → ((v : NodeState) → Reaches v (F B v)) → later ≡ B → Gone events1 ends1 progress1 w
-      → ((v : NodeState) → IsAt events1 ends1 progress1 v → IsAt events2 ends2 progress2 (F later v)) → Gone events2 ends2 progress2 w
-  gone-on later events0 events1 events2 ends0 ends1 ends2 progress0 progress1 progress2 w F reach same g goes = record {
-    now = F B g.now;
-    at = subst (λ (x : NodeBehavior). IsAt events2 ends2 progress2 (F x g.now)) same (goes g.now g.at);
-    reach = goes-on w g.now (F B g.now) g.reach (reach g.now);
-  }
+  pub passing-more : (events : List NodeEvent) (has1 has2 : List NodeEvent → Type 0) (ends0 ends1 ends2 : Option (List End)) (progress0 progress1 progress2 : NodeProgress) (rest rest2 whole whole2 F : NodeState → NodeState)
+      → ((w : NodeState) → Reaches w (F w)) → IsPassing events has1 ends0 ends1 progress0 progress1 rest whole → ((es : List NodeEvent) → has1 es → HasGone es has2 ends1 ends2 progress1 progress2 F)
+      → ((v w : NodeState) → rest v ≡ whole w → rest2 (F v) ≡ whole2 w) → IsPassing events has2 ends0 ends2 progress0 progress2 rest2 whole2
+  passing-more events has1 has2 ends0 ends1 ends2 progress0 progress1 progress2 rest rest2 whole whole2 F reach p more same =
+      let h = more p.later p.there in
+      record {
+        later = h.later;
+        there = h.there;
+        grown = λ k e g. h.grown k e (p.grown k e g);
+        comes = λ w at. let c = p.comes w at in record { now = F c.now; at = h.goes c.now c.at; same = same c.now w c.same };
+        gone = λ w at. let g = p.gone w at in record { now = F g.now; at = h.goes g.now g.at; reach = goes-on w g.now (F g.now) g.reach (reach g.now) };
+      }
 
   -- the disk fails at an event
-  pub cut-here : (now : NodeBehavior) (leaves : List NodeEvent → NodeEvent → Type 0) (event : NodeEvent) (events : List NodeEvent) (ends : Option (List End)) (progress : NodeProgress)
-      → FailsAt B now leaves events event → IsCut B now leaves events ends progress ends
-  cut-here now leaves event events ends progress fails = record {
+  pub cut-here : (leaves : List NodeEvent → NodeEvent → Type 0) (event : NodeEvent) (events : List NodeEvent) (ends : Option (List End)) (progress : NodeProgress)
+      → FailsAt B leaves events event → IsCut B leaves events ends progress ends
+  cut-here leaves event events ends progress fails = record {
     kept = events;
     failed = event;
     fails = fails;
@@ -217,35 +239,81 @@ module _ (B : NodeBehavior) where
   }
 
   -- the code is idle or not
-  pub cut-idle : (now : NodeBehavior) (leaves : List NodeEvent → NodeEvent → Type 0) (events : List NodeEvent) (ends ends2 : Option (List End)) (progress after : NodeProgress) → after.count ≡ progress.count
-      → IsCut B now leaves events ends after ends2 → IsCut B now leaves events ends progress ends2
-  cut-idle now leaves events ends ends2 progress after same c = cut-behind B now leaves events events ends ends ends2 progress after
-      (λ (w : NodeState). still after.idle after.idle_turns w) (λ w. rested after.idle after.idle_turns w) refl (λ k e h. h)
-      (λ w at. record { events_are = at.events_are; ends_are = at.ends_are; count = same ∙ at.count; idle = refl; idle_turns = refl }) c
+  pub cut-idle : (leaves : List NodeEvent → NodeEvent → Type 0) (events : List NodeEvent) (ends ends2 : Option (List End)) (progress after : NodeProgress) → after.count ≡ progress.count
+      → IsCut B leaves events ends after ends2 → IsCut B leaves events ends progress ends2
+  cut-idle leaves events ends ends2 progress after same c = record {
+    kept = c.kept;
+    failed = c.failed;
+    fails = c.fails;
+    grown = c.grown;
+    sent = λ w at. has-sent w (still after.idle after.idle_turns w) c.kept ends2 (rested after.idle after.idle_turns w)
+        (c.sent (still after.idle after.idle_turns w) (record { events_are = at.events_are; ends_are = at.ends_are; count = same ∙ at.count; idle = refl; idle_turns = refl }));
+  }
 
   -- a packet arrived
-  pub cut-received : (now : NodeBehavior) (leaves : List NodeEvent → NodeEvent → Type 0) (me most : ℕ) (events : List NodeEvent) (ends ends1 ends2 : Option (List End)) (progress after : NodeProgress) → me ≡ B.me → after ≡ record progress { idle = false }
+  pub cut-received : (leaves : List NodeEvent → NodeEvent → Type 0) (me most : ℕ) (events : List NodeEvent) (ends ends1 ends2 : Option (List End)) (progress after : NodeProgress) → B.me ≡ me → after ≡ record progress { idle = false }
       → ((es : List End) → ends ≡ Some es → ends1 ≡ Some (packet_at me most es).1)
-      → IsCut B now leaves events ends1 after ends2 → IsCut B now leaves events ends progress ends2
-  cut-received now leaves me most events ends ends1 ends2 progress after mine is left c = cut-behind B now leaves events events ends ends1 ends2 progress after
-      (λ (w : NodeState). still false w.idle_turns (record w { ends = (packet_at B.me most w.ends).1 }))
-      (λ w. goes-on w (record w { ends = (packet_at B.me most w.ends).1 }) (still false w.idle_turns (record w { ends = (packet_at B.me most w.ends).1 })) (frames-reach most w) (rested false w.idle_turns (record w { ends = (packet_at B.me most w.ends).1 })))
-      refl (λ k e h. h)
-      (λ w at. record {
-        events_are = at.events_are;
-        ends_are = left w.ends at.ends_are ∙ ap (λ (m : ℕ). Some (packet_at m most w.ends).1) mine;
-        count = ap (λ (x : NodeProgress). x.count) is ∙ at.count;
-        idle = ap (λ (x : NodeProgress). x.idle) is;
-        idle_turns = ap (λ (x : NodeProgress). x.idle_turns) is ∙ at.idle_turns;
-      }) c
-
-  -- a loop begins
-  pub gone-first : (events : List NodeEvent) (ends : Option (List End)) (progress0 progress : NodeProgress) → progress ≡ progress0 → (w : NodeState) → IsAt events ends progress0 w → Gone events ends progress w
-  gone-first events ends progress0 progress is w at = record {
-    now = w;
-    at = subst (λ (p : NodeProgress). IsAt events ends p w) (sym is) at;
-    reach = stays w;
+      → IsCut B leaves events ends1 after ends2 → IsCut B leaves events ends progress ends2
+  cut-received leaves me most events ends ends1 ends2 progress after mine is left c = record {
+    kept = c.kept;
+    failed = c.failed;
+    fails = c.fails;
+    grown = c.grown;
+    sent = λ w at.
+        let w1 : NodeState = record w { ends = (packet_at B.me most w.ends).1 } in
+        has-sent w (still false w.idle_turns w1) c.kept ends2 (goes-on w w1 (still false w.idle_turns w1) (frames-reach most w) (rested false w.idle_turns w1))
+        (c.sent (still false w.idle_turns w1) (record {
+          events_are = at.events_are;
+          ends_are = left w.ends at.ends_are ∙ ap (λ (m : ℕ). Some (packet_at m most w.ends).1) (sym mine);
+          count = ap (λ (x : NodeProgress). x.count) is ∙ at.count;
+          idle = ap (λ (x : NodeProgress). x.idle) is;
+          idle_turns = ap (λ (x : NodeProgress). x.idle_turns) is ∙ at.idle_turns;
+        }));
   }
+
+-- ---- loops
+
+-- one leader more
+pub times-out-on : (B : NodeBehavior) (leaders : List NodeId) (i : ℕ) (d : NodeId) (events : List NodeEvent) (has1 has2 : List NodeEvent → Type 0) (ends0 ends1 ends2 : Option (List End)) (progress0 progress1 progress2 : NodeProgress) → i < length leaders
+    → IsPassing B events has1 ends0 ends1 progress0 progress1 (times_out B (drop i leaders)) (times_out B leaders)
+    → ((es : List NodeEvent) → has1 es → HasGone es has2 ends1 ends2 progress1 progress2 (takes B (Timeout (get_or leaders i d)))) → IsPassing B events has2 ends0 ends2 progress0 progress2 (times_out B (drop (i + 1) leaders)) (times_out B leaders)
+times-out-on B leaders i d events has1 has2 ends0 ends1 ends2 progress0 progress1 progress2 within p more =
+    passing-more B events has1 has2 ends0 ends1 ends2 progress0 progress1 progress2 (times_out B (drop i leaders)) (times_out B (drop (i + 1) leaders)) (times_out B leaders) (times_out B leaders) (takes B (Timeout (get_or leaders i d)))
+    (takes-reaches B (Timeout (get_or leaders i d))) p more (λ v w same. sym (ap (λ (ls : List NodeId). times_out B ls v) (drop_more leaders i d within)) ∙ same)
+
+-- no leader is left
+pub timed-out : (B : NodeBehavior) (leaders : List NodeId) (i : ℕ) (events : List NodeEvent) (has : List NodeEvent → Type 0) (ends0 ends : Option (List End)) (progress0 progress : NodeProgress) → length leaders ≤ i
+    → IsPassing B events has ends0 ends progress0 progress (times_out B (drop i leaders)) (times_out B leaders) → HasGone events has ends0 ends progress0 progress (times_out B leaders)
+timed-out B leaders i events has ends0 ends progress0 progress all p = record {
+  later = p.later;
+  there = p.there;
+  grown = p.grown;
+  goes = λ w at.
+      let c = p.comes w at in
+      let is : c.now ≡ times_out B leaders w = ap (λ (ls : List NodeId). times_out B ls c.now) (sym (drop_all i leaders all)) ∙ c.same in
+      subst (λ (v : NodeState). IsAt p.later ends progress v) is c.at;
+}
+
+-- one turn more
+pub turns-on : (B : NodeBehavior) (frames patience n : ℕ) (events : List NodeEvent) (has1 has2 : List NodeEvent → Type 0) (ends0 ends1 ends2 : Option (List End)) (progress0 progress1 progress2 : NodeProgress)
+    → IsPassing B events has1 ends0 ends1 progress0 progress1 (λ v. v) (turns B frames patience n)
+    → ((es : List NodeEvent) → has1 es → HasGone es has2 ends1 ends2 progress1 progress2 (turn B frames patience)) → IsPassing B events has2 ends0 ends2 progress0 progress2 (λ v. v) (turns B frames patience (n + 1))
+turns-on B frames patience n events has1 has2 ends0 ends1 ends2 progress0 progress1 progress2 p more =
+    let next : suc n ≡ n + 1 = omega arith in
+    passing-more B events has1 has2 ends0 ends1 ends2 progress0 progress1 progress2 (λ v. v) (λ v. v) (turns B frames patience n) (turns B frames patience (n + 1)) (turn B frames patience)
+    (turn-reaches B frames patience) p more (λ v w same. ap (turn B frames patience) same ∙ ap (λ (k : ℕ). turns B frames patience k w) next)
+
+-- all turns are over
+pub turned-all : (B : NodeBehavior) (frames patience n : ℕ) (events : List NodeEvent) (has : List NodeEvent → Type 0) (ends0 ends : Option (List End)) (progress : NodeProgress)
+    → IsPassing B events has ends0 ends (record { count = 0; idle = true; idle_turns = 0 }) progress (λ v. v) (turns B frames patience n) → HasLooped events has ends0 ends (node_loop_of B frames patience n events)
+turned-all B frames patience n events has ends0 ends progress p = record {
+  later = p.later;
+  there = p.there;
+  grown = p.grown;
+  loops = λ told is.
+      let c = p.comes (begins events told) (record { events_are = refl; ends_are = is; count = refl; idle = refl; idle_turns = refl }) in
+      record { events_are = c.at.events_are ∙ ap (λ (w : NodeState). w.events) c.same; ends_are = c.at.ends_are ∙ ap (λ (w : NodeState). Some w.ends) c.same };
+}
 
 -- ---- errors that are passed on
 

@@ -1,6 +1,6 @@
--- What a node does, as functions of the events that it has accepted, oldest first. Its loop sees no more of it.
-use Rattle.std.specs.Prelude.{◌≡◌, ℕ, ◌<◌, Bool, true, false, List, [], ◌∷◌, ◌++◌, Some}
-use Rattle.iss_base.specs.Lists.{nth}
+-- What a node does, as functions of the events that it has accepted since it was opened, oldest first. Its loop sees no
+-- more of it.
+use Rattle.std.specs.Prelude.{◌≡◌, ℕ, ◌<◌, Bool, true, false, List, [], ◌∷◌, ◌++◌}
 use Rattle.iss_loops.specs.declared.node.NodeStep.{NodeStep}
 use Rattle.iss_loops.specs.declared.node.NodeStep.TheVariants.{Taken, Dropped}
 use Rattle.iss_request.specs.declared.ids.NodeId.{NodeId}
@@ -22,12 +22,23 @@ pub record NodeBehavior : Type 0 where
   pub castable : List NodeEvent → Bool
   -- the leaders whose segments it has not filled, ascending
   pub unfilled : List NodeEvent → List NodeId
+  -- the entries that its journal shows, and what it keeps of one event more
+  pub shows : List NodeEvent → List (List ℕ)
+  pub keeps : List NodeEvent → NodeEvent → List ℕ
+  -- its epoch, and what it prints of its state
+  pub epoch : List NodeEvent → ℕ
+  pub prints : List NodeEvent → List ℕ
 
--- What came of an event: it was accepted, and these are its sends; or it was dropped, and nothing has changed.
-abbrev pub IsStep : NodeBehavior → List NodeEvent → NodeEvent → List NodeEvent → NodeStep → Type 0
-IsStep B events e after (Taken sends) =
-    (B.accepts events e ≡ true) × (after ≡ events ++ e ∷ []) × (sends ≡ B.sends events e)
-IsStep B events e after Dropped = (B.accepts events e ≡ false) × (after ≡ events)
+-- A node that need not be reopened: it has accepted some events, by what it does.
+abbrev pub IsOpen : (NodeBehavior → List NodeEvent → Type 0) → Type 0
+IsOpen has = (B : NodeBehavior) × (events : List NodeEvent) × has B events
+
+-- What came of an event: it was accepted, and these are its sends; or it was dropped, and nothing has changed. `has`
+-- tells which events the node has accepted now.
+abbrev pub IsStep : NodeBehavior → List NodeEvent → NodeEvent → (List NodeEvent → Type 0) → NodeStep → Type 0
+IsStep B events e has (Taken sends) =
+    (B.accepts events e ≡ true) × has (events ++ e ∷ []) × (sends ≡ B.sends events e)
+IsStep B events e has Dropped = (B.accepts events e ≡ false) × has events
 
 -- the event names nodes
 abbrev pub NamesNodes : ℕ → NodeEvent → Type 0
@@ -41,24 +52,17 @@ abbrev pub GoTo : ℕ → NodeStep → Type 0
 GoTo n (Taken sends) = AreToNodes n sends
 GoTo n Dropped = Unit {0}
 
--- these are the sends of the newest event, which is among those that the node has accepted
-pub record AreOfNewest (B : NodeBehavior) (events : List NodeEvent) (sends : List (To × List ℕ)) : Type 0 where
+-- these are the sends of the newest event that a node has accepted
+pub record AreOfNewest (has : NodeBehavior → List NodeEvent → Type 0) (sends : List (To × List ℕ)) : Type 0 where
+  pub does : NodeBehavior
   pub before : List NodeEvent
   pub newest : NodeEvent
-  pub kept : events ≡ before ++ newest ∷ []
-  pub made : sends ≡ B.sends before newest
-
--- A node that does what it did before, and that need not be reopened. The events in its journal are those from before,
--- and perhaps more behind them.
-pub record StaysOpen (before now : NodeBehavior) (events later : List NodeEvent) (stale : Bool) : Type 0 where
-  pub same : now ≡ before
-  pub fresh : stale ≡ false
-  pub grown : (k : ℕ) (e : NodeEvent) → nth events k ≡ Some e → nth later k ≡ Some e
+  pub accepted : has does (before ++ newest ∷ [])
+  pub made : sends ≡ does.sends before newest
 
 -- The disk failed while the journal was to get this event, which the node accepts. What a crash leaves of the journal
--- (`leaves`) is the events before it, or these and this one.
-pub record FailsAt (before now : NodeBehavior) (leaves : List NodeEvent → NodeEvent → Type 0)
+-- (`leaves`) is of the events before it, or of these and this one.
+pub record FailsAt (B : NodeBehavior) (leaves : List NodeEvent → NodeEvent → Type 0)
     (events : List NodeEvent) (event : NodeEvent) : Type 0 where
-  pub same : now ≡ before
-  pub accepted : before.accepts events event ≡ true
+  pub accepted : B.accepts events event ≡ true
   pub left : leaves events event

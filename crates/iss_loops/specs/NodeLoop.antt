@@ -1,5 +1,5 @@
--- Which events the loop of one node makes, as a function of what the node does, of the events that its journal held,
--- and of what its links hold at the start.
+-- Which events the loop of one node makes, as a function of what the node does, of the events that it has accepted
+-- before, and of what its links hold at the start.
 use Rattle.std.specs.Prelude.{◌≡◌, ℕ, zero, suc, ◌+◌, ◌==◌, nat_lt, Bool, true, false, List, [], ◌∷◌, ◌++◌, Option, Some, None, if◌then◌else◌}
 use Rattle.iss_base.specs.Lists.{nth}
 use Rattle.iss_links.specs.Ends.{End, after_send, after_take}
@@ -14,7 +14,7 @@ use Rattle.iss_sb.specs.declared.effects.To.TheVariants.{All, One}
 
 -- how far the loop has come
 pub record NodeState : Type 0 where
-  -- the events that the node has accepted, oldest first: first those that its journal held
+  -- the events that the node has accepted, oldest first: first those from before the loop
   pub events : List NodeEvent
   -- how many packets it has sent since the loop began
   pub count : ℕ
@@ -95,8 +95,8 @@ turns B frames patience (suc n) w = turn B frames patience (turns B frames patie
 abbrev pub begins : List NodeEvent → List End → NodeState
 begins held ends = record { events = held; count = 0; ends = ends; idle = true; idle_turns = 0 }
 
--- the whole loop, from the events that the journal held
--- A node goes on from the events of its journal, and ends after its turns
+-- the whole loop, from the events before it
+-- A node goes on from what its journal led to, and ends after its turns
 abbrev pub node_loop_of : NodeBehavior → (frames patience n : ℕ) → List NodeEvent → List End → NodeState
 node_loop_of B frames patience n held ends = turns B frames patience n (begins held ends)
 
@@ -131,17 +131,50 @@ pub record IsAt (events : List NodeEvent) (ends : Option (List End)) (progress :
   pub idle : progress.idle ≡ w.idle
   pub idle_turns : progress.idle_turns ≡ w.idle_turns
 
+-- all of these events, at their places, and perhaps more behind them
+abbrev pub GrowsTo : List NodeEvent → List NodeEvent → Type 0
+GrowsTo events later = (k : ℕ) (e : NodeEvent) → nth events k ≡ Some e → nth later k ≡ Some e
+
+-- A node with these events has now these and perhaps more (`has`). A loop that was at a state is where F leads from it.
+pub record HasGone (events : List NodeEvent) (has : List NodeEvent → Type 0) (ends ends_now : Option (List End))
+    (progress progress_now : NodeProgress) (F : NodeState → NodeState) : Type 0 where
+  pub later : List NodeEvent
+  pub there : has later
+  pub grown : GrowsTo events later
+  pub goes : (w : NodeState) → IsAt events ends progress w → IsAt later ends_now progress_now (F w)
+
+-- so of each list of events that the node may have accepted, by what it does
+abbrev pub Goes : (before now : NodeBehavior → List NodeEvent → Type 0) (ends ends_now : Option (List End))
+    (progress progress_now : NodeProgress) → (NodeBehavior → NodeState → NodeState) → Type 0
+Goes before now ends ends_now progress progress_now F = (B : NodeBehavior) (events : List NodeEvent) →
+    before B events → HasGone events (now B) ends ends_now progress progress_now (F B)
+
 -- these are the loop's events, and the links hold what it leaves there
 pub record HasRun (w : NodeState) (events : List NodeEvent) (ends : Option (List End)) : Type 0 where
   pub events_are : events ≡ w.events
   pub ends_are : ends ≡ Some w.ends
 
--- The disk failed at an event. The journal has the events before it, and perhaps this one. Nothing was sent of this
--- one.
-pub record IsCut (B now : NodeBehavior) (leaves : List NodeEvent → NodeEvent → Type 0) (events : List NodeEvent)
+-- A node with these events has now these and perhaps more (`has`): over links that record their frames, those of the
+-- loop.
+pub record HasLooped (events : List NodeEvent) (has : List NodeEvent → Type 0) (ends ends_now : Option (List End))
+    (loop : List End → NodeState) : Type 0 where
+  pub later : List NodeEvent
+  pub there : has later
+  pub grown : GrowsTo events later
+  pub loops : (told : List End) → ends ≡ Some told → HasRun (loop told) later ends_now
+
+-- The disk failed at an event. The journal has the events before it, and perhaps this one. Nothing was sent of this one.
+pub record IsCut (B : NodeBehavior) (leaves : List NodeEvent → NodeEvent → Type 0) (events : List NodeEvent)
     (ends : Option (List End)) (progress : NodeProgress) (ends_now : Option (List End)) : Type 0 where
   pub kept : List NodeEvent
   pub failed : NodeEvent
-  pub fails : FailsAt B now leaves kept failed
-  pub grown : (k : ℕ) (e : NodeEvent) → nth events k ≡ Some e → nth kept k ≡ Some e
+  pub fails : FailsAt B leaves kept failed
+  pub grown : GrowsTo events kept
   pub sent : (w : NodeState) → IsAt events ends progress w → HasSent B w kept ends_now
+
+-- so of each list of events that the node may have accepted, by what it does
+abbrev pub Cuts : (before : NodeBehavior → List NodeEvent → Type 0) →
+    (leaves : NodeBehavior → List NodeEvent → NodeEvent → Type 0) → (ends : Option (List End)) → NodeProgress →
+    (ends_now : Option (List End)) → Type 0
+Cuts before leaves ends progress ends_now = (B : NodeBehavior) (events : List NodeEvent) → before B events →
+    IsCut B (leaves B) events ends progress ends_now

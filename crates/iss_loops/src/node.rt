@@ -1,8 +1,8 @@
 // What a loop sees of one node with its journal.
-ghost use Rattle.std.specs.Prelude.{◌≡◌, ◌<◌, ◌≤◌, false, ℕ, Bool, List, IfOk, OnOk, IsErrOf};
+ghost use Rattle.std.specs.Prelude.{◌≡◌, ◌<◌, ◌≤◌, ℕ, List, IfOk, IsErrOf};
 ghost use Rattle.iss_disk.specs.Calls.{HasCause as HasDiskCause, Place};
 ghost use Rattle.iss_loops.specs.Behavior.{AreNodes};
-ghost use Rattle.iss_loops.specs.NodeBehavior.{FailsAt, GoTo, IsStep, NamesNodes, NodeBehavior, StaysOpen};
+ghost use Rattle.iss_loops.specs.NodeBehavior.{FailsAt, GoTo, IsOpen, IsStep, NamesNodes, NodeBehavior};
 ghost use Rattle.iss_rules.specs.declared.events.NodeEvent.{NodeEvent as ModelEvent};
 
 use iss_request::{Bytes, NoMemory, NodeId, Seq};
@@ -29,14 +29,12 @@ pub enum StepError {
 
 /// A node with its journal. After an error it has to be reopened.
 pub trait JournaledNode {
-    /// What it does, as functions of the events that it has accepted.
-    ghost behavior: { Self → NodeBehavior };
+    /// How many nodes there are.
+    ghost nodes: { Self → ℕ };
 
-    /// The events in its journal, oldest first: those that it has accepted.
-    ghost events: { Self → List ModelEvent };
-
-    /// It has to be reopened.
-    ghost stale: { Self → Bool };
+    /// It does this, and has accepted these events since it was opened, oldest first. So nothing of a node that has to
+    /// be reopened.
+    ghost has: { Self → NodeBehavior → List ModelEvent → Type 0 };
 
     /// How many calls of its disk have failed.
     ghost faults: { Self → ℕ };
@@ -44,40 +42,43 @@ pub trait JournaledNode {
     /// The file of its journal, and which disk it is on.
     ghost place: { Self → Place };
 
-    /// Every crash leaves these events in its journal, or these and this one behind them.
-    ghost leaves: { Self → List ModelEvent → ModelEvent → Type 0 };
+    /// Every crash leaves in its journal what stays of these events, or of these and this one behind them.
+    ghost leaves: { Self → NodeBehavior → List ModelEvent → ModelEvent → Type 0 };
 
     /// Takes an event. One that it accepts is in the journal before its sends are released.
     fn take(&mut self, event: NodeEvent) -> Result<NodeStep, StepError>
-        requires fresh { stale self.old ≡ false }
-        requires nodes { NamesNodes (behavior self.old).setup.n event }
-        ensures step { IfOk result (IsStep (behavior self.old) (events self.old) event (events self.new)) }
-        ensures addressed { IfOk result (GoTo (behavior self.old).setup.n) }
-        ensures kept { OnOk result (StaysOpen (behavior self.old) (behavior self.new) (events self.old)
-            (events self.new) (stale self.new)) }
-        ensures cut { IsErrOf result StepError.DiskFault →
-            FailsAt (behavior self.old) (behavior self.new) (leaves self.new) (events self.old) event }
+        requires open { IsOpen (has self.old) }
+        requires nodes { NamesNodes (nodes self.old) event }
+        ensures step { IfOk result (λ step. (B : NodeBehavior) (events : List ModelEvent) → has self.old B events →
+            IsStep B events event (has self.new B) step) }
+        ensures addressed { IfOk result (GoTo (nodes self.old)) }
+        ensures cut { IsErrOf result StepError.DiskFault → (B : NodeBehavior) (events : List ModelEvent) →
+            has self.old B events → FailsAt B (leaves self.new B) events event }
         ensures cause { HasDiskCause (faults self.old) (faults self.new) (IsErrOf result StepError.DiskFault) }
-        ensures place { place self.new ≡ place self.old };
+        ensures place { place self.new ≡ place self.old }
+        ensures same { nodes self.new ≡ nodes self.old };
 
     /// Whether it leads its epoch and has a free slot to propose at.
     fn castable(&self) -> bool
-        requires { stale self.now ≡ false }
-        ensures { result ≡ (behavior self.now).castable (events self.now) };
+        requires { IsOpen (has self.now) }
+        ensures { (B : NodeBehavior) (events : List ModelEvent) → has self.now B events →
+            result ≡ B.castable events };
 
     /// The leaders whose segments it has not filled, ascending.
     fn unfilled(&self) -> Result<Seq<NodeId>, NoMemory>
-        requires { stale self.now ≡ false }
-        ensures leaders { IfOk result (λ leaders. leaders ≡ (behavior self.now).unfilled (events self.now)) }
-        ensures nodes { IfOk result (λ leaders. AreNodes (behavior self.now).setup.n leaders) };
+        requires { IsOpen (has self.now) }
+        ensures leaders { IfOk result (λ leaders. (B : NodeBehavior) (events : List ModelEvent) →
+            has self.now B events → leaders ≡ B.unfilled events) }
+        ensures nodes { IfOk result (λ leaders. AreNodes (nodes self.now) leaders) };
 
     /// How many nodes there are.
     fn nodes(&self) -> u32
-        ensures nodes { result ≡ (behavior self.now).setup.n }
+        ensures nodes { result ≡ nodes self.now }
+        ensures is { (B : NodeBehavior) (events : List ModelEvent) → has self.now B events → B.setup.n ≡ result }
         ensures few { result ≤ 64 };
 
     /// Which of them it is.
     fn me(&self) -> u32
-        ensures me { result ≡ (behavior self.now).me }
-        ensures node { result < (behavior self.now).setup.n };
+        ensures is { (B : NodeBehavior) (events : List ModelEvent) → has self.now B events → B.me ≡ result }
+        ensures node { result < nodes self.now };
 }

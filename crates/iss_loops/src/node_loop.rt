@@ -1,11 +1,11 @@
 // The loop of one node.
-ghost use Rattle.std.specs.Prelude.{◌≡◌, ◌<◌, ◌≤◌, ◌^◌, ◌+◌, ◌-◌, true, false, ℕ, List, Some, OnOk, IsErrOf};
+ghost use Rattle.std.specs.Prelude.{◌≡◌, ◌<◌, ◌≤◌, ◌^◌, ◌+◌, ◌-◌, true, ℕ, List, Some, OnOk, IsErrOf};
 ghost use Rattle.iss_disk.specs.Calls.{HasCause as HasDiskCause};
 ghost use Rattle.iss_links.specs.Calls.{HasCause};
 ghost use Rattle.iss_links.specs.Ends.{End};
 ghost use Rattle.iss_loops.specs.Behavior.{AreNodes};
-ghost use Rattle.iss_loops.specs.NodeBehavior.{AreOfNewest, NamesNodes, NodeBehavior, StaysOpen};
-ghost use Rattle.iss_loops.specs.NodeLoop.{HasRun, IsAt, IsCut, NodeState, asks, copies, node_loop_of, proposes, receives, rests, send_below, send_each, send_to, takes, times_out, turn, wakes};
+ghost use Rattle.iss_loops.specs.NodeBehavior.{AreOfNewest, IsOpen, NamesNodes, NodeBehavior};
+ghost use Rattle.iss_loops.specs.NodeLoop.{Cuts, Goes, HasLooped, IsAt, NodeState, asks, copies, node_loop_of, proposes, receives, rests, send_below, send_each, send_to, takes, times_out, turn, wakes};
 ghost use Rattle.iss_rules.specs.declared.events.NodeEvent.{NodeEvent as ModelEvent};
 ghost use Rattle.iss_sb.specs.Calls.{AreToNodes, IsToNode};
 
@@ -133,11 +133,11 @@ fn release<N: JournaledNode, L: Links>(
     progress: &mut NodeProgress,
     sends: &[(To, Bytes)],
 ) -> Result<(), NodeError>
-    requires kept { AreOfNewest (N.behavior node.now) (N.events node.now) sends.now }
-    requires to { AreToNodes (N.behavior node.now).setup.n sends.now }
-    ensures goes { OnOk result ((events : List ModelEvent) (w : NodeState) →
-        IsAt events (L.ends links.old) progress.old w →
-        IsAt events (L.ends links.new) progress.new (send_each (N.behavior node.now) sends.now w)) }
+    requires kept { AreOfNewest (N.has node.now) sends.now }
+    requires to { AreToNodes (N.nodes node.now) sends.now }
+    ensures goes { OnOk result ((B : NodeBehavior) (events : List ModelEvent) → N.has node.now B events →
+        (w : NodeState) → IsAt events (L.ends links.old) progress.old w →
+        IsAt events (L.ends links.new) progress.new (send_each B sends.now w)) }
     ensures idle_turns { progress.new.idle_turns ≡ progress.old.idle_turns }
     ensures links { HasCause (L.faults links.old) (L.faults links.new) (IsErrOf result NodeError.LinksFault) }
     ensures disk { IsErrOf result NodeError.DiskFault → ⊥ }
@@ -152,18 +152,17 @@ fn take<N: JournaledNode, L: Links>(
     progress: &mut NodeProgress,
     event: NodeEvent,
 ) -> Result<(), NodeError>
-    requires fresh { N.stale node.old ≡ false }
-    requires names { NamesNodes (N.behavior node.old).setup.n event }
-    ensures goes { OnOk result ((w : NodeState) → IsAt (N.events node.old) (L.ends links.old) progress.old w →
-        IsAt (N.events node.new) (L.ends links.new) progress.new (takes (N.behavior node.old) event w)) }
-    ensures kept { OnOk result (StaysOpen (N.behavior node.old) (N.behavior node.new) (N.events node.old)
-        (N.events node.new) (N.stale node.new)) }
+    requires open { IsOpen (N.has node.old) }
+    requires names { NamesNodes (N.nodes node.old) event }
+    ensures goes { OnOk result (Goes (N.has node.old) (N.has node.new) (L.ends links.old) (L.ends links.new)
+        progress.old progress.new (λ B. takes B event)) }
     ensures idle_turns { progress.new.idle_turns ≡ progress.old.idle_turns }
-    ensures cut { IsErrOf result NodeError.DiskFault → IsCut (N.behavior node.old) (N.behavior node.new)
-        (N.leaves node.new) (N.events node.old) (L.ends links.old) progress.old (L.ends links.new) }
+    ensures cut { IsErrOf result NodeError.DiskFault →
+        Cuts (N.has node.old) (N.leaves node.new) (L.ends links.old) progress.old (L.ends links.new) }
     ensures links { HasCause (L.faults links.old) (L.faults links.new) (IsErrOf result NodeError.LinksFault) }
     ensures disk { HasDiskCause (N.faults node.old) (N.faults node.new) (IsErrOf result NodeError.DiskFault) }
     ensures place { N.place node.new ≡ N.place node.old }
+    ensures same { N.nodes node.new ≡ N.nodes node.old }
 {
     match node.take(event)? {
         NodeStep::Taken(sends) => release(node, links, progress, sends.as_slice()),
@@ -177,17 +176,16 @@ fn propose<N: JournaledNode, L: Links>(
     links: &mut L,
     progress: &mut NodeProgress,
 ) -> Result<(), NodeError>
-    requires { N.stale node.old ≡ false }
-    ensures goes { OnOk result ((w : NodeState) → IsAt (N.events node.old) (L.ends links.old) progress.old w →
-        IsAt (N.events node.new) (L.ends links.new) progress.new (proposes (N.behavior node.old) w)) }
-    ensures kept { OnOk result (StaysOpen (N.behavior node.old) (N.behavior node.new) (N.events node.old)
-        (N.events node.new) (N.stale node.new)) }
+    requires { IsOpen (N.has node.old) }
+    ensures goes { OnOk result (Goes (N.has node.old) (N.has node.new) (L.ends links.old) (L.ends links.new)
+        progress.old progress.new (λ B. proposes B)) }
     ensures idle_turns { progress.new.idle_turns ≡ progress.old.idle_turns }
-    ensures cut { IsErrOf result NodeError.DiskFault → IsCut (N.behavior node.old) (N.behavior node.new)
-        (N.leaves node.new) (N.events node.old) (L.ends links.old) progress.old (L.ends links.new) }
+    ensures cut { IsErrOf result NodeError.DiskFault →
+        Cuts (N.has node.old) (N.leaves node.new) (L.ends links.old) progress.old (L.ends links.new) }
     ensures links { HasCause (L.faults links.old) (L.faults links.new) (IsErrOf result NodeError.LinksFault) }
     ensures disk { HasDiskCause (N.faults node.old) (N.faults node.new) (IsErrOf result NodeError.DiskFault) }
     ensures place { N.place node.new ≡ N.place node.old }
+    ensures same { N.nodes node.new ≡ N.nodes node.old }
 {
     if !node.castable() {
         return Ok(());
@@ -204,17 +202,16 @@ fn receive<N: JournaledNode, L: Links>(
     progress: &mut NodeProgress,
     most: u32,
 ) -> Result<(), NodeError>
-    requires { N.stale node.old ≡ false }
-    ensures goes { OnOk result ((w : NodeState) → IsAt (N.events node.old) (L.ends links.old) progress.old w →
-        IsAt (N.events node.new) (L.ends links.new) progress.new (receives (N.behavior node.old) most w)) }
-    ensures kept { OnOk result (StaysOpen (N.behavior node.old) (N.behavior node.new) (N.events node.old)
-        (N.events node.new) (N.stale node.new)) }
+    requires { IsOpen (N.has node.old) }
+    ensures goes { OnOk result (Goes (N.has node.old) (N.has node.new) (L.ends links.old) (L.ends links.new)
+        progress.old progress.new (λ B. receives B most)) }
     ensures idle_turns { progress.new.idle_turns ≡ progress.old.idle_turns }
-    ensures cut { IsErrOf result NodeError.DiskFault → IsCut (N.behavior node.old) (N.behavior node.new)
-        (N.leaves node.new) (N.events node.old) (L.ends links.old) progress.old (L.ends links.new) }
+    ensures cut { IsErrOf result NodeError.DiskFault →
+        Cuts (N.has node.old) (N.leaves node.new) (L.ends links.old) progress.old (L.ends links.new) }
     ensures links { HasCause (L.faults links.old) (L.faults links.new) (IsErrOf result NodeError.LinksFault) }
     ensures disk { HasDiskCause (N.faults node.old) (N.faults node.new) (IsErrOf result NodeError.DiskFault) }
     ensures place { N.place node.new ≡ N.place node.old }
+    ensures same { N.nodes node.new ≡ N.nodes node.old }
 {
     let nodes = node.nodes();
     let me = node.me();
@@ -235,19 +232,17 @@ fn time_out<N: JournaledNode, L: Links>(
     progress: &mut NodeProgress,
     leaders: &[NodeId],
 ) -> Result<(), NodeError>
-    requires fresh { N.stale node.old ≡ false }
-    requires leaders { AreNodes (N.behavior node.old).setup.n leaders.now }
-    ensures goes { OnOk result ((w : NodeState) → IsAt (N.events node.old) (L.ends links.old) progress.old w →
-        IsAt (N.events node.new) (L.ends links.new) progress.new
-        (times_out (N.behavior node.old) leaders.now w)) }
-    ensures kept { OnOk result (StaysOpen (N.behavior node.old) (N.behavior node.new) (N.events node.old)
-        (N.events node.new) (N.stale node.new)) }
+    requires open { IsOpen (N.has node.old) }
+    requires leaders { AreNodes (N.nodes node.old) leaders.now }
+    ensures goes { OnOk result (Goes (N.has node.old) (N.has node.new) (L.ends links.old) (L.ends links.new)
+        progress.old progress.new (λ B. times_out B leaders.now)) }
     ensures idle_turns { progress.new.idle_turns ≡ progress.old.idle_turns }
-    ensures cut { IsErrOf result NodeError.DiskFault → IsCut (N.behavior node.old) (N.behavior node.new)
-        (N.leaves node.new) (N.events node.old) (L.ends links.old) progress.old (L.ends links.new) }
+    ensures cut { IsErrOf result NodeError.DiskFault →
+        Cuts (N.has node.old) (N.leaves node.new) (L.ends links.old) progress.old (L.ends links.new) }
     ensures links { HasCause (L.faults links.old) (L.faults links.new) (IsErrOf result NodeError.LinksFault) }
     ensures disk { HasDiskCause (N.faults node.old) (N.faults node.new) (IsErrOf result NodeError.DiskFault) }
     ensures place { N.place node.new ≡ N.place node.old }
+    ensures same { N.nodes node.new ≡ N.nodes node.old }
 {
     for leader in leaders {
         take(node, links, progress, NodeEvent::Timeout(*leader))?;
@@ -261,17 +256,16 @@ fn ask<N: JournaledNode, L: Links>(
     links: &mut L,
     progress: &mut NodeProgress,
 ) -> Result<(), NodeError>
-    requires { N.stale node.old ≡ false }
-    ensures goes { OnOk result ((w : NodeState) → IsAt (N.events node.old) (L.ends links.old) progress.old w →
-        IsAt (N.events node.new) (L.ends links.new) progress.new (asks (N.behavior node.old) w)) }
-    ensures kept { OnOk result (StaysOpen (N.behavior node.old) (N.behavior node.new) (N.events node.old)
-        (N.events node.new) (N.stale node.new)) }
+    requires { IsOpen (N.has node.old) }
+    ensures goes { OnOk result (Goes (N.has node.old) (N.has node.new) (L.ends links.old) (L.ends links.new)
+        progress.old progress.new (λ B. asks B)) }
     ensures idle_turns { progress.new.idle_turns ≡ progress.old.idle_turns }
-    ensures cut { IsErrOf result NodeError.DiskFault → IsCut (N.behavior node.old) (N.behavior node.new)
-        (N.leaves node.new) (N.events node.old) (L.ends links.old) progress.old (L.ends links.new) }
+    ensures cut { IsErrOf result NodeError.DiskFault →
+        Cuts (N.has node.old) (N.leaves node.new) (L.ends links.old) progress.old (L.ends links.new) }
     ensures links { HasCause (L.faults links.old) (L.faults links.new) (IsErrOf result NodeError.LinksFault) }
     ensures disk { HasDiskCause (N.faults node.old) (N.faults node.new) (IsErrOf result NodeError.DiskFault) }
     ensures place { N.place node.new ≡ N.place node.old }
+    ensures same { N.nodes node.new ≡ N.nodes node.old }
 {
     let nodes = node.nodes();
     let me = node.me();
@@ -288,17 +282,16 @@ fn wake<N: JournaledNode, L: Links>(
     links: &mut L,
     progress: &mut NodeProgress,
 ) -> Result<(), NodeError>
-    requires { N.stale node.old ≡ false }
-    ensures goes { OnOk result ((w : NodeState) → IsAt (N.events node.old) (L.ends links.old) progress.old w →
-        IsAt (N.events node.new) (L.ends links.new) progress.new (wakes (N.behavior node.old) w)) }
-    ensures kept { OnOk result (StaysOpen (N.behavior node.old) (N.behavior node.new) (N.events node.old)
-        (N.events node.new) (N.stale node.new)) }
+    requires { IsOpen (N.has node.old) }
+    ensures goes { OnOk result (Goes (N.has node.old) (N.has node.new) (L.ends links.old) (L.ends links.new)
+        progress.old progress.new (λ B. wakes B)) }
     ensures idle_turns { progress.new.idle_turns ≡ progress.old.idle_turns }
-    ensures cut { IsErrOf result NodeError.DiskFault → IsCut (N.behavior node.old) (N.behavior node.new)
-        (N.leaves node.new) (N.events node.old) (L.ends links.old) progress.old (L.ends links.new) }
+    ensures cut { IsErrOf result NodeError.DiskFault →
+        Cuts (N.has node.old) (N.leaves node.new) (L.ends links.old) progress.old (L.ends links.new) }
     ensures links { HasCause (L.faults links.old) (L.faults links.new) (IsErrOf result NodeError.LinksFault) }
     ensures disk { HasDiskCause (N.faults node.old) (N.faults node.new) (IsErrOf result NodeError.DiskFault) }
     ensures place { N.place node.new ≡ N.place node.old }
+    ensures same { N.nodes node.new ≡ N.nodes node.old }
 {
     let leaders = node.unfilled()?;
     time_out(node, links, progress, leaders.as_slice())?;
@@ -312,18 +305,17 @@ fn rest<N: JournaledNode, L: Links>(
     progress: &mut NodeProgress,
     patience: u32,
 ) -> Result<(), NodeError>
-    requires fresh { N.stale node.old ≡ false }
+    requires open { IsOpen (N.has node.old) }
     requires idle_turns { progress.old.idle_turns < 2 ^ 32 - 1 }
-    ensures goes { OnOk result ((w : NodeState) → IsAt (N.events node.old) (L.ends links.old) progress.old w →
-        IsAt (N.events node.new) (L.ends links.new) progress.new (rests (N.behavior node.old) patience w)) }
-    ensures kept { OnOk result (StaysOpen (N.behavior node.old) (N.behavior node.new) (N.events node.old)
-        (N.events node.new) (N.stale node.new)) }
+    ensures goes { OnOk result (Goes (N.has node.old) (N.has node.new) (L.ends links.old) (L.ends links.new)
+        progress.old progress.new (λ B. rests B patience)) }
     ensures idle_turns { OnOk result (progress.new.idle_turns ≤ progress.old.idle_turns + 1) }
-    ensures cut { IsErrOf result NodeError.DiskFault → IsCut (N.behavior node.old) (N.behavior node.new)
-        (N.leaves node.new) (N.events node.old) (L.ends links.old) progress.old (L.ends links.new) }
+    ensures cut { IsErrOf result NodeError.DiskFault →
+        Cuts (N.has node.old) (N.leaves node.new) (L.ends links.old) progress.old (L.ends links.new) }
     ensures links { HasCause (L.faults links.old) (L.faults links.new) (IsErrOf result NodeError.LinksFault) }
     ensures disk { HasDiskCause (N.faults node.old) (N.faults node.new) (IsErrOf result NodeError.DiskFault) }
     ensures place { N.place node.new ≡ N.place node.old }
+    ensures same { N.nodes node.new ≡ N.nodes node.old }
 {
     if !progress.idle {
         progress.idle_turns = 0;
@@ -345,18 +337,17 @@ fn take_turn<N: JournaledNode, L: Links>(
     frames: u32,
     patience: u32,
 ) -> Result<(), NodeError>
-    requires fresh { N.stale node.old ≡ false }
+    requires open { IsOpen (N.has node.old) }
     requires idle_turns { progress.old.idle_turns < 2 ^ 32 - 1 }
-    ensures goes { OnOk result ((w : NodeState) → IsAt (N.events node.old) (L.ends links.old) progress.old w →
-        IsAt (N.events node.new) (L.ends links.new) progress.new (turn (N.behavior node.old) frames patience w)) }
-    ensures kept { OnOk result (StaysOpen (N.behavior node.old) (N.behavior node.new) (N.events node.old)
-        (N.events node.new) (N.stale node.new)) }
+    ensures goes { OnOk result (Goes (N.has node.old) (N.has node.new) (L.ends links.old) (L.ends links.new)
+        progress.old progress.new (λ B. turn B frames patience)) }
     ensures idle_turns { OnOk result (progress.new.idle_turns ≤ progress.old.idle_turns + 1) }
-    ensures cut { IsErrOf result NodeError.DiskFault → IsCut (N.behavior node.old) (N.behavior node.new)
-        (N.leaves node.new) (N.events node.old) (L.ends links.old) progress.old (L.ends links.new) }
+    ensures cut { IsErrOf result NodeError.DiskFault →
+        Cuts (N.has node.old) (N.leaves node.new) (L.ends links.old) progress.old (L.ends links.new) }
     ensures links { HasCause (L.faults links.old) (L.faults links.new) (IsErrOf result NodeError.LinksFault) }
     ensures disk { HasDiskCause (N.faults node.old) (N.faults node.new) (IsErrOf result NodeError.DiskFault) }
     ensures place { N.place node.new ≡ N.place node.old }
+    ensures same { N.nodes node.new ≡ N.nodes node.old }
 {
     progress.idle = true;
     propose(node, links, progress)?;
@@ -364,15 +355,15 @@ fn take_turn<N: JournaledNode, L: Links>(
     rest(node, links, progress, patience)
 }
 
-/// The loop of one node, from the events that its journal held. If the links record their frames, the events that the
-/// node accepts are those of the definition, and so is what the links hold at the end. Each packet is sent after its
-/// event was journaled.
+/// The loop of one node, from the events that it has accepted since it was opened. If the links record their frames,
+/// the events that the node accepts are those of the definition, and so is what the links hold at the end. Each packet
+/// is sent after its event was journaled.
 ///
 /// # Errors
 ///
 /// `LinksFault` only if the links' count of faults increased, `DiskFault` only if the disk's did, and `NoMemory`. At
 /// `DiskFault` nothing was sent of the event at which the disk failed.
-// A node goes on from the events of its journal, and ends after its turns
+// A node goes on from what its journal led to, and ends after its turns
 pub fn run_node_loop<N: JournaledNode, L: Links>(
     node: &mut N,
     links: &mut L,
@@ -380,18 +371,16 @@ pub fn run_node_loop<N: JournaledNode, L: Links>(
     patience: u32,
     turns: u32,
 ) -> Result<(), NodeError>
-    requires { N.stale node.old ≡ false }
-    ensures goes { OnOk result ((ends : List End) → L.ends links.old ≡ Some ends →
-        HasRun (node_loop_of (N.behavior node.old) frames patience turns (N.events node.old) ends)
-        (N.events node.new) (L.ends links.new)) }
-    ensures kept { OnOk result (StaysOpen (N.behavior node.old) (N.behavior node.new) (N.events node.old)
-        (N.events node.new) (N.stale node.new)) }
-    ensures cut { IsErrOf result NodeError.DiskFault → IsCut (N.behavior node.old) (N.behavior node.new)
-        (N.leaves node.new) (N.events node.old) (L.ends links.old) (record { count = 0; idle = true; idle_turns = 0 })
-        (L.ends links.new) }
+    requires { IsOpen (N.has node.old) }
+    ensures goes { OnOk result ((B : NodeBehavior) (events : List ModelEvent) → N.has node.old B events →
+        HasLooped events (N.has node.new B) (L.ends links.old) (L.ends links.new)
+        (node_loop_of B frames patience turns events)) }
+    ensures cut { IsErrOf result NodeError.DiskFault → Cuts (N.has node.old) (N.leaves node.new) (L.ends links.old)
+        (record { count = 0; idle = true; idle_turns = 0 }) (L.ends links.new) }
     ensures links { HasCause (L.faults links.old) (L.faults links.new) (IsErrOf result NodeError.LinksFault) }
     ensures disk { HasDiskCause (N.faults node.old) (N.faults node.new) (IsErrOf result NodeError.DiskFault) }
     ensures place { N.place node.new ≡ N.place node.old }
+    ensures same { N.nodes node.new ≡ N.nodes node.old }
 {
     let mut progress = NodeProgress::new();
     for _ in 0..turns {

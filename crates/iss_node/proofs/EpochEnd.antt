@@ -3,6 +3,7 @@ pub mod EpochEndRefines
 pub mod InstancesStart
 pub mod LeafIsKept
 pub mod NextEpochStarts
+pub mod SnapshotIsMade
 pub mod StepCompletes
 pub mod VoteRefines
 pub mod VotesAreCounted

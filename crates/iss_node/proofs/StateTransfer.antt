@@ -1,3 +1,4 @@
 pub mod AdoptionRefines
+pub mod EpochIsFilled
 pub mod HandOutRefines
 pub mod PieceChecks

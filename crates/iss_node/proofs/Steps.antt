@@ -1,7 +1,11 @@
 pub mod AnswersRefine
+pub mod EnteredLast
+pub mod EntriesAreKept
+pub mod EntriesCompose
 pub mod OutcomesCompose
 pub mod QueriesAgree
 pub mod ReportsAgree
+pub mod SavedAfter
 pub mod SlimCoresRefine
 pub mod StepsCompose
 pub mod VotesDoNotMatter

@@ -4,8 +4,11 @@ pub mod Cells
 pub mod Epochs
 pub mod Growth
 pub mod Inputs
+pub mod Marks
 pub mod Parcels
 pub mod Ready
+pub mod Rebuilding
 pub mod Shape
+pub mod Storing
 pub mod Transfers
 pub mod Votes

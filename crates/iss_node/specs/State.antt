@@ -16,6 +16,7 @@ use Rattle.iss_rules.specs.Past.{Past, before_own, log_of, taken_in}
 use Rattle.iss_rules.specs.Rules.{Rules}
 use Rattle.iss_model.specs.Sound.{IsSoundCore}
 use Rattle.iss_node.specs.Flights.{FlightState}
+use Rattle.iss_node.specs.Saved.{SavedState}
 use Rattle.iss_node.specs.declared.answers.Accepted.{Accepted}
 use Rattle.iss_node.specs.declared.answers.Early.{Early}
 use Rattle.iss_request.specs.Log.{log_ids}
@@ -56,6 +57,8 @@ pub record StateView (M Msg : Type 0) : Type 0 where
   -- The identities that were logged in this epoch.
   pub logged : List ReqId
   pub ballots : BallotsState
+  -- What the snapshots in the journal hold. No step reads it.
+  pub saved : SavedState
   pub keys : KeyState
 
 pub record NodeView (M Msg : Type 0) : Type 0 where

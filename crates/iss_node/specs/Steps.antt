@@ -2,7 +2,7 @@
 -- and hands out what the model makes: packets in order, own claims, read claims, hashed strings. If the model drops
 -- it, nothing changes, for the same cause. Where memory runs out the node is stale, and shows the log and epoch that
 -- it had.
-use Rattle.std.specs.Prelude.{◌≡◌, ◌<◌, ◌+◌, ◌^◌, ℕ, true, List, [], take}
+use Rattle.std.specs.Prelude.{◌≡◌, ◌<◌, ◌+◌, ◌^◌, ℕ, true, List, [], None, take}
 use Rattle.iss_log.specs.LogState.{GoesOn}
 use Rattle.iss_rules.specs.Concrete.{rules_of}
 use Rattle.iss_rules.specs.Formats.{formats_of}
@@ -14,6 +14,7 @@ use Rattle.iss_model.specs.Frames.{ends_in, finish_step_in, frame_of}
 use Rattle.iss_rules.specs.declared.events.NodeEvent.{NodeEvent}
 use Rattle.iss_rules.specs.declared.events.NodeEvent.TheVariants.{Packet as On_packet, Propose as On_propose, Timeout as On_timeout, AskFrom as On_ask}
 use Rattle.iss_rules.specs.declared.events.Why.{Why}
+use Rattle.iss_node.specs.Entered.{IsEntered, IsHeldEntered, IsKeptEntry}
 use Rattle.iss_node.specs.Internal.Epochs.{HasClosed, HasOpened}
 use Rattle.iss_node.specs.State.{NodeView, RefinesBareCore, RefinesCore, RefinesPast, StateRefinesCore, StateView, core_of}
 use Rattle.iss_node.specs.declared.answers.Answer.{Answer}
@@ -40,6 +41,7 @@ pub record IsTurned {M Msg : Type 0} (m : Module Msg) (refines : Relation M Msg)
     (turn : Turn Msg) (new : StateView M Msg) (outcome : Outcome) : Type 0 where
   pub refined : RefinesBareCore m refines new turn.core
   pub made : IsMade turn outcome
+  pub entered : IsEntered m new turn.entered outcome.entered
   pub addressed : AreToNodes new.setup.n outcome.sends
 
 -- The model accepts the event too, with this turn.
@@ -106,16 +108,18 @@ pub record IsNextEpoch {M Msg : Type 0} (refines : Relation M Msg) (old new : St
   pub new_is : new ≡ record begun { early = [] }
   pub kept : early ≡ old.early
 
--- Set-up and identity are the same, and the log was at most extended.
+-- Set-up, identity and what snapshots hold are the same, and the log was at most extended.
 pub record IsSameNode {M Msg : Type 0} (old new : StateView M Msg) : Type 0 where
   pub setup : new.setup ≡ old.setup
   pub me : new.me ≡ old.me
+  pub saved : new.saved ≡ old.saved
   pub log : GoesOn old.log.entries new.log.entries
 
 -- In addition the votes and certificates are the same.
 pub record IsLater {M Msg : Type 0} (old new : StateView M Msg) : Type 0 where
   pub setup : new.setup ≡ old.setup
   pub me : new.me ≡ old.me
+  pub saved : new.saved ≡ old.saved
   pub log : GoesOn old.log.entries new.log.entries
   pub ballots : new.ballots ≡ old.ballots
 
@@ -133,6 +137,7 @@ pub record IsHeldTurn {M Msg : Type 0} (m : Module Msg) (refines : Relation M Ms
     (turn : Turn Msg) (new : StateView M Msg) (outcome : Outcome) : Type 0 where
   pub refined : StateRefinesCore m refines new turn.core
   pub made : IsMade turn outcome
+  pub entered : IsHeldEntered m new turn.entered outcome.entered
   pub addressed : asked → AreToNodes new.setup.n outcome.sends
 
 pub record IsHeldTaken {M Msg : Type 0} (m : Module Msg) (refines : Relation M Msg) (asked : Type 0)
@@ -156,6 +161,39 @@ abbrev pub IsHeldStepOf : {M Msg : Type 0} → Module Msg → Relation M Msg →
     (Formats Msg → Rules → ℕ → Core Msg → Stepped Msg) → StateView M Msg → StepResult → Type 0
 IsHeldStepOf {Msg = Msg} m refines asked old step new answer = (c : Core Msg) → StateRefinesCore m refines old c →
     IsHeldStep m refines asked c (step (formats_of old.setup m) (rules_of old.setup) old.me.0 c) new answer
+
+-- A step was taken as an event of its own: what is handed out takes the event's place in a journal, and is noted.
+pub record IsKeptTaken {M Msg : Type 0} (m : Module Msg) (refines : Relation M Msg) (asked : Type 0)
+    (stepped : Stepped Msg) (old new : StateView M Msg) (outcome : Outcome) : Type 0 where
+  pub turn : Turn Msg
+  pub step_is : stepped ≡ Step_taken turn
+  pub refined : StateRefinesCore m refines new turn.core
+  pub made : IsMade turn outcome
+  pub entered : IsKeptEntry m old turn.entered new.saved outcome.entered
+  pub addressed : asked → AreToNodes new.setup.n outcome.sends
+
+pub record IsKeptDropped {M Msg : Type 0} (m : Module Msg) (refines : Relation M Msg) (c : Core Msg)
+    (stepped : Stepped Msg) (old new : StateView M Msg) (why : Why) : Type 0 where
+  pub step_is : stepped ≡ Step_dropped why
+  pub refined : StateRefinesCore m refines new c
+  pub saved : new.saved ≡ old.saved
+
+abbrev pub IsKeptStep : {M Msg : Type 0} → Module Msg → Relation M Msg → Type 0 → Core Msg → Stepped Msg →
+    StateView M Msg → StateView M Msg → StepResult → Type 0
+IsKeptStep m refines asked c stepped old new (Result_taken outcome) =
+    IsKeptTaken m refines asked stepped old new outcome
+IsKeptStep m refines asked c stepped old new (Result_dropped why) = IsKeptDropped m refines c stepped old new why
+
+abbrev pub IsKeptStepOf : {M Msg : Type 0} → Module Msg → Relation M Msg → Type 0 → StateView M Msg →
+    (Formats Msg → Rules → ℕ → Core Msg → Stepped Msg) → StateView M Msg → StepResult → Type 0
+IsKeptStepOf {Msg = Msg} m refines asked old step new answer = (c : Core Msg) → StateRefinesCore m refines old c →
+    IsKeptStep m refines asked c (step (formats_of old.setup m) (rules_of old.setup) old.me.0 c) old new answer
+
+-- Set-up and identity are the same, and the log was at most extended.
+pub record IsSameLog {M Msg : Type 0} (old new : StateView M Msg) : Type 0 where
+  pub setup : new.setup ≡ old.setup
+  pub me : new.me ≡ old.me
+  pub log : GoesOn old.log.entries new.log.entries
 
 -- The peer that an event names exists.
 abbrev pub IsOfNodes : ℕ → NodeEvent → Type 0
@@ -189,6 +227,22 @@ IsAnswer m refines asked c stepped new (Node_taken outcome) = IsTurn m refines a
 IsAnswer m refines asked c stepped new (Node_dropped why) = IsDrop m refines c stepped new why
 IsAnswer m refines asked c stepped new Node_no_memory = Unit {0}
 IsAnswer m refines asked c stepped new Node_stale = ⊥
+
+-- What the answer says of the snapshot that takes the event's place.
+abbrev pub IsEnteredAnswer : {M Msg : Type 0} → Module Msg → StateView M Msg → Stepped Msg → StateView M Msg →
+    Answer → Type 0
+IsEnteredAnswer m old (Step_taken turn) new (Node_taken outcome) =
+    IsKeptEntry m old turn.entered new.saved outcome.entered
+IsEnteredAnswer m old (Step_dropped why) new (Node_dropped cause) = new.saved ≡ old.saved
+IsEnteredAnswer m old stepped new answer = Unit {0}
+
+-- Nothing takes the place of an event that is replayed.
+-- rule: Persistence: No snapshot takes the place of an event that is replayed
+abbrev pub IsReplayed : Answer → Type 0
+IsReplayed (Node_taken outcome) = outcome.entered ≡ None
+IsReplayed (Node_dropped why) = Unit {0}
+IsReplayed Node_no_memory = Unit {0}
+IsReplayed Node_stale = Unit {0}
 
 -- Memory ran out: the node is stale, and reports the log and the epoch that it had.
 pub record IsSpoiled {M Msg : Type 0} (old new : NodeView M Msg) : Type 0 where

@@ -15,20 +15,23 @@ pub struct Outcome {
     pub early: Seq<Claim>,
     /// The strings that were hashed, in order.
     pub hashed: Seq<Bytes>,
+    /// If the event entered an epoch: the snapshot that takes its place in a journal, unless that is too long.
+    pub entered: Option<Bytes>,
 }
 
 impl Outcome {
-    ghost use Rattle.std.specs.Prelude.{◌≡◌, []};
+    ghost use Rattle.std.specs.Prelude.{◌≡◌, [], None};
 
     /// An empty outcome.
     pub fn nothing(alloc: Global) -> Outcome
-        ensures { result ≡ record { sends = []; own = []; early = []; hashed = [] } }
+        ensures { result ≡ record { sends = []; own = []; early = []; hashed = []; entered = None } }
     {
         Outcome {
             sends: Seq::new(alloc),
             own: Seq::new(alloc),
             early: Seq::new(alloc),
             hashed: Seq::new(alloc),
+            entered: None,
         }
     }
 }

@@ -89,6 +89,7 @@ impl<M: Sequenced> NodeState<M> {
             own,
             early: Seq::new(alloc),
             hashed,
+            entered: None,
         })
     }
 

@@ -66,6 +66,7 @@ impl<M: Sequenced> NodeState<M> {
 
     // Votes on the node's complete epoch (ISS: checkpoint) and starts the next one. Returns the vote's outcome and the
     // messages that arrived early.
+    // rule: Persistence: A snapshot is of the node as it enters an epoch, with the early messages that it takes next
     fn end_epoch(&mut self, alloc: Global) -> Result<(Outcome, Vec<Early<M::Msg>>), NoMemory>
         requires { MayVote M.spec M.refines self.old }
         ensures ended { IfOk result
@@ -76,8 +77,10 @@ impl<M: Sequenced> NodeState<M> {
     {
         let _setup = &self.setup;
         let vote = self.vote()?;
-        let outcome = self.hand_out_vote(alloc, &vote)?;
+        let mut outcome = self.hand_out_vote(alloc, &vote)?;
         let early = self.next_epoch(alloc)?;
+        let bytes = self.entry(alloc, early.as_slice())?;
+        outcome.entered = Some(bytes);
         Ok((outcome, early))
     }
 
@@ -234,6 +237,7 @@ fn with_early(outcome: Outcome, claims: Seq<Claim>) -> Outcome
         sends,
         own,
         hashed,
+        entered,
         ..
     } = outcome;
     Outcome {
@@ -241,6 +245,7 @@ fn with_early(outcome: Outcome, claims: Seq<Claim>) -> Outcome
         own,
         early: claims,
         hashed,
+        entered,
     }
 }
 
@@ -251,7 +256,11 @@ fn append_outcome(all: &mut Outcome, more: Outcome) -> Result<(), NoMemory>
     append(&mut all.sends, more.sends)?;
     append(&mut all.own, more.own)?;
     append(&mut all.early, more.early)?;
-    append(&mut all.hashed, more.hashed)
+    append(&mut all.hashed, more.hashed)?;
+    if let Some(bytes) = more.entered {
+        all.entered = Some(bytes);
+    }
+    Ok(())
 }
 
 fn append<T: Drop>(row: &mut Seq<T>, more: Seq<T>) -> Result<(), NoMemory>

@@ -1,5 +1,5 @@
 //! A node: its state, and whether it is stale.
-ghost use Rattle.std.specs.Prelude.{◌≡◌, ◌<◌, ◌≤◌, ◌↔◌, ℕ, true, IfOk, is_some, length, map, not, option_map, reverse};
+ghost use Rattle.std.specs.Prelude.{◌≡◌, ◌<◌, ◌≤◌, ◌↔◌, ℕ, [], false, true, None, IfOk, OnOk, is_some, length, map, not, option_map, reverse};
 ghost use Rattle.std.specs.List.{list_any};
 ghost use Rattle.iss_ballots.specs.Ballots.{cert_at};
 ghost use Rattle.iss_keys.specs.Directories.{AreKeysOf};
@@ -12,12 +12,14 @@ ghost use Rattle.iss_rules.specs.Setups.{IsSetupOf};
 ghost use Rattle.iss_model.specs.Views.{accepted_by, is_castable_now, is_unfilled, unfilled};
 ghost use Rattle.iss_model.specs.Frames.{claims_of_bytes_in, frame_of, step_in};
 ghost use Rattle.iss_node.specs.Internal.Ready.{RefinesSome};
-ghost use Rattle.iss_node.specs.State.{RefinesCore, RefinesPast, accepted_of};
+ghost use Rattle.iss_node.specs.State.{RefinesCore, RefinesPast, StateRefinesCore, accepted_of};
 ghost use Rattle.iss_request.specs.Log.{ids};
-ghost use Rattle.iss_node.specs.Steps.{HasRetreated, IsAnswer, IsHeldStepOf, IsLeft, IsOfNodes, IsSameNode};
+ghost use Rattle.iss_node.specs.Internal.Storing.{HasNoted, is_entry, storable};
+ghost use Rattle.iss_node.specs.Steps.{HasRetreated, IsAnswer, IsEnteredAnswer, IsHeldStepOf, IsKeptStepOf, IsLeft, IsOfNodes, IsReplayed, IsSameLog, IsSameNode};
 
-use crate::answers::{Accepted, Answer, StepResult};
+use crate::answers::{Accepted, Answer, Outcome, StepResult};
 use crate::flight::Flight;
+use crate::saved::Saved;
 use crate::starting::start_segments;
 use crate::state::NodeState;
 use iss_ballots::Ballots;
@@ -31,15 +33,19 @@ use iss_request::{Batch, Bytes, Epoch, NoMemory, NodeId, ReqId, Seq, Setup, Slot
 use iss_rules::NodeEvent;
 use iss_sb::{Claim, Input, Sequenced};
 use iss_segment::Segment;
+use iss_snapshot::snapshots::KIND;
 use iss_window::{Ids, Windows};
 use std::alloc::Global;
 use std::marker::Model;
+
+/// The length of the longest entry of a journal.
+const MAX_ENTRY: usize = 200_000_100;
 
 /// One replica. It becomes stale when memory runs out, or after `retreat`: then it only reports a log and an epoch, and
 /// takes no further event.
 #[derive(Drop)]
 pub struct Node<M: Sequenced> {
-    state: NodeState<M>,
+    pub(crate) state: NodeState<M>,
     stale: bool,
 }
 
@@ -70,6 +76,7 @@ impl<M: Sequenced> Node<M> {
         requires own { AreKeysOf me.0 setup.now.keys keys }
         ensures refines { IfOk result (λ v. RefinesCore M.spec M.refines v (record initial_core { leaf = keys.used })) }
         ensures same { IfOk result (λ v. (v.state.setup ≡ setup.now) × (v.state.me ≡ me)) }
+        ensures saved { IfOk result (λ v. v.state.saved ≡ record { from = 0; low = 0; strays = [] }) }
     {
         epochs_are_fair();
         let standing = Standing::new();
@@ -95,12 +102,31 @@ impl<M: Sequenced> Node<M> {
             early: Vec::new(alloc),
             logged: Ids::new(alloc),
             ballots,
+            saved: Saved::nothing(alloc),
             keys,
         };
         Ok(Node {
             state,
             stale: false,
         })
+    }
+
+    // The node with this state.
+    pub(crate) fn of(state: NodeState<M>) -> Node<M>
+        requires { (c : Core M.Msg) × StateRefinesCore M.spec M.refines state c }
+        ensures { result ≡ record { state = state; stale = false } }
+    {
+        Node {
+            state,
+            stale: false,
+        }
+    }
+
+    // Its state.
+    pub(crate) fn into_state(self) -> NodeState<M>
+        ensures { result ≡ self.state }
+    {
+        self.state
     }
 
     /// Takes an event. A dropped event changes nothing. After `NoMemory` the node is stale, and reports the log and
@@ -113,6 +139,9 @@ impl<M: Sequenced> Node<M> {
         ensures refused { (result ≡ Answer.Stale) ↔ (self.old.stale ≡ true) }
         ensures left { IsLeft self.old self.new result }
         ensures same { (self.new.state.setup ≡ self.old.state.setup) × (self.new.state.me ≡ self.old.state.me) }
+        ensures entered { (c : Core M.Msg) → RefinesCore M.spec M.refines self.old c →
+            IsEnteredAnswer M.spec self.old.state
+            (step_in (frame_of self.old.state.setup M.spec) self.old.state.me.0 c event) self.new.state result }
     {
         if self.stale {
             return Answer::Stale;
@@ -121,10 +150,46 @@ impl<M: Sequenced> Node<M> {
         let epoch = self.state.epoch;
         // An event that runs out of memory midway leaves the node stale.
         self.stale = true;
-        match self.state.turn(alloc, event) {
+        match self.state.kept_turn(alloc, event) {
             Ok(StepResult::Taken(outcome)) => {
                 self.stale = false;
                 Answer::Taken(outcome)
+            }
+            Ok(StepResult::Dropped(why)) => {
+                self.stale = false;
+                Answer::Dropped(why)
+            }
+            Err(_) => {
+                self.state.log.cut(held);
+                self.state.epoch = epoch;
+                Answer::NoMemory
+            }
+        }
+    }
+
+    /// Takes an event of a journal, as `take` does. It stands there already, so no snapshot takes its place, and none
+    /// is noted.
+    // rule: Persistence: No snapshot takes the place of an event that is replayed
+    pub fn replay(&mut self, alloc: Global, event: NodeEvent) -> Answer
+        ensures answer { (c : Core M.Msg) → RefinesCore M.spec M.refines self.old c →
+            IsAnswer M.spec M.refines (IsOfNodes self.old.state.setup.n event) c
+            (step_in (frame_of self.old.state.setup M.spec) self.old.state.me.0 c event) self.new result }
+        ensures refused { (result ≡ Answer.Stale) ↔ (self.old.stale ≡ true) }
+        ensures left { IsLeft self.old self.new result }
+        ensures same { (self.new.state.setup ≡ self.old.state.setup) × (self.new.state.me ≡ self.old.state.me) }
+        ensures saved { self.new.state.saved ≡ self.old.state.saved }
+        ensures entered { IsReplayed result }
+    {
+        if self.stale {
+            return Answer::Stale;
+        }
+        let held = self.state.log.entries().len();
+        let epoch = self.state.epoch;
+        self.stale = true;
+        match self.state.turn(alloc, event) {
+            Ok(StepResult::Taken(outcome)) => {
+                self.stale = false;
+                Answer::Taken(replayed(outcome))
             }
             Ok(StepResult::Dropped(why)) => {
                 self.stale = false;
@@ -234,6 +299,55 @@ impl<M: Sequenced> Node<M> {
 }
 
 impl<M: Sequenced> NodeState<M> {
+    // Takes an event, and notes the snapshot that takes its place, unless that is too long.
+    // rule: Persistence: A snapshot takes the place of the event that ended an epoch, unless it is too long
+    fn kept_turn(&mut self, alloc: Global, event: NodeEvent) -> Result<StepResult, NoMemory>
+        requires { RefinesSome M.spec M.refines self.old }
+        ensures answer { IfOk result (λ a. IsKeptStepOf M.spec M.refines (IsOfNodes self.old.setup.n event) self.old
+            (λ F R me c. step F R M.spec me c event) self.new a) }
+        ensures same { IsSameLog self.old self.new }
+    {
+        match self.turn(alloc, event)? {
+            StepResult::Taken(outcome) => Ok(StepResult::Taken(self.keep_entered(alloc, outcome)?)),
+            StepResult::Dropped(why) => Ok(StepResult::Dropped(why)),
+        }
+    }
+
+    // The outcome without a snapshot that is too long. Another one is noted.
+    fn keep_entered(&mut self, alloc: Global, outcome: Outcome) -> Result<Outcome, NoMemory>
+        ensures kept { IfOk result (λ o. o ≡ record outcome { entered = storable outcome.entered }) }
+        ensures noted { OnOk result (HasNoted self.old (storable outcome.entered) self.new) }
+        ensures rest { self.new ≡ record self.old { saved = self.new.saved } }
+    {
+        let Outcome {
+            sends,
+            own,
+            early,
+            hashed,
+            entered,
+        } = outcome;
+        let entered = storable(entered);
+        self.note_entered(alloc, &entered)?;
+        Ok(Outcome {
+            sends,
+            own,
+            early,
+            hashed,
+            entered,
+        })
+    }
+
+    // Notes a snapshot, if there is one.
+    fn note_entered(&mut self, alloc: Global, entered: &Option<Bytes>) -> Result<(), NoMemory>
+        ensures noted { OnOk result (HasNoted self.old entered.now self.new) }
+        ensures rest { self.new ≡ record self.old { saved = self.new.saved } }
+    {
+        match entered {
+            Some(_) => self.note_saved(alloc),
+            None => Ok(()),
+        }
+    }
+
     // Takes an event. The only error is out of memory; the state may be half updated then.
     fn turn(&mut self, alloc: Global, event: NodeEvent) -> Result<StepResult, NoMemory>
         requires { RefinesSome M.spec M.refines self.old }
@@ -262,6 +376,45 @@ impl<M: Sequenced> NodeState<M> {
             None => false,
         }
     }
+}
+
+// The outcome of an event that stands in the journal.
+fn replayed(outcome: Outcome) -> Outcome
+    ensures { result ≡ record outcome { entered = None } }
+{
+    let Outcome {
+        sends,
+        own,
+        early,
+        hashed,
+        ..
+    } = outcome;
+    Outcome {
+        sends,
+        own,
+        early,
+        hashed,
+        entered: None,
+    }
+}
+
+// The snapshot, if an entry of a journal can hold it.
+fn storable(entered: Option<Bytes>) -> Option<Bytes>
+    ensures { result ≡ storable entered }
+{
+    let bytes = entered?;
+    if is_storable(&bytes) {
+        Some(bytes)
+    } else {
+        None
+    }
+}
+
+// Whether these bytes are a snapshot that an entry of a journal can hold.
+fn is_storable(bytes: &Bytes) -> bool
+    ensures { result ≡ is_entry bytes.now }
+{
+    bytes.len() <= MAX_ENTRY && bytes.as_slice().first() == Some(&KIND)
 }
 
 // Whether one of these slots has no value.

@@ -216,7 +216,7 @@ pub fn pack<M: Sequenced>(
 }
 
 // The packet of a module's message.
-fn wrap<M: Sequenced>(
+pub(crate) fn wrap<M: Sequenced>(
     alloc: Global,
     version: u8,
     origin: Origin,

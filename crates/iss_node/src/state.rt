@@ -8,6 +8,7 @@ ghost use Rattle.iss_segment.specs.Instance.{SegmentState};
 
 use crate::answers::{Accepted, Early};
 use crate::flight::Flight;
+use crate::saved::Saved;
 use iss_ballots::Ballots;
 use iss_buckets::Pending;
 use iss_keys::{Keys, SharedDirectory};
@@ -44,6 +45,8 @@ pub struct NodeState<M: Sequenced> {
     pub(crate) logged: Ids,
     // The checkpoint votes of all nodes, and the certificates.
     pub(crate) ballots: Ballots,
+    // What the snapshots in the journal hold.
+    pub(crate) saved: Saved,
     pub(crate) keys: Keys,
 }
 
@@ -70,6 +73,7 @@ impl<M: Sequenced> Model for NodeState<M> {
       early = v.early.items;
       logged = v.logged;
       ballots = v.ballots;
+      saved = v.saved;
       keys = v.keys;
     } };
 
@@ -90,6 +94,7 @@ impl<M: Sequenced> Model for NodeState<M> {
       early = v.early.items;
       logged = v.logged;
       ballots = v.ballots;
+      saved = v.saved;
       keys = v.keys;
     }) };
 }

@@ -1,5 +1,5 @@
 //! State transfer: how a node asks for an epoch, hands one out, and adopts one (ISS: state transfer).
-ghost use Rattle.std.specs.Prelude.{◌≡◌, ◌<◌, ◌≤◌, ◌+◌, ◌^◌, ◌∷◌, [], IfOk, List, drop, length, take};
+ghost use Rattle.std.specs.Prelude.{◌≡◌, ◌<◌, ◌≤◌, ◌+◌, ◌^◌, ◌∷◌, [], None, IfOk, List, drop, length, take};
 ghost use Rattle.iss_checkpoint.specs.Votes.{voters_of};
 ghost use Rattle.iss_log.specs.Chains.{IsChainOf};
 ghost use Rattle.iss_rules.specs.Votes.{cert_on};
@@ -63,7 +63,11 @@ impl<M: Sequenced> NodeState<M> {
     }
 
     // The values of an epoch, if the log has all of its slots.
-    fn values_of(&self, alloc: Global, epoch: Epoch) -> Result<Option<Seq<Value>>, NoMemory>
+    pub(crate) fn values_of(
+        &self,
+        alloc: Global,
+        epoch: Epoch,
+    ) -> Result<Option<Seq<Value>>, NoMemory>
         ensures { IfOk result (λ values. values ≡ held_values self.now epoch.0) }
     {
         let Some(slots) = self.slots_of(epoch) else {
@@ -139,6 +143,7 @@ impl<M: Sequenced> NodeState<M> {
     // Adopts a piece: its values fill the slots that have none, and its certificate is kept. The next epoch starts,
     // with the messages that arrived early for it.
     // rule: Transfer: An adopted piece of the own epoch fills the empty slots and ends the epoch without a vote
+    // rule: Persistence: A snapshot is of the node as it enters an epoch, with the early messages that it takes next
     fn adopt(
         &mut self,
         alloc: Global,
@@ -155,8 +160,10 @@ impl<M: Sequenced> NodeState<M> {
         self.apply_deliveries(alloc, delivers, &mut strings)?;
         self.ballots.keep(cert)?;
         let early = self.next_epoch(alloc)?;
+        let bytes = self.entry(alloc, early.as_slice())?;
         let mut outcome = Outcome::nothing(alloc);
         outcome.hashed = strings;
+        outcome.entered = Some(bytes);
         self.take_each(alloc, outcome, early)
     }
 }
@@ -181,7 +188,11 @@ fn copies_of(alloc: Global, values: &[Value]) -> Result<Seq<Value>, NoMemory>
 }
 
 // Values with their slots, which are consecutive from `first` on.
-fn at_slots(alloc: Global, first: Slot, values: Seq<Value>) -> Result<Vec<(Slot, Value)>, NoMemory>
+pub(crate) fn at_slots(
+    alloc: Global,
+    first: Slot,
+    values: Seq<Value>,
+) -> Result<Vec<(Slot, Value)>, NoMemory>
     requires { first.0 + length values < 2 ^ 64 }
     ensures { IfOk result (λ ds. ds.items ≡ at_slots first.0 values) }
 {
@@ -196,7 +207,8 @@ fn at_slots(alloc: Global, first: Slot, values: Seq<Value>) -> Result<Vec<(Slot,
 
 // An outcome that sends one packet to one node.
 fn one_send(alloc: Global, to: NodeId, bytes: Bytes) -> Result<Outcome, NoMemory>
-    ensures { IfOk result (λ o. o ≡ record { sends = (To.One to, bytes) ∷ []; own = []; early = []; hashed = [] }) }
+    ensures { IfOk result (λ o. o ≡
+        record { sends = (To.One to, bytes) ∷ []; own = []; early = []; hashed = []; entered = None }) }
 {
     let mut outcome = Outcome::nothing(alloc);
     outcome.sends.push((To::One(to), bytes))?;

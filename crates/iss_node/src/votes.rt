@@ -64,6 +64,7 @@ impl<M: Sequenced> NodeState<M> {
             own,
             early: Seq::new(alloc),
             hashed: Seq::new(alloc),
+            entered: None,
         })
     }
 

@@ -16,8 +16,8 @@ use Rattle.iss_rules.proofs.Windows.{are-windows}
 use Rattle.iss_rules.proofs.Written.{faithful}
 use Rattle.iss_model.specs.Frames.{frame_of}
 use Rattle.iss_theorems.proofs.NoLoss.OnePlaceInCluster.{segments}
-use Rattle.iss_rebuilt.specs.Laws.{JournalsRecover}
-use Rattle.iss_rebuilt.proofs.Journals.{journals-recover}
+use Rattle.iss_rebuilt.specs.Laws.{JournalsRecover, SnapshotsFit}
+use Rattle.iss_rebuilt.proofs.Journals.{journals-recover, snapshots-fit}
 use Rattle.iss_rebuilt.proofs.Packets.{message-comes, piece-comes, vote-comes}
 use Rattle.iss_rebuilt.proofs.Regular.{IsGoodFrame}
 
@@ -52,3 +52,6 @@ module _ {Msg : Type 0} (s : Setup) (M : Module Msg) (h : IsSetupOf M s) (law : 
 
   pub recover : JournalsRecover s M
   recover me low spell event_in events have last = journals-recover (frame_of s M) good-frame me low spell event_in events have last
+
+  pub fit : SnapshotsFit s M
+  fit me low spell event_in events have = snapshots-fit (frame_of s M) good-frame me low spell event_in events have

@@ -1,9 +1,9 @@
 -- The entries that a replica stores lead back to it, and so do those of them that stay.
-use Rattle.std.proofs.Common.{◌≡◌, inl, inr, ℕ, ◌≤◌, ◌<◌, ◌^◌, Bool, true, false, cond, nat_le, List, [], ◌∷◌, length, reverse, Option, Some, None, refl, sym, ap, ap₂, ◌∙◌, subst, arith, le_trans}
+use Rattle.std.proofs.Common.{◌≡◌, inl, inr, ℕ, ◌≤◌, ◌<◌, ◌^◌, ◌&&◌, Bool, true, false, cond, nat_le, List, [], ◌∷◌, length, reverse, Option, Some, None, refl, sym, ap, ap₂, ◌∙◌, subst, arith, le_trans, true≢false}
 use Rattle.std.specs.List.{filter}
 use Rattle.std.proofs.lemmas.Bool.{leb-true}
 use Rattle.iss_base.specs.Lists.{In}
-use Rattle.iss_base.proofs.Lists.{in_left}
+use Rattle.iss_base.proofs.Lists.{in_left, none-some, some-injective}
 use Rattle.iss_journal.specs.Frames.{max_entry}
 use Rattle.iss_journal.specs.Retained.{is_snapshot, retained}
 use Rattle.iss_request.specs.declared.setups.Setup.{Setup}
@@ -20,13 +20,13 @@ use Rattle.iss_model.specs.Sound.{carried}
 use Rattle.iss_model.proofs.AlikeSlims.{steps-placed, steps-same}
 use Rattle.iss_model.proofs.Casts.{idle-ready}
 use Rattle.iss_model.proofs.Places.{FiledCore}
-use Rattle.iss_snapshot.specs.Snapshots.{snapshot_row, spell_snapshot}
+use Rattle.iss_snapshot.specs.Snapshots.{fits, snapshot_row, spell_snapshot}
 use Rattle.iss_snapshot.specs.declared.snapshots.Snapshot.{Snapshot}
 use Rattle.iss_snapshot.proofs.SnapshotGrammar.{spelled-row}
 use Rattle.iss_rebuilt.specs.Laws.{HasEntry, IsRecovered}
 use Rattle.iss_rebuilt.specs.Reading.{Rebuilt, core_of_step, reads_entry, rebuilt, recovered, replayed, replays, woken, woken_of}
 use Rattle.iss_rebuilt.specs.Storable.{IsBehind}
-use Rattle.iss_rebuilt.specs.Stored.{Kept, Saved, Stored, nothing_saved, or_event, saved_after, snapshot_kept, snapshot_of, stored, stored_by}
+use Rattle.iss_rebuilt.specs.Stored.{Kept, Saved, Stored, is_storable, nothing_saved, or_event, saved_after, snapshot_kept, snapshot_of, stored, stored_by}
 use Rattle.iss_rebuilt.proofs.Ballots.{no-ballots}
 use Rattle.iss_rebuilt.proofs.Encodable.{IsWritable, snapshot-fits}
 use Rattle.iss_rebuilt.proofs.Entering.{quiet, step-rises}
@@ -37,6 +37,10 @@ use Rattle.iss_rebuilt.proofs.Resting.{IsResting, no-early, step-goes, step-rest
 use Rattle.iss_rebuilt.proofs.StaysTurned.{newest_stay, stays-turned}
 use Rattle.iss_rebuilt.proofs.Storing.{IsEntered, entering}
 use Rattle.iss_rebuilt.proofs.Waking.{AreSlim, each-slim}
+
+right-of : (a b : Bool) → (a && b) ≡ true → b ≡ true
+right-of true b h = h
+right-of false b h = absurd (true≢false (sym h))
 
 -- ---- what stays of entries leads to the same
 
@@ -307,16 +311,22 @@ module _ {Msg : Type 0} (W : Frame Msg) (P : IsGoodFrame W.setup W.formats W.rul
         entered-stored =
             subst (λ (o : Option (Core Msg)). IsStored (put (or_event (snapshot_kept W me st.saved o) (spell event) st.saved))) (sym e.entered)
             (subst (λ (m : Saved). IsStored (put (or_event (snapshot_kept W me m (Some d)) (spell event) m))) h.front_saved
-            (go (nat_le (length (snapshot_row s.version snap)) max_entry) refl))
+            (go (is_storable s.version snap) refl))
           where
             put : Kept → Stored Msg
             put k = record { entries = k.entry ∷ st.entries; saved = k.saved; core = t.core }
 
-            go : (b : Bool) → nat_le (length (snapshot_row s.version snap)) max_entry ≡ b →
+            go : (b : Bool) → is_storable s.version snap ≡ b →
                 IsStored (put (or_event (cond b (Some (record { entry = spell_snapshot s.version snap; saved = saved_after h.front.saved snap })) None)
                 (spell event) h.front.saved))
-            go true k = snapshot-stored (leb-true (length (snapshot_row s.version snap)) max_entry k)
+            go true k =
+                snapshot-stored
+                (leb-true (length (snapshot_row s.version snap)) max_entry (right-of (fits snap) (nat_le (length (snapshot_row s.version snap)) max_entry) k))
             go false k = subst (λ (m : Saved). IsStored (record { entries = spell event ∷ st.entries; saved = m; core = t.core })) (sym h.front_saved) event-stored
+
+        -- so it has an encoding, unless it is too long
+        snapshot-has : length (snapshot_row s.version snap) ≤ max_entry → fits snap ≡ true
+        snapshot-has short = (snapshot-fits W (slots-in s F R M P me) me h.front d e.storable behind_d (writable short)).fitting
 
       stayed-stored : t.entered ≡ None → IsStored (stored_by W spell me st event (Taken t))
       stayed-stored none = subst (λ (o : Option (Core Msg)). IsStored (put (or_event (snapshot_kept W me st.saved o) (spell event) st.saved))) (sym none) event-stored
@@ -357,5 +367,25 @@ module _ {Msg : Type 0} (W : Frame Msg) (P : IsGoodFrame W.setup W.formats W.rul
           is = ap (λ (xs : List (List ℕ)). recovered W event_in me xs) (stays-turned st.entries) ∙ (newest-recovers W event_in me st.entries ∙ h.found_is);
           saved = h.found_saved;
           placed = h.slims.placed;
+          known = h.slims.other;
           slims = h.slims.slims;
         }
+
+    -- the snapshot of a core that an event lets enter an epoch has an encoding, unless it is too long
+    pub snapshots-fit : (events : List NodeEvent) → ((event : NodeEvent) → In event events → HasEntry spell event_in event) →
+        (event : NodeEvent) (t : Turn Msg) (d : Core Msg) → HasEntry spell event_in event →
+        step F R M me (stored W spell me events).core event ≡ Taken t → t.entered ≡ Some d → t.core.past.epoch < 2 ^ 64 →
+        length (snapshot_row s.version (snapshot_of W me (stored W spell me events).saved d)) ≤ max_entry →
+        fits (snapshot_of W me (stored W spell me events).saved d) ≡ true
+    snapshots-fit events have event t d entry q entered last =
+        let st : Stored Msg = stored W spell me events in
+        let rises = step-rises F R M me st.core event t q in
+        let h = all-stored events have (let b : st.core.past.epoch < 2 ^ 64 = omega (arith, last, rises) in b) in
+        elim (entering W P me low st.core h.resting event t q) [
+          | inl none ↦ absurd (none-some d (sym none ∙ entered))
+          | inr e ↦
+              let same : e.core ≡ d = some-injective e.core d (sym e.entered ∙ entered) in
+              subst (λ (x : Core Msg). length (snapshot_row s.version (snapshot_of W me st.saved x)) ≤ max_entry → fits (snapshot_of W me st.saved x) ≡ true) same
+              (subst (λ (m : Saved). length (snapshot_row s.version (snapshot_of W me m e.core)) ≤ max_entry → fits (snapshot_of W me m e.core) ≡ true) h.front_saved
+              (snapshot-has st h event entry t q e last))
+        ]

@@ -1,7 +1,7 @@
 -- What a replica's journal holds: its events, and instead of each event that ended an epoch the replica as it entered
 -- its newest epoch, before it took the messages that came early. An event whose snapshot would be too long is kept
 -- itself.
-use Rattle.std.specs.Prelude.{ℕ, zero, suc, ◌-◌, ◌==◌, ◌||◌, nat_le, cond, Bool, false, is_some, List, [], ◌∷◌, ◌++◌, length, reverse, Option, Some, None}
+use Rattle.std.specs.Prelude.{ℕ, zero, suc, ◌-◌, ◌||◌, ◌&&◌, nat_le, cond, Bool, false, is_some, List, [], ◌∷◌, ◌++◌, length, reverse, Option, Some, None}
 use Rattle.std.specs.List.{filter}
 use Rattle.iss_base.specs.Lists.{below}
 use Rattle.iss_checkpoint.specs.declared.votes.Cert.{Cert}
@@ -12,8 +12,8 @@ use Rattle.iss_rules.specs.Parcels.{OfModule, Parcel}
 use Rattle.iss_rules.specs.Past.{log_of}
 use Rattle.iss_rules.specs.Votes.{cert_on, is_open}
 use Rattle.iss_model.specs.Frames.{Frame, step_in}
-use Rattle.iss_model.specs.Node.{Core, Dropped, Early, Stepped, Taken, initial_core, values_of}
-use Rattle.iss_snapshot.specs.Snapshots.{snapshot_row, spell_snapshot}
+use Rattle.iss_model.specs.Node.{Core, Dropped, Early, Stepped, Taken, Turn, initial_core, values_of}
+use Rattle.iss_snapshot.specs.Snapshots.{fits, snapshot_row, spell_snapshot}
 use Rattle.iss_snapshot.specs.declared.snapshots.Snapshot.{Snapshot}
 
 -- Where the last snapshot ended, and of which epochs snapshots hold the certificates. It is no part of a core.
@@ -75,12 +75,16 @@ pub record Kept : Type 0 where
   pub entry : List ℕ
   pub saved : Saved
 
+-- whether a snapshot has an encoding that is not too long for an entry
+abbrev pub is_storable : ℕ → Snapshot → Bool
+is_storable version s = fits s && nat_le (length (snapshot_row version s)) max_entry
+
 -- the snapshot of the core that entered an epoch, unless it is too long
 abbrev pub snapshot_kept : {Msg : Type 0} → Frame Msg → ℕ → Saved → Option (Core Msg) → Option Kept
 snapshot_kept W me saved None = None
 snapshot_kept W me saved (Some d) =
     let s = snapshot_of W me saved d in
-    cond (nat_le (length (snapshot_row W.setup.version s)) max_entry)
+    cond (is_storable W.setup.version s)
     (Some (record { entry = spell_snapshot W.setup.version s; saved = saved_after saved s })) None
 
 -- else the event
@@ -88,22 +92,34 @@ abbrev pub or_event : Option Kept → List ℕ → Saved → Kept
 or_event None event saved = record { entry = event; saved = saved }
 or_event (Some k) event saved = k
 
+-- What is kept of an event, whose own entry this is, after it had this turn.
+abbrev pub kept_of : {Msg : Type 0} → Frame Msg → ℕ → Saved → List ℕ → Turn Msg → Kept
+kept_of W me saved own t = or_event (snapshot_kept W me saved t.entered) own saved
+
 -- entries, newest first, with what snapshots saved and the core that wrote them
 pub record Stored (Msg : Type 0) : Type 0 where
   pub entries : List (List ℕ)
   pub saved : Saved
   pub core : Core Msg
 
+abbrev pub nothing_stored : {Msg : Type 0} → Stored Msg
+nothing_stored = record { entries = []; saved = nothing_saved; core = initial_core }
+
 abbrev pub stored_by : {Msg : Type 0} → Frame Msg → (NodeEvent → List ℕ) → ℕ → Stored Msg → NodeEvent → Stepped Msg →
     Stored Msg
 stored_by W spell me s event (Dropped why) = s
 stored_by W spell me s event (Taken t) =
-    let k = or_event (snapshot_kept W me s.saved t.entered) (spell event) s.saved in
+    let k = kept_of W me s.saved (spell event) t in
     record { entries = k.entry ∷ s.entries; saved = k.saved; core = t.core }
 
--- What is stored of events, newest first, with the core that they lead to. `spell` encodes an event as an entry.
-abbrev pub stored : {Msg : Type 0} → Frame Msg → (NodeEvent → List ℕ) → ℕ → List NodeEvent → Stored Msg
-stored W spell me [] = record { entries = []; saved = nothing_saved; core = initial_core }
-stored W spell me (x ∷ xs) =
-    let s = stored W spell me xs in
+-- What is stored after some events more, newest first, with the core that they lead to. `spell` encodes an event as an
+-- entry.
+abbrev pub stored_on : {Msg : Type 0} → Frame Msg → (NodeEvent → List ℕ) → ℕ → Stored Msg → List NodeEvent → Stored Msg
+stored_on W spell me base [] = base
+stored_on W spell me base (x ∷ xs) =
+    let s = stored_on W spell me base xs in
     stored_by W spell me s x (step_in W me s.core x)
+
+-- What is stored of events from the start.
+abbrev pub stored : {Msg : Type 0} → Frame Msg → (NodeEvent → List ℕ) → ℕ → List NodeEvent → Stored Msg
+stored W spell me events = stored_on W spell me nothing_stored events

@@ -3,7 +3,7 @@
 ghost use Rattle.std.specs.Prelude.{ℕ};
 ghost use Rattle.iss_request.specs.declared.setups.Setup.{Setup};
 ghost use Rattle.iss_rules.specs.Setups.{IsSetupOf};
-ghost use Rattle.iss_rebuilt.specs.Laws.{JournalsRecover, SnapshotsRebuild};
+ghost use Rattle.iss_rebuilt.specs.Laws.{JournalsRecover, SnapshotsFit, SnapshotsRebuild};
 
 use iss_sb::Sequenced;
 
@@ -17,6 +17,14 @@ pub fn snapshots_rebuild<M: Sequenced>()
 /// with the slim part of its own, Byzantine or not.
 pub fn journals_recover<M: Sequenced>()
     ensures { (s : Setup) → IsSetupOf M.spec s → JournalsRecover s M.spec }
+{
+    M::laws();
+}
+
+/// What is kept of an event that let a replica enter an epoch is a snapshot, unless that is too long for an entry: it
+/// has an encoding.
+pub fn snapshots_fit<M: Sequenced>()
+    ensures { (s : Setup) → IsSetupOf M.spec s → SnapshotsFit s M.spec }
 {
     M::laws();
 }

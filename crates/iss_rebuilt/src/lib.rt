@@ -4,4 +4,4 @@
 
 pub mod laws;
 
-pub use laws::{journals_recover, snapshots_rebuild};
+pub use laws::{journals_recover, snapshots_fit, snapshots_rebuild};

@@ -5,7 +5,7 @@ use Rattle.std.proofs.lemmas.Bool.Decides.{eqb_tells}
 use Rattle.iss_disk.specs.declared.memory.MemoryDisk.{MemoryDisk}
 use Rattle.iss_keep.specs.State.{KeptState}
 use Rattle.iss_rules.specs.Ends.{End}
-use Rattle.iss_keep.specs.Deeds.{deeds_of}
+use Rattle.iss_rules.specs.declared.events.NodeEvent.{NodeEvent}
 use Rattle.iss_model.proofs.Ranges.{at-cores}
 use Rattle.iss_model.specs.Frames.{frame_of}
 use Rattle.iss_model.specs.Runs.{AreAtCores}
@@ -19,7 +19,7 @@ use Rattle.iss_schedule.specs.declared.schedules.Event.{Event}
 use Rattle.iss_schedule.proofs.BadLines.PrefixesAreRead.{in_range_push}
 use Rattle.iss_sb.specs.Calls.{Relation}
 use Rattle.iss_sb.specs.Evidence.{Module}
-use Rattle.iss_theorems.specs.Leaves.{SignsOnceEach}
+use Rattle.iss_theorems.specs.Leaves.{SignsOnceEach, life_of}
 use Rattle.iss_world.specs.Headline.{HoldsKept, IsAnswered, IsHeadline, RefinesEvents}
 use Rattle.iss_world.specs.Refines.{HasHappened, RefinesRun, RefinesRunUntil}
 use Rattle.iss_world.specs.State.{WorldState}
@@ -48,15 +48,15 @@ module _ {M Msg : Type 0} (m : Module Msg) (refines : Relation M Msg) (s : Setup
   -- ---- the headline
 
   module _ (wholes : (events : List Event) → AreAtCores s events → IsWhole s m events)
-      (once : (me : ℕ) (entries : List (List ℕ)) → SignsOnceEach (frame_of s m) me (deeds_of s m me entries)) where
+      (once : (me : ℕ) (events : List NodeEvent) → SignsOnceEach (frame_of s m) me (life_of (frame_of s m) me events)) where
     -- the journals of a world that refines a run
     journals-then : (v : WorldState M Msg) (p : Course Msg) (o : Option (ℕ × End)) → RefinesRunUntil m refines v p.state o → (i : ℕ) (g : KeptState M Msg MemoryDisk) →
-        slice_get v.simulation.nodes i ≡ Some g → HoldsKept g.entries (p.state.disks i) o
+        slice_get v.simulation.nodes i ≡ Some g → HoldsKept m g.setup g.me.0 g.entries (p.state.disks i) o
     journals-then v p None k i g at = (k.simulation.cores i g at).entries
     journals-then v p (Some end) k i g at = elim (eqb_tells i k.left.core) [
       | inr t ↦ inl (k.left.others i g at t.1).entries
       | inl t ↦
-          let P : ℕ → Type 0 = λ n. HoldsKept g.entries (p.state.disks n) (Some end) in
+          let P : ℕ → Type 0 = λ n. HoldsKept m g.setup g.me.0 g.entries (p.state.disks n) (Some end) in
           subst P (sym t.1) (k.left.there g (subst (λ (n : ℕ). slice_get v.simulation.nodes n ≡ Some g) t.1 at)).entries
     ]
 
@@ -68,7 +68,7 @@ module _ {M Msg : Type 0} (m : Module Msg) (refines : Relation M Msg) (s : Setup
           whole = all;
           numbers = all.one_log.numbers;
           journals = journals-then v (course_after s m events) (course_after s m events).ended h;
-          leaves = λ i g at. once g.me.0 g.entries;
+          leaves = λ i g at kept shows. once g.me.0 kept;
         }
 
     pub headline-more : (v : WorldState M Msg) (es : List Event) (e : Event) (x : EventResult) → AreInRange s es → IsInRange s e →

@@ -1,5 +1,5 @@
 -- What each call of a kept node over a disk in memory does to the core that it refines.
-use Rattle.std.proofs.Common.{◌≡◌, ℕ, ◌≤◌, Bool, true, false, List, [], ◌∷◌, ◌++◌, Option, Some, None, reverse, refl, sym, ap, ◌∙◌, subst, true≢false}
+use Rattle.std.proofs.Common.{◌≡◌, inl, inr, ℕ, ◌≤◌, ◌<◌, ◌^◌, Bool, true, false, List, [], ◌∷◌, Option, Some, None, reverse, refl, sym, ap, ◌∙◌, subst, true≢false}
 use Rattle.std.proofs.lemmas.Bool.{le-leb, lt-leb}
 use Rattle.iss_base.proofs.Lists.{some-injective}
 use Rattle.iss_rules.specs.declared.events.NodeEvent.{NodeEvent}
@@ -10,21 +10,28 @@ use Rattle.iss_disk.specs.MemoryLaws.{memory_here}
 use Rattle.iss_disk.specs.MemoryViews.{calls_of, current_of, faults_of, files_of}
 use Rattle.iss_disk.specs.StoredViews.{history_of}
 use Rattle.iss_disk.specs.declared.memory.MemoryDisk.{MemoryDisk}
-use Rattle.iss_journal.specs.Frames.{Reading, Reads}
+use Rattle.iss_journal.specs.Frames.{Reading, Reads, version_1}
 use Rattle.iss_journal.specs.Promises.{Shows}
 use Rattle.iss_keep.proofs.DiskLemmas.{attached-same, attached-synced, never-damaged, new-read, reopens-well, restarted-read, runs-all, runs-failed, runs-passed, stays-here, stored-kept, stored-told, written-synced}
-use Rattle.iss_keep.proofs.TakenLemmas.{taken-goes-on, taken-later}
-use Rattle.iss_keep.specs.Cores.{core_of, step_of}
-use Rattle.iss_keep.specs.Entries.{spell_event}
-use Rattle.iss_keep.specs.State.{KeptRefinesCore, KeptState, RefinesEntries}
-use Rattle.iss_keep.specs.Steps.{IsAnswer, IsAttached, IsDamaged, IsDrop, IsSame, IsTaken, IsTurn, IsWritten, LosesNone, ShowsAsBefore, Sight, makes_stale, sight}
+use Rattle.iss_keep.proofs.LifeLemmas.{stored-core}
+use Rattle.iss_keep.proofs.TakenLemmas.{taken-goes-on, taken-later, taken-named}
+use Rattle.iss_keep.specs.Cores.{core_of as core_of_entries, shown_of, step_of, stored_after, stored_of}
+use Rattle.iss_keep.specs.Entries.{NamesNode, spell_event}
+use Rattle.iss_keep.specs.Recovery.{AreNamed, Recovers}
+use Rattle.iss_keep.specs.State.{KeptRefinesCore, KeptState, RefinesStored, stored_as}
+use Rattle.iss_keep.specs.Steps.{IsAnswer, IsAttached, IsDamaged, IsDrop, IsJournaled, IsSame, IsTaken, IsTurn, LosesNone, ShowsAsBefore, Sight, makes_stale, sight}
 use Rattle.iss_keep.specs.declared.answers.Answer.{Answer}
 use Rattle.iss_keep.specs.declared.answers.Answer.TheVariants.{Dropped as Kept_dropped, Failed, NoMemory, Stale, Taken as Kept_taken}
 use Rattle.iss_log.specs.LogState.{GoesOn}
 use Rattle.iss_model.specs.Node.{Core, Dropped, Stepped, Taken, initial_core, step}
-use Rattle.iss_node.specs.State.{NodeView}
+use Rattle.iss_model.specs.Frames.{frame_of}
+use Rattle.iss_model.specs.Slims.{IsPlaced, slim}
+use Rattle.iss_node.specs.Saved.{saved_of}
+use Rattle.iss_node.specs.State.{NodeView, RefinesCore}
 use Rattle.iss_node.specs.Steps.{IsOfNodes}
 use Rattle.iss_node.specs.declared.answers.Outcome.{Outcome}
+use Rattle.iss_rebuilt.specs.Reading.{Rebuilt}
+use Rattle.iss_rebuilt.specs.Stored.{Saved, Stored, stored_by}
 use Rattle.iss_request.specs.declared.ids.NodeId.{NodeId}
 use Rattle.iss_request.specs.declared.requests.Value.{Value}
 use Rattle.iss_request.specs.declared.setups.Setup.{Setup}
@@ -36,7 +43,7 @@ use Rattle.iss_rules.specs.Past.{log_of}
 use Rattle.iss_rules.specs.Setups.{IsSetupOf}
 use Rattle.iss_sb.specs.Calls.{Relation}
 use Rattle.iss_sb.specs.Evidence.{Module}
-use Rattle.iss_world.specs.Refines.{LeadsBy, RefinesMachine, RefinesOrShowsCore, ShowsCore, calls_to_come}
+use Rattle.iss_world.specs.Refines.{LeadsBy, RefinesMachine, RefinesOrShowsCore, ShowsCore, calls_to_come, shown_by}
 use Rattle.iss_world.specs.Internal.Steps.{HasAnswered, IsKeptTurn, IsStop}
 
 -- Being the same node is transitive.
@@ -59,6 +66,12 @@ passes-failed (Some calls) now h = let r = runs-failed 4 calls now h in (lt-leb 
 
 read-told : (P : File → Type 0) (history : List File) (file : File) (past : List File) → history ≡ file ∷ past → IfTold history P → P file
 read-told P history file past told h = subst (λ (files : List File). IfTold files P) told h
+
+-- A node that refines a core refines each placed core with the same slim part: the law `nodes_stand_for_slims`.
+abbrev pub StandsForSlims : {M Msg : Type 0} → Module Msg → Relation M Msg → Type 0
+StandsForSlims {M = M} {Msg = Msg} m refines = (v : NodeView M Msg) → (c d : Core Msg) → RefinesCore m refines v c →
+    IsPlaced (rules_of v.state.setup) m v.state.me.0 d →
+    slim (rules_of v.state.setup) m v.state.me.0 c ≡ slim (rules_of v.state.setup) m v.state.me.0 d → RefinesCore m refines v d
 
 module _ {M Msg : Type 0} (m : Module Msg) (refines : Relation M Msg) where
   -- ---- what it reports
@@ -105,11 +118,18 @@ module _ {M Msg : Type 0} (m : Module Msg) (refines : Relation M Msg) where
         subst (λ (s : Setup). core_of_kept (formats_of s m) (rules_of s) m new.me.0 events ≡ c) (sym same.setup)
         (subst (λ (i : NodeId). core_of_kept (formats_of old.setup m) (rules_of old.setup) m i.0 events ≡ c) (sym same.me) h)
 
-    leads-still : (c : Core Msg) → new.entries ≡ old.entries → core_of old.setup m old.me.0 old.entries ≡ Some c → core_of new.setup m new.me.0 new.entries ≡ Some c
-    leads-still c entries h =
-        subst (λ (s : Setup). core_of s m new.me.0 new.entries ≡ Some c) (sym same.setup)
-        (subst (λ (i : NodeId). core_of old.setup m i.0 new.entries ≡ Some c) (sym same.me)
-        (subst (λ (es : List (List ℕ)). core_of old.setup m old.me.0 es ≡ Some c) (sym entries) h))
+    stored-still : (events : List NodeEvent) → stored_of old.setup m old.me.0 events ≡ stored_of new.setup m new.me.0 events
+    stored-still events =
+        ap (λ (s : Setup). stored_of s m old.me.0 events) (sym same.setup) ∙ ap (λ (i : NodeId). stored_of new.setup m i.0 events) (sym same.me)
+
+    named-still : (events : List NodeEvent) → AreNamed old.setup.n events → AreNamed new.setup.n events
+    named-still events h = subst (λ (s : Setup). AreNamed s.n events) (sym same.setup) h
+
+    shown-still : (events : List NodeEvent) → new.entries ≡ old.entries → old.entries ≡ shown_by m old.setup old.me.0 events → new.entries ≡ shown_by m new.setup new.me.0 events
+    shown-still events entries h = entries ∙ h ∙ ap (λ (st : Stored Msg). shown_of st) (stored-still events)
+
+    saved-of-still : (events : List NodeEvent) (z : Saved) → z ≡ (stored_of old.setup m old.me.0 events).saved → z ≡ (stored_of new.setup m new.me.0 events).saved
+    saved-of-still events z h = h ∙ ap (λ (st : Stored Msg). st.saved) (stored-still events)
 
     at-still : (c : Core Msg) → new.node ≡ old.node → new.stale ≡ old.stale → KeptRefinesCore m refines old c → KeptRefinesCore m refines new c
     at-still c node stale at = record {
@@ -125,34 +145,57 @@ module _ {M Msg : Type 0} (m : Module Msg) (refines : Relation M Msg) where
       at-old : KeptRefinesCore m refines old c
       at-old = at-working old c d over working
 
-      for-old : RefinesEntries m refines old c
-      for-old = record { fresh = at-old.fresh; node = at-old.node; cluster = at-old.cluster; number = at-old.number; core = over.leads }
+      abbrev st : Stored Msg
+      st = stored_of old.setup m old.me.0 d.kept
+
+      -- the kept events stored the core
+      core-is : st.core ≡ c
+      core-is = stored-core old.setup m old.me.0 d.kept ∙ over.made
+
+      for-old : RefinesStored m refines old st
+      for-old = record {
+        fresh = at-old.fresh;
+        node = subst (λ (x : Core Msg). RefinesCore m refines old.node x) (sym core-is) at-old.node;
+        cluster = at-old.cluster;
+        number = at-old.number;
+        entries = over.entries;
+        saved = over.saved working;
+      }
 
       abbrev stepped : Stepped Msg
       stepped = step_of old.setup m old.me.0 c event
 
       abbrev Written : Answer → Type 0
-      Written answer = IsWritten old.entries (spell_event event) (seen old.disk) (seen new.disk) new.entries answer
+      Written answer = IsJournaled m refines old event (seen old.disk) (seen new.disk) new.entries answer
 
-      synced-now : (answer : Answer) → Written answer → IfTold (history_of new.disk.file) (λ file. Shows new.entries file.kept)
-      synced-now answer w = written-synced old.entries (spell_event event) (seen old.disk) (seen new.disk) new.entries answer w (stored-kept new.disk.file) over.synced
+      -- an answer that leaves the node fresh
+      abbrev StoresOn : Type 0
+      StoresOn = (z : Stored Msg) → RefinesStored m refines old z → new.stale ≡ false → RefinesStored m refines new (stored_after old.setup m old.me.0 z event)
 
-      kept-turn : (outcome : Outcome) → IsOfNodes old.setup.n event → IsTurn m refines (IsOfNodes old.setup.n event) old c stepped new outcome →
-          Written (Kept_taken outcome) → IsKeptTurn m refines d event stepped new outcome
-      kept-turn outcome of t w =
-          let calls = passes-kept d.passes (calls_of new.disk) (subst (λ (p : Passes). Runs 4 p (calls_of new.disk) true) over.calls w.device) in
+      synced-now : (answer : Answer) → Written answer → IfTold (history_of new.disk.file) (λ file. Shows version_1 new.entries file.kept)
+      synced-now answer w = written-synced old.entries w.entry (seen old.disk) (seen new.disk) new.entries answer w.written (stored-kept new.disk.file) over.synced
+
+      kept-turn : (outcome : Outcome) → IsOfNodes old.setup.n event → IsSetupOf m old.setup → IsTurn m refines (IsOfNodes old.setup.n event) stepped new outcome →
+          Written (Kept_taken outcome) → StoresOn → IsKeptTurn m refines d event stepped new outcome
+      kept-turn outcome of good t w stores =
+          let calls = passes-kept d.passes (calls_of new.disk) (subst (λ (p : Passes). Runs 4 p (calls_of new.disk) true) over.calls w.written.device) in
           let later : after_step (core_of_kept (formats_of old.setup m) (rules_of old.setup) m old.me.0 d.kept)
           (step_of old.setup m old.me.0 (core_of_kept (formats_of old.setup m) (rules_of old.setup) m old.me.0 d.kept) event) ≡ t.turn.core =
           ap (λ (x : Core Msg). after_step x (step_of old.setup m old.me.0 x event)) over.made ∙ ap (λ (o : Stepped Msg). after_step c o) t.step_is in
+          let on : RefinesStored m refines new (stored_of old.setup m old.me.0 (event ∷ d.kept)) = stores st for-old t.at.fresh in
           record {
             turn = t.turn;
             step_is = t.step_is;
             room = calls.0;
             over = record {
               there = subst (λ (b : Bool). RefinesOrShowsCore m refines new t.turn.core b) (sym working) t.at;
-              entries = w.added ∙ ap (λ (es : List (List ℕ)). es ++ spell_event event ∷ []) over.entries;
-              leads = (t.refined of for-old).core;
+              entries = on.entries ∙ ap (λ (z : Stored Msg). shown_of z) (stored-still (event ∷ d.kept));
+              named = named-still (event ∷ d.kept) (λ e i. elim i [
+                | inl q ↦ subst (λ (x : NodeEvent). NamesNode old.setup.n x) (sym q) (taken-named old.setup m good old.me.0 c event t.turn of t.step_is)
+                | inr k ↦ over.named e k
+              ]);
               made = made-still (event ∷ d.kept) t.turn.core later;
+              saved = λ z. saved-of-still (event ∷ d.kept) (saved_of new.node.state.saved) on.saved;
               synced = synced-now (Kept_taken outcome) w;
               calls = calls.1;
             };
@@ -160,44 +203,50 @@ module _ {M Msg : Type 0} (m : Module Msg) (refines : Relation M Msg) where
             addressed = t.addressed of;
           }
 
-      dropped-answer : (why : Why) → IsDrop m refines old c stepped new why → Written (Kept_dropped why) → (stepped ≡ Dropped why) × RefinesMachine m refines new c d
-      dropped-answer why t w = (
-        t.step_is,
-        record {
-          there = subst (λ (b : Bool). RefinesOrShowsCore m refines new c b) (sym working) t.at;
-          entries = w.added ∙ over.entries;
-          leads = (t.refined for-old).core;
-          made = made-still d.kept c over.made;
-          synced = synced-now (Kept_dropped why) w;
-          calls = w.device ∙ over.calls;
-        },
-      )
+      dropped-answer : (why : Why) → IsDrop m refines c stepped new why → Written (Kept_dropped why) → StoresOn → (stepped ≡ Dropped why) × RefinesMachine m refines new c d
+      dropped-answer why t w stores =
+          let on = stores st for-old t.at.fresh in
+          let none : stored_after old.setup m old.me.0 st event ≡ st =
+          ap (λ (x : Core Msg). stored_by (frame_of old.setup m) spell_event old.me.0 st event (step_of old.setup m old.me.0 x event)) core-is
+          ∙ ap (λ (o : Stepped Msg). stored_by (frame_of old.setup m) spell_event old.me.0 st event o) t.step_is in (
+            t.step_is,
+            record {
+              there = subst (λ (b : Bool). RefinesOrShowsCore m refines new c b) (sym working) t.at;
+              entries = shown-still d.kept w.written.added over.entries;
+              named = named-still d.kept over.named;
+              made = made-still d.kept c over.made;
+              saved = λ z. saved-of-still d.kept (saved_of new.node.state.saved) (on.saved ∙ ap (λ (x : Stored Msg). x.saved) none);
+              synced = synced-now (Kept_dropped why) w;
+              calls = w.written.device ∙ over.calls;
+            },
+          )
 
       stop-answer : IsTaken stepped → Written Failed → new.stale ≡ true → (new.stale ≡ true → ShowsAsBefore old new) → IsStop m refines c d stepped new
       stop-answer t w stale shown =
-          let calls = passes-failed d.passes (calls_of new.disk) (subst (λ (p : Passes). Runs 4 p (calls_of new.disk) false) over.calls w.device) in
+          let calls = passes-failed d.passes (calls_of new.disk) (subst (λ (p : Passes). Runs 4 p (calls_of new.disk) false) over.calls w.written.device) in
           record {
             turn = t.0;
             step_is = t.1;
             no_room = calls.0;
             over = record {
               there = (stale, shows-still c (over-shows old c d over) (shown stale));
-              entries = w.added ∙ over.entries;
-              leads = leads-still c w.added over.leads;
+              entries = shown-still d.kept w.written.added over.entries;
+              named = named-still d.kept over.named;
               made = made-still d.kept c over.made;
+              saved = λ z. absurd (true≢false z);
               synced = synced-now Failed w;
               calls = calls.1;
             };
           }
 
       -- The answer of a kept node determines what became of its core and disk.
-      pub answered : (answer : Answer) → IsOfNodes old.setup.n event → IsAnswer m refines (IsOfNodes old.setup.n event) old c stepped new answer → Written answer →
-          new.stale ≡ makes_stale answer → (new.stale ≡ true → ShowsAsBefore old new) → HasAnswered m refines c d event stepped new answer
-      answered (Kept_taken outcome) of t w stale shown = kept-turn outcome of t w
-      answered (Kept_dropped why) of t w stale shown = dropped-answer why t w
-      answered Failed of t w stale shown = stop-answer t w stale shown
-      answered Stale of t w stale shown = t
-      answered NoMemory of t w stale shown = tt
+      pub answered : (answer : Answer) → IsOfNodes old.setup.n event → IsSetupOf m old.setup → IsAnswer m refines (IsOfNodes old.setup.n event) c stepped new answer → Written answer →
+          StoresOn → new.stale ≡ makes_stale answer → (new.stale ≡ true → ShowsAsBefore old new) → HasAnswered m refines c d event stepped new answer
+      answered (Kept_taken outcome) of good t w stores stale shown = kept-turn outcome of good t w stores
+      answered (Kept_dropped why) of good t w stores stale shown = dropped-answer why t w stores
+      answered Failed of good t w stores stale shown = stop-answer t w stale shown
+      answered Stale of good t w stores stale shown = t
+      answered NoMemory of good t w stores stale shown = tt
 
       -- If the event was journaled, the log was extended and the epoch did not fall.
       module _ (good : IsSetupOf m old.setup) (outcome : Outcome) (k : IsKeptTurn m refines d event stepped new outcome) where
@@ -233,11 +282,12 @@ module _ {M Msg : Type 0} (m : Module Msg) (refines : Relation M Msg) where
         stays-here (λ (x : MemoryDisk). history_of x.file) files_of current_of memory_here old.disk new.disk files in
         record {
           there = there-still d.failed over.there;
-          entries = entries ∙ over.entries;
-          leads = leads-still c entries over.leads;
+          entries = shown-still d.kept entries over.entries;
+          named = named-still d.kept over.named;
           made = made-still d.kept c over.made;
-          synced = subst (λ (es : List (List ℕ)). IfTold (history_of new.disk.file) (λ file. Shows es file.kept)) (sym entries)
-              (subst (λ (h : List File). IfTold h (λ file. Shows old.entries file.kept)) (sym history) over.synced);
+          saved = λ z. saved-of-still d.kept (saved_of new.node.state.saved) (ap (λ (v : NodeView M Msg). saved_of v.state.saved) node ∙ over.saved z);
+          synced = subst (λ (es : List (List ℕ)). IfTold (history_of new.disk.file) (λ file. Shows version_1 es file.kept)) (sym entries)
+              (subst (λ (h : List File). IfTold h (λ file. Shows version_1 old.entries file.kept)) (sym history) over.synced);
           calls = passes;
         }
       where
@@ -255,30 +305,60 @@ module _ {M Msg : Type 0} (m : Module Msg) (refines : Relation M Msg) where
 
     -- After a restart of its disk, the node's entries lead to the core that it refined.
     pub restarted-leads : (c : Core Msg) (d : Disk) → RefinesMachine m refines old c d → ((name : List ℕ) → Restarts (files_of old.disk name) (files_of new.disk name)) →
-        current_of new.disk ≡ current_of old.disk → new.entries ≡ old.entries → LeadsBy m new d.kept c
-    restarted-leads c d over restarts current entries = record {
-      entries = entries ∙ over.entries;
-      leads = leads-still c entries over.leads;
+        current_of new.disk ≡ current_of old.disk → new.entries ≡ old.entries → new.node ≡ old.node → LeadsBy m new d.kept c
+    restarted-leads c d over restarts current entries node = record {
+      entries = shown-still d.kept entries over.entries;
+      named = named-still d.kept over.named;
       made = made-still d.kept c over.made;
-      read = subst (λ (es : List (List ℕ)). IfTold (history_of new.disk.file) (λ file. Shows es file.content)) (sym entries)
+      epoch = ap (λ (v : NodeView M Msg). v.state.epoch) node ∙ (over-shows old c d over).epoch;
+      read = subst (λ (es : List (List ℕ)). IfTold (history_of new.disk.file) (λ file. Shows version_1 es file.content)) (sym entries)
           (restarted-read old.entries (λ (x : MemoryDisk). history_of x.file) files_of current_of memory_here old.disk new.disk restarts current over.synced).0;
     }
 
-    module _ (one : (bytes : List ℕ) (r q : Reading) → Reads bytes r → Reads bytes q → r ≡ q) (events : List NodeEvent) (c : Core Msg) (leads : LeadsBy m old events c) where
+    module _ (one : (bytes : List ℕ) (r q : Reading) → Reads version_1 bytes r → Reads version_1 bytes q → r ≡ q) (events : List NodeEvent) (c : Core Msg) (leads : LeadsBy m old events c)
+        (recovers : (events : List NodeEvent) → AreNamed old.setup.n events → (stored_of old.setup m old.me.0 events).core.past.epoch < 2 ^ 64 →
+        Recovers old.setup m old.me.0 (shown_of (stored_of old.setup m old.me.0 events)) (stored_of old.setup m old.me.0 events))
+        (low : old.node.state.epoch < 2 ^ 64) where
+      abbrev wrote : Stored Msg
+      wrote = stored_of old.setup m old.me.0 events
+
+      wrote-core : wrote.core ≡ c
+      wrote-core = stored-core old.setup m old.me.0 events ∙ leads.made
+
+      -- the entries lead back to what stored them
+      back : Recovers old.setup m old.me.0 (shown_of wrote) wrote
+      back = recovers events leads.named (subst (λ (x : Core Msg). x.past.epoch < 2 ^ 64) (sym wrote-core) (subst (λ (n : ℕ). n < 2 ^ 64) leads.epoch low))
+
+      back-to : core_of_entries old.setup m old.me.0 old.entries ≡ Some back.found
+      back-to = ap (λ (es : List (List ℕ)). core_of_entries old.setup m old.me.0 es) leads.entries ∙ back.is
+
       -- It is reopened at that core.
-      pub reopened-over : (failed : Type 0) (e : Core Msg) → calls_of old.disk ≡ script [] → RefinesEntries m refines new e → IsAttached (seen old.disk) (seen new.disk) new.entries →
+      pub reopened-over : (failed : Type 0) (found : Rebuilt Msg) → calls_of old.disk ≡ script [] → core_of_entries new.setup m new.me.0 new.entries ≡ Some found →
+          RefinesStored m refines new (stored_as new.entries found) → StandsForSlims m refines → IsAttached (seen old.disk) (seen new.disk) new.entries →
           LosesNone (seen old.disk) (seen new.disk) failed → RefinesMachine m refines new c (record { kept = events; passes = None; failed = false })
-      reopened-over failed e works for attached loses =
+      reopened-over failed found works leads-to for slims attached loses =
           let told = stored-told old.disk.file in
-          let reads = read-told (λ file. Shows old.entries file.content) (history_of old.disk.file) told.0 told.1 told.2 leads.read in
-          let found : new.entries ≡ old.entries = attached-same one (seen old.disk) (seen new.disk) old.entries new.entries told.0 told.1 told.2 reads attached in
-          let lead : core_of new.setup m new.me.0 new.entries ≡ Some c = leads-still c found leads.leads in
-          let is : e ≡ c = some-injective e c (sym for.core ∙ lead) in
+          let reads = read-told (λ file. Shows version_1 old.entries file.content) (history_of old.disk.file) told.0 told.1 told.2 leads.read in
+          let same-entries : new.entries ≡ old.entries = attached-same one (seen old.disk) (seen new.disk) old.entries new.entries told.0 told.1 told.2 reads attached in
+          let there : core_of_entries old.setup m old.me.0 old.entries ≡ Some found =
+          subst (λ (es : List (List ℕ)). core_of_entries old.setup m old.me.0 es ≡ Some found) same-entries
+          (subst (λ (i : NodeId). core_of_entries old.setup m i.0 new.entries ≡ Some found) same.me
+          (subst (λ (s : Setup). core_of_entries s m new.me.0 new.entries ≡ Some found) same.setup leads-to)) in
+          let is : found ≡ back.found = some-injective found back.found (sym there ∙ back-to) in
+          let cluster : new.node.state.setup ≡ old.setup = for.cluster ∙ same.setup in
+          let number : new.node.state.me ≡ old.me = for.number ∙ same.me in
+          let at-found : RefinesCore m refines new.node back.found.core = subst (λ (r : Rebuilt Msg). RefinesCore m refines new.node r.core) is for.node in
+          let at-wrote : RefinesCore m refines new.node wrote.core = slims new.node back.found.core wrote.core at-found
+          (subst (λ (s : Setup). IsPlaced (rules_of s) m new.node.state.me.0 wrote.core) (sym cluster)
+          (subst (λ (i : NodeId). IsPlaced (rules_of old.setup) m i.0 wrote.core) (sym number) back.known))
+          (subst (λ (s : Setup). slim (rules_of s) m new.node.state.me.0 back.found.core ≡ slim (rules_of s) m new.node.state.me.0 wrote.core) (sym cluster)
+          (subst (λ (i : NodeId). slim (rules_of old.setup) m i.0 back.found.core ≡ slim (rules_of old.setup) m i.0 wrote.core) (sym number) back.slims)) in
           record {
-            there = subst (λ (x : Core Msg). KeptRefinesCore m refines new x) is (record { fresh = for.fresh; node = for.node; cluster = for.cluster; number = for.number });
-            entries = found ∙ leads.entries;
-            leads = lead;
+            there = record { fresh = for.fresh; node = subst (λ (x : Core Msg). RefinesCore m refines new.node x) wrote-core at-wrote; cluster = for.cluster; number = for.number };
+            entries = shown-still events same-entries leads.entries;
+            named = named-still events leads.named;
             made = made-still events c leads.made;
+            saved = λ z. saved-of-still events (saved_of new.node.state.saved) (for.saved ∙ ap (λ (r : Rebuilt Msg). r.saved) is ∙ back.saved);
             synced = attached-synced new.entries (seen old.disk) (seen new.disk) attached (stored-kept new.disk.file);
             calls = (reopens-well (seen old.disk) (seen new.disk) failed loses works).0;
           }
@@ -287,14 +367,15 @@ module _ {M Msg : Type 0} (m : Module Msg) (refines : Relation M Msg) where
       pub not-damaged : (at : ℕ) → IsDamaged old.setup m old.me.0 new.entries (history_of old.disk.file) at → ⊥
       not-damaged at h =
           let told = stored-told old.disk.file in
-          let reads = read-told (λ file. Shows old.entries file.content) (history_of old.disk.file) told.0 told.1 told.2 leads.read in
-          never-damaged one old.setup m old.me.0 old.entries new.entries c leads.leads at told.0 told.1 reads (history_of old.disk.file) told.2 h
+          let reads = read-told (λ file. Shows version_1 old.entries file.content) (history_of old.disk.file) told.0 told.1 told.2 leads.read in
+          never-damaged one old.setup m old.me.0 old.entries new.entries back.found back-to at told.0 told.1 reads (history_of old.disk.file) told.2 h
 
   -- Over a new disk there are no entries, and the core has taken no event.
-  pub new-leads : (g : KeptState M Msg MemoryDisk) → g.entries ≡ [] → history_of g.disk.file ≡ settled [] ∷ [] → LeadsBy m g [] initial_core
-  new-leads g entries history = record {
+  pub new-leads : (g : KeptState M Msg MemoryDisk) → g.entries ≡ [] → g.node.state.epoch ≡ 0 → history_of g.disk.file ≡ settled [] ∷ [] → LeadsBy m g [] initial_core
+  new-leads g entries epoch history = record {
     entries = entries;
-    leads = ap (λ (es : List (List ℕ)). core_of g.setup m g.me.0 es) entries;
+    named = λ e i. absurd i;
     made = refl;
-    read = subst (λ (es : List (List ℕ)). IfTold (history_of g.disk.file) (λ file. Shows es file.content)) (sym entries) (new-read (history_of g.disk.file) history).0;
+    epoch = epoch;
+    read = subst (λ (es : List (List ℕ)). IfTold (history_of g.disk.file) (λ file. Shows version_1 es file.content)) (sym entries) (new-read (history_of g.disk.file) history).0;
   }

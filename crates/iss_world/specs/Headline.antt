@@ -1,9 +1,8 @@
 -- What an event promises for a world that refined the run of the events before it: it refines the run with this event.
--- The recovery theorem holds for that run, numbers agree between nodes, the journals hold the events that the run's
--- cores kept, and no leaf signs two statements over all restarts.
+-- The recovery theorem holds for that run, numbers agree between nodes, the journals show what stays of the events that
+-- the run's cores kept, and no leaf signs two statements over all restarts.
 use Rattle.std.specs.Prelude.{◌≡◌, ◌⊎◌, ℕ, true, List, ◌∷◌, Option, None, Some, slice_get}
 use Rattle.iss_disk.specs.declared.memory.MemoryDisk.{MemoryDisk}
-use Rattle.iss_keep.specs.Deeds.{deeds_of}
 use Rattle.iss_keep.specs.State.{KeptState}
 use Rattle.iss_log.specs.LogState.{first_number_of}
 use Rattle.iss_model.specs.Frames.{frame_of}
@@ -17,8 +16,8 @@ use Rattle.iss_theorems.specs.Headline.{IsWhole, course_after, held_after, shown
 use Rattle.iss_schedule.specs.declared.schedules.Event.{Event}
 use Rattle.iss_sb.specs.Evidence.{Module, is_correct}
 use Rattle.iss_sb.specs.Calls.{Relation}
-use Rattle.iss_theorems.specs.Leaves.{SignsOnceEach}
-use Rattle.iss_world.specs.Refines.{RefinesRun, spelled}
+use Rattle.iss_theorems.specs.Leaves.{SignsOnceEach, life_of}
+use Rattle.iss_world.specs.Refines.{RefinesRun, shown_by}
 use Rattle.iss_world.specs.State.{WorldState}
 use Rattle.iss_world.specs.declared.world.EventResult.{EventResult}
 use Rattle.iss_world.specs.declared.world.EventResult.TheVariants.{Done as Result_done, Lost as Result_lost, Forged as Result_forged, Collision as Result_collision, NoMemory, Stale}
@@ -45,24 +44,25 @@ AgreeOnNumbers s m h =
     first_number_of (shown s m h j) slot ≡ Some l → k ≡ l
 
 -- No leaf of a core's keys signs two statements, over all crashes and restarts: each used leaf has one statement in the
--- deeds of the core's journal.
+-- life that events give of which the core's journal shows what stays.
 abbrev pub SignOnce : {M Msg : Type 0} → Setup → Module Msg → WorldState M Msg → Type 0
 SignOnce {M = M} {Msg = Msg} s m v = (i : ℕ) (g : KeptState M Msg MemoryDisk) →
-    slice_get v.simulation.nodes i ≡ Some g →
-    SignsOnceEach (frame_of s m) g.me.0 (deeds_of s m g.me.0 g.entries)
+    slice_get v.simulation.nodes i ≡ Some g → (events : List NodeEvent) → g.entries ≡ shown_by m g.setup g.me.0 events →
+    SignsOnceEach (frame_of s m) g.me.0 (life_of (frame_of s m) g.me.0 events)
 
--- The entries of a journal are the events that the model's disk keeps. After evidence there may be one more: the event
--- that revealed it, of which nothing came out.
-abbrev pub HoldsKept : List (List ℕ) → Disk → Option (ℕ × End) → Type 0
-HoldsKept entries d None = entries ≡ spelled d.kept
-HoldsKept entries d (Some at) = (entries ≡ spelled d.kept)
-    ⊎ ((event : NodeEvent) × (entries ≡ spelled (event ∷ d.kept)))
+-- A journal shows what stays of the events that the model's disk keeps: the snapshots that some of them let the node
+-- write, and the events behind the last one. After evidence there may be one event more: the one that revealed it, of
+-- which nothing came out.
+abbrev pub HoldsKept : {Msg : Type 0} → Module Msg → Setup → ℕ → List (List ℕ) → Disk → Option (ℕ × End) → Type 0
+HoldsKept m s me entries d None = entries ≡ shown_by m s me d.kept
+HoldsKept m s me entries d (Some at) = (entries ≡ shown_by m s me d.kept)
+    ⊎ ((event : NodeEvent) × (entries ≡ shown_by m s me (event ∷ d.kept)))
 
 -- So of each core's journal, whether or not the run has stopped. What the cores signed and sent by these events is told
 -- by `IsWhole`.
-abbrev pub HoldKept : {M Msg : Type 0} → WorldState M Msg → Course Msg → Type 0
-HoldKept {M = M} {Msg = Msg} v p = (i : ℕ) (g : KeptState M Msg MemoryDisk) → slice_get v.simulation.nodes i ≡ Some g →
-    HoldsKept g.entries (p.state.disks i) p.ended
+abbrev pub HoldKept : {M Msg : Type 0} → Module Msg → WorldState M Msg → Course Msg → Type 0
+HoldKept {M = M} {Msg = Msg} m v p = (i : ℕ) (g : KeptState M Msg MemoryDisk) →
+    slice_get v.simulation.nodes i ≡ Some g → HoldsKept m g.setup g.me.0 g.entries (p.state.disks i) p.ended
 
 -- The headline. The world refines the run of these events, up to the evidence that stopped it, if any (`run`). The
 -- theorems of composition and recovery hold for that run (`whole`). Correct nodes number requests alike (`numbers`).
@@ -73,5 +73,5 @@ pub record IsHeadline {M Msg : Type 0} (s : Setup) (m : Module Msg) (refines : R
   pub run : RefinesEvents s m refines v events
   pub whole : IsWhole s m events
   pub numbers : AgreeOnNumbers s m (held_after s m events)
-  pub journals : HoldKept v (course_after s m events)
+  pub journals : HoldKept m v (course_after s m events)
   pub leaves : SignOnce s m v

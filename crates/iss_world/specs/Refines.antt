@@ -1,19 +1,22 @@
 -- When a simulation and a world refine a run with disk failures and restarts, and what an event made of it. A kept
 -- node refines a core over its disk: it is at the core, or its disk has failed and it shows the core's log and epoch.
--- Its entries are the events that the disk keeps. The networks are the same, and the books hold what the run's hold.
-use Rattle.std.specs.Prelude.{◌≡◌, ◌≢◌, ◌⊎◌, ◌↔◌, ℕ, ◌||◌, Bool, true, false, List, [], ◌∷◌, ◌++◌, length, Option, Some, None, option_map, reverse, slice_get}
+-- Its journal shows what stays of the events that the disk keeps. The networks are the same, and the books hold what
+-- the run's hold.
+use Rattle.std.specs.Prelude.{◌≡◌, ◌≢◌, ◌⊎◌, ◌↔◌, ℕ, ◌||◌, Bool, true, false, List, [], ◌∷◌, length, Option, Some, None, option_map, reverse, slice_get}
 use Rattle.iss_rules.specs.Ends.{End, Forged, Collision}
 use Rattle.iss_rules.specs.declared.events.NodeEvent.{NodeEvent}
 use Rattle.iss_disk.specs.Calls.{IfTold, Passes, script, up_to}
 use Rattle.iss_disk.specs.MemoryViews.{calls_of}
 use Rattle.iss_disk.specs.StoredViews.{history_of}
 use Rattle.iss_disk.specs.declared.memory.MemoryDisk.{MemoryDisk}
+use Rattle.iss_journal.specs.Frames.{version_1}
 use Rattle.iss_journal.specs.Promises.{Shows}
-use Rattle.iss_keep.specs.Cores.{core_of}
-use Rattle.iss_keep.specs.Entries.{spell_event}
+use Rattle.iss_keep.specs.Cores.{shown_of, stored_of}
+use Rattle.iss_keep.specs.Recovery.{AreNamed}
 use Rattle.iss_keep.specs.State.{KeptRefinesCore, KeptState}
 use Rattle.iss_model.specs.Node.{Core, initial_core}
 use Rattle.iss_model.specs.Run.{Held, node_of}
+use Rattle.iss_node.specs.Saved.{saved_of}
 use Rattle.iss_request.specs.declared.requests.Value.{Value}
 use Rattle.iss_request.specs.declared.setups.Setup.{Setup}
 use Rattle.iss_schedule.specs.declared.schedules.Event.{Event}
@@ -42,10 +45,9 @@ abbrev pub calls_to_come : Option ℕ → Passes
 calls_to_come None = script []
 calls_to_come (Some calls) = up_to calls
 
--- The journal entries of events. Events are newest first, entries oldest first.
-abbrev pub spelled : List NodeEvent → List (List ℕ)
-spelled [] = []
-spelled (event ∷ older) = spelled older ++ spell_event event ∷ []
+-- What the journal of node `me` shows of the events that it keeps. Events are newest first, entries oldest first.
+abbrev pub shown_by : {Msg : Type 0} → Module Msg → Setup → ℕ → List NodeEvent → List (List ℕ)
+shown_by m s me events = shown_of (stored_of s m me events)
 
 -- The kept node reports the log and the epoch of this core of node `me`.
 pub record ShowsCore {M Msg : Type 0} (m : Module Msg) (s : Setup) (me : ℕ) (g : KeptState M Msg MemoryDisk)
@@ -60,24 +62,28 @@ abbrev pub RefinesOrShowsCore : {M Msg : Type 0} → Module Msg → Relation M M
 RefinesOrShowsCore m refines g c false = KeptRefinesCore m refines g c
 RefinesOrShowsCore m refines g c true = (g.stale ≡ true) × ShowsCore m g.setup g.me.0 g c
 
--- The kept node refines a core with a disk. The entries of its journal are the events on the disk. They lead to the
--- core, and they are synced.
+-- The kept node refines a core with a disk. Its journal shows what stays of the events on the disk, each of which names
+-- existing nodes. They lead to the core, and what they stored is synced. Unless the disk has failed, the node's next
+-- snapshot goes on where the last of theirs ended.
 pub record RefinesMachine {M Msg : Type 0} (m : Module Msg) (refines : Relation M Msg)
     (g : KeptState M Msg MemoryDisk) (c : Core Msg) (d : Disk) : Type 0 where
   pub there : RefinesOrShowsCore m refines g c d.failed
-  pub entries : g.entries ≡ spelled d.kept
-  pub leads : core_of g.setup m g.me.0 g.entries ≡ Some c
+  pub entries : g.entries ≡ shown_by m g.setup g.me.0 d.kept
+  pub named : AreNamed g.setup.n d.kept
   pub made : core_of_kept (formats_of g.setup m) (rules_of g.setup) m g.me.0 d.kept ≡ c
-  pub synced : IfTold (history_of g.disk.file) (λ file. Shows g.entries file.kept)
+  pub saved : d.failed ≡ false → saved_of g.node.state.saved ≡ (stored_of g.setup m g.me.0 d.kept).saved
+  pub synced : IfTold (history_of g.disk.file) (λ file. Shows version_1 g.entries file.kept)
   pub calls : calls_of g.disk ≡ calls_to_come d.passes
 
--- The entries of its journal are these events, they lead to this core, and the file's content holds them.
+-- Its journal shows what stays of these events, they lead to this core, whose epoch the node shows, and the file's
+-- content holds what they stored.
 pub record LeadsBy {M Msg : Type 0} (m : Module Msg) (g : KeptState M Msg MemoryDisk) (events : List NodeEvent)
     (c : Core Msg) : Type 0 where
-  pub entries : g.entries ≡ spelled events
-  pub leads : core_of g.setup m g.me.0 g.entries ≡ Some c
+  pub entries : g.entries ≡ shown_by m g.setup g.me.0 events
+  pub named : AreNamed g.setup.n events
   pub made : core_of_kept (formats_of g.setup m) (rules_of g.setup) m g.me.0 events ≡ c
-  pub read : IfTold (history_of g.disk.file) (λ file. Shows g.entries file.content)
+  pub epoch : g.node.state.epoch ≡ c.past.epoch
+  pub read : IfTold (history_of g.disk.file) (λ file. Shows version_1 g.entries file.content)
 
 -- ---- all cores
 
@@ -96,13 +102,14 @@ pub record RefinesMachines {M Msg : Type 0} (m : Module Msg) (refines : Relation
   pub hashed : AreHashed v.hashed w.held.hashed
 
 -- A kept node that read or took the event that revealed the evidence. It went back to the core from before that event:
--- it is stale, and reports the core's log and epoch. Its journal holds the events that the model's disk keeps, and that
--- event behind them if the node took it.
+-- it is stale, and reports the core's log and epoch. Its journal shows what stays of the events that the model's disk
+-- keeps, and of that event behind them if the node took it.
 pub record HasRetreated {M Msg : Type 0} (m : Module Msg) (s : Setup) (me : ℕ) (g : KeptState M Msg MemoryDisk)
     (c : Core Msg) (d : Disk) : Type 0 where
   pub stale : g.stale ≡ true
   pub shows : ShowsCore m s me g c
-  pub entries : (g.entries ≡ spelled d.kept) ⊎ ((event : NodeEvent) × (g.entries ≡ spelled (event ∷ d.kept)))
+  pub entries : (g.entries ≡ shown_by m g.setup g.me.0 d.kept)
+      ⊎ ((event : NodeEvent) × (g.entries ≡ shown_by m g.setup g.me.0 (event ∷ d.kept)))
 
 -- The kept node refines this core with its disk, or has retreated to it.
 abbrev pub RefinesOrRetreated : {M Msg : Type 0} → Module Msg → Relation M Msg → Setup → ℕ →

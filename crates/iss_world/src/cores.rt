@@ -13,8 +13,9 @@ ghost use Rattle.iss_world.specs.Refines.{AreFresh, IsFresh, LeadsBy, RefinesMac
 
 use iss_disk::MemoryDisk;
 use iss_journal::{AttachError, a_file_has_one_reading};
-use iss_keep::Kept;
+use iss_keep::{Kept, a_journal_recovers};
 use iss_keys::SharedDirectory;
+use iss_node::nodes_stand_for_slims;
 use iss_request::{NoMemory, NodeId, Setup};
 use iss_sb::Sequenced;
 use std::alloc::Global;
@@ -96,6 +97,11 @@ pub fn make_anew<M: Sequenced>(node: &mut Kept<M, MemoryDisk>) -> Result<(), NoM
     ensures same { IsSame node.old node.new }
 {
     a_file_has_one_reading();
+    a_journal_recovers::<M>();
+    nodes_stand_for_slims::<M>();
+    let _setup = node.setup();
+    let _me = node.me();
+    let _epoch = node.epoch();
     match node.reopen() {
         Ok(()) => Ok(()),
         Err(AttachError::NoMemory) => Err(NoMemory),

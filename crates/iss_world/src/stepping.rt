@@ -78,6 +78,7 @@ fn take_with_savepoint<M: Sequenced>(
     ensures epoch { result.2.0 ≡ node.old.node.state.epoch }
     ensures same { IsSame node.old node.new }
 {
+    let _setup = node.setup();
     let (slots, epoch) = savepoint_of(node);
     (node.take(event), slots, epoch)
 }

@@ -1,12 +1,14 @@
 -- What the two halves of a journaled event leave: the step of the node, and the append of its entry. The step's
 -- outcome is handed out only with its entry; else the node retreats to the log and epoch from before.
-use Rattle.std.specs.Prelude.{◌≡◌, ℕ, Result, Ok, Err}
+use Rattle.std.specs.Prelude.{◌≡◌, ℕ, List, Option, None, Some, Result, Ok, Err}
 use Rattle.iss_disk.specs.declared.errors.EndError.{EndError}
 use Rattle.iss_disk.specs.declared.errors.EndError.TheVariants.{Failed as Disk_failed, NoMemory as Disk_no_memory}
 use Rattle.iss_rules.specs.Concrete.{rules_of}
 use Rattle.iss_rules.specs.Formats.{formats_of}
-use Rattle.iss_model.specs.Node.{Core, step}
+use Rattle.iss_model.specs.Frames.{frame_of, step_in}
+use Rattle.iss_model.specs.Node.{Core, Taken as Step_taken, Turn, step}
 use Rattle.iss_rules.specs.declared.events.NodeEvent.{NodeEvent}
+use Rattle.iss_node.specs.Saved.{saved_of}
 use Rattle.iss_node.specs.State.{NodeView, RefinesCore}
 use Rattle.iss_node.specs.Steps.{HasRetreated, IsAnswer, IsOfNodes}
 use Rattle.iss_node.specs.declared.answers.Answer.{Answer as NodeAnswer}
@@ -14,6 +16,8 @@ use Rattle.iss_node.specs.declared.answers.Answer.TheVariants.{Dropped as Node_d
 use Rattle.iss_node.specs.declared.answers.Outcome.{Outcome}
 use Rattle.iss_sb.specs.Calls.{Relation}
 use Rattle.iss_sb.specs.Evidence.{Module}
+use Rattle.iss_rebuilt.specs.Stored.{Kept, kept_of}
+use Rattle.iss_keep.specs.Entries.{spell_event}
 use Rattle.iss_keep.specs.Steps.{IsTaken}
 use Rattle.iss_keep.specs.declared.answers.Answer.{Answer}
 use Rattle.iss_keep.specs.declared.answers.Answer.TheVariants.{Dropped as Kept_dropped, Failed, NoMemory, Stale, Taken as Kept_taken}
@@ -35,14 +39,45 @@ abbrev pub Takes : {M Msg : Type 0} → Module Msg → Relation M Msg → NodeEv
 Takes {Msg = Msg} m refines event old = (c : Core Msg) → RefinesCore m refines old c →
     IsTaken (step (formats_of old.state.setup m) (rules_of old.state.setup) m old.state.me.0 c event)
 
--- The state of the node after an event, by answer.
-abbrev pub HasStepped : {M Msg : Type 0} → Module Msg → Relation M Msg → NodeEvent → NodeView M Msg → NodeView M Msg →
-    Answer → Type 0
-HasStepped m refines event old new (Kept_taken outcome) = Answers m refines event old new (Node_taken outcome)
-HasStepped m refines event old new (Kept_dropped why) = Answers m refines event old new (Node_dropped why)
-HasStepped m refines event old new Failed = ShowsSame old new × Takes m refines event old
-HasStepped m refines event old new Stale = ⊥
-HasStepped m refines event old new NoMemory = ShowsSame old new
+-- What is appended for an event with this entry: the snapshot that takes its place, if there is one.
+abbrev pub entry_kept : Option (List ℕ) → List ℕ → List ℕ
+entry_kept None own = own
+entry_kept (Some snapshot) own = snapshot
+
+abbrev pub entry_made : NodeAnswer → List ℕ → List ℕ
+entry_made (Node_taken outcome) own = entry_kept outcome.entered own
+entry_made (Node_dropped why) own = own
+entry_made Node_no_memory own = own
+entry_made Node_stale own = own
+
+-- What the event is kept as, after this turn of a node in this state.
+abbrev pub kept_at : {M Msg : Type 0} → Module Msg → NodeView M Msg → NodeEvent → Turn Msg → Kept
+kept_at m v event turn =
+    kept_of (frame_of v.state.setup m) v.state.me.0 (saved_of v.state.saved) (spell_event event) turn
+
+-- The entry is what the event is kept as, for the turn of each core that the node refines. And the node has noted the
+-- snapshot, if it is one.
+abbrev pub IsKeptAs : {M Msg : Type 0} → Module Msg → Relation M Msg → NodeEvent → NodeView M Msg → List ℕ → Type 0
+IsKeptAs {Msg = Msg} m refines event old entry = (c : Core Msg) (turn : Turn Msg) → RefinesCore m refines old c →
+    step_in (frame_of old.state.setup m) old.state.me.0 c event ≡ Step_taken turn →
+    entry ≡ (kept_at m old event turn).entry
+
+abbrev pub HasNoted : {M Msg : Type 0} → Module Msg → Relation M Msg → NodeEvent → (old new : NodeView M Msg) → Type 0
+HasNoted {Msg = Msg} m refines event old new = (c : Core Msg) (turn : Turn Msg) → RefinesCore m refines old c →
+    step_in (frame_of old.state.setup m) old.state.me.0 c event ≡ Step_taken turn →
+    saved_of new.state.saved ≡ (kept_at m old event turn).saved
+
+-- The state of the node after an event of which this entry is kept, by answer.
+abbrev pub HasStepped : {M Msg : Type 0} → Module Msg → Relation M Msg → NodeEvent → (old new : NodeView M Msg) →
+    List ℕ → Answer → Type 0
+HasStepped m refines event old new entry (Kept_taken outcome) = Answers m refines event old new (Node_taken outcome)
+    × IsKeptAs m refines event old entry × HasNoted m refines event old new
+HasStepped m refines event old new entry (Kept_dropped why) = Answers m refines event old new (Node_dropped why)
+    × (saved_of new.state.saved ≡ saved_of old.state.saved)
+HasStepped m refines event old new entry Failed =
+    ShowsSame old new × Takes m refines event old × IsKeptAs m refines event old entry
+HasStepped m refines event old new entry Stale = ⊥
+HasStepped m refines event old new entry NoMemory = ShowsSame old new
 
 -- If the entry was appended, the outcome is released and the node stays as it is. Otherwise the node retreats.
 abbrev pub HasEnded : {M Msg : Type 0} → Outcome → ℕ → ℕ → NodeView M Msg → NodeView M Msg → Answer → Type 0

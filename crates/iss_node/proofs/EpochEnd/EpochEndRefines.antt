@@ -138,6 +138,7 @@ module _ {M Msg : Type 0} (m : Module Msg) (refines : M → Params → ℕ → L
     early = [];
     logged = [];
     ballots = v.ballots;
+    saved = v.saved;
     keys = v.keys;
   }
 

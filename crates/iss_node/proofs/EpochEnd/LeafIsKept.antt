@@ -7,7 +7,7 @@ use Rattle.iss_checkpoint.specs.declared.votes.Vote.{Vote}
 use Rattle.iss_keys.specs.KeyStates.{KeyState, left_of}
 use Rattle.iss_model.specs.Node.{Stepped}
 use Rattle.iss_node.proofs.EpochEnd.NextEpochStarts.{is-over}
-use Rattle.iss_node.proofs.EpochEnd.VoteRefines.{whole}
+use Rattle.iss_node.proofs.EpochEnd.VoteRefines.{next-refined, whole}
 use Rattle.iss_node.proofs.Log.LogIsDelivered.{has-slots}
 use Rattle.iss_node.specs.Internal.Casts.{IsCut}
 use Rattle.iss_node.specs.Internal.Inputs.{HasAppliedEffects, IsInputTaken}
@@ -15,7 +15,7 @@ use Rattle.iss_node.specs.Internal.Ready.{HasLeaves, IsOpen, IsReady, IsToComple
 use Rattle.iss_node.specs.Internal.Shape.{IsNode, IsNodeState}
 use Rattle.iss_node.specs.Internal.Votes.{IsVoted}
 use Rattle.iss_node.specs.State.{NodeView, RefinesPast, StateView, core_of, led}
-use Rattle.iss_node.specs.Steps.{IsEnded, IsLater, IsNextEpoch, IsStep}
+use Rattle.iss_node.specs.Steps.{IsLater, IsNextEpoch, IsStep}
 use Rattle.iss_node.specs.declared.answers.Early.{Early}
 use Rattle.iss_node.specs.declared.answers.Outcome.{Outcome}
 use Rattle.iss_node.specs.declared.answers.StepResult.{StepResult}
@@ -110,13 +110,13 @@ module _ {M Msg : Type 0} (m : Module Msg) (refines : M → Params → ℕ → L
   -- ---- the next epoch
 
   -- It starts where the log ends.
-  pub begins-open : (v u w : StateView M Msg) (shape : IsNodeState m v) (vote : Vote) (o : Outcome) (early : List (Early Msg)) → IsVoted v u vote → IsNextEpoch refines u w early → IsLater u w →
-      IsEnded m refines v w o early → MayVote m refines v → IsOpen m refines w
-  begins-open v u w shape vote o early voted next later ended may =
+  pub begins-open : (v u w : StateView M Msg) (shape : IsNodeState m v) (vote : Vote) (early : List (Early Msg)) → IsVoted v u vote → IsNextEpoch refines u w early → IsLater u w →
+      MayVote m refines v → IsOpen m refines w
+  begins-open v u w shape vote early voted next later may =
       let past = may.refined.0 in
       let tied = may.refined.1 in
       let complete = is-over m refines v true true (sym may.full) refl past tied in
-      let there : RefinesPast m refines w (advanced past) = (ended.turned past tied complete).refined.tied in
+      let there : RefinesPast m refines w (advanced past) = (next-refined m refines v shape past tied complete u vote voted w early next).tied in
       let setup : w.setup ≡ v.setup = later.setup ∙ ap (λ (z : StateView M Msg). z.setup) voted.rest in
       let log : length w.log.entries ≡ length v.log.entries =
       ap (λ (z : StateView M Msg). length z.log.entries) next.new_is

@@ -13,6 +13,7 @@ use Rattle.iss_node.specs.State.{RefinesBareCore, RefinesPast, StateView, core_o
 use Rattle.iss_node.proofs.Steps.OutcomesCompose.{early-made}
 use Rattle.iss_node.proofs.EpochEnd.StepCompletes.{early-not, early-on, ended-by}
 use Rattle.iss_node.specs.Internal.Casts.{IsCut}
+use Rattle.iss_node.specs.Entered.{IsEntered}
 use Rattle.iss_node.specs.Steps.{IsEnded, IsLater, IsNextEpoch, IsTurnOf, IsTurned}
 use Rattle.iss_node.specs.declared.answers.Outcome.{Outcome}
 use Rattle.iss_sb.specs.declared.effects.Input.TheVariants.{Receive}
@@ -117,6 +118,7 @@ module _ {M Msg : Type 0} (m : Module Msg) (refines : M → Params → ℕ → L
   with-claims past w all p claims read is h = record {
     refined = h.refined;
     made = early-made _ all p claims _ read is h.made;
+    entered = subst (λ (z : Outcome). IsEntered m w (ended (formats_of v.setup m) (rules_of v.setup) m v.me.0 (or_unchanged (core_of v past) (try_step (formats_of v.setup m) (rules_of v.setup) m v.me.0 (core_of v past) x.leader.0 (Receive x.from x.msg)))).entered z.entered) (sym is) h.entered;
     addressed = subst (λ (z : Outcome). AreToNodes w.setup.n z.sends) (sym is) h.addressed;
   }
 

@@ -10,6 +10,8 @@ use Rattle.iss_rules.specs.Parcels.{Formats}
 use Rattle.iss_model.specs.Node.{Core, Early as Kept_early, Stepped, Turn, advance_epochs, ended, ends, finish_step, or_unchanged, takes_each, takes_early, then_turn, unchanged}
 use Rattle.iss_rules.specs.Past.{Past, is_complete}
 use Rattle.iss_rules.specs.Rules.{Rules}
+use Rattle.iss_node.proofs.Steps.EntriesCompose.{both-entered, later-entered, nothing-entered}
+use Rattle.iss_node.specs.Entered.{IsEntered}
 use Rattle.iss_node.proofs.Steps.OutcomesCompose.{both-made, nothing, nothing-made, nothing-sent}
 use Rattle.iss_node.specs.Internal.Epochs.{appended}
 use Rattle.iss_node.specs.State.{RefinesBareCore, RefinesPast, StateView, core_of, seen_early, seen_one}
@@ -42,6 +44,7 @@ module _ {M Msg : Type 0} (m : Module Msg) (refines : M → Params → ℕ → L
   tried-dropped v w c step why o h none = subst (λ (z : Stepped Msg). IsTurned m refines (or_unchanged c z) w o) (sym h.step_is) (record {
     refined = h.refined;
     made = nothing-made c o none;
+    entered = nothing-entered o none;
     addressed = nothing-sent w.setup.n o none;
   })
 
@@ -70,6 +73,7 @@ module _ {M Msg : Type 0} (m : Module Msg) (refines : M → Params → ℕ → L
       record {
         refined = turned.refined;
         made = both-made t (ends F R m v.me.0) first vote h.made turned.made;
+        entered = both-entered m u t.entered (ends F R m v.me.0 t.core).entered first.entered vote.entered (later-entered m v u later t.entered first.entered h.entered) turned.entered;
         addressed = to-nodes u.setup.n first.sends vote.sends (subst (λ (s : Setup). AreToNodes s.n first.sends) (sym later.setup) h.addressed) turned.addressed;
       }
 
@@ -144,13 +148,14 @@ module _ {M Msg : Type 0} (m : Module Msg) (refines : M → Params → ℕ → L
     pub so_far : Turn Msg
     pub refined : RefinesBareCore m refines now so_far.core
     pub made : IsMade so_far all
+    pub entered : IsEntered m now so_far.entered all.entered
     pub addressed : AreToNodes now.setup.n all.sends
     pub rest : (more : List (Early Msg)) →
         then_turn t (takes_each (formats_of start.setup m) (rules_of start.setup) m start.me.0 start.epoch (seen_early (done ++ more)))
         ≡ then_turn so_far (takes_each (formats_of start.setup m) (rules_of start.setup) m start.me.0 start.epoch (seen_early more))
 
   pub owes-first : (v : StateView M Msg) (first : Outcome) (t : Turn Msg) → IsTurned m refines t v first → Owes v v first [] t
-  owes-first v first t h = record { so_far = t; refined = h.refined; made = h.made; addressed = h.addressed; rest = λ more. refl }
+  owes-first v first t h = record { so_far = t; refined = h.refined; made = h.made; entered = h.entered; addressed = h.addressed; rest = λ more. refl }
 
   pub owes-last : (start now : StateView M Msg) (last : Outcome) (all done : List (Early Msg)) → done ≡ all → (t : Turn Msg) → Owes start now last done t →
       IsTurned m refines (then_turn t (takes_each (formats_of start.setup m) (rules_of start.setup) m start.me.0 start.epoch (seen_early all))) now last
@@ -159,7 +164,7 @@ module _ {M Msg : Type 0} (m : Module Msg) (refines : M → Params → ℕ → L
       let R = rules_of start.setup in
       let e : then_turn t (takes_each F R m start.me.0 start.epoch (seen_early all)) ≡ o.so_far =
       ap (λ (xs : List (Early Msg)). then_turn t (takes_each F R m start.me.0 start.epoch (seen_early xs))) (sym is ∙ sym (append-nil done)) ∙ o.rest [] ∙ onward-rests o.so_far in
-      subst (λ (z : Turn Msg). IsTurned m refines z now last) (sym e) (record { refined = o.refined; made = o.made; addressed = o.addressed })
+      subst (λ (z : Turn Msg). IsTurned m refines z now last) (sym e) (record { refined = o.refined; made = o.made; entered = o.entered; addressed = o.addressed })
 
   each-on : (F : Formats Msg) (R : Rules) (me e : ℕ) (x : Kept_early Msg) (xs : List (Kept_early Msg)) (c : Core Msg) → c.past.epoch ≡ e → takes_each F R m me e (x ∷ xs) c ≡ then_turn (takes_early F R m me c x) (takes_each F R m me e xs)
   each-on F R me e x xs c h = let same : eqb c.past.epoch e ≡ true = grind (arith, nat_tests) in rw same refl
@@ -186,6 +191,7 @@ module _ {M Msg : Type 0} (m : Module Msg) (refines : M → Params → ℕ → L
         so_far = then_turn o.so_far (λ d. takes_early F R m me d (seen_one x));
         refined = turn.refined;
         made = both-made o.so_far (λ d. takes_early F R m me d (seen_one x)) all more o.made turn.made;
+        entered = both-entered m new o.so_far.entered (takes_early F R m me c (seen_one x)).entered all.entered more.entered (later-entered m now new after o.so_far.entered all.entered o.entered) turn.entered;
         addressed = to-nodes new.setup.n all.sends more.sends (subst (λ (s : Setup). AreToNodes s.n all.sends) (sym after.setup) o.addressed) turn.addressed;
         rest = λ ys.
             let regroup : (done ++ x ∷ []) ++ ys ≡ done ++ x ∷ ys = append_assoc done (x ∷ []) ys in
@@ -211,6 +217,7 @@ module _ {M Msg : Type 0} (m : Module Msg) (refines : M → Params → ℕ → L
         so_far = o.so_far;
         refined = o.refined;
         made = o.made;
+        entered = o.entered;
         addressed = o.addressed;
         rest = λ ys.
             let regroup : (done ++ x ∷ []) ++ ys ≡ done ++ x ∷ ys = append_assoc done (x ∷ []) ys in

@@ -1,5 +1,5 @@
 -- Voting at the end of an epoch refines the model's step.
-use Rattle.std.proofs.Common.{arith, ◌≡◌, ℕ, suc, ◌+◌, true, List, [], ◌∷◌, length, reverse, take, sym, ap, ◌∙◌, subst, add-one}
+use Rattle.std.proofs.Common.{arith, ◌≡◌, ℕ, suc, ◌+◌, true, Some, List, [], ◌∷◌, length, reverse, take, sym, ap, ◌∙◌, subst, add-one}
 use Rattle.std.proofs.lemmas.List.{length-reverse, reverse-reverse, take_all}
 use Rattle.iss_base.proofs.Lists.{some-injective}
 use Rattle.iss_ballots.specs.Claims.{claim_by}
@@ -21,7 +21,9 @@ use Rattle.iss_node.proofs.EpochEnd.NextEpochStarts.{next-parts}
 use Rattle.iss_node.proofs.Log.LogIsDelivered.{has-slots, start-is}
 use Rattle.iss_node.specs.Internal.Shape.{IsNodeState}
 use Rattle.iss_node.specs.State.{RefinesBareCore, RefinesPast, StateView, core_of, seen_early}
-use Rattle.iss_node.specs.Steps.{IsEnded, IsLater, IsNextEpoch, IsTurned}
+use Rattle.iss_node.proofs.Steps.EntriesCompose.{entry-of}
+use Rattle.iss_node.specs.Entered.{IsEntryOf}
+use Rattle.iss_node.specs.Steps.{IsEnded, IsNextEpoch, IsTurned}
 use Rattle.iss_node.specs.Internal.Votes.{IsVoteHandedOut, IsVoted}
 use Rattle.iss_node.specs.declared.answers.Early.{Early}
 use Rattle.iss_node.specs.declared.answers.Outcome.{Outcome}
@@ -122,40 +124,50 @@ module _ {M Msg : Type 0} (m : Module Msg) (refines : M → Params → ℕ → L
     sig = sig-is i;
   }
 
-  -- The vote is sent, and the next epoch starts.
-  module _ (o : Outcome) (w : StateView M Msg) (early : List (Early Msg)) (handed : IsVoteHandedOut u vote o) (next : IsNextEpoch refines u w early) (later : IsLater u w) where
+  -- The next epoch starts.
+  module _ (w : StateView M Msg) (early : List (Early Msg)) (next : IsNextEpoch refines u w early) where
     abbrev pub after : StateView M Msg
     after = record v { keys = record v.keys { used = v.keys.used + 1 } }
-
-    there : IsVoteHandedOut after vote o
-    there = subst (λ (z : StateView M Msg). IsVoteHandedOut z vote o) voted.rest handed
 
     begins : IsNextEpoch refines after w early
     begins = subst (λ (z : StateView M Msg). IsNextEpoch refines z w early) voted.rest next
 
-    parts : RefinesBareCore m refines w (record (in_next_epoch (core_of v past)) { leaf = suc v.keys.used })
-    parts = subst (λ (k : ℕ). RefinesBareCore m refines w (record (in_next_epoch (core_of v past)) { leaf = k })) (add-one v.keys.used)
+    pub next-refined : RefinesBareCore m refines w (record (in_next_epoch (core_of v past)) { leaf = suc v.keys.used })
+    next-refined = subst (λ (k : ℕ). RefinesBareCore m refines w (record (in_next_epoch (core_of v past)) { leaf = k })) (add-one v.keys.used)
         (next-parts m refines after shape.slots (before_own (rules_of v.setup) m v.me.0 past) past (over-tied m refines after (signed-shape m v shape) past (signed-tied m refines v past tied) complete) w early begins)
 
     abbrev packet : Vote → List ℕ
     packet z = spell_packet v.setup.version (record { kind = Kind_vote; from = z.by.0; epoch = z.epoch; leader = 0; body = spell_vote z })
 
-    pub ended-so : IsTurned m refines (ends (formats_of v.setup m) (rules_of v.setup) m v.me.0 (core_of v past)) w o
-    ended-so = record {
-      refined = parts;
-      made = record {
-        sends = there.sent ∙ ap (λ (z : Vote). (To_all, packet z) ∷ []) vote-is;
-        own = there.own ∙ ap (λ (z : Vote). claim_by v.setup.tag z ∷ []) vote-is;
-        early = there.early;
-        hashed = there.hashed;
-      };
-      addressed = subst (λ (xs : List (To × List ℕ)). AreToNodes w.setup.n xs) (sym there.sent) (tt, tt);
-    }
+    -- The vote is sent, with a snapshot for the journal.
+    module _ (first o : Outcome) (bytes : List ℕ) (handed : IsVoteHandedOut u vote first) (is : o ≡ record first { entered = Some bytes }) (entry : IsEntryOf m refines w early bytes) where
+      there : IsVoteHandedOut after vote first
+      there = subst (λ (z : StateView M Msg). IsVoteHandedOut z vote first) voted.rest handed
+
+      sent : o.sends ≡ (To_all, packet vote) ∷ []
+      sent = ap (λ (z : Outcome). z.sends) is ∙ there.sent
+
+      pub ended-so : IsTurned m refines (ends (formats_of v.setup m) (rules_of v.setup) m v.me.0 (core_of v past)) w o
+      ended-so = record {
+        refined = next-refined;
+        made = record {
+          sends = sent ∙ ap (λ (z : Vote). (To_all, packet z) ∷ []) vote-is;
+          own = ap (λ (z : Outcome). z.own) is ∙ (there.own ∙ ap (λ (z : Vote). claim_by v.setup.tag z ∷ []) vote-is);
+          early = ap (λ (z : Outcome). z.early) is ∙ there.early;
+          hashed = ap (λ (z : Outcome). z.hashed) is ∙ there.hashed;
+        };
+        entered = λ votes certs kept.
+            ap (λ (z : Outcome). z.entered) is
+            ∙ ap (λ (x : List ℕ). Some x)
+            (entry-of m refines w early bytes entry (record (in_next_epoch (core_of v past)) { leaf = suc v.keys.used }) next-refined (seen_early v.early)
+            (ap (λ (xs : List (Early Msg)). seen_early xs) (next.kept ∙ ap (λ (z : StateView M Msg). z.early) voted.rest)) votes certs kept);
+        addressed = subst (λ (xs : List (To × List ℕ)). AreToNodes w.setup.n xs) (sym sent) (tt, tt);
+      }
 
 -- The whole end of the epoch.
-pub ended-all : {M Msg : Type 0} (m : Module Msg) (refines : M → Params → ℕ → List (Item Msg) → Type 0) (v u w : StateView M Msg) (shape : IsNodeState m v) (vote : Vote) (o : Outcome) (early : List (Early Msg)) →
-    IsVoted v u vote → IsVoteHandedOut u vote o → IsNextEpoch refines u w early → IsLater u w → IsEnded m refines v w o early
-ended-all m refines v u w shape vote o early voted handed next later = record {
-  turned = λ past tied complete. ended-so m refines v shape past tied complete u vote voted o w early handed next later;
+pub ended-all : {M Msg : Type 0} (m : Module Msg) (refines : M → Params → ℕ → List (Item Msg) → Type 0) (v u w : StateView M Msg) (shape : IsNodeState m v) (vote : Vote) (first o : Outcome) (bytes : List ℕ) (early : List (Early Msg)) →
+    IsVoted v u vote → IsVoteHandedOut u vote first → o ≡ record first { entered = Some bytes } → IsEntryOf m refines w early bytes → IsNextEpoch refines u w early → IsEnded m refines v w o early
+ended-all m refines v u w shape vote first o bytes early voted handed is entry next = record {
+  turned = λ past tied complete. ended-so m refines v shape past tied complete u vote voted w early next first o bytes handed is entry;
   kept = next.kept ∙ ap (λ (z : StateView _ _). z.early) voted.rest;
 }

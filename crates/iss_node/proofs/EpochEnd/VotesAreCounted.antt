@@ -12,6 +12,7 @@ use Rattle.iss_model.specs.Node.{Core, Dropped, Taken, counted, is_counted, take
 use Rattle.iss_rules.specs.Past.{Past}
 use Rattle.iss_rules.specs.Rules.{Rules}
 use Rattle.iss_rules.specs.declared.events.Why.TheVariants.{BadClaim, Known, OtherEpoch}
+use Rattle.iss_node.proofs.Steps.EntriesCompose.{nothing-entered}
 use Rattle.iss_node.proofs.Steps.OutcomesCompose.{nothing, nothing-made, nothing-sent}
 use Rattle.iss_node.specs.Internal.Shape.{IsNodeState}
 use Rattle.iss_node.specs.State.{RefinesPast, StateRefinesCore, StateView}
@@ -101,6 +102,7 @@ module _ {M Msg : Type 0} (m : Module Msg) (refines : M → Params → ℕ → L
           turned = record {
             refined = ballots-held w ballots c (vote ∷ c.votes) _ is h kept;
             made = nothing-made (counted (rules_of v.setup) c vote) o none;
+            entered = nothing-entered o none;
             addressed = λ a. nothing-sent w.setup.n o none;
           };
         }

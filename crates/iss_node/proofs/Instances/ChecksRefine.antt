@@ -48,13 +48,13 @@ pub goes-same : (a b : List Value) → b ≡ a → GoesOn a b
 goes-same a b e = ([], e ∙ append-none a)
 
 pub later-trans : {M Msg : Type 0} (u v w : StateView M Msg) → IsLater u v → IsLater v w → IsLater u w
-later-trans u v w g h = record { setup = h.setup ∙ g.setup; me = h.me ∙ g.me; log = goes-trans u.log.entries v.log.entries w.log.entries g.log h.log; ballots = h.ballots ∙ g.ballots }
+later-trans u v w g h = record { setup = h.setup ∙ g.setup; me = h.me ∙ g.me; saved = h.saved ∙ g.saved; log = goes-trans u.log.entries v.log.entries w.log.entries g.log h.log; ballots = h.ballots ∙ g.ballots }
 
-pub later-same : {M Msg : Type 0} (u v : StateView M Msg) → v.setup ≡ u.setup → v.me ≡ u.me → v.log.entries ≡ u.log.entries → v.ballots ≡ u.ballots → IsLater u v
-later-same u v s i l b = record { setup = s; me = i; log = goes-same u.log.entries v.log.entries l; ballots = b }
+pub later-same : {M Msg : Type 0} (u v : StateView M Msg) → v.setup ≡ u.setup → v.me ≡ u.me → v.log.entries ≡ u.log.entries → v.ballots ≡ u.ballots → v.saved ≡ u.saved → IsLater u v
+later-same u v s i l b k = record { setup = s; me = i; saved = k; log = goes-same u.log.entries v.log.entries l; ballots = b }
 
 pub later-refl : {M Msg : Type 0} (u : StateView M Msg) → IsLater u u
-later-refl u = later-same u u refl refl refl refl
+later-refl u = later-same u u refl refl refl refl refl
 
 four : {Msg : Type 0} (a a' d d' b b' : Bool) (w w' : Option Refusal) (turn : Turn Msg) → a ≡ a' → d ≡ d' → b ≡ b' → w ≡ w' →
     cond (not a) (Dropped NotLeader) (cond (not d) (Dropped BadClaim) (cond (not b) (Dropped NoKeys) (by_verdict w turn)))
@@ -109,6 +109,7 @@ module _ {M Msg : Type 0} (m : Module Msg) (laws : IsLawful m) (refines : M → 
       record {
         refined = subst (λ (z : StateView M Msg). RefinesBareCore m refines z (step_unjudged F (rules_of v.setup) m v.me.0 (core_of v past) leader.0 input).core) (sym g.rest) parts;
         made = made-next m refines v shape past tied laws leader input ef was is keys at taken w.log g.held g.grown outcome made.sent (made.own is there) made.early chain.strings;
+        entered = made.entered;
         addressed = subst (λ (z : StateView M Msg). AreToNodes z.setup.n outcome.sends) (sym g.rest) addressed;
       }
 

@@ -229,6 +229,7 @@ module _ {M Msg : Type 0} (m : Module Msg) (refines : M → Params → ℕ → L
         early = v.early;
         logged = logged;
         ballots = v.ballots;
+        saved = v.saved;
         keys = keys;
       }
 

@@ -29,19 +29,21 @@ use Rattle.iss_rules.specs.Past.{Past, Piece, adopted_at, adopts, before_own, ce
 use Rattle.iss_rules.specs.Rules.{Rules}
 use Rattle.iss_model.specs.Sound.{IsSoundCore}
 use Rattle.iss_node.proofs.EpochEnd.EpochEndRefines.{IsOver}
-use Rattle.iss_node.proofs.Steps.VotesDoNotMatter.{each-held, onward-held, with_turn}
+use Rattle.iss_node.proofs.Steps.EntriesCompose.{entry-of}
+use Rattle.iss_node.proofs.Steps.VotesDoNotMatter.{each-held, held-entered, onward-held, with_turn}
 use Rattle.iss_node.proofs.Instances.ChecksRefine.{goes-trans}
 use Rattle.iss_node.proofs.EpochEnd.LeafIsKept.{lasts-at}
 use Rattle.iss_node.proofs.EpochEnd.NextEpochStarts.{next-parts}
 use Rattle.iss_node.proofs.Log.LogIsDelivered.{epoch-cell, goes-on, has-slots, log-is, nothing-adopted, start-is}
-use Rattle.iss_node.proofs.Log.EpochSlots.{given-at, not-empty}
+use Rattle.iss_node.proofs.StateTransfer.EpochIsFilled.{core-is, grown_core, is-over, new-log, size}
 use Rattle.iss_node.proofs.Log.LogIsExtended.{AreRefiled, are-refiled, bf-long, bf-part, bounded, grown-is}
 use Rattle.iss_node.specs.Flights.{FlightState, IsCompleted}
-use Rattle.iss_node.specs.Internal.Growth.{IsGrown, and_values, waits_on}
+use Rattle.iss_node.specs.Internal.Growth.{AreJoined, IsGrown, and_values, waits_on}
 use Rattle.iss_node.specs.Internal.Inputs.{HasAppliedDeliveries, IsChained}
 use Rattle.iss_node.specs.Internal.Ready.{IsOpen, MayAdopt}
 use Rattle.iss_node.specs.Internal.Shape.{IsNodeState}
 use Rattle.iss_node.specs.State.{RefinesBareCore, RefinesPast, StateView, bare, core_of, seen_early, slot_value}
+use Rattle.iss_node.specs.Entered.{IsEntryOf}
 use Rattle.iss_node.specs.Steps.{IsHeldTurn, IsLater, IsNextEpoch, IsSameNode, IsTurnBehind, IsTurned}
 use Rattle.iss_node.specs.Internal.Transfers.{IsAdoptedBy, at_slots}
 use Rattle.iss_node.specs.declared.answers.Early.{Early}
@@ -119,100 +121,6 @@ module _ {M Msg : Type 0} (m : Module Msg) (refines : M → Params → ℕ → L
   abbrev pub before : List Value
   before = before_own (rules_of v.setup) m v.me.0 past
 
-  settled : Settled (rules_of v.setup) past
-  settled = record { all = tied.sound.settled }
-
-  next-bounded : Bounded next
-  next-bounded = record { evidence = λ e l lt. tied.sound.unborn e l (omega (arith, lt)); adopted = (adopts-settled (rules_of v.setup) past piece refl settled).all }
-
-  value-is : (k : ℕ) → v.plan.start ≤ k → value_at log k ≡ first_of (value_at v.log k) (nth p.values (k - v.plan.start))
-  value-is k le = grown.values k ∙ ap (λ (o : Option Value). first_of (value_at v.log k) o) (given-at v.plan.start p.values k le)
-
-  outside : (k : ℕ) → v.plan.start + v.setup.epoch ≤ k → value_at log k ≡ None
-  outside k le =
-      let whole = told.whole in
-      value-is k (omega (arith, le)) ∙ ap (λ (o : Option Value). first_of o (nth p.values (k - v.plan.start))) (tied.outside k le)
-      ∙ nth-beyond p.values (k - v.plan.start) (omega (arith, le, whole))
-
-  filled : (k : ℕ) → v.plan.start ≤ k → k < v.plan.start + v.setup.epoch → value_at log k ≡ None → ⊥
-  filled k lo hi none =
-      let whole = told.whole in
-      let n = nth-some p.values (k - v.plan.start) (omega (arith, lo, hi, whole)) in
-      first-some (value_at v.log k) None (nth p.values (k - v.plan.start)) n.0 n.1 (sym (value-is k lo) ∙ none)
-
-  -- The log ends with the epoch.
-  pub size : length log.entries ≡ v.plan.start + v.setup.epoch
-  size =
-      let more = ap (λ (ys : List Value). length ys) grown.entries in
-      let long = length-append v.log.entries grown.joined in
-      let low : v.plan.start ≤ length log.entries = let b = tied.begun in omega (arith, b, more, long) in
-      let few : length log.entries ≤ v.plan.start + v.setup.epoch = elim (leb_tells (suc (v.plan.start + v.setup.epoch)) (length log.entries)) [
-        | inl t ↦ absurd (not-empty log (v.plan.start + v.setup.epoch) t.1 (outside (v.plan.start + v.setup.epoch) (let q : v.plan.start + v.setup.epoch ≤ v.plan.start + v.setup.epoch = omega arith in q)))
-        | inr t ↦ omega (arith, t.1)
-      ] in
-      let far : v.plan.start + v.setup.epoch ≤ length log.entries = elim (leb_tells (v.plan.start + v.setup.epoch) (length log.entries)) [
-        | inl t ↦ t.1
-        | inr t ↦ absurd (filled (length log.entries) low t.1 grown.hole)
-      ] in
-      le_antisymm few far
-
-  pub long : length (reverse log.entries) ≡ suc past.epoch * v.setup.epoch
-  long = let n = length-reverse log.entries in let k = size in let q = tied.start in omega (arith, n, k, q)
-
-  adopted-is : (i : ℕ) → adopted_at (piece ∷ past.adopted) past.epoch i ≡ nth p.values i
-  adopted-is i =
-      ap (λ (b : Bool). first_of (adopted_at past.adopted past.epoch i) (cond b (nth p.values i) None)) (eqb-same past.epoch)
-      ∙ ap (λ (o : Option Value). first_of o (nth p.values i)) (nothing-adopted v.setup shape.good.good m v.me.0 past (bounded m refines v shape past tied) before (bf-long m refines v shape past tied) i)
-
-  cell-is : (older : List Value) → Extends before older → length older < v.plan.start + v.setup.epoch →
-      cell (rules_of v.setup) m v.me.0 next older ≡ first_of (slot_value (rules_of v.setup) m v.me.0 before past (length older)) (nth p.values (length older - v.plan.start))
-  cell-is older x lt =
-      let q = tied.start in
-      let n = bf-long m refines v shape past tied in
-      epoch-cell v.setup shape.good.good m v.me.0 next past.epoch before n older x (omega (arith, lt, q))
-      ∙ ap (λ (o : Option Value). first_of (slot_value (rules_of v.setup) m v.me.0 before past (length older)) o) (adopted-is (length older - length before))
-      ∙ ap (λ (k : ℕ). first_of (slot_value (rules_of v.setup) m v.me.0 before past (length older)) (nth p.values (length older - k))) (n ∙ sym q)
-
-  holds : (front : List Value) → Extends before (reverse front) → (x : Value) → value_at log (length front) ≡ Some x → cell (rules_of v.setup) m v.me.0 next (reverse front) ≡ Some x
-  holds front over x is =
-      let n = length-reverse front in
-      let low = extends-length before (reverse front) over in
-      let len = bf-long m refines v shape past tied in
-      let q = tied.start in
-      elim (leb_tells (v.plan.start + v.setup.epoch) (length front)) [
-        | inl t ↦ absurd (none-some x (sym (outside (length front) t.1) ∙ is))
-        | inr t ↦
-            let lt : length (reverse front) < v.plan.start + v.setup.epoch = omega (arith, n, t.1) in
-            let lo : v.plan.start ≤ length front = omega (arith, n, low, len, q) in
-            cell-is (reverse front) over lt
-            ∙ ap (λ (k : ℕ). first_of (slot_value (rules_of v.setup) m v.me.0 before past k) (nth p.values (k - v.plan.start))) n
-            ∙ ap (λ (o : Option Value). first_of o (nth p.values (length front - v.plan.start))) (sym (tied.cells (length front) lo t.1))
-            ∙ sym (value-is (length front) lo) ∙ is
-      ]
-
-  pub whole-log : Extends before (reverse log.entries) × IsLog (rules_of v.setup) m v.me.0 next (reverse log.entries)
-  whole-log =
-      let was : IsLog (rules_of v.setup) m v.me.0 past (reverse v.log.entries) = subst (λ (ys : List Value). IsLog (rules_of v.setup) m v.me.0 past ys) tied.log (log-chain (rules_of v.setup) m v.me.0 past) in
-      goes-on v.setup m v.me.0 next before log holds grown.joined v.log.entries grown.entries (bf-part m refines v shape past tied)
-      (log-kept (rules_of v.setup) m v.me.0 past next (adopts-later (rules_of v.setup) past piece settled) (reverse v.log.entries) was)
-
-  pub new-log : log_of (rules_of v.setup) m v.me.0 next ≡ reverse log.entries
-  new-log =
-      let q = tied.start in
-      let over : (k : ℕ) → suc past.epoch * v.setup.epoch ≤ k → value_at log k ≡ None = λ k le. outside k (omega (arith, q, le)) in
-      let none : (k : ℕ) → slot_value (rules_of v.setup) m v.me.0 (reverse log.entries) next k ≡ None = λ k.
-      let l = (rules_of v.setup).leader (reverse log.entries) (suc past.epoch) k in
-      ap (λ (ys : List (Item Msg)). delivered m ((rules_of v.setup).params (reverse log.entries) (suc past.epoch) l) v.me.0 ys k) (tied.sound.unborn (suc past.epoch) l (omega arith)) in
-      log-is v.setup shape.good.good m v.me.0 next next-bounded (reverse log.entries) long log
-      (λ k lo hi. over k lo ∙ sym (none k)) (λ k le. over k (omega (arith, le))) grown.hole
-      log.entries [] (sym (append-nil log.entries)) (extends-refl (reverse log.entries)) whole-log.1
-
-  pub next-own : before_own (rules_of v.setup) m v.me.0 next ≡ reverse log.entries
-  next-own =
-      ap (λ (k : ℕ). oldest k (log_of (rules_of v.setup) m v.me.0 next)) (start-is v.setup (log_of (rules_of v.setup) m v.me.0 next) (suc past.epoch))
-      ∙ ap (λ (ys : List Value). oldest (suc past.epoch * v.setup.epoch) ys) new-log
-      ∙ oldest-all (suc past.epoch * v.setup.epoch) (reverse log.entries) (let n = long in omega (arith, n))
-
   -- ---- the model adopts it too
 
   turned-log : v.log.entries ≡ reverse (log_of (rules_of v.setup) m v.me.0 past)
@@ -248,59 +156,21 @@ module _ {M Msg : Type 0} (m : Module Msg) (refines : M → Params → ℕ → L
       is
       ∙ ap (λ (xs : List (List ℕ)). xs ++ strings_from v.chains.version (chain_of v.chains.version v.log.entries) grown.joined) own
       ∙ ap (λ (k : ℕ). (rules_of v.setup).hashes before p.values ++ strings_from k (chain_of k v.log.entries) grown.joined) shape.version
-      ∙ ap (λ (xs : List (List ℕ)). (rules_of v.setup).hashes before p.values ++ xs) (sym (grown-is v.setup v.log.entries grown.joined _ _ tied.log (new-log ∙ ap (λ (ys : List Value). reverse ys) grown.entries)))
+      ∙ ap (λ (xs : List (List ℕ)). (rules_of v.setup).hashes before p.values ++ xs) (sym (grown-is v.setup v.log.entries grown.joined _ _ tied.log (new-log m refines v shape past tied p.values told.whole log count grown ∙ ap (λ (ys : List Value). reverse ys) grown.entries)))
 
   -- ---- the state before the next epoch starts
 
-  module _ (chains : ChainsState) (chained : IsChainOf chains (v.log.entries ++ grown.joined)) (waiting : List Request) (flight : FlightState) (logged : List ReqId) (ballots : BallotsState)
-      (joins : logged ≡ fold and_values v.logged grown.joined)
-      (lands : IsCompleted v.flight flight (length log.entries))
-      (returns : (all : List ReqId) (bf : List Value) → RefinesNoted v.windows (noted_before bf) → ((x : ReqId) → has_id x all ≡ (has_id x logged || has_id x (log_ids bf))) →
-      AreNew (fold waits_on v.waiting grown.joined) (absent all (returned (reverse log.entries) v.flight.casts)) →
-      waiting ≡ fold waits_on v.waiting grown.joined ++ absent all (returned (reverse log.entries) v.flight.casts)) where
-    abbrev pub after : StateView M Msg
-    after = record v { log = log; chains = chains; logged = logged; flight = flight; waiting = waiting; ballots = ballots }
-
-    -- The history with the adopted epoch.
-    abbrev pub with_it : Past Msg
-    with_it = record past { adopted = piece ∷ past.adopted }
-
-    filed : AreRefiled m v past next v.keys.used waiting flight logged
-    filed = are-refiled m refines v shape past tied next v.keys.used log grown.joined grown.entries new-log turn-sound.different waiting flight logged joins lands returns
-
-    pub core-is : bare (adopts_piece (rules_of v.setup) m v.me.0 (core_of v past) p).core ≡ in_next_epoch (core_of after with_it)
-    core-is = λ t. record { past = next; waiting = sym filed.waits t; flight = sym filed.flies t; early = []; votes = []; certs = []; leaf = v.keys.used }
-
-    pub is-over : IsOver m after before with_it
-    is-over = record {
-      epoch = tied.epoch;
-      log = new-log;
-      own = next-own;
-      long = long;
-      chained = subst (λ (ys : List Value). IsChainOf chains ys) (sym grown.entries) chained;
-      rests = tied.rests;
-      standing = tied.standing;
-      start = tied.start;
-      size = bf-long m refines v shape past tied;
-      part = whole-log.0;
-      outside = outside;
-      hole = grown.hole;
-      logged = λ x. filed.noted x ∙ ap (λ (ys : List Value). has_id x (log_ids (joined v.plan.start ys))) new-log;
-      flown = filed.same;
-      unborn = λ l. tied.sound.unborn (suc past.epoch) l (omega arith);
-      sound = subst (λ (c : Core Msg). IsSoundCore (rules_of v.setup) m v.me.0 c) core-is
-          (kept-sound (formats_of v.setup m) (rules_of v.setup) m v.me.0 (adopts_piece (rules_of v.setup) m v.me.0 (core_of v past) p).core [] [] [] v.keys.used turn-sound);
-      keys = tied.keys;
-    }
+  pub grown-sound : IsSoundCore (rules_of v.setup) m v.me.0 (grown_core m refines v shape past tied p.values told.whole log count grown)
+  grown-sound = kept-sound (formats_of v.setup m) (rules_of v.setup) m v.me.0 (adopts_piece (rules_of v.setup) m v.me.0 (core_of v past) p).core [] [] [] v.keys.used turn-sound
 
 -- ---- set-up and identity are the same
 
 -- Votes and certificates do not matter for this.
 pub kept-same : {M Msg : Type 0} (v u w : StateView M Msg) (ballots : BallotsState) → IsLater v u → IsLater (record u { ballots = ballots }) w → IsSameNode v w
-kept-same v u w ballots h g = record { setup = g.setup ∙ h.setup; me = g.me ∙ h.me; log = goes-trans v.log.entries u.log.entries w.log.entries h.log g.log }
+kept-same v u w ballots h g = record { setup = g.setup ∙ h.setup; me = g.me ∙ h.me; saved = g.saved ∙ h.saved; log = goes-trans v.log.entries u.log.entries w.log.entries h.log g.log }
 
 pub same-on : {M Msg : Type 0} (v w x : StateView M Msg) → IsSameNode v w → IsLater w x → IsSameNode v x
-same-on v w x h g = record { setup = g.setup ∙ h.setup; me = g.me ∙ h.me; log = goes-trans v.log.entries w.log.entries x.log.entries h.log g.log }
+same-on v w x h g = record { setup = g.setup ∙ h.setup; me = g.me ∙ h.me; saved = g.saved ∙ h.saved; log = goes-trans v.log.entries w.log.entries x.log.entries h.log g.log }
 
 -- ---- the whole adoption
 
@@ -312,34 +182,48 @@ bare_turn R m me c p =
 
 -- The next epoch starts behind the adopted one.
 module _ {M Msg : Type 0} (m : Module Msg) (refines : M → Params → ℕ → List (Item Msg) → Type 0)
-    (v u w : StateView M Msg) (shape : IsNodeState m v) (p : Sent_piece) (hashed strings : List (List ℕ)) (ballots : BallotsState) (early : List (Early Msg)) (first : Outcome)
+    (v u w : StateView M Msg) (shape : IsNodeState m v) (p : Sent_piece) (hashed strings : List (List ℕ)) (ballots : BallotsState) (early : List (Early Msg))
     (grown : HasAppliedDeliveries v u (at_slots v.plan.start p.values)) (chained : IsChained v u hashed strings)
-    (begun : IsNextEpoch refines (record u { ballots = ballots }) w early) (later : IsLater (record u { ballots = ballots }) w)
-    (is_first : first ≡ record { sends = []; own = []; early = []; hashed = strings }) where
-  first-turn : (past : Past Msg) → RefinesPast m refines v past → IsAdoptable v.setup (voters_of v.setup v.directory) v.log.entries v.epoch p hashed →
-      IsTurned m refines (bare_turn (rules_of v.setup) m v.me.0 (core_of v past) p) w first
-  first-turn past tied told =
-      let g = grown in
-      let chain = chained.joined g.grown.joined g.grown.entries tied.chained in
-      let returns : (all : List ReqId) (bf : List Value) → RefinesNoted v.windows (noted_before bf) → ((x : ReqId) → has_id x all ≡ (has_id x u.logged || has_id x (log_ids bf))) →
-      AreNew (fold waits_on v.waiting g.grown.joined) (absent all (returned (reverse u.log.entries) v.flight.casts)) →
-      u.waiting ≡ fold waits_on v.waiting g.grown.joined ++ absent all (returned (reverse u.log.entries) v.flight.casts) =
-      λ all bf noted members fresh. g.landed.waiting all (record { before = bf; noted = noted; members = members }) fresh in
-      let over = is-over m refines v shape past tied p hashed told u.log g.held g.grown u.chains chain.chained u.waiting u.flight u.logged ballots g.logged g.landed.landed returns in
-      let is = core-is m refines v shape past tied p hashed told u.log g.held g.grown u.chains chain.chained u.waiting u.flight u.logged ballots g.logged g.landed.landed returns in
-      let with_ballots : StateView M Msg → StateView M Msg = λ z. record z { ballots = ballots } in
-      let from : IsNextEpoch refines (record v { log = u.log; chains = u.chains; logged = u.logged; flight = u.flight; waiting = u.waiting; ballots = ballots }) w early =
-      subst (λ (z : StateView M Msg). IsNextEpoch refines z w early) (ap with_ballots g.rest) begun in
-      record {
-        refined = subst (λ (c : Core Msg). RefinesBareCore m refines w c) (sym is) (next-parts m refines _ shape.slots _ _ over w early from);
-        made = record {
-          sends = ap (λ (z : Outcome). z.sends) is_first;
-          own = ap (λ (z : Outcome). z.own) is_first;
-          early = ap (λ (z : Outcome). z.early) is_first;
-          hashed = ap (λ (z : Outcome). z.hashed) is_first ∙ strings-are m refines v shape past tied p hashed told u.log g.held g.grown strings chain.strings;
-        };
-        addressed = subst (λ (xs : List (To × List ℕ)). AreToNodes w.setup.n xs) (sym (ap (λ (z : Outcome). z.sends) is_first)) tt;
-      }
+    (begun : IsNextEpoch refines (record u { ballots = ballots }) w early) (later : IsLater (record u { ballots = ballots }) w) where
+  module _ (past : Past Msg) (tied : RefinesPast m refines v past) (told : IsAdoptable v.setup (voters_of v.setup v.directory) v.log.entries v.epoch p hashed) where
+    -- The adopted core, without votes and certificates.
+    abbrev adopted : Core Msg
+    adopted = bare (adopts_piece (rules_of v.setup) m v.me.0 (core_of v past) p).core
+
+    chain : AreJoined v.chains v.log.entries grown.grown.joined u.chains hashed strings
+    chain = chained.joined grown.grown.joined grown.grown.entries tied.chained
+
+    adopted-refined : RefinesBareCore m refines w adopted
+    adopted-refined =
+        let g = grown in
+        let returns : (all : List ReqId) (bf : List Value) → RefinesNoted v.windows (noted_before bf) → ((x : ReqId) → has_id x all ≡ (has_id x u.logged || has_id x (log_ids bf))) →
+        AreNew (fold waits_on v.waiting g.grown.joined) (absent all (returned (reverse u.log.entries) v.flight.casts)) →
+        u.waiting ≡ fold waits_on v.waiting g.grown.joined ++ absent all (returned (reverse u.log.entries) v.flight.casts) =
+        λ all bf noted members fresh. g.landed.waiting all (record { before = bf; noted = noted; members = members }) fresh in
+        let over = is-over m refines v shape past tied p.values told.whole u.log g.held g.grown (grown-sound m refines v shape past tied p hashed told u.log g.held g.grown) u.chains chain.chained u.waiting u.flight u.logged ballots g.logged g.landed.landed returns in
+        let is = core-is m refines v shape past tied p.values told.whole u.log g.held g.grown (grown-sound m refines v shape past tied p hashed told u.log g.held g.grown) u.chains chain.chained u.waiting u.flight u.logged ballots g.logged g.landed.landed returns in
+        let with_ballots : StateView M Msg → StateView M Msg = λ z. record z { ballots = ballots } in
+        let from : IsNextEpoch refines (record v { log = u.log; chains = u.chains; logged = u.logged; flight = u.flight; waiting = u.waiting; ballots = ballots }) w early =
+        subst (λ (z : StateView M Msg). IsNextEpoch refines z w early) (ap with_ballots g.rest) begun in
+        subst (λ (c : Core Msg). RefinesBareCore m refines w c) (sym is) (next-parts m refines _ shape.slots _ _ over w early from)
+
+    pub first-turn : (first : Outcome) (bytes : List ℕ) → IsEntryOf m refines w early bytes → first ≡ record { sends = []; own = []; early = []; hashed = strings; entered = Some bytes } →
+        IsTurned m refines (bare_turn (rules_of v.setup) m v.me.0 (core_of v past) p) w first
+    first-turn first bytes entry is_first = record {
+      refined = adopted-refined;
+      made = record {
+        sends = ap (λ (z : Outcome). z.sends) is_first;
+        own = ap (λ (z : Outcome). z.own) is_first;
+        early = ap (λ (z : Outcome). z.early) is_first;
+        hashed = ap (λ (z : Outcome). z.hashed) is_first ∙ strings-are m refines v shape past tied p hashed told u.log grown.held grown.grown strings chain.strings;
+      };
+      entered = λ votes certs kept.
+          ap (λ (z : Outcome). z.entered) is_first
+          ∙ ap (λ (x : List ℕ). Some x)
+          (entry-of m refines w early bytes entry adopted adopted-refined (seen_early v.early)
+          (ap (λ (xs : List (Early Msg)). seen_early xs) (begun.kept ∙ ap (λ (z : StateView M Msg). z.early) grown.rest)) votes certs kept);
+      addressed = subst (λ (xs : List (To × List ℕ)). AreToNodes w.setup.n xs) (sym (ap (λ (z : Outcome). z.sends) is_first)) tt;
+    }
 
   -- It begins open.
   pub adopted-open : MayAdopt m refines v p hashed → IsOpen m refines w
@@ -347,13 +231,13 @@ module _ {M Msg : Type 0} (m : Module Msg) (refines : M → Params → ℕ → L
       let past = may.refined.0 in
       let tied = may.refined.1 in
       let told = adoption-tells v.setup (voters_of v.setup v.directory) v.log.entries v.epoch p hashed may.found in
-      let there = (first-turn past tied told).refined.tied in
+      let there = (adopted-refined past tied told).tied in
       let setup : w.setup ≡ v.setup = later.setup ∙ ap (λ (z : StateView M Msg). z.setup) grown.rest in
       let log : length w.log.entries ≡ length u.log.entries =
       ap (λ (z : StateView M Msg). length z.log.entries) begun.new_is
       ∙ ap (λ (z : StateView M Msg). length z.log.entries) begun.opened.rest
       ∙ ap (λ (z : StateView M Msg). length z.log.entries) begun.rest in
-      let all = size m refines v shape past tied p hashed told u.log grown.held grown.grown in
+      let all = size m refines v shape past tied p.values told.whole u.log grown.held grown.grown in
       let start : w.plan.start ≡ suc past.epoch * v.setup.epoch = there.start ∙ ap (λ (s : Setup). suc past.epoch * s.epoch) setup in
       let first_slot = tied.start in
       let some : 0 < v.setup.epoch = (has-slots v.setup shape.good.good).some [] 0 in
@@ -374,7 +258,7 @@ module _ {M Msg : Type 0} (m : Module Msg) (refines : M → Params → ℕ → L
     (grown : HasAppliedDeliveries v u (at_slots v.plan.start p.values)) (chained : IsChained v u hashed strings)
     (keeps : (votes : List Vote) (certs : List Cert) → AreKept u.ballots votes certs → AreKept ballots votes (keeping certs p.cert (cert_on certs p.cert.epoch.0)))
     (begun : IsNextEpoch refines (record u { ballots = ballots }) w early) (later : IsLater (record u { ballots = ballots }) w)
-    (is_first : first ≡ record { sends = []; own = []; early = []; hashed = strings })
+    (bytes : List ℕ) (entry : IsEntryOf m refines w early bytes) (is_first : first ≡ record { sends = []; own = []; early = []; hashed = strings; entered = Some bytes })
     (each : IsTurnBehind m refines w (λ F R me t. then_turn t (takes_each F R m me w.epoch (seen_early early))) first new o) (last : IsLater w new) where
   pub adopted-all : IsAdoptedBy m refines v p hashed new o
   adopted-all c h found =
@@ -386,7 +270,7 @@ module _ {M Msg : Type 0} (m : Module Msg) (refines : M → Params → ℕ → L
       let e = suc c.past.epoch in
       let certs = keeping c.certs p.cert (cert_on c.certs c.past.epoch) in
       let start : Turn Msg = bare_turn R m me (bare c) p in
-      let turned : IsTurned m refines start w first = subst (λ (d : Core Msg). IsTurned m refines (bare_turn R m me d p) w first) (sym h.state.core) (first-turn m refines v u w shape p hashed strings ballots early first grown chained begun later is_first c.past tied told) in
+      let turned : IsTurned m refines start w first = subst (λ (d : Core Msg). IsTurned m refines (bare_turn R m me d p) w first) (sym h.state.core) (first-turn m refines v u w shape p hashed strings ballots early grown chained begun later c.past tied told first bytes entry is_first) in
       let setup : w.setup ≡ v.setup = later.setup ∙ ap (λ (z : StateView M Msg). z.setup) grown.rest in
       let node : w.me ≡ v.me = later.me ∙ ap (λ (z : StateView M Msg). z.me) grown.rest in
       let epoch : w.epoch ≡ e = turned.refined.tied.epoch in
@@ -408,5 +292,6 @@ module _ {M Msg : Type 0} (m : Module Msg) (refines : M → Params → ℕ → L
           kept = subst (λ (b : BallotsState). AreKept b c.votes certs) (sym (last.ballots ∙ later.ballots)) own;
         };
         made = record { sends = there.made.sends; own = there.made.own; early = there.made.early; hashed = there.made.hashed };
+        entered = held-entered m new c.votes certs (subst (λ (b : BallotsState). AreKept b c.votes certs) (sym (last.ballots ∙ later.ballots)) own) (then_turn start (takes_each F R m me e c.early)).entered o.entered there.entered;
         addressed = λ a. there.addressed;
       })

@@ -68,11 +68,11 @@ values-are s entries e le =
 
 -- ---- the outcome
 
-some-held : (b : Bool) (xs ys : List Value) → Some ys ≡ cond b (Some xs) None → (b ≡ true) × (ys ≡ xs)
+pub some-held : (b : Bool) (xs ys : List Value) → Some ys ≡ cond b (Some xs) None → (b ≡ true) × (ys ≡ xs)
 some-held true xs ys h = (refl, some-injective ys xs h)
 some-held false xs ys h = absurd (none-some ys (sym h))
 
-none-held : (b : Bool) (xs : List Value) → None ≡ cond b (Some xs) None → b ≡ false
+pub none-held : (b : Bool) (xs : List Value) → None ≡ cond b (Some xs) None → b ≡ false
 none-held true xs h = absurd (none-some xs h)
 none-held false xs h = refl
 
@@ -117,6 +117,7 @@ module _ {M Msg : Type 0} (m : Module Msg) (refines : M → Params → ℕ → L
         turned = record {
           refined = h;
           made = record { sends = sent; own = handed.own; early = handed.early; hashed = handed.hashed };
+          entered = handed.entered;
           addressed = λ a. subst (λ (xs : List (To × List ℕ)). AreToNodes v.setup.n xs) (sym sent) (low, tt);
         };
       }

@@ -1,5 +1,5 @@
 -- The outcome of a turn.
-use Rattle.std.proofs.Common.{◌≡◌, ℕ, List, [], ◌++◌, Result, Ok, Err, ap, sym, ◌∙◌, subst}
+use Rattle.std.proofs.Common.{◌≡◌, ℕ, List, [], ◌++◌, Result, Ok, Err, None, ap, sym, ◌∙◌, subst}
 use Rattle.std.specs.Prelude.{OnOk}
 use Rattle.iss_model.specs.Node.{Core, Turn, then_turn, unchanged}
 use Rattle.iss_node.specs.Internal.Epochs.{appended}
@@ -15,7 +15,7 @@ on-ok (Ok x) P h = h
 on-ok (Err e) P h = tt
 
 abbrev pub nothing : Outcome
-nothing = record { sends = []; own = []; early = []; hashed = [] }
+nothing = record { sends = []; own = []; early = []; hashed = []; entered = None }
 
 -- A turn that changes nothing has an empty outcome.
 pub nothing-made : {Msg : Type 0} (c : Core Msg) (o : Outcome) → o ≡ nothing → IsMade (unchanged c) o

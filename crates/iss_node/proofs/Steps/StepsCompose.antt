@@ -19,7 +19,7 @@ use Rattle.iss_sb.specs.declared.effects.Params.{Params}
 
 -- Set-up and identity of a later node are the same.
 pub same-later : {M Msg : Type 0} (v w : StateView M Msg) → IsLater v w → IsSameNode v w
-same-later v w later = record { setup = later.setup; me = later.me; log = later.log }
+same-later v w later = record { setup = later.setup; me = later.me; saved = later.saved; log = later.log }
 
 module _ {M Msg : Type 0} (m : Module Msg) (refines : M → Params → ℕ → List (Item Msg) → Type 0) where
   -- A step that reads no votes, for every result.

@@ -20,6 +20,7 @@ use Rattle.iss_rules.specs.declared.events.Why.TheVariants.{BadClaim, BadRequest
 use Rattle.iss_node.proofs.EpochEnd.StepCompletes.{at-core}
 use Rattle.iss_node.specs.Internal.Casts.{casting}
 use Rattle.iss_node.specs.State.{RefinesBareCore, StateRefinesCore, StateView, bare, holding}
+use Rattle.iss_node.specs.Entered.{IsEntered, IsHeldEntered}
 use Rattle.iss_node.specs.Steps.{IsHeldStep, IsHeldStepOf, IsLater, IsStep, IsStepOf}
 use Rattle.iss_node.specs.declared.answers.StepResult.{StepResult}
 use Rattle.iss_node.specs.declared.answers.StepResult.TheVariants.{Dropped as Result_dropped, Taken as Result_taken}
@@ -30,17 +31,18 @@ use Rattle.iss_sb.specs.declared.effects.Input.{Input}
 use Rattle.iss_sb.specs.declared.effects.Input.TheVariants.{Receive, Timeout}
 use Rattle.iss_sb.specs.declared.effects.Params.{Params}
 
+-- The core that was entered, with votes and certificates.
+abbrev pub with_entered : {Msg : Type 0} → List Vote → List Cert → Option (Core Msg) → Option (Core Msg)
+with_entered votes certs None = None
+with_entered votes certs (Some d) = Some (holding votes certs d)
+
+first-held : {Msg : Type 0} (votes : List Vote) (certs : List Cert) (a b : Option (Core Msg)) → first_of (with_entered votes certs a) (with_entered votes certs b) ≡ with_entered votes certs (first_of a b)
+first-held votes certs None b = refl
+first-held votes certs (Some d) b = refl
+
 module _ {Msg : Type 0} (F : Formats Msg) (R : Rules) (m : Module Msg) (me : ℕ) (votes : List Vote) (certs : List Cert) where
-  abbrev pub with_entered : Option (Core Msg) → Option (Core Msg)
-  with_entered None = None
-  with_entered (Some d) = Some (holding votes certs d)
-
   abbrev pub with_turn : Turn Msg → Turn Msg
-  with_turn t = record t { core = holding votes certs t.core; entered = with_entered t.entered }
-
-  first-held : (a b : Option (Core Msg)) → first_of (with_entered a) (with_entered b) ≡ with_entered (first_of a b)
-  first-held None b = refl
-  first-held (Some d) b = refl
+  with_turn t = record t { core = holding votes certs t.core; entered = with_entered votes certs t.entered }
 
   abbrev pub with_step : Stepped Msg → Stepped Msg
   with_step (Dropped why) = Dropped why
@@ -72,9 +74,9 @@ module _ {Msg : Type 0} (F : Formats Msg) (R : Rules) (m : Module Msg) (me : ℕ
   pub onward-held : (t : Turn Msg) (more : Core Msg → Turn Msg) → ((c : Core Msg) → more (holding votes certs c) ≡ with_turn (more c)) → then_turn (with_turn t) more ≡ with_turn (then_turn t more)
   onward-held t more h =
       let u : Turn Msg = more t.core in
-      ap (λ (u : Turn Msg). let z : Turn Msg = record { core = u.core; entered = first_of u.entered (with_entered t.entered); sends = t.sends ++ u.sends; own = t.own ++ u.own; early = t.early ++ u.early; strings = t.strings ++ u.strings } in z) (h t.core)
+      ap (λ (u : Turn Msg). let z : Turn Msg = record { core = u.core; entered = first_of u.entered (with_entered votes certs t.entered); sends = t.sends ++ u.sends; own = t.own ++ u.own; early = t.early ++ u.early; strings = t.strings ++ u.strings } in z) (h t.core)
       ∙ ap (λ (k : Option (Core Msg)). let z : Turn Msg = record { core = holding votes certs u.core; entered = k; sends = t.sends ++ u.sends; own = t.own ++ u.own; early = t.early ++ u.early; strings = t.strings ++ u.strings } in z)
-      (first-held u.entered t.entered)
+      (first-held votes certs u.entered t.entered)
 
   ended-held : (t : Turn Msg) → ended F R m me (with_turn t) ≡ with_turn (ended F R m me t)
   ended-held t = if-held (is_complete R m me t.core.past) (then_turn t (ends F R m me)) t
@@ -138,6 +140,12 @@ module _ {Msg : Type 0} (F : Formats Msg) (R : Rules) (m : Module Msg) (me : ℕ
   pub proposed-held : (c : Core Msg) → step F R m me (holding votes certs c) On_propose ≡ with_step (step F R m me c On_propose)
   proposed-held c = drop-held (not (leads_in R m me c.past me)) NotLeader _ _ (casts-held c (next_slot R m me c))
 
+-- The snapshot has the votes and certificates of the core.
+pub held-entered : {M Msg : Type 0} (m : Module Msg) (w : StateView M Msg) (votes : List Vote) (certs : List Cert) → AreKept w.ballots votes certs → (d : Option (Core Msg)) (bytes : Option (List ℕ)) →
+    IsEntered m w d bytes → IsHeldEntered m w (with_entered votes certs d) bytes
+held-entered m w votes certs kept None bytes h = h
+held-entered m w votes certs kept (Some d) bytes h = h votes certs kept
+
 -- ---- so a proof for cores without votes holds for every core
 
 module _ {M Msg : Type 0} (m : Module Msg) (refines : M → Params → ℕ → List (Item Msg) → Type 0) (v w : StateView M Msg) (later : IsLater v w) where
@@ -163,6 +171,7 @@ module _ {M Msg : Type 0} (m : Module Msg) (refines : M → Params → ℕ → L
         turned = record {
           refined = held-parts c s.turn.core h s.turned.refined;
           made = record { sends = s.turned.made.sends; own = s.turned.made.own; early = s.turned.made.early; hashed = s.turned.made.hashed };
+          entered = held-entered m w c.votes c.certs (subst (λ (b : BallotsState). AreKept b c.votes c.certs) (sym later.ballots) h.kept) s.turn.entered o.entered s.turned.entered;
           addressed = λ k. s.turned.addressed;
         };
       }

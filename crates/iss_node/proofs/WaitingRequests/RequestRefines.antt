@@ -204,7 +204,7 @@ chained-after {M} {Msg} v u w accepted before after is h =
 
 -- The outcome has exactly the strings that were hashed.
 pub now-its-own : {M Msg : Type 0} (m : Module Msg) (v : StateView M Msg) (l : ℕ) (sends : List (To × Msg)) (strings : List (List ℕ)) (o : Outcome) → IsHandedOut m v l sends strings o → IsHandedOut m v l sends o.hashed o
-now-its-own m v l sends strings o h = record { sent = h.sent; own = h.own; early = h.early; hashed_is = refl }
+now-its-own m v l sends strings o h = record { sent = h.sent; own = h.own; early = h.early; hashed_is = refl; entered = h.entered }
 
 -- ---- the requests that a node knows
 

@@ -98,6 +98,7 @@ handed-same m v w l sends hashed o s i e g h = record {
   own = λ x at. h.own x (ap (λ (gs : List (Option (SegmentState _))). led gs l) g ∙ at) ∙ ap (λ (z : NodeId). own_claims m x.params z.0 sends) i;
   early = h.early;
   hashed_is = h.hashed_is;
+  entered = h.entered;
 }
 
 -- One more claim, by whether it names this node.

@@ -2,6 +2,7 @@
 -- start for the leaders of the next epoch.
 use Rattle.std.specs.Prelude.{◌≡◌, ℕ, [], ◌∷◌, ◌++◌, List, Some, is_some, reverse, Option}
 use Rattle.std.specs.List.{filter}
+use Rattle.iss_base.specs.Lists.{first_of}
 use Rattle.iss_layout.specs.Layout.{Ended, IsStanding, Plan, conduct_of, leads, plan_by, segment, slots_from}
 use Rattle.iss_rules.specs.Concrete.{keys_of}
 use Rattle.iss_model.specs.Node.{is_nil_at}
@@ -16,13 +17,14 @@ use Rattle.iss_segment.specs.Instance.{RefinesItems, SegmentState}
 use Rattle.iss_window.specs.Kept.{RefinesNoted}
 use Rattle.iss_window.specs.Window.{Noted, and_closed, and_noted}
 
--- The concatenation of two outcomes.
+-- The concatenation of two outcomes. The later snapshot counts.
 abbrev pub appended : Outcome → Outcome → Outcome
 appended a b = record {
   sends = a.sends ++ b.sends;
   own = a.own ++ b.own;
   early = a.early ++ b.early;
   hashed = a.hashed ++ b.hashed;
+  entered = first_of b.entered a.entered;
 }
 
 -- These identities were noted, in order.

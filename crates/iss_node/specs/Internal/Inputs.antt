@@ -109,6 +109,7 @@ pub record IsHandedOut {M Msg : Type 0} (m : Module Msg) (v : StateView M Msg) (
   pub own : (g : SegmentState M) → led v.segments l ≡ Some g → o.own ≡ own_claims m g.params v.me.0 sends
   pub early : o.early ≡ []
   pub hashed_is : o.hashed ≡ hashed
+  pub entered : o.entered ≡ None
 
 -- The effects of an instance's step were applied to the node.
 pub record HasAppliedEffects {M Msg : Type 0} (old new : StateView M Msg) (l : NodeId) (e : Effects Msg) : Type 0 where

@@ -49,6 +49,7 @@ pub record IsHandedPiece {M Msg : Type 0} (v : StateView M Msg) (to : NodeId) (p
       (claims_by (vote_statement v.setup.tag p.cert.epoch.0 p.cert.chain p.cert.requests) p.cert.signers)
   pub early : o.early ≡ []
   pub hashed : o.hashed ≡ []
+  pub entered : o.entered ≡ None
 
 -- Values with their slots, which are consecutive from s on.
 abbrev pub at_slots : ℕ → List Value → List (Slot × Value)

@@ -1,6 +1,6 @@
 -- How a node votes: its next leaf signs the end of its log for the epoch, and the vote goes to all nodes with its
 -- claim.
-use Rattle.std.specs.Prelude.{◌≡◌, ◌+◌, [], ◌∷◌, Some, slice_get}
+use Rattle.std.specs.Prelude.{◌≡◌, ◌+◌, [], ◌∷◌, None, Some, slice_get}
 use Rattle.iss_ballots.specs.Claims.{claim_by}
 use Rattle.iss_checkpoint.specs.Bodies.{spell_vote}
 use Rattle.iss_checkpoint.specs.Votes.{vote_statement}
@@ -32,3 +32,4 @@ pub record IsVoteHandedOut {M Msg : Type 0} (old : StateView M Msg) (v : Vote) (
   pub own : o.own ≡ claim_by old.setup.tag v ∷ []
   pub early : o.early ≡ []
   pub hashed : o.hashed ≡ []
+  pub entered : o.entered ≡ None

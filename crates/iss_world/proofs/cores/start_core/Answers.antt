@@ -10,14 +10,14 @@ pub make_anew-requires-clause-whole : goal.make_anew-requires-clause-whole
 make_anew-requires-clause-whole g c = (
   [],
   initial_core,
-  new-leads g.M.Sequenced.spec g.M.Sequenced.refines c.in_ok-node.node c.in_ok-node.ensures.journal.1
+  new-leads g.M.Sequenced.spec g.M.Sequenced.refines c.in_ok-node.node c.in_ok-node.ensures.journal.1 c.in_ok-node.ensures.shown.1
       (ap (λ (x : MemoryDisk). history_of x.file) c.in_ok-node.ensures.journal.0 ∙ c.in_ok-disk.ensures.history),
 )
 
 pub returns : goal.returns
 returns g c = record {
   refined = c.in_ok-make_anew.ensures.anew [] initial_core
-      (new-leads g.M.Sequenced.spec g.M.Sequenced.refines c.in_ok-node.node c.in_ok-node.ensures.journal.1
+      (new-leads g.M.Sequenced.spec g.M.Sequenced.refines c.in_ok-node.node c.in_ok-node.ensures.journal.1 c.in_ok-node.ensures.shown.1
       (ap (λ (x : MemoryDisk). history_of x.file) c.in_ok-node.ensures.journal.0 ∙ c.in_ok-disk.ensures.history));
   setup = c.in_ok-make_anew.ensures.same.setup ∙ c.in_ok-node.ensures.same.0;
   place = ap (λ (i : NodeId). i.0) (c.in_ok-make_anew.ensures.same.me ∙ c.in_ok-node.ensures.same.1) ∙ c.node_of.ensures.is;

@@ -1,6 +1,7 @@
 use Rattle.std.proofs.Common.{◌∙◌, ◌++◌, ◌∷◌, [], ◌<◌, ◌≤◌, length, sym, ap, subst, arith}
 use Rattle.iss_model.specs.Node.{unchanged}
 use Rattle.iss_node.proofs.Instances.ChecksRefine.{same-parts}
+use Rattle.iss_node.proofs.Steps.EntriesCompose.{nothing-entered}
 use Rattle.iss_node.proofs.Steps.OutcomesCompose.{nothing-made, nothing-sent}
 use Rattle.iss_node.proofs.Steps.QueriesAgree.{early-full, early-kept, early-parts, with-early}
 use Rattle.iss_node.specs.Internal.Shape.{IsNodeState}
@@ -35,6 +36,7 @@ returns-clause-answer g c = λ past tied.
         refined = subst (λ (z : StateView g.row.M.Denot g.row.M-Msg.Denot). RefinesBareCore m g.M.Sequenced.refines z (record (core_of v past) { early = seen_early v.early ++ seen_one c.args.message ∷ [] })) (sym is)
             (early-parts m g.M.Sequenced.refines v shape past tied c.args.message c.push.new.self.items grown);
         made = nothing-made (record (core_of v past) { early = seen_early v.early ++ seen_one c.args.message ∷ [] }) c.nothing.result c.nothing.ensures;
+        entered = nothing-entered c.nothing.result c.nothing.ensures;
         addressed = nothing-sent c.self.inside.setup.n c.nothing.result c.nothing.ensures;
       };
     }

@@ -3,6 +3,7 @@ use Rattle.iss_rules.specs.Concrete.{rules_of}
 use Rattle.iss_model.specs.Node.{unchanged}
 use Rattle.iss_rules.specs.Past.{before_own, log_of}
 use Rattle.iss_node.proofs.Instances.ChecksRefine.{same-parts}
+use Rattle.iss_node.proofs.Steps.EntriesCompose.{nothing-entered}
 use Rattle.iss_node.proofs.Steps.OutcomesCompose.{nothing-made, nothing-sent}
 use Rattle.iss_node.proofs.WaitingRequests.RequestRefines.{inside-found, known-is, known-waits, logged-all, request-is, waits-parts}
 use Rattle.iss_node.specs.Internal.Shape.{IsNodeState}
@@ -68,6 +69,7 @@ returns-clause-answer g c = λ past tied.
       turned = record {
         refined = waits-parts m g.M.Sequenced.refines v shape past tied q c.wait.new.self (c.in_ok-wait.ensures.ok (known-waits _ _ (sym found))) signed known inside;
         made = nothing-made (record (core_of v past) { waiting = v.waiting ++ q ∷ [] }) c.nothing.result c.nothing.ensures;
+        entered = nothing-entered c.nothing.result c.nothing.ensures;
         addressed = nothing-sent c.wait.new.self.setup.n c.nothing.result c.nothing.ensures;
       };
     }

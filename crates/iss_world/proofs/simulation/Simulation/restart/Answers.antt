@@ -37,7 +37,7 @@ make_anew-requires-clause-whole g c =
       (w.disks c.args.core).kept,
       w.held.net.cores c.args.core,
       (restarted-leads g.M.Sequenced.spec g.M.Sequenced.refines c.index_mut-node.result.now c.restart.new.self c.restart.ensures.same (w.held.net.cores c.args.core) (w.disks c.args.core) (st.cores c.args.core c.index_mut-node.result.now at)
-          c.restart.ensures.files c.restart.ensures.current c.restart.ensures.entries),
+          c.restart.ensures.files c.restart.ensures.current c.restart.ensures.entries c.restart.ensures.node),
     )
 
 pub returns-clause-happened : goal.returns-clause-happened
@@ -48,4 +48,4 @@ returns-clause-happened g c =
     rw (← c.self.view_is) (λ w st.
     remade-runs g.M.Sequenced.spec g.M.Sequenced.refines v c.args.core c.index_mut-node.result.now c.make_anew.new.node c.self.invariant.0 lt at w st
     (c.in_ok-make_anew.ensures.anew (w.disks c.args.core).kept (w.held.net.cores c.args.core) (restarted-leads g.M.Sequenced.spec g.M.Sequenced.refines c.index_mut-node.result.now c.restart.new.self c.restart.ensures.same (w.held.net.cores c.args.core) (w.disks c.args.core) (st.cores c.args.core c.index_mut-node.result.now at)
-    c.restart.ensures.files c.restart.ensures.current c.restart.ensures.entries)))
+    c.restart.ensures.files c.restart.ensures.current c.restart.ensures.entries c.restart.ensures.node)))

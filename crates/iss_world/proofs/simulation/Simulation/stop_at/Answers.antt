@@ -23,4 +23,4 @@ returns-clause-left g c =
     rw (← c.self.view_is) (λ w st.
     forged-left g.M.Sequenced.spec g.M.Sequenced.refines v w c.args.core c.index_mut-node.result.now c.retreat.new.self c.self.invariant.0 lt st at
     (c.retreat.ensures.log ∙ ap (λ (k : ℕ). take k c.index_mut-node.result.now.node.state.log.entries) c.savepoint_of-held.ensures.slots)
-    (c.retreat.ensures.epoch ∙ c.savepoint_of-held.ensures.epoch) c.retreat.ensures.stale c.retreat.ensures.journal.1)
+    (c.retreat.ensures.epoch ∙ c.savepoint_of-held.ensures.epoch) c.retreat.ensures.stale c.retreat.ensures.journal.1 c.retreat.ensures.same)

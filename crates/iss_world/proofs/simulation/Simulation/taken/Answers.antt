@@ -7,7 +7,8 @@ use Rattle.iss_sb.specs.declared.effects.To.{To}
 use Rattle.iss_world.specs.Books.{AreSigned}
 use Rattle.iss_world.specs.State.{SimulationState}
 use Rattle.iss_world.specs.Internal.Steps.{ends_by}
-use Rattle.iss_world.proofs.StepLemmas.{kept-end, no-end, same-network, still-running, turn-ended, turn-refines, with-network}
+use Rattle.iss_world.proofs.MachineLemmas.{kept-end, no-end}
+use Rattle.iss_world.proofs.StepLemmas.{same-network, still-running, turn-ended, turn-refines, with-network}
 use Rattle.iss_world.proofs.simulation.Simulation.taken.Goals as goal
 
 pub invariant_of-self : goal.invariant_of-self
@@ -34,7 +35,7 @@ returns-in-Some-clause-happened g c =
     let at = slice_get_read c.self.inside.nodes.items _ c.args.core c.index_mut.result.now refl lt c.index_mut.ensures.value in
     rw (← c.self.view_is) (λ w event t b made.
     turn-ended g.M.Sequenced.spec g.M.Sequenced.refines v c.args.core c.self.invariant.0 lt w event t c.args.slots c.args.epoch.0 b c.index_mut.result.now c.retreat.new.self at
-    c.retreat.ensures.log c.retreat.ensures.epoch c.retreat.ensures.stale c.retreat.ensures.journal.1 c.self.inside.network c.self.inside.signed c.ends.new.hashed refl refl
+    c.retreat.ensures.log c.retreat.ensures.epoch c.retreat.ensures.stale c.retreat.ensures.journal.1 c.retreat.ensures.same c.self.inside.network c.self.inside.signed c.ends.new.hashed refl refl
     c.args.outcome.now c.in-Some.end made
     (kept-end c.in_ok-ended.ended c.in-Some.end (ends_by c.self.inside.setup w.held.signed w.held.hashed c.args.outcome.now.early c.args.outcome.now.hashed)
     c.in-Some.is (c.in_ok-ended.ensures.told w.held.signed w.held.hashed b.signed b.hashed)))
