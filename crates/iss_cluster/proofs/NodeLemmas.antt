@@ -9,6 +9,7 @@ use Rattle.iss_config.specs.Configs.{setup_of}
 use Rattle.iss_config.specs.declared.configs.Config.{Config}
 use Rattle.iss_disk.specs.Calls.{EachState, HasCause, IfTold}
 use Rattle.iss_disk.specs.File.{File}
+use Rattle.iss_journal.specs.Frames.{version_1}
 use Rattle.iss_journal.proofs.Showing.{shows_either}
 use Rattle.iss_journal.specs.Promises.{HoldsWithOrWithout, LeavesOnly, LeavesWithOrWithout, OnlyLeaves, Shows, ShowsWithOrWithout}
 use Rattle.iss_journal.specs.Retained.{retained}
@@ -108,16 +109,16 @@ told-now P (file ∷ past) now moment =
     let here : LeavesOnly P (file ∷ past) now = moment in
     subst (λ (h : List File). IfTold h (OnlyLeaves P)) (sym here.1) (told-there P file past here.0 here.2 here.3)
 
-each-shows : (entries all : List (List ℕ)) (entry : List ℕ) → entries ≡ retained all → (now : List File) → IfTold now (OnlyLeaves (HoldsWithOrWithout all entry)) →
-    IfTold now (OnlyLeaves (ShowsWithOrWithout entries entry))
+each-shows : (entries all : List (List ℕ)) (entry : List ℕ) → entries ≡ retained all → (now : List File) → IfTold now (OnlyLeaves (HoldsWithOrWithout version_1 all entry)) →
+    IfTold now (OnlyLeaves (ShowsWithOrWithout version_1 entries entry))
 each-shows entries all entry stay [] h = tt
 each-shows entries all entry stay (file ∷ past) h = λ c image. shows_either entries all entry c stay (h c image)
 
 -- after an append that failed, too, each crash image shows the entries, with or without the new one
-left-now : (entries : List (List ℕ)) (entry : List ℕ) (before now : List File) → LeavesWithOrWithout entries entry before now →
-    IfTold now (OnlyLeaves (ShowsWithOrWithout entries entry))
-left-now entries entry [] now is = subst (λ (h : List File). IfTold h (OnlyLeaves (ShowsWithOrWithout entries entry))) (sym is) tt
-left-now entries entry (file ∷ past) now (all, stay, leaves) = each-shows entries all entry stay now (told-now (HoldsWithOrWithout all entry) (file ∷ past) now leaves)
+left-now : (entries : List (List ℕ)) (entry : List ℕ) (before now : List File) → LeavesWithOrWithout version_1 entries entry before now →
+    IfTold now (OnlyLeaves (ShowsWithOrWithout version_1 entries entry))
+left-now entries entry [] now is = subst (λ (h : List File). IfTold h (OnlyLeaves (ShowsWithOrWithout version_1 entries entry))) (sym is) tt
+left-now entries entry (file ∷ past) now (all, stay, leaves) = each-shows entries all entry stay now (told-now (HoldsWithOrWithout version_1 all entry) (file ∷ past) now leaves)
 
 module _ {M Msg D : Type 0} (m : Module Msg) (refines : Relation M Msg) (history : D → List File) where
   abbrev Has : KeptState M Msg D → NodeBehavior → List NodeEvent → Type 0
@@ -235,8 +236,8 @@ module _ {M Msg D : Type 0} (m : Module Msg) (refines : Relation M Msg) (history
             left = record {
               accepted = h.accepted;
               named = subst (λ (s : Setup). AreNamed s.n events) (sym same.setup) h.named;
-              left = subst (λ (es : List (List ℕ)). IfTold (history new.disk) (OnlyLeaves (ShowsWithOrWithout es (B.keeps events event)))) (shows-is old B events h)
-                  (subst (λ (e : List ℕ). IfTold (history new.disk) (OnlyLeaves (ShowsWithOrWithout old.entries e))) (sym kept ∙ ap (λ (x : NodeBehavior). x.keeps events event) (sym h.does))
+              left = subst (λ (es : List (List ℕ)). IfTold (history new.disk) (OnlyLeaves (ShowsWithOrWithout version_1 es (B.keeps events event)))) (shows-is old B events h)
+                  (subst (λ (e : List ℕ). IfTold (history new.disk) (OnlyLeaves (ShowsWithOrWithout version_1 old.entries e))) (sym kept ∙ ap (λ (x : NodeBehavior). x.keeps events event) (sym h.does))
                   (left-now old.entries entry (history old.disk) (history new.disk) written.0));
             };
           }
@@ -278,11 +279,11 @@ module _ {M Msg D : Type 0} (m : Module Msg) (refines : Relation M Msg) (history
     pub by-durable : (before now : Sight) → before.history ≡ history old.disk → now.history ≡ history new.disk → (a : Answer) → IsJournaled m refines old event before now new.entries a → new.stale ≡ makes_stale a
         → (old.stale ≡ false → IsDurable history old) → old.stale ≡ false → new.stale ≡ false → IsDurable history new
     by-durable before now first last (Kept_taken outcome) w is durable was fresh =
-        subst (λ (x : List File). IfTold x (OnlyLeaves (Shows new.entries))) last
-        (subst (λ (es : List (List ℕ)). IfTold now.history (OnlyLeaves (Shows es))) (sym w.written.added) w.written.file.1)
+        subst (λ (x : List File). IfTold x (OnlyLeaves (Shows version_1 new.entries))) last
+        (subst (λ (es : List (List ℕ)). IfTold now.history (OnlyLeaves (Shows version_1 es))) (sym w.written.added) w.written.file.1)
     by-durable before now first last (Kept_dropped why) w is durable was fresh =
-        subst (λ (x : List File). IfTold x (OnlyLeaves (Shows new.entries))) (sym first ∙ sym w.written.file ∙ last)
-        (subst (λ (es : List (List ℕ)). IfTold (history old.disk) (OnlyLeaves (Shows es))) (sym w.written.added) (durable was))
+        subst (λ (x : List File). IfTold x (OnlyLeaves (Shows version_1 new.entries))) (sym first ∙ sym w.written.file ∙ last)
+        (subst (λ (es : List (List ℕ)). IfTold (history old.disk) (OnlyLeaves (Shows version_1 es))) (sym w.written.added) (durable was))
     by-durable before now first last Failed w is durable was fresh = absurd (true≢false (sym is ∙ fresh))
     by-durable before now first last Stale w is durable was fresh = absurd (true≢false (sym is ∙ fresh))
     by-durable before now first last NoMemory w is durable was fresh = absurd (true≢false (sym is ∙ fresh))
@@ -323,7 +324,7 @@ module _ {M Msg D : Type 0} (m : Module Msg) (refines : Relation M Msg) (history
     Led = (found : Rebuilt Msg) × (core_of new.setup m new.me.0 new.entries ≡ Some found) × RefinesStored m refines new (stored_as new.entries found)
 
     reopened-durable : (r : Result (Unit {0}) AttachError) → new.stale ≡ not (is_ok r) → OnOk r (IsAttached before now new.entries) → new.stale ≡ false → IsDurable history new
-    reopened-durable (Ok x) is attached fresh = subst (λ (h : List File). IfTold h (OnlyLeaves (Shows new.entries))) seen attached.durable
+    reopened-durable (Ok x) is attached fresh = subst (λ (h : List File). IfTold h (OnlyLeaves (Shows version_1 new.entries))) seen attached.durable
     reopened-durable (Err e) is attached fresh = absurd (true≢false (sym is ∙ fresh))
 
     pub reopened-running : (nodes : ℕ) (me : NodeId) (r : Result (Unit {0}) AttachError) → IsRunning m history nodes me old → new.stale ≡ not (is_ok r)
@@ -412,7 +413,7 @@ module _ {M Msg D : Type 0} (m : Module Msg) (refines : Relation M Msg) (history
               taken = l.later;
               accepted = l.there.accepted;
               named = subst (λ (n : ℕ). AreNamed n l.later) (sym (nodes-is end B l.later l.there)) l.there.named;
-              kept = subst (λ (es : List (List ℕ)). IfTold (history end.disk) (OnlyLeaves (Shows es))) (shows-is end B l.later l.there) durable;
+              kept = subst (λ (es : List (List ℕ)). IfTold (history end.disk) (OnlyLeaves (Shows version_1 es))) (shows-is end B l.later l.there) durable;
               loops = l.loops;
               block = p.0;
               low = p.1;

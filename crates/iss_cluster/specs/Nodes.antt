@@ -5,6 +5,7 @@ use Rattle.iss_config.specs.Configs.{setup_of}
 use Rattle.iss_config.specs.declared.configs.Config.{Config}
 use Rattle.iss_disk.specs.Calls.{IfTold}
 use Rattle.iss_disk.specs.File.{File}
+use Rattle.iss_journal.specs.Frames.{version_1}
 use Rattle.iss_journal.specs.Promises.{LosesNothing, OnlyLeaves, Shows, ShowsWithOrWithout}
 use Rattle.iss_keep.specs.Cores.{core_of, shown_of, step_of, stored_after, stored_of}
 use Rattle.iss_keep.specs.Entries.{spell_event}
@@ -109,7 +110,7 @@ pub record HasGoneOn {Msg : Type 0} (M : Module Msg) (c : Config) (me : ℕ) (en
   pub taken : List NodeEvent
   pub accepted : AreAccepted (node_behavior_of (setup_of c) M me base) [] taken
   pub named : AreNamed (setup_of c).n taken
-  pub kept : IfTold now (OnlyLeaves (Shows (shown_of (stored_since (setup_of c) M me base taken))))
+  pub kept : IfTold now (OnlyLeaves (Shows version_1 (shown_of (stored_since (setup_of c) M me base taken))))
   pub loops : (there : List End) → ends ≡ Some there →
       HasRun (node_loop_of (node_behavior_of (setup_of c) M me base) 200000 64 c.turns [] there) taken ends_now
   pub block : printed ≡ block_of (setup_of c) M me (stored_since (setup_of c) M me base taken).core
@@ -123,7 +124,7 @@ pub record IsNodeRun {Msg : Type 0} (M : Module Msg) (c : Config) (me : ℕ) (en
     (before now : List File) (printed : List ℕ) : Type 0 where
   pub held : List (List ℕ)
   pub found : Rebuilt Msg
-  pub read : IfTold before (λ file. Shows held file.content)
+  pub read : IfTold before (λ file. Shows version_1 held file.content)
   pub leads : core_of (setup_of c) M me held ≡ Some found
   pub went : (base : Stored Msg) → BeginsWith (setup_of c) M me held found base →
       HasGoneOn M c me ends ends_now now printed base
@@ -134,7 +135,7 @@ pub record Leaves (nodes : ℕ) (file : List File) (B : NodeBehavior) (events : 
     : Type 0 where
   pub accepted : AreAccepted B [] events
   pub named : AreNamed nodes events
-  pub left : IfTold file (OnlyLeaves (ShowsWithOrWithout (B.shows events) (B.keeps events event)))
+  pub left : IfTold file (OnlyLeaves (ShowsWithOrWithout version_1 (B.shows events) (B.keeps events event)))
 
 -- What became of a node that had stored this, until its disk failed at an event that it accepts. It took these events,
 -- and perhaps that one is in its journal. Over links that record their frames the node took frames, and sent what these
@@ -154,7 +155,7 @@ pub record IsCutShort {Msg : Type 0} (M : Module Msg) (c : Config) (me : ℕ) (e
     (before now : List File) : Type 0 where
   pub held : List (List ℕ)
   pub found : Rebuilt Msg
-  pub read : IfTold before (λ file. Shows held file.content)
+  pub read : IfTold before (λ file. Shows version_1 held file.content)
   pub leads : core_of (setup_of c) M me held ≡ Some found
   pub went : (base : Stored Msg) → BeginsWith (setup_of c) M me held found base →
       WasCutShort M c me ends ends_now now base
@@ -163,7 +164,7 @@ pub record IsCutShort {Msg : Type 0} (M : Module Msg) (c : Config) (me : ℕ) (e
 abbrev pub IsStopped : {Msg : Type 0} → Module Msg → Config → ℕ → (ends ends_now : Option (List End)) →
     (before now : List File) → Type 0
 IsStopped M c me ends ends_now before now =
-    ((ends_now ≡ ends) × LosesNothing before now) ⊎ IsCutShort M c me ends ends_now before now
+    ((ends_now ≡ ends) × LosesNothing version_1 before now) ⊎ IsCutShort M c me ends ends_now before now
 
 -- The journal is damaged at this offset: the file itself, or an entry that is no event or that the node would drop.
 -- What it held stays.
@@ -186,14 +187,14 @@ as_step NoMemory_kept = Err NoMemory
 -- The file held these entries, which lead to a core. The node that has read them stands for what it had stored by them.
 pub record HasRead {M Msg D : Type 0} (m : Module Msg) (refines : Relation M Msg) (before : List File)
     (v : KeptState M Msg D) : Type 0 where
-  pub read : IfTold before (λ file. Shows v.entries file.content)
+  pub read : IfTold before (λ file. Shows version_1 v.entries file.content)
   pub found : Rebuilt Msg
   pub leads : core_of v.setup m v.me.0 v.entries ≡ Some found
   pub stored : (base : Stored Msg) → BeginsWith v.setup m v.me.0 v.entries found base → RefinesStored m refines v base
 
 -- every crash image of its file shows its entries
 abbrev pub IsDurable : {M Msg D : Type 0} → (history : D → List File) → KeptState M Msg D → Type 0
-IsDurable history v = IfTold (history v.disk) (OnlyLeaves (Shows v.entries))
+IsDurable history v = IfTold (history v.disk) (OnlyLeaves (Shows version_1 v.entries))
 
 -- A running node knows its identity and how many nodes there are. Unless it has to be reopened, its journal is durable.
 pub record IsRunning {M Msg D : Type 0} (m : Module Msg) (history : D → List File)

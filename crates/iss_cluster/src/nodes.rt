@@ -3,6 +3,7 @@ ghost use Rattle.std.specs.Prelude.{◌≡◌, ◌≢◌, ◌<◌, ◌^◌, ◌+
 ghost use Rattle.iss_cluster.specs.Nodes.{HasRead, HasTaken, IsDurable, IsNodeRun, IsRefused, IsStopped, as_step, stored_since};
 ghost use Rattle.iss_config.specs.Configs.{IsInRange, setup_of};
 ghost use Rattle.iss_disk.specs.Calls.{HasCause as HasDiskCause};
+ghost use Rattle.iss_journal.specs.Frames.{version_1};
 ghost use Rattle.iss_journal.specs.Promises.{LosesNothing};
 ghost use Rattle.iss_keep.specs.Cores.{stored_of};
 ghost use Rattle.iss_keep.specs.Steps.{IsSame};
@@ -99,7 +100,7 @@ impl<M: Sequenced, D: Disk> RunningNode<M, D> {
         ensures cause { HasDiskCause (D.faults self.old.disk) (D.faults self.new.disk)
             (IsErrOf result AttachError.Failed) }
         ensures place { D.current self.new.disk ≡ D.current self.old.disk }
-        ensures loses { LosesNothing (D.history self.old.disk) (D.history self.new.disk) }
+        ensures loses { LosesNothing version_1 (D.history self.old.disk) (D.history self.new.disk) }
         ensures same { IsSame self.old self.new }
     {
         a_journal_recovers::<M>();
@@ -203,8 +204,8 @@ pub fn node<M: Sequenced, L: Links, D: Disk>(
     Ok(running.block(alloc)?)
 }
 
-/// What a node has stored that had stored what these events lead to, and took others since, is what all of them lead to.
-/// So a node that is opened again goes on from all that it ever took.
+/// A node had stored what these events lead to, and took others behind them. What it has stored then is what all of
+/// them lead to. So a node that is opened again goes on from all that it ever took.
 pub fn runs_join<M: Sequenced>()
     ensures { (s : Setup) (me : ℕ) (events taken : List ModelEvent) →
         stored_since s M.spec me (stored_of s M.spec me events) taken

@@ -4,7 +4,7 @@ use Rattle.std.proofs.lemmas.List.{take_at, drop_at, drop-drop, append-nil, take
 use Rattle.std.proofs.lemmas.Bool.{cases_lt, cases_eq, lt-leb, le-ltb, or_from, and_left, and_right}
 use Rattle.std.specs.Int.{w32, to_be_bytes}
 use Rattle.iss_disk.specs.File.{Image, settled, overwritten, wrote, synced}
-use Rattle.iss_journal.specs.Frames.{frame, frames, max_entry, AreShort, Reads, holds}
+use Rattle.iss_journal.specs.Frames.{AreShort, frame, frames, holds, max_entry, Reads, version_1}
 use Rattle.iss_journal.specs.Promises.{OnlyLeaves, HoldsWithOrWithout, RestsOn}
 use Rattle.iss_journal.proofs.FrameLemmas.{frames-push, short-push}
 
@@ -30,7 +30,7 @@ only_settled bytes c image =
 
 -- the reading of entries, a closed gate and any bytes
 pub reads_closed : (entries : List (List ℕ)) (gate : ℕ) (rest bytes : List ℕ) → AreShort entries → gate ≢ 1 →
-    bytes ≡ frames entries ++ gate ∷ rest → Reads bytes (holds entries)
+    bytes ≡ frames entries ++ gate ∷ rest → Reads version_1 bytes (holds entries)
 reads_closed [] gate rest bytes short closed is = elim (cases_lt 1 (length bytes)) [
   | inl long ↦ inr (long, record { gate = gate; rest = rest; is = is; closed = closed; short = short })
   | inr brief ↦ inl (brief, refl)
@@ -79,7 +79,7 @@ module _ (entries : List (List ℕ)) (entry : List ℕ) (gate : ℕ) (short : Ar
       ∙ ap (λ (l : List ℕ). l ++ 0 ∷ []) (sym (frames-push entries entry))
 
   abbrev P : List ℕ → Type 0
-  P = HoldsWithOrWithout entries entry
+  P = HoldsWithOrWithout version_1 entries entry
 
   pub at_rest : OnlyLeaves P (settled rest)
   at_rest c image = inl (reads_closed entries gate [] c short closed (only_settled rest c image))
@@ -98,10 +98,10 @@ module _ (entries : List (List ℕ)) (entry : List ℕ) (gate : ℕ) (short : Ar
   pub staged_rest : OnlyLeaves P (settled staged)
   staged_rest c image = inl (reads_closed entries gate (body entry) c short closed (only_settled staged c image))
 
-  pub staged_reads : Reads staged (holds entries)
+  pub staged_reads : Reads version_1 staged (holds entries)
   staged_reads = reads_closed entries gate (body entry) staged short closed refl
 
-  pub rest_reads : Reads rest (holds entries)
+  pub rest_reads : Reads version_1 rest (holds entries)
   rest_reads = reads_closed entries gate [] rest short closed refl
 
   pub length_staged : length staged ≡ last + 1 + length (body entry)

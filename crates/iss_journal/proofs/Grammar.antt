@@ -2,7 +2,7 @@
 use Rattle.std.proofs.Common.{◌≡◌, ◌≢◌, inl, inr, ℕ, ◌≤◌, List, [], ◌∷◌, ◌++◌, length, take, drop, get_or, refl, sym, ◌∙◌, ap, subst, arith, append_assoc, length-append}
 use Rattle.std.proofs.lemmas.List.{take_at, drop_at}
 use Rattle.std.specs.Int.{w32, to_be_bytes, from_be_bytes}
-use Rattle.iss_journal.specs.Frames.{frame, frames, max_entry, AreShort, IsWhole, Reading, holds, damaged, Reads}
+use Rattle.iss_journal.specs.Frames.{AreShort, damaged, frame, frames, holds, IsWhole, max_entry, Reading, Reads, version_1}
 use Rattle.iss_journal.proofs.FrameLemmas.{size_back}
 
 -- these bytes do not begin with a whole frame followed by a byte
@@ -72,7 +72,7 @@ same_parts (e ∷ es) (f ∷ fs) x y short_e short_f some_x some_y ends_x ends_y
 some : (g : ℕ) (rest : List ℕ) → 1 ≤ length (g ∷ rest)
 some g rest = omega arith
 
-pub one_reading : (file : List ℕ) (r s : Reading) → Reads file r → Reads file s → r ≡ s
+pub one_reading : (file : List ℕ) (r s : Reading) → Reads version_1 file r → Reads version_1 file s → r ≡ s
 one_reading file (holds es) (holds fs) (inl a) (inl b) = ap holds (a.1 ∙ sym b.1)
 one_reading file (holds es) (holds fs) (inl a) (inr b) = absurd (omega (arith, a.0, b.0))
 one_reading file (holds es) (holds fs) (inr a) (inl b) = absurd (omega (arith, a.0, b.0))

@@ -2,7 +2,7 @@
 use Rattle.std.proofs.Common.{arith, ◌≡◌, ℕ, ◌+◌, ◌≤◌, Bool, true, false, List, [], ◌∷◌, ◌++◌, length, refl, sym, ap, ◌∙◌, subst}
 use Rattle.iss_disk.specs.File.{File, synced, wrote}
 use Rattle.iss_disk.specs.Calls.{IfTold, Moves}
-use Rattle.iss_journal.specs.Frames.{frames, max_entry, Reads, holds}
+use Rattle.iss_journal.specs.Frames.{frames, holds, max_entry, Reads, version_1}
 use Rattle.iss_journal.specs.Internal.Additions.{RestsWith}
 use Rattle.iss_journal.specs.Promises.{EndsClosed, LeavesWithOrWithout, OnlyLeaves, RestsOn, Shows}
 use Rattle.iss_journal.specs.RetainedViews.{IsSame, Retains, gates_over, shown_in}
@@ -16,12 +16,12 @@ use Rattle.iss_journal.proofs.Steps.{Appended, Interrupted, exit1, exit2, exit3,
 
 -- what is promised if a call fails
 pub record Broken (kept : Retained) (entry : List ℕ) (old new : List File) : Type 0 where
-  pub moment : LeavesWithOrWithout (shown_in kept) entry old new
-  pub stays : IfTold new (λ file. Shows (shown_in kept) file.kept)
+  pub moment : LeavesWithOrWithout version_1 (shown_in kept) entry old new
+  pub stays : IfTold new (λ file. Shows version_1 (shown_in kept) file.kept)
 
 -- what is promised if all calls succeed
 pub record Written (kept : Retained) (entry : List ℕ) (old new : List File) : Type 0 where
-  pub moment : LeavesWithOrWithout (shown_in kept) entry old new
+  pub moment : LeavesWithOrWithout version_1 (shown_in kept) entry old new
   pub rests : IfTold new (RestsWith kept entry)
 
 module _ (kept : Retained) (entry : List ℕ) (fits : length entry ≤ max_entry) (gate : ℕ) (staged : List ℕ)
@@ -35,7 +35,7 @@ module _ (kept : Retained) (entry : List ℕ) (fits : length entry ≤ max_entry
   none : (h new : List File) → h ≡ [] → new ≡ [] → Broken kept entry [] new
   none h new is is_new = record {
     moment = is_new;
-    stays = subst (λ (l : List File). IfTold l (λ file. Shows (shown_in kept) file.kept)) (sym is_new) tt;
+    stays = subst (λ (l : List File). IfTold l (λ file. Shows version_1 (shown_in kept) file.kept)) (sym is_new) tt;
   }
 
   module _ (file : File) (past : List File) (over : RestsOver kept file) where
@@ -131,14 +131,14 @@ module _ (kept : Retained) (entry : List ℕ) (fits : length entry ≤ max_entry
 -- ---- before and after
 
 pub over_start : (h : List File) (kept : Retained) (entry : List ℕ) → IfTold h (RestsOver kept) →
-    LeavesWithOrWithout (shown_in kept) entry h h
+    LeavesWithOrWithout version_1 (shown_in kept) entry h h
 over_start [] kept entry over = refl
 over_start (file ∷ past) kept entry over =
     (over.all, over.retains.shown, rests_start (file ∷ past) over.all entry over.rests)
 
 -- what the journal shows is on the disk
 pub over_durable : (h : List File) (kept : Retained) → IfTold h (RestsOver kept) →
-    IfTold h (OnlyLeaves (Shows (shown_in kept)))
+    IfTold h (OnlyLeaves (Shows version_1 (shown_in kept)))
 over_durable h kept over = told_so _ _ h over (λ file r c image.
     record { all = r.all; read = rests_durable (file ∷ []) r.all r.rests c image; stay = r.retains.shown })
 
@@ -170,7 +170,7 @@ same_over old new same h over = told_so _ _ h over
 
 -- attached anew
 pub is_read : (h : List File) (all : List (List ℕ)) (kept : Retained) →
-    IfTold h (λ file. Reads file.content (holds all)) →
-    Retains all kept → IsRead (shown_in kept) (gates_over kept) h
+    IfTold h (λ file. Reads version_1 file.content (holds all)) →
+    Retains all kept → IsRead version_1 (shown_in kept) (gates_over kept) h
 is_read h all kept read retains =
     record { all = all; read = read; stay = retains.shown; lie = gates_are all kept retains }

@@ -2,7 +2,7 @@
 use Rattle.std.proofs.Common.{◌≡◌, inl, inr, ℕ, zero, suc, Some, Result, Ok, Err, OnOk, ◌+◌, ◌<◌, ◌≤◌, true, false, List, [], ◌∷◌, ◌++◌, length, take, refl, sym, ◌∙◌, ap, subst, arith, append_assoc}
 use Rattle.iss_disk.specs.File.{File, Image, settled, synced}
 use Rattle.iss_disk.specs.Calls.{IfTold, EachState, Moves, Place, Stays, Room, Takes}
-use Rattle.iss_journal.specs.Frames.{frames, ClosesAfter, Reading, Reads, holds}
+use Rattle.iss_journal.specs.Frames.{ClosesAfter, frames, holds, Reading, Reads, version_1}
 use Rattle.iss_journal.specs.Promises.{OnlyLeaves, LeavesOnly, LeavesReading, LosesNothing, HoldsFirst, HoldsWithOrWithout, RestsOn, ComesToRest}
 use Rattle.iss_journal.proofs.Crash.{only_settled, reads_closed}
 use Rattle.iss_journal.specs.RetainedViews.{HasGrown, IsSame, TakesMore}
@@ -16,42 +16,42 @@ pub told_so : (P Q : File → Type 0) (h : List File) → IfTold h P → ((file 
 told_so P Q [] told so = tt
 told_so P Q (file ∷ past) told so = so file told
 
-pub reads_same : (h new : List File) → IfTold h (λ file. file ≡ settled file.content) → new ≡ h → LeavesReading h new
+pub reads_same : (h new : List File) → IfTold h (λ file. file ≡ settled file.content) → new ≡ h → LeavesReading version_1 h new
 reads_same [] new on_disk same = same
 reads_same (file ∷ past) new on_disk same = (
   [],
   same,
   λ reading reads. (
-    (λ c image. subst (λ (bytes : List ℕ). Reads bytes reading)
+    (λ c image. subst (λ (bytes : List ℕ). Reads version_1 bytes reading)
         (sym (only_settled file.content c (subst (λ (f : File). Image f c) on_disk image))) reads),
     tt,
   ),
 )
 
-pub reads_like : (h0 h1 new : List File) (found : Reading) → h1 ≡ h0 → IfTold h0 (λ file. Reads file.content found) →
-    LeavesOnly (λ bytes. Reads bytes found) h1 new → LeavesReading h0 new
+pub reads_like : (h0 h1 new : List File) (found : Reading) → h1 ≡ h0 → IfTold h0 (λ file. Reads version_1 file.content found) →
+    LeavesOnly (λ bytes. Reads version_1 bytes found) h1 new → LeavesReading version_1 h0 new
 reads_like [] h1 new found same told leaves =
-    subst (λ (h : List File). LeavesOnly (λ bytes. Reads bytes found) h new) same leaves
+    subst (λ (h : List File). LeavesOnly (λ bytes. Reads version_1 bytes found) h new) same leaves
 reads_like (file ∷ past) h1 new found same told leaves =
-    let here : LeavesOnly (λ bytes. Reads bytes found) (file ∷ past) new =
-    subst (λ (h : List File). LeavesOnly (λ bytes. Reads bytes found) h new) same leaves in (
+    let here : LeavesOnly (λ bytes. Reads version_1 bytes found) (file ∷ past) new =
+    subst (λ (h : List File). LeavesOnly (λ bytes. Reads version_1 bytes found) h new) same leaves in (
       here.0,
       here.1,
       λ reading reads.
-          subst (λ (r : Reading). OnlyLeaves (λ bytes. Reads bytes r) file
-          × EachState (OnlyLeaves (λ bytes. Reads bytes r)) here.0)
+          subst (λ (r : Reading). OnlyLeaves (λ bytes. Reads version_1 bytes r) file
+          × EachState (OnlyLeaves (λ bytes. Reads version_1 bytes r)) here.0)
           (one_reading file.content found reading told reads) (here.2, here.3),
     )
 
 pub brief_reads : (h : List File) (bytes : List ℕ) → IfTold h (λ file. bytes ≡ file.content) → length bytes ≤ 1 →
-    IfTold h (λ file. Reads file.content (holds []))
+    IfTold h (λ file. Reads version_1 file.content (holds []))
 brief_reads h bytes told brief =
-    told_so _ _ h told (λ file is. subst (λ (b : List ℕ). Reads b (holds [])) is (inl (brief, refl)))
+    told_so _ _ h told (λ file is. subst (λ (b : List ℕ). Reads version_1 b (holds [])) is (inl (brief, refl)))
 
 pub whole_reads : (h : List File) (bytes : List ℕ) (entries : List (List ℕ)) → IfTold h (λ file. bytes ≡ file.content) →
-    1 < length bytes → ClosesAfter entries bytes → IfTold h (λ file. Reads file.content (holds entries))
+    1 < length bytes → ClosesAfter entries bytes → IfTold h (λ file. Reads version_1 file.content (holds entries))
 whole_reads h bytes entries told long ends =
-    told_so _ _ h told (λ file is. subst (λ (b : List ℕ). Reads b (holds entries)) is (inr (long, ends)))
+    told_so _ _ h told (λ file is. subst (λ (b : List ℕ). Reads version_1 b (holds entries)) is (inr (long, ends)))
 
 -- what attaching leaves of a file of at most one byte
 pub brief_rests : (h new : List File) (bytes : List ℕ) →
@@ -71,41 +71,41 @@ whole_rests h new bytes entries told ends long made =
     (told_so _ _ new made (λ now e. inr (entries, ends, long, e))))
 
 -- the first sync, and what follows it
-keeps_first : (entries : List (List ℕ)) (file : File) → Image file file.content → OnlyLeaves (HoldsFirst entries) file →
-    OnlyLeaves (HoldsFirst entries) (synced file)
+keeps_first : (entries : List (List ℕ)) (file : File) → Image file file.content → OnlyLeaves (HoldsFirst version_1 entries) file →
+    OnlyLeaves (HoldsFirst version_1 entries) (synced file)
 keeps_first entries file read leaves c image =
-    subst (HoldsFirst entries) (sym (only_settled file.content c image)) (leaves file.content read)
+    subst (HoldsFirst version_1 entries) (sym (only_settled file.content c image)) (leaves file.content read)
 
 each_holds : (entries more : List (List ℕ)) (states : List File) →
-    EachState (OnlyLeaves (λ bytes. Reads bytes (holds (entries ++ more)))) states →
-    EachState (OnlyLeaves (HoldsFirst entries)) states
+    EachState (OnlyLeaves (λ bytes. Reads version_1 bytes (holds (entries ++ more)))) states →
+    EachState (OnlyLeaves (HoldsFirst version_1 entries)) states
 each_holds entries more [] each = tt
 each_holds entries more (s ∷ states) each = (λ c image. (more, each.0 c image), each_holds entries more states each.1)
 
 -- the sync fails
 pub sync_fails : (h0 h1 : List File) → ((file : File) (past : List File) → h0 ≡ file ∷ past → Image file file.content) →
-    Moves synced false h0 h1 → LosesNothing h0 h1
+    Moves synced false h0 h1 → LosesNothing version_1 h0 h1
 sync_fails [] h1 read moves = moves
 sync_fails (file ∷ past) h1 read moves = (
   moves.0,
   moves.1,
-  λ entries leaves. between_leaves (HoldsFirst entries) moves.0 file (synced file) leaves
+  λ entries leaves. between_leaves (HoldsFirst version_1 entries) moves.0 file (synced file) leaves
       (keeps_first entries file (read file past refl) leaves) moves.2,
 )
 
 pub sync_then : (h0 h1 h2 : List File) →
     ((file : File) (past : List File) → h0 ≡ file ∷ past → Image file file.content) → Moves synced true h0 h1 →
-    LeavesReading h1 h2 → LosesNothing h0 h2
-sync_then [] h1 h2 read moves reading = subst (λ (h : List File). LeavesReading h h2) moves reading
+    LeavesReading version_1 h1 h2 → LosesNothing version_1 h0 h2
+sync_then [] h1 h2 read moves reading = subst (λ (h : List File). LeavesReading version_1 h h2) moves reading
 sync_then (file ∷ past) h1 h2 read moves reading =
-    let later : LeavesReading (synced file ∷ file ∷ past) h2 =
-    subst (λ (h : List File). LeavesReading h h2) moves reading in (
+    let later : LeavesReading version_1 (synced file ∷ file ∷ past) h2 =
+    subst (λ (h : List File). LeavesReading version_1 h h2) moves reading in (
       later.0 ++ synced file ∷ [],
       later.1 ∙ sym (append_assoc later.0 (synced file ∷ []) (file ∷ past)),
       λ entries leaves.
           let first = leaves file.content (read file past refl) in
           let each = (later.2 (holds (entries ++ first.0)) first.1).1 in
-          each_append (OnlyLeaves (HoldsFirst entries)) later.0 (synced file ∷ [])
+          each_append (OnlyLeaves (HoldsFirst version_1 entries)) later.0 (synced file ∷ [])
           (each_holds entries first.0 later.0 each) (keeps_first entries file (read file past refl) leaves, tt),
     )
 
@@ -127,12 +127,12 @@ settles [] h1 moves = tt
 settles (file ∷ past) h1 moves =
     subst (λ (h : List File). IfTold h (λ now. now ≡ settled file.content)) (sym moves) refl
 
-pub loses_start : (h : List File) → LosesNothing h h
+pub loses_start : (h : List File) → LosesNothing version_1 h h
 loses_start [] = refl
 loses_start (file ∷ past) = ([], refl, λ entries leaves. tt)
 
 pub rests_durable : (h : List File) (entries : List (List ℕ)) → IfTold h (RestsOn entries) →
-    IfTold h (OnlyLeaves (λ bytes. Reads bytes (holds entries)))
+    IfTold h (OnlyLeaves (λ bytes. Reads version_1 bytes (holds entries)))
 rests_durable h entries told = told_so _ _ h told (λ file rests c image.
     reads_closed entries rests.gate [] c rests.short rests.closed
     (only_settled (frames entries ++ rests.gate ∷ []) c (subst (λ (f : File). Image f c) rests.is image)))
@@ -234,7 +234,7 @@ takes_none room = record { calls_left = omega arith; bytes_left = omega arith }
 
 -- before an append
 pub rests_start : (h : List File) (entries : List (List ℕ)) (entry : List ℕ) → IfTold h (RestsOn entries) →
-    LeavesOnly (HoldsWithOrWithout entries entry) h h
+    LeavesOnly (HoldsWithOrWithout version_1 entries entry) h h
 rests_start [] entries entry told = refl
 rests_start (file ∷ past) entries entry told =
     ([], refl, (λ c image. inl (rests_durable (file ∷ past) entries told c image)), tt)

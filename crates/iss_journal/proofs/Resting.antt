@@ -3,7 +3,7 @@ use Rattle.std.proofs.Common.{◌≡◌, inl, ℕ, ◌+◌, ◌<◌, ◌≤◌, 
 use Rattle.std.proofs.lemmas.List.{take_at, take_all, get_or_append_left, nil_from_length}
 use Rattle.iss_disk.specs.File.{File, settled, wrote, shortened, synced}
 use Rattle.iss_disk.specs.Calls.{IfTold, Moves}
-use Rattle.iss_journal.specs.Frames.{frames, ClosesAfter, Reads, holds}
+use Rattle.iss_journal.specs.Frames.{ClosesAfter, frames, holds, Reads, version_1}
 use Rattle.iss_journal.specs.Promises.{OnlyLeaves, LeavesOnly, RestsOn}
 use Rattle.iss_journal.proofs.Crash.{begins_with, only_settled, reads_closed}
 use Rattle.iss_journal.proofs.Steps.{goes_on, untold}
@@ -18,7 +18,7 @@ module _ (entries : List (List ℕ)) (bytes : List ℕ) (ends : ClosesAfter entr
   front = frames entries ++ ends.gate ∷ []
 
   abbrev P : List ℕ → Type 0
-  P c = Reads c (holds entries)
+  P c = Reads version_1 c (holds entries)
 
   length_front : length front ≡ end
   length_front = omega (arith, length-append (frames entries) (ends.gate ∷ []))
@@ -128,7 +128,7 @@ module _ (entries : List (List ℕ)) (bytes : List ℕ) (ends : ClosesAfter entr
 
 module _ (bytes : List ℕ) (brief : length bytes ≤ 1) where
   abbrev Q : List ℕ → Type 0
-  Q c = Reads c (holds [])
+  Q c = Reads version_1 c (holds [])
 
   empty_starts : OnlyLeaves Q (settled bytes)
   empty_starts c image = inl (omega (arith, image.short_enough, brief), refl)

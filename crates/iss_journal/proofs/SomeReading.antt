@@ -7,7 +7,7 @@ use Rattle.std.proofs.Math.Decide.{dec_le, dec_lt, ℕ_discrete}
 use Rattle.std.proofs.Math.ListN.{get_or-eq_default}
 use Rattle.std.specs.Int.{w32, to_be_bytes, from_be_bytes}
 use Rattle.std.specs.List.{All}
-use Rattle.iss_journal.specs.Frames.{frame, frames, max_entry, IsWhole, ClosesAfter, BreaksAt, Reading, holds, damaged, Reads}
+use Rattle.iss_journal.specs.Frames.{BreaksAt, ClosesAfter, damaged, frame, frames, holds, IsWhole, max_entry, Reading, Reads, version_1}
 
 abbrev IsByte : ℕ → Type 0
 IsByte b = b < 256
@@ -108,13 +108,13 @@ found_from (suc bound) (gate ∷ rest) few some bytes =
     at_gate gate rest (ℕ_discrete gate 1) (dec_whole rest) (All-drop IsByte 1 (gate ∷ rest) bytes)
     (λ more fewer some_more each. found_from bound more (omega (arith, few, fewer)) some_more each)
 
-reading_of : (file : List ℕ) → Dec (length file ≤ 1) → All IsByte file → (r : Reading) × Reads file r
+reading_of : (file : List ℕ) → Dec (length file ≤ 1) → All IsByte file → (r : Reading) × Reads version_1 file r
 reading_of file (yes brief) bytes = (holds [], inl (brief, refl))
 reading_of file (no long) bytes = named (found_from (length file) file (omega arith) (omega (arith, long)) bytes)
   where
-    named : Found file → (r : Reading) × Reads file r
+    named : Found file → (r : Reading) × Reads version_1 file r
     named (closes entries c) = (holds entries, inr (omega (arith, long), c))
     named (breaks at b) = (damaged at, (omega (arith, long), b))
 
-pub some_reading : (file : List ℕ) → All (λ b. b < 256) file → (r : Reading) × Reads file r
+pub some_reading : (file : List ℕ) → All (λ b. b < 256) file → (r : Reading) × Reads version_1 file r
 some_reading file bytes = reading_of file (dec_le (length file) 1) bytes

@@ -4,7 +4,7 @@ use Rattle.std.proofs.lemmas.List.{drop_at, drop-drop}
 use Rattle.std.proofs.lemmas.Bool.{true≢false, false≢true}
 use Rattle.iss_disk.specs.File.{File, Image, settled, wrote, synced}
 use Rattle.iss_disk.specs.Calls.{EachState, IfTold, IsBetween, Moves, Place, StaysHere, Stays, HasCause, Passes, outcome, next, AtOutcome, Runs}
-use Rattle.iss_journal.specs.Frames.{frame, frames, max_entry, Reads, holds}
+use Rattle.iss_journal.specs.Frames.{frame, frames, holds, max_entry, Reads, version_1}
 use Rattle.iss_journal.specs.Promises.{OnlyLeaves, LeavesOnly, HoldsWithOrWithout, RestsOn}
 use Rattle.iss_journal.proofs.Crash as crash
 
@@ -111,12 +111,12 @@ IsClosed entries file = file ≡ settled (frames entries ++ 0 ∷ [])
 
 -- what is promised if a call fails
 pub record Interrupted (entries : List (List ℕ)) (entry : List ℕ) (old new : List File) : Type 0 where
-  pub moment : LeavesOnly (HoldsWithOrWithout entries entry) old new
-  pub kept : IfTold new (λ file. Reads file.kept (holds entries))
+  pub moment : LeavesOnly (HoldsWithOrWithout version_1 entries entry) old new
+  pub kept : IfTold new (λ file. Reads version_1 file.kept (holds entries))
 
 -- what is promised if all calls succeed
 pub record Appended (entries : List (List ℕ)) (entry : List ℕ) (old new : List File) : Type 0 where
-  pub moment : LeavesOnly (HoldsWithOrWithout entries entry) old new
+  pub moment : LeavesOnly (HoldsWithOrWithout version_1 entries entry) old new
   pub rests : IfTold new (RestsOn (entries ++ entry ∷ []))
   pub file : IfTold new (IsClosed (entries ++ entry ∷ []))
 
@@ -125,10 +125,10 @@ module _ (entries : List (List ℕ)) (entry : List ℕ) (fits : length entry ≤
   last = length (frames entries)
 
   abbrev P : List ℕ → Type 0
-  P = HoldsWithOrWithout entries entry
+  P = HoldsWithOrWithout version_1 entries entry
 
   abbrev K : List ℕ → Type 0
-  K bytes = Reads bytes (holds entries)
+  K bytes = Reads version_1 bytes (holds entries)
 
   abbrev write : File → File
   write = wrote (last + 1) (crash.body entry)
@@ -179,7 +179,7 @@ module _ (entries : List (List ℕ)) (entry : List ℕ) (fits : length entry ≤
     in_place c image = inr (reads_rest (entries ++ entry ∷ [])
         (synced (open_gate (synced (write file)))) is_appended c image)
       where
-        reads_rest : (es : List (List ℕ)) (f : File) → RestsOn es f → (c : List ℕ) → Image f c → Reads c (holds es)
+        reads_rest : (es : List (List ℕ)) (f : File) → RestsOn es f → (c : List ℕ) → Image f c → Reads version_1 c (holds es)
         reads_rest es f r c image =
             crash.reads_closed es r.gate [] c r.short r.closed
             (crash.only_settled (frames es ++ r.gate ∷ []) c (subst (λ (g : File). Image g c) r.is image))

@@ -55,15 +55,20 @@ pub data Reading : Type 0 where
   holds : List (List ℕ) → Reading
   damaged : ℕ → Reading
 
+-- How the bytes of a file are laid out. In version 1 the frames begin at its first byte.
+pub data Form : Type 0 where
+  version_1 : Form
+
 -- A file of at most one byte represents an empty journal. Any other file has exactly one of the two readings.
 -- rule: Journal: Attaching reads entries up to the first closed gate, and cuts off the rest
-abbrev pub Reads : List ℕ → Reading → Type 0
-Reads file (holds entries) = ((length file ≤ 1) × (entries ≡ [])) ⊎ ((1 < length file) × ClosesAfter entries file)
-Reads file (damaged at) = (1 < length file) × BreaksAt at file
+abbrev pub Reads : Form → List ℕ → Reading → Type 0
+Reads version_1 file (holds entries) =
+    ((length file ≤ 1) × (entries ≡ [])) ⊎ ((1 < length file) × ClosesAfter entries file)
+Reads version_1 file (damaged at) = (1 < length file) × BreaksAt at file
 
 -- One entry of one byte, and a single open gate.
 one_entry : frames ((170 ∷ []) ∷ []) ++ 0 ∷ [] ≡ 1 ∷ 0 ∷ 0 ∷ 0 ∷ 1 ∷ 170 ∷ 0 ∷ []
 one_entry = refl
 
-single_gate : Reads (1 ∷ []) (holds [])
+single_gate : Reads version_1 (1 ∷ []) (holds [])
 single_gate = inl (lit≤ tt, refl)

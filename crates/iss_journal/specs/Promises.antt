@@ -5,7 +5,7 @@
 use Rattle.std.specs.Prelude.{◌≡◌, ◌≢◌, ◌⊎◌, ℕ, ◌+◌, ◌<◌, ◌≤◌, List, [], ◌∷◌, ◌++◌, length, take}
 use Rattle.iss_disk.specs.File.{File, Image, settled}
 use Rattle.iss_disk.specs.Calls.{EachState, Passes, script}
-use Rattle.iss_journal.specs.Frames.{ClosesAfter, frames, AreShort, Reading, Reads, holds}
+use Rattle.iss_journal.specs.Frames.{ClosesAfter, Form, frames, AreShort, Reading, Reads, holds}
 use Rattle.iss_journal.specs.Retained.{retained}
 
 -- P holds for every crash image
@@ -19,37 +19,38 @@ LeavesOnly P (file ∷ past) new = (added : List File) × (new ≡ added ++ file
     × EachState (OnlyLeaves P) added
 
 -- of the entries of the file stay these
-pub record Shows (entries : List (List ℕ)) (bytes : List ℕ) : Type 0 where
+pub record Shows (form : Form) (entries : List (List ℕ)) (bytes : List ℕ) : Type 0 where
   pub all : List (List ℕ)
-  pub read : Reads bytes (holds all)
+  pub read : Reads form bytes (holds all)
   pub stay : entries ≡ retained all
 
 -- the file holds these entries, or these and one more
 -- rule: Journal: An append writes its entry, syncs, opens the gate, and syncs
-abbrev pub HoldsWithOrWithout : List (List ℕ) → List ℕ → List ℕ → Type 0
-HoldsWithOrWithout all entry bytes = Reads bytes (holds all) ⊎ Reads bytes (holds (all ++ entry ∷ []))
+abbrev pub HoldsWithOrWithout : Form → List (List ℕ) → List ℕ → List ℕ → Type 0
+HoldsWithOrWithout form all entry bytes = Reads form bytes (holds all) ⊎ Reads form bytes (holds (all ++ entry ∷ []))
 
 -- what this list shows, or what it shows with one more entry
-abbrev pub ShowsWithOrWithout : List (List ℕ) → List ℕ → List ℕ → Type 0
-ShowsWithOrWithout entries entry bytes = Shows entries bytes ⊎ Shows (retained (entries ++ entry ∷ [])) bytes
+abbrev pub ShowsWithOrWithout : Form → List (List ℕ) → List ℕ → List ℕ → Type 0
+ShowsWithOrWithout form entries entry bytes =
+    Shows form entries bytes ⊎ Shows form (retained (entries ++ entry ∷ [])) bytes
 
 -- Of the entries of the file stay these. At each moment of a call every crash image holds all of them, with or without
 -- this new one.
-abbrev pub LeavesWithOrWithout : List (List ℕ) → List ℕ → List File → List File → Type 0
-LeavesWithOrWithout entries entry [] new = new ≡ []
-LeavesWithOrWithout entries entry (file ∷ past) new = (all : List (List ℕ)) × (entries ≡ retained all)
-    × LeavesOnly (HoldsWithOrWithout all entry) (file ∷ past) new
+abbrev pub LeavesWithOrWithout : Form → List (List ℕ) → List ℕ → List File → List File → Type 0
+LeavesWithOrWithout form entries entry [] new = new ≡ []
+LeavesWithOrWithout form entries entry (file ∷ past) new = (all : List (List ℕ)) × (entries ≡ retained all)
+    × LeavesOnly (HoldsWithOrWithout form all entry) (file ∷ past) new
 
 -- these entries are a prefix of those that the file holds
-abbrev pub HoldsFirst : List (List ℕ) → List ℕ → Type 0
-HoldsFirst entries bytes = (more : List (List ℕ)) × Reads bytes (holds (entries ++ more))
+abbrev pub HoldsFirst : Form → List (List ℕ) → List ℕ → Type 0
+HoldsFirst form entries bytes = (more : List (List ℕ)) × Reads form bytes (holds (entries ++ more))
 
 -- If every crash image held these entries before the call, every crash image holds them at each moment of it.
-abbrev pub LosesNothing : List File → List File → Type 0
-LosesNothing [] new = new ≡ []
-LosesNothing (file ∷ past) new = (added : List File) × (new ≡ added ++ file ∷ past)
-    × ((entries : List (List ℕ)) → OnlyLeaves (HoldsFirst entries) file →
-    EachState (OnlyLeaves (HoldsFirst entries)) added)
+abbrev pub LosesNothing : Form → List File → List File → Type 0
+LosesNothing form [] new = new ≡ []
+LosesNothing form (file ∷ past) new = (added : List File) × (new ≡ added ++ file ∷ past)
+    × ((entries : List (List ℕ)) → OnlyLeaves (HoldsFirst form entries) file →
+    EachState (OnlyLeaves (HoldsFirst form entries)) added)
 
 -- the file is the frames of these entries and a closed gate, all synced
 pub record RestsOn (entries : List (List ℕ)) (file : File) : Type 0 where
@@ -72,14 +73,15 @@ EndsClosed entries file =
     (all : List (List ℕ)) × (file ≡ settled (frames all ++ 0 ∷ [])) × (entries ≡ retained all)
 
 -- every crash image has this reading
-abbrev pub OnlyReads : Reading → File → Type 0
-OnlyReads reading = OnlyLeaves (λ bytes. Reads bytes reading)
+abbrev pub OnlyReads : Form → Reading → File → Type 0
+OnlyReads form reading = OnlyLeaves (λ bytes. Reads form bytes reading)
 
 -- every crash image at each moment of a call has the reading that the file had before it
-abbrev pub LeavesReading : List File → List File → Type 0
-LeavesReading [] new = new ≡ []
-LeavesReading (file ∷ past) new = (added : List File) × (new ≡ added ++ file ∷ past)
-    × ((reading : Reading) → Reads file.content reading → OnlyReads reading file × EachState (OnlyReads reading) added)
+abbrev pub LeavesReading : Form → List File → List File → Type 0
+LeavesReading form [] new = new ≡ []
+LeavesReading form (file ∷ past) new = (added : List File) × (new ≡ added ++ file ∷ past)
+    × ((reading : Reading) → Reads form file.content reading →
+    OnlyReads form reading file × EachState (OnlyReads form reading) added)
 
 -- if all calls of the disk succeed, none fails here, and all later ones succeed too
 abbrev pub Works : Passes → Passes → Type 0 → Type 0

@@ -3,7 +3,7 @@
 use Rattle.std.specs.Prelude.{◌≡◌, ℕ, zero, suc, ◌+◌, ◌*◌, ◌≤◌, ◌<◌, ◌^◌, Bool, true, Option, None, Some, List, length, vec_len, vec_capacity}
 use Rattle.iss_disk.specs.File.{File}
 use Rattle.iss_disk.specs.Calls.{IfTold, Room, Passes}
-use Rattle.iss_journal.specs.Frames.{Reads, frames, holds}
+use Rattle.iss_journal.specs.Frames.{Form, Reads, frames, holds}
 use Rattle.iss_journal.specs.Retained.{gates_in, retained}
 use Rattle.iss_journal.specs.EntryViews.{entries_in}
 use Rattle.iss_journal.specs.RetainedViews.{Retains, gates_over, shown_in}
@@ -60,9 +60,9 @@ pub record IsSound {D : Type 0} (history : D → List File) (room : D → Room) 
 
 -- A journal that shows entries and their gates: those that stay of some entries, which are those of the file as far as
 -- its content is told.
-pub record IsRead (entries : List (List ℕ)) (gates : List ℕ) (history : List File) : Type 0 where
+pub record IsRead (form : Form) (entries : List (List ℕ)) (gates : List ℕ) (history : List File) : Type 0 where
   pub all : List (List ℕ)
-  pub read : IfTold history (λ file. Reads file.content (holds all))
+  pub read : IfTold history (λ file. Reads form file.content (holds all))
   pub stay : entries ≡ retained all
   pub lie : gates ≡ gates_in all
 

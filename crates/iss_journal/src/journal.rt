@@ -33,7 +33,7 @@ impl<D: Disk> Journal<D> {
     ghost use Rattle.std.specs.Prelude.{get_or};
     ghost use Rattle.iss_disk.specs.File.{settled};
     ghost use Rattle.iss_disk.specs.Calls.{IfTold, Stays, StaysHere, HasCause, Runs};
-    ghost use Rattle.iss_journal.specs.Frames.{max_entry, Reads, damaged};
+    ghost use Rattle.iss_journal.specs.Frames.{max_entry, Reads, damaged, version_1};
     ghost use Rattle.iss_journal.specs.Retained.{is_snapshot, retained};
     ghost use Rattle.iss_journal.specs.Promises.{OnlyLeaves, LeavesWithOrWithout, LosesNothing, ComesToRest, EndsClosed, Shows, Works};
     ghost use Rattle.iss_journal.specs.SharedViews.{shared_in};
@@ -65,9 +65,9 @@ impl<D: Disk> Journal<D> {
     pub fn attach(&mut self) -> Result<(), AttachError>
         requires sound { IsSound D.history D.room self.old }
         ensures entries { OnOk result
-            (IsRead (entries_of self.new) (gates_of self.new) (D.history (disk_of self.old))) }
+            (IsRead version_1 (entries_of self.new) (gates_of self.new) (D.history (disk_of self.old))) }
         ensures damaged { (at : ℕ) → IsErrOf result (AttachError.Damaged at) → IfTold (D.history (disk_of self.old))
-            (λ file. Reads file.content (damaged at)) }
+            (λ file. Reads version_1 file.content (damaged at)) }
         ensures damaged_stays { (at : ℕ) → IsErrOf result (AttachError.Damaged at) →
             IfTold (D.history (disk_of self.old)) (λ before. IfTold (D.history (disk_of self.new))
             (λ now. now ≡ settled before.content)) }
@@ -79,8 +79,8 @@ impl<D: Disk> Journal<D> {
         // From then on every crash image holds the entries that were read. A crash at any moment of the call loses no
         // entry that every crash image held before it.
         ensures durable { OnOk result
-            (IfTold (D.history (disk_of self.new)) (OnlyLeaves (Shows (entries_of self.new)))) }
-        ensures any_moment { LosesNothing (D.history (disk_of self.old)) (D.history (disk_of self.new)) }
+            (IfTold (D.history (disk_of self.new)) (OnlyLeaves (Shows version_1 (entries_of self.new)))) }
+        ensures any_moment { LosesNothing version_1 (D.history (disk_of self.old)) (D.history (disk_of self.new)) }
 
         ensures others { StaysHere (D.current (disk_of self.old)) (D.current (disk_of self.new))
             (D.files (disk_of self.old)) (D.files (disk_of self.new)) }
@@ -219,14 +219,14 @@ impl<D: Disk> Journal<D> {
         ensures failed { IsErrOf result EndError.Failed → is_attached self.new ≡ false }
 
         // A crash at any moment of the call leaves the entries with or without the new one; after Ok, with it.
-        ensures any_moment { LeavesWithOrWithout (entries_of self.old) (head.now ++ body)
+        ensures any_moment { LeavesWithOrWithout version_1 (entries_of self.old) (head.now ++ body)
             (D.history (disk_of self.old)) (D.history (disk_of self.new)) }
         ensures durable { OnOk result
-            (IfTold (D.history (disk_of self.new)) (OnlyLeaves (Shows (entries_of self.new)))) }
+            (IfTold (D.history (disk_of self.new)) (OnlyLeaves (Shows version_1 (entries_of self.new)))) }
 
         // If the device failed, what was synced holds the entries without the new one.
         ensures kept { IsErrOf result EndError.Failed → IfTold (D.history (disk_of self.new))
-            (λ file. Shows (entries_of self.old) file.kept) }
+            (λ file. Shows version_1 (entries_of self.old) file.kept) }
 
         // It takes four calls of the device.
         ensures device { (IsErrOf result EndError.NoMemory → ⊥) →

@@ -1,7 +1,7 @@
 // Appending an entry durably, by four calls of the device.
 ghost use Rattle.std.specs.Prelude.{◌≡◌, ◌+◌, ◌≤◌, ◌++◌, [], ◌∷◌, length, is_ok, OnOk, OnErr, IsErr};
 ghost use Rattle.iss_disk.specs.Calls.{IfTold, StaysHere, HasCause, Runs, Takes};
-ghost use Rattle.iss_journal.specs.Frames.{frame, frames, max_entry};
+ghost use Rattle.iss_journal.specs.Frames.{frame, frames, max_entry, version_1};
 ghost use Rattle.iss_journal.specs.Promises.{LeavesWithOrWithout, Shows};
 ghost use Rattle.iss_journal.specs.EntryViews.{entries_in};
 ghost use Rattle.iss_journal.specs.Internal.Additions.{RestsWith};
@@ -32,10 +32,10 @@ pub(crate) fn keep_entry<D: Disk>(
     requires rests { IfTold (D.history disk.old) (RestsOver kept.now) }
 
     // A crash at any moment leaves the entries with or without the new one.
-    ensures any_moment { LeavesWithOrWithout (shown_in kept.now) (head.now ++ body.now)
+    ensures any_moment { LeavesWithOrWithout version_1 (shown_in kept.now) (head.now ++ body.now)
         (D.history disk.old) (D.history disk.new) }
     ensures rests { OnOk result (IfTold (D.history disk.new) (RestsWith kept.now (head.now ++ body.now))) }
-    ensures stays { OnErr result (IfTold (D.history disk.new) (λ file. Shows (shown_in kept.now) file.kept)) }
+    ensures stays { OnErr result (IfTold (D.history disk.new) (λ file. Shows version_1 (shown_in kept.now) file.kept)) }
     ensures room { OnOk result (Takes 4 (length (head.now ++ body.now) + 6) (D.room disk.old) (D.room disk.new)) }
     ensures others { StaysHere (D.current disk.old) (D.current disk.new) (D.files disk.old) (D.files disk.new) }
     ensures cause { HasCause (D.faults disk.old) (D.faults disk.new) (IsErr result) }

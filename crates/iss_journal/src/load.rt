@@ -2,7 +2,7 @@
 ghost use Rattle.std.specs.Prelude.{◌≡◌, ◌+◌, ◌≤◌, ℕ, length, IfOk, IsErrOf};
 ghost use Rattle.iss_disk.specs.File.{settled};
 ghost use Rattle.iss_disk.specs.Calls.{IfTold, Stays, StaysHere, HasCause, Takes};
-ghost use Rattle.iss_journal.specs.Frames.{Reads, holds, damaged};
+ghost use Rattle.iss_journal.specs.Frames.{Reads, holds, damaged, version_1};
 ghost use Rattle.iss_journal.specs.Promises.{LeavesReading, RestsOn, ComesToRest, Works};
 ghost use Rattle.iss_journal.specs.EntryViews.{entries_in};
 
@@ -44,15 +44,15 @@ pub(crate) fn load<D: Disk>(alloc: Global, disk: &mut D) -> Result<Entries, Atta
     requires calls { 3 ≤ (D.room disk.old).calls }
     requires bytes { 1 ≤ (D.room disk.old).bytes }
     ensures entries { IfOk result
-        (λ entries. IfTold (D.history disk.old) (λ file. Reads file.content (holds (entries_in entries)))) }
+        (λ entries. IfTold (D.history disk.old) (λ file. Reads version_1 file.content (holds (entries_in entries)))) }
     ensures rests { IfOk result (λ entries. IfTold (D.history disk.new) (RestsOn (entries_in entries))) }
     ensures file { IfOk result (λ entries. IfTold (D.history disk.old)
         (λ before. IfTold (D.history disk.new) (ComesToRest before.content))) }
     ensures damaged { (at : ℕ) → IsErrOf result (AttachError.Damaged at) → IfTold (D.history disk.old)
-        (λ file. Reads file.content (damaged at)) }
+        (λ file. Reads version_1 file.content (damaged at)) }
     ensures damaged_stays { (at : ℕ) → IsErrOf result (AttachError.Damaged at) →
         D.history disk.new ≡ D.history disk.old }
-    ensures any_moment { LeavesReading (D.history disk.old) (D.history disk.new) }
+    ensures any_moment { LeavesReading version_1 (D.history disk.old) (D.history disk.new) }
     ensures others { StaysHere (D.current disk.old) (D.current disk.new) (D.files disk.old) (D.files disk.new) }
     ensures cause { HasCause (D.faults disk.old) (D.faults disk.new) (IsErrOf result AttachError.Failed) }
     ensures works { Works (D.passes disk.old) (D.passes disk.new) (IsErrOf result AttachError.Failed) }

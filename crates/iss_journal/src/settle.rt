@@ -2,7 +2,7 @@
 ghost use Rattle.std.specs.Prelude.{◌≡◌, ◌+◌, ◌≤◌, [], ◌∷◌, length, take, OnOk, IsErr};
 ghost use Rattle.iss_disk.specs.File.{settled};
 ghost use Rattle.iss_disk.specs.Calls.{IfTold, StaysHere, HasCause};
-ghost use Rattle.iss_journal.specs.Frames.{frames, ClosesAfter, Reads, holds};
+ghost use Rattle.iss_journal.specs.Frames.{frames, ClosesAfter, Reads, holds, version_1};
 ghost use Rattle.iss_journal.specs.Promises.{LeavesOnly, RestsOn, Works};
 ghost use Rattle.iss_journal.specs.EntryViews.{entries_in};
 
@@ -15,7 +15,7 @@ pub(crate) fn cut_tail<D: Disk>(disk: &mut D, entries: &Entries) -> Result<(), F
     requires ends { ClosesAfter (entries_in entries.now) entries.now.bytes.items }
     requires calls { 2 ≤ (D.room disk.old).calls }
     ensures any_moment { LeavesOnly
-        (λ bytes. Reads bytes (holds (entries_in entries.now))) (D.history disk.old) (D.history disk.new) }
+        (λ bytes. Reads version_1 bytes (holds (entries_in entries.now))) (D.history disk.old) (D.history disk.new) }
     ensures rests { OnOk result (IfTold (D.history disk.new) (RestsOn (entries_in entries.now))) }
     ensures file { OnOk result (IfTold (D.history disk.new)
         (λ file. file ≡ settled (take (length (frames (entries_in entries.now)) + 1) entries.now.bytes.items))) }
@@ -36,7 +36,8 @@ pub(crate) fn make_empty<D: Disk>(disk: &mut D, bytes: &[u8]) -> Result<(), Fail
     requires brief { length bytes.now ≤ 1 }
     requires calls { 3 ≤ (D.room disk.old).calls }
     requires bytes { 1 ≤ (D.room disk.old).bytes }
-    ensures any_moment { LeavesOnly (λ bytes. Reads bytes (holds [])) (D.history disk.old) (D.history disk.new) }
+    ensures any_moment { LeavesOnly
+        (λ bytes. Reads version_1 bytes (holds [])) (D.history disk.old) (D.history disk.new) }
     ensures rests { OnOk result (IfTold (D.history disk.new) (RestsOn [])) }
     ensures file { OnOk result (IfTold (D.history disk.new) (λ file. file ≡ settled (0 ∷ []))) }
     ensures others { StaysHere (D.current disk.old) (D.current disk.new) (D.files disk.old) (D.files disk.new) }

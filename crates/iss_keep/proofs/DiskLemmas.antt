@@ -9,7 +9,7 @@ use Rattle.iss_disk.specs.ReadsAreImages.{image_settled}
 use Rattle.iss_disk.specs.States.{calls_of}
 use Rattle.iss_disk.specs.StoredViews.{history_of}
 use Rattle.iss_disk.specs.declared.stored.StoredFile.{StoredFile}
-use Rattle.iss_journal.specs.Frames.{AreShort, Reading, Reads, damaged, frames, holds}
+use Rattle.iss_journal.specs.Frames.{AreShort, damaged, frames, holds, Reading, Reads, version_1}
 use Rattle.iss_journal.proofs.Retaining.{retained-twice}
 use Rattle.iss_journal.proofs.Showing.{shown_once}
 use Rattle.iss_journal.specs.Promises.{OnlyLeaves, Shows}
@@ -37,20 +37,20 @@ use Rattle.iss_keep.specs.declared.answers.Answer.TheVariants.{Dropped as Kept_d
 never-both : (es : List (List ℕ)) (at : ℕ) → holds es ≡ damaged at → ⊥
 never-both es at h = cc
 
-module _ (one : (bytes : List ℕ) (r q : Reading) → Reads bytes r → Reads bytes q → r ≡ q) where
+module _ (one : (bytes : List ℕ) (r q : Reading) → Reads version_1 bytes r → Reads version_1 bytes q → r ≡ q) where
   -- Attaching finds the entries that the file held.
   pub attached-same : (before now : Sight) (held found : List (List ℕ)) (file : File) (past : List File) → before.history ≡ file ∷ past →
-      Shows held file.content → IsAttached before now found → found ≡ held
+      Shows version_1 held file.content → IsAttached before now found → found ≡ held
   attached-same before now held found file past told reads attached =
-      let read : Shows found file.content = subst (λ (h : List File). IfTold h (λ f. Shows found f.content)) told attached.read in
+      let read : Shows version_1 found file.content = subst (λ (h : List File). IfTold h (λ f. Shows version_1 found f.content)) told attached.read in
       shown_once found held file.content read reads
 
   module _ {Msg : Type 0} (s : Setup) (m : Module Msg) (me : ℕ) (held found : List (List ℕ)) (c : Rebuilt Msg) (leads : core_of s m me held ≡ Some c) (at : ℕ)
-      (file : File) (past : List File) (reads : Shows held file.content) where
+      (file : File) (past : List File) (reads : Shows version_1 held file.content) where
     damaged-not : IsDamaged s m me found (file ∷ past) at → ⊥
     damaged-not (inl broken) = never-both reads.all at (one file.content (holds reads.all) (damaged at) reads.read broken)
     damaged-not (inr (gates, read, stops)) =
-        let shown : Shows found file.content = record { all = read.all; read = read.read; stay = read.stay } in
+        let shown : Shows version_1 found file.content = record { all = read.all; read = read.read; stay = read.stay } in
         let same : found ≡ held = shown_once found held file.content shown reads in
         stops-not s m me held (subst (λ (es : List (List ℕ)). retained es ≡ es) same (ap retained read.stay ∙ retained-twice read.all ∙ sym read.stay))
         gates c at leads (subst (λ (es : List (List ℕ)). StopsAt s m me at es gates) same stops)
@@ -61,25 +61,25 @@ module _ (one : (bytes : List ℕ) (r q : Reading) → Reads bytes r → Reads b
 
 -- ---- what is synced
 
-gate-read : (entries : List (List ℕ)) (gate : ℕ) → gate ≢ 1 → AreShort entries → Reads (frames entries ++ gate ∷ []) (holds entries)
+gate-read : (entries : List (List ℕ)) (gate : ℕ) → gate ≢ 1 → AreShort entries → Reads version_1 (frames entries ++ gate ∷ []) (holds entries)
 gate-read [] gate closed short = inl (omega arith, refl)
 gate-read (entry ∷ entries) gate closed short =
     inr (omega (arith, length-append (frames (entry ∷ entries)) (gate ∷ [])), record { gate = gate; rest = []; is = refl; closed = closed; short = short })
 
-rest-synced : (kept : Retained) (history : List File) → IfTold history (RestsOver kept) → IfTold history (λ file. Shows (shown_in kept) file.kept)
+rest-synced : (kept : Retained) (history : List File) → IfTold history (RestsOver kept) → IfTold history (λ file. Shows version_1 (shown_in kept) file.kept)
 rest-synced kept [] h = tt
 rest-synced kept (file ∷ past) h =
     let rests = h.rests in
     record {
       all = h.all;
-      read = subst (λ (f : File). Reads f.kept (holds h.all)) (sym rests.is) (gate-read h.all rests.gate rests.closed rests.short);
+      read = subst (λ (f : File). Reads version_1 f.kept (holds h.all)) (sym rests.is) (gate-read h.all rests.gate rests.closed rests.short);
       stay = h.retains.shown;
     }
 
 -- If the node is not stale, the synced part of the file is its entries.
 pub kept-synced : {M Msg D : Type 0} (m : Module Msg) (refines : Relation M Msg) (history : D → List File) (room : D → Room) (directory : DirectoryView) (journal : Journal D)
     (s : Setup) (me : NodeId) (node : NodeView M Msg) → IsKept m refines history room directory journal (state_over s me node journal false) →
-    IfTold (history (disk_of journal)) (λ file. Shows (entries_of journal) file.kept)
+    IfTold (history (disk_of journal)) (λ file. Shows version_1 (entries_of journal) file.kept)
 kept-synced m refines history room directory journal s me node kept =
     rest-synced journal.kept (history (disk_of journal)) (kept.sound.rests (kept.attached refl))
 
@@ -103,18 +103,18 @@ stored-told file =
 
 -- What every crash image holds is synced.
 pub leaves-synced : (entries : List (List ℕ)) (history : List File) → IfTold history (λ file. Image file file.kept) →
-    IfTold history (OnlyLeaves (Shows entries)) → IfTold history (λ file. Shows entries file.kept)
+    IfTold history (OnlyLeaves (Shows version_1 entries)) → IfTold history (λ file. Shows version_1 entries file.kept)
 leaves-synced entries [] image leaves = tt
 leaves-synced entries (file ∷ past) image leaves = leaves file.kept image
 
 -- After reopening, the synced part of the file is the entries.
 pub attached-synced : (entries : List (List ℕ)) (before now : Sight) → IsAttached before now entries → IfTold now.history (λ file. Image file file.kept) →
-    IfTold now.history (λ file. Shows entries file.kept)
+    IfTold now.history (λ file. Shows version_1 entries file.kept)
 attached-synced entries before now attached image = leaves-synced entries now.history image attached.durable
 
 module _ (entries : List (List ℕ)) where
   abbrev AreSynced : List File → List (List ℕ) → Type 0
-  AreSynced history es = IfTold history (λ file. Shows es file.kept)
+  AreSynced history es = IfTold history (λ file. Shows version_1 es file.kept)
 
   alike : (before now : List File) (later : List (List ℕ)) → now ≡ before → later ≡ entries → AreSynced before entries → AreSynced now later
   alike before now later same added h =
@@ -122,8 +122,8 @@ module _ (entries : List (List ℕ)) where
 
   -- Whatever the answer to an event, the synced part of the file is the entries after that event.
   pub written-synced : (entry : List ℕ) (before now : Sight) (later : List (List ℕ)) (answer : Answer) → IsWritten entries entry before now later answer →
-      IfTold now.history (λ file. Image file file.kept) → IfTold before.history (λ file. Shows entries file.kept) →
-      IfTold now.history (λ file. Shows later file.kept)
+      IfTold now.history (λ file. Image file file.kept) → IfTold before.history (λ file. Shows version_1 entries file.kept) →
+      IfTold now.history (λ file. Shows version_1 later file.kept)
   written-synced entry before now later (Kept_taken outcome) w image h =
       subst (λ (es : List (List ℕ)). AreSynced now.history es) (sym w.added) (leaves-synced (retained (entries ++ entry ∷ [])) now.history image w.file.1)
   written-synced entry before now later (Kept_dropped why) w image h = alike before.history now.history later w.file w.added h
@@ -137,12 +137,12 @@ module _ (entries : List (List ℕ)) where
   restarts-kept file h = ap (λ (f : File). f.content) h
 
   -- After a restart the file's content is what was synced, and it is still synced.
-  pub restarts-read : (old new : List File) → Restarts old new → IfTold old (λ file. Shows entries file.kept) →
-      IfTold new (λ file. Shows entries file.content) × IfTold new (λ file. Shows entries file.kept)
+  pub restarts-read : (old new : List File) → Restarts old new → IfTold old (λ file. Shows version_1 entries file.kept) →
+      IfTold new (λ file. Shows version_1 entries file.content) × IfTold new (λ file. Shows version_1 entries file.kept)
   restarts-read [] new h synced = rw h (tt, tt)
   restarts-read (file ∷ past) new (inl h) synced = rw h (synced, synced)
   restarts-read (file ∷ past) new (inr h) synced =
-      rw h.0 (subst (λ (bytes : List ℕ). Shows entries bytes) (sym (restarts-kept file h.1)) synced, synced)
+      rw h.0 (subst (λ (bytes : List ℕ). Shows version_1 entries bytes) (sym (restarts-kept file h.1)) synced, synced)
 
   -- The current file of a disk after a restart. `here` is the law of `Disk` with that name.
   module _ {D : Type 0} (history : D → List File) (files : D → List ℕ → List File) (current : D → Place)
@@ -153,8 +153,8 @@ module _ (entries : List (List ℕ)) where
         (subst (λ (h : List File). Restarts (files old (current old).name) h) (sym (here new ∙ ap (λ (place : Place). files new place.name) same)) (restarts (current old).name))
 
     pub restarted-read : ((name : List ℕ) → Restarts (files old name) (files new name)) → current new ≡ current old →
-        IfTold (history old) (λ file. Shows entries file.kept) →
-        IfTold (history new) (λ file. Shows entries file.content) × IfTold (history new) (λ file. Shows entries file.kept)
+        IfTold (history old) (λ file. Shows version_1 entries file.kept) →
+        IfTold (history new) (λ file. Shows version_1 entries file.content) × IfTold (history new) (λ file. Shows version_1 entries file.kept)
     restarted-read restarts same synced = restarts-read (history old) (history new) (restarted-here restarts same) synced
 
 -- A disk whose files do not change keeps its history.
@@ -168,9 +168,9 @@ stays-here history files current here old new h =
 
 -- A new file holds no entries, neither in its content nor in its synced part.
 pub new-read : (history : List File) → history ≡ settled [] ∷ [] →
-    IfTold history (λ file. Shows [] file.content) × IfTold history (λ file. Shows [] file.kept)
+    IfTold history (λ file. Shows version_1 [] file.content) × IfTold history (λ file. Shows version_1 [] file.kept)
 new-read history is =
-    let none : Shows [] [] = record { all = []; read = inl (omega arith, refl); stay = refl } in rw is (none, none)
+    let none : Shows version_1 [] [] = record { all = []; read = inl (omega arith, refl); stay = refl } in rw is (none, none)
 
 -- ---- which calls succeed
 

@@ -2,6 +2,7 @@
 use Rattle.std.proofs.Common.{inl, inr, ◌≡◌, ◌⊎◌, ℕ, ◌<◌, Bool, true, false, List, [], ◌∷◌, ◌++◌, length, refl, sym, ap, ◌∙◌, subst, true≢false}
 use Rattle.iss_disk.specs.Calls.{IfTold, Room}
 use Rattle.iss_disk.specs.File.{File}
+use Rattle.iss_journal.specs.Frames.{version_1}
 use Rattle.iss_journal.specs.Promises.{OnlyLeaves, Shows}
 use Rattle.iss_journal.specs.Retained.{retained}
 use Rattle.iss_journal.specs.Sound.{IsSound, disk_of, entries_of, is_attached}
@@ -89,7 +90,7 @@ module _ {M Msg D : Type 0} (m : Module Msg) (refines : Relation M Msg) (history
   -- The invariant of a node that stands for what was stored.
   pub fresh-kept : (journal : Journal D) (v : KeptState M Msg D) (st : Stored Msg) → IsSetupOf m v.setup → v.me.0 < v.setup.n → directory ≡ keys_of v.setup →
       IsSound history room journal → is_attached journal ≡ true →
-      IfTold (history v.disk) (OnlyLeaves (Shows v.entries)) → RefinesStored m refines v st → IsStoredSince v.setup m v.me.0 st →
+      IfTold (history v.disk) (OnlyLeaves (Shows version_1 v.entries)) → RefinesStored m refines v st → IsStoredSince v.setup m v.me.0 st →
       IsKept m refines history room directory journal v
   fresh-kept journal v st good member keys sound attached durable stands since = record {
     good = good;
@@ -249,7 +250,7 @@ module _ {M Msg D : Type 0} (m : Module Msg) (refines : Relation M Msg) (history
       answers NoMemory stepped c at = tt
 
       fresh-after : IsSound history room journal → is_attached journal ≡ true →
-          IfTold (history (disk_of journal)) (OnlyLeaves (Shows (entries_of journal))) →
+          IfTold (history (disk_of journal)) (OnlyLeaves (Shows version_1 (entries_of journal))) →
           ((st : Stored Msg) → RefinesStored m refines old st → RefinesStored m refines (state_over old.setup old.me node journal false) (stored_after old.setup m old.me.0 st event)) →
           IsKept m refines history room directory journal (state_over old.setup old.me node journal false)
       fresh-after sound attached durable on =
@@ -261,10 +262,10 @@ module _ {M Msg D : Type 0} (m : Module Msg) (refines : Relation M Msg) (history
       stale-after sound =
           stale-kept journal (state_over old.setup old.me node journal true) kept.good kept.member kept.keys (setup ∙ kept.cluster) (me ∙ kept.number) sound refl
 
-      durable-with : (es : List (List ℕ)) → entries_of journal ≡ es → IfTold (history (disk_of journal)) (OnlyLeaves (Shows es)) →
-          IfTold (history (disk_of journal)) (OnlyLeaves (Shows (entries_of journal)))
+      durable-with : (es : List (List ℕ)) → entries_of journal ≡ es → IfTold (history (disk_of journal)) (OnlyLeaves (Shows version_1 es)) →
+          IfTold (history (disk_of journal)) (OnlyLeaves (Shows version_1 (entries_of journal)))
       durable-with es added told =
-          subst (λ (xs : List (List ℕ)). IfTold (history (disk_of journal)) (OnlyLeaves (Shows xs))) (sym added) told
+          subst (λ (xs : List (List ℕ)). IfTold (history (disk_of journal)) (OnlyLeaves (Shows version_1 xs))) (sym added) told
 
       pub kept-after : (answer : Answer) → HasStepped m refines event old.node node entry answer → entries_of journal ≡ entries_after old.entries entry answer →
           Writes old.entries entry (history old.disk) (history (disk_of journal)) answer → IsSound history room journal →
@@ -273,8 +274,8 @@ module _ {M Msg D : Type 0} (m : Module Msg) (refines : Relation M Msg) (history
           fresh-after sound (attached refl) (durable-with (retained (old.entries ++ entry ∷ [])) added wrote.1)
           (λ st for. took-stored st for journal entry outcome stepped added)
       kept-after (Kept_dropped why) stepped added wrote sound attached =
-          let told : IfTold (history (disk_of journal)) (OnlyLeaves (Shows old.entries)) =
-          subst (λ (f : List File). IfTold f (OnlyLeaves (Shows old.entries))) (sym wrote) (kept.durable fresh) in
+          let told : IfTold (history (disk_of journal)) (OnlyLeaves (Shows version_1 old.entries)) =
+          subst (λ (f : List File). IfTold f (OnlyLeaves (Shows version_1 old.entries))) (sym wrote) (kept.durable fresh) in
           fresh-after sound (attached refl) (durable-with old.entries added told) (λ st for. dropped-stored st for journal entry why stepped added)
       kept-after Failed stepped added wrote sound attached = stale-after sound
       kept-after Stale stepped added wrote sound attached = stale-after sound
@@ -323,7 +324,7 @@ module _ {M Msg D : Type 0} (m : Module Msg) (refines : Relation M Msg) (history
         record { fresh = refl; node = h.1.0; cluster = own.cluster; number = own.number; entries = shows-read (entries_of journal) stay; saved = h.1.1 }
 
     pub reopened-kept : IsSetupOf m s → i.0 < s.n → directory ≡ keys_of s → IsSound history room journal → is_attached journal ≡ true →
-        IfTold (history (disk_of journal)) (OnlyLeaves (Shows (entries_of journal))) →
+        IfTold (history (disk_of journal)) (OnlyLeaves (Shows version_1 (entries_of journal))) →
         IsKept m refines history room directory journal (state_over s i node journal false)
     reopened-kept good member keys sound attached durable =
         fresh-kept journal (state_over s i node journal false) (stored_as (entries_of journal) h.0) good member keys sound attached durable reopened-stored

@@ -1,6 +1,7 @@
 -- What a replica stored leads back to it, and so does what a crash leaves while an event is journaled.
 use Rattle.std.proofs.Common.{◌≡◌, ◌⊎◌, inl, inr, ℕ, ◌<◌, ◌^◌, List, ◌∷◌, sym, subst, ◌∙◌, arith, refl}
 use Rattle.iss_base.specs.Lists.{In}
+use Rattle.iss_journal.specs.Frames.{version_1}
 use Rattle.iss_journal.proofs.Showing.{shown_once}
 use Rattle.iss_journal.specs.Promises.{Shows, ShowsWithOrWithout}
 use Rattle.iss_request.specs.declared.setups.Setup.{Setup}
@@ -35,7 +36,7 @@ module _ {Msg : Type 0} (s : Setup) (m : Module Msg) (recover : JournalsRecover 
     before : Recovers s m me (shown_of st) st
     before = stored-recovers events (λ e i. named e (inr i)) (let r = stored-rises s m me event events in omega (arith, r, last))
 
-    pub before-or-after : next.entries ≡ entry ∷ st.entries → ShowsWithOrWithout (shown_of st) entry bytes → Shows found bytes →
+    pub before-or-after : next.entries ≡ entry ∷ st.entries → ShowsWithOrWithout version_1 (shown_of st) entry bytes → Shows version_1 found bytes →
         Recovers s m me found st ⊎ Recovers s m me found next
     before-or-after more (inl h) reads =
         inl (subst (λ (es : List (List ℕ)). Recovers s m me es st) (shown_once (shown_of st) found bytes h reads) before)

@@ -354,10 +354,6 @@ fresh-shown m refines v h =
 pub went : {E : Type 0} (r : Result Bool E) (b : Bool) (P : Bool → Type 0) → r ≡ Ok b → IfOk r P → P b
 went {E = E} r b P is h = subst (λ (z : Result Bool E). IfOk z P) is h
 
--- An error, as a result.
-abbrev pub fail : {A : Type 0} → AttachError → Result A AttachError
-fail e = Err e
-
 -- The offset in the error is the offset of the gate.
-pub same-gate : {A : Type 0} (gate there : ℕ) → ◌≡◌ {A = Result A AttachError} (Err (Damaged gate)) (Err (Damaged there)) → there ≡ gate
-same-gate gate there h = cc
+pub same-gate : {A : Type 0} (e : AttachError) (gate there : ℕ) → e ≡ Damaged gate → ◌≡◌ {A = Result A AttachError} (Err e) (Err (Damaged there)) → there ≡ gate
+same-gate e gate there is h = cc

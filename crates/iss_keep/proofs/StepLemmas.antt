@@ -1,6 +1,7 @@
 -- What a step leaves of a node, and what appending its entry leaves after that.
-use Rattle.std.proofs.Common.{◌≡◌, ℕ, ◌≤◌, List, Result, Ok, length, take, refl, sym, ap, ◌∙◌, subst}
+use Rattle.std.proofs.Common.{◌≡◌, ℕ, ◌≤◌, List, Option, Result, Ok, Err, IsErrOf, length, take, refl, sym, ap, ◌∙◌, subst}
 use Rattle.iss_disk.specs.declared.errors.EndError.{EndError}
+use Rattle.iss_disk.specs.declared.errors.EndError.TheVariants.{Failed as Disk_failed, NoMemory as Disk_no_memory}
 use Rattle.iss_journal.specs.Frames.{max_entry}
 use Rattle.iss_log.specs.LogState.{GoesOn}
 use Rattle.iss_model.specs.Frames.{frame_of, step_in}
@@ -116,20 +117,38 @@ module _ {M Msg : Type 0} (m : Module Msg) (refines : Relation M Msg) (event : N
     taken-then : Takes m refines event old
     taken-then c st = let a = answer c st in (a.turn, a.step_is)
 
-    pub stepped : (a : Answer) → HasEnded outcome slots epoch taken new a → HasStepped m refines event old new (entry_kept outcome.entered own) a
-    stepped (Kept_taken given) h = (
-      subst (λ (o : Outcome). Answers m refines event old new (Node_taken o)) (sym h.0) (subst (λ (v : NodeView M Msg). Answers m refines event old v (Node_taken outcome)) (sym h.1) answer),
-      right-entry,
-      subst (λ (v : NodeView M Msg). HasNoted m refines event old v) (sym h.1) right-note,
-    )
-    stepped (Kept_dropped why) h = absurd h
-    stepped Failed h = (gone-back h, taken-then, right-entry)
-    stepped Stale h = h
-    stepped NoMemory h = gone-back h
+    -- What is handed out has this snapshot. It is the one that the node made, unless memory ran out.
+    module _ (after : Option (List ℕ)) where
+      abbrev out : Outcome
+      out = record outcome { entered = after }
 
-    pub same-node : (a : Answer) → HasEnded outcome slots epoch taken new a → (new.state.setup ≡ old.state.setup) × (new.state.me ≡ old.state.me)
-    same-node (Kept_taken given) h = (ap (λ (v : NodeView M Msg). v.state.setup) h.1 ∙ setup, ap (λ (v : NodeView M Msg). v.state.me) h.1 ∙ me)
-    same-node (Kept_dropped why) h = absurd h
-    same-node Failed h = (h.setup ∙ setup, h.me ∙ me)
-    same-node Stale h = absurd h
-    same-node NoMemory h = (h.setup ∙ setup, h.me ∙ me)
+      out-answer : Answers m refines event old taken (Node_taken out)
+      out-answer c st =
+          let a = answer c st in
+          record {
+            turn = a.turn;
+            step_is = a.step_is;
+            refined = a.refined;
+            made = record { sends = a.made.sends; own = a.made.own; early = a.made.early; hashed = a.made.hashed };
+            addressed = a.addressed;
+          }
+
+      entry-with : after ≡ outcome.entered → IsKeptAs m refines event old (entry_kept after own)
+      entry-with same = subst (λ (x : Option (List ℕ)). IsKeptAs m refines event old (entry_kept x own)) (sym same) right-entry
+
+      pub stepped : (r : Result (Unit {0}) EndError) → ((IsErrOf r Disk_no_memory → ⊥) → after ≡ outcome.entered) →
+          HasEnded out slots epoch taken new (released (Node_taken out) r) → HasStepped m refines event old new (entry_kept after own) (released (Node_taken out) r)
+      stepped (Ok x) same h = (
+        subst (λ (v : NodeView M Msg). Answers m refines event old v (Node_taken out)) (sym h.1) out-answer,
+        entry-with (same (λ e. absurd (cc))),
+        subst (λ (v : NodeView M Msg). HasNoted m refines event old v) (sym h.1) right-note,
+      )
+      stepped (Err Disk_failed) same h = (gone-back h, taken-then, entry-with (same (λ e. absurd (cc))))
+      stepped (Err Disk_no_memory) same h = gone-back h
+
+    pub same-node : (given : Outcome) (a : Answer) → HasEnded given slots epoch taken new a → (new.state.setup ≡ old.state.setup) × (new.state.me ≡ old.state.me)
+    same-node given (Kept_taken taken_out) h = (ap (λ (v : NodeView M Msg). v.state.setup) h.1 ∙ setup, ap (λ (v : NodeView M Msg). v.state.me) h.1 ∙ me)
+    same-node given (Kept_dropped why) h = absurd h
+    same-node given Failed h = (h.setup ∙ setup, h.me ∙ me)
+    same-node given Stale h = absurd h
+    same-node given NoMemory h = (h.setup ∙ setup, h.me ∙ me)

@@ -2,7 +2,7 @@
 use Rattle.std.proofs.Common.{◌≡◌, inl, inr, OnOk, ℕ, List, [], ◌∷◌, Result, Ok, Err, subst}
 use Rattle.iss_disk.specs.Calls.{HasCause, IfTold}
 use Rattle.iss_disk.specs.File.{File, settled}
-use Rattle.iss_journal.specs.Frames.{Reads, damaged}
+use Rattle.iss_journal.specs.Frames.{damaged, Reads, version_1}
 use Rattle.iss_journal.specs.Promises.{ComesToRest, Shows}
 use Rattle.iss_journal.specs.Sound.{IsRead}
 use Rattle.iss_disk.specs.declared.errors.EndError.{EndError}
@@ -30,19 +30,19 @@ no-error x e h = cc
 -- ---- what a refusal leaves of the file
 
 pub left-damaged : (entries : List (List ℕ)) (before now : List File) (at : ℕ) →
-    IfTold before (λ file. Reads file.content (damaged at)) →
+    IfTold before (λ file. Reads version_1 file.content (damaged at)) →
     IfTold before (λ from. IfTold now (λ file. file ≡ settled from.content)) → IsLeft entries before now at
 left-damaged entries [] now at damage stays = tt
 left-damaged entries (file ∷ past) now at damage stays = inl (damage, stays)
 
 -- ---- a journal that was read
 
-pub read-shows : (entries : List (List ℕ)) (gates : List ℕ) (before : List File) → IsRead entries gates before →
-    IfTold before (λ file. Shows entries file.content)
+pub read-shows : (entries : List (List ℕ)) (gates : List ℕ) (before : List File) → IsRead version_1 entries gates before →
+    IfTold before (λ file. Shows version_1 entries file.content)
 read-shows entries gates [] h = tt
 read-shows entries gates (file ∷ past) h = record { all = h.all; read = h.read; stay = h.stay }
 
-pub left-read : (entries : List (List ℕ)) (gates : List ℕ) (before now : List File) (at : ℕ) → IsRead entries gates before →
+pub left-read : (entries : List (List ℕ)) (gates : List ℕ) (before now : List File) (at : ℕ) → IsRead version_1 entries gates before →
     IfTold before (λ from. IfTold now (ComesToRest from.content)) → IsLeft entries before now at
 left-read entries gates [] now at h rest = tt
 left-read entries gates (file ∷ past) now at h rest = inr (record { all = h.all; read = h.read; stay = h.stay }, rest)

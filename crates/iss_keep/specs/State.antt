@@ -1,10 +1,11 @@
 -- What is seen of a kept node: a node, the disk and entries of its journal, and whether it is stale. It stands for what
 -- was stored if it is not stale, its node refines the core that stored it, next leaf included, and the journal shows of
 -- it what stays. In any case it is stale, or every crash leaves these entries: those that it read, and behind them what
--- the events since then stored.
+-- later events stored.
 use Rattle.std.specs.Prelude.{◌≡◌, ◌⊎◌, ℕ, ◌<◌, Bool, true, false, List, reverse, Some}
 use Rattle.iss_disk.specs.Calls.{IfTold, Room}
 use Rattle.iss_disk.specs.File.{File}
+use Rattle.iss_journal.specs.Frames.{version_1}
 use Rattle.iss_journal.specs.Promises.{OnlyLeaves, Shows}
 use Rattle.iss_journal.specs.Sound.{IsSound, disk_of, entries_of, is_attached}
 use Rattle.iss_journal.specs.declared.journal.Journal.{Journal}
@@ -78,7 +79,7 @@ pub record RefinesStored {M Msg D : Type 0} (m : Module Msg) (refines : Relation
 abbrev pub stored_as : {Msg : Type 0} → List (List ℕ) → Rebuilt Msg → Stored Msg
 stored_as entries found = record { entries = reverse entries; saved = found.saved; core = found.core }
 
--- Entries that were read and lead to a core, and behind them what events, newest first, stored since then.
+-- Entries that were read and lead to a core, and behind them what later events, newest first, stored.
 pub record IsStoredSince {Msg : Type 0} (s : Setup) (m : Module Msg) (me : ℕ) (st : Stored Msg) : Type 0 where
   pub read : List (List ℕ)
   pub found : Rebuilt Msg
@@ -87,7 +88,7 @@ pub record IsStoredSince {Msg : Type 0} (s : Setup) (m : Module Msg) (me : ℕ) 
   pub is : st ≡ stored_on (frame_of s m) spell_event me (stored_as read found) events
 
 -- The invariant of a kept node. Its set-up is good, it is a member, and its journal is sound. Unless it is stale, every
--- crash image holds its entries, and it stands for what these were and what was stored since then.
+-- crash image holds its entries, and it stands for what these were and what was stored behind them.
 pub record IsKept {M Msg D : Type 0} (m : Module Msg) (refines : Relation M Msg)
     (history : D → List File) (room : D → Room) (directory : DirectoryView) (journal : Journal D)
     (v : KeptState M Msg D) : Type 0 where
@@ -98,6 +99,6 @@ pub record IsKept {M Msg D : Type 0} (m : Module Msg) (refines : Relation M Msg)
   pub number : v.node.state.me ≡ v.me
   pub sound : IsSound history room journal
   pub attached : v.stale ≡ false → is_attached journal ≡ true
-  pub durable : v.stale ≡ false → IfTold (history v.disk) (OnlyLeaves (Shows v.entries))
+  pub durable : v.stale ≡ false → IfTold (history v.disk) (OnlyLeaves (Shows version_1 v.entries))
   pub kept : (v.stale ≡ true)
       ⊎ ((st : Stored Msg) × RefinesStored m refines v st × IsStoredSince v.setup m v.me.0 st)

@@ -6,7 +6,7 @@
 use Rattle.std.specs.Prelude.{◌≡◌, ◌⊎◌, ℕ, Bool, true, false, List, [], ◌∷◌, ◌++◌}
 use Rattle.iss_disk.specs.Calls.{HasCause, IfTold, Passes, Place, Runs, StaysHere}
 use Rattle.iss_disk.specs.File.{File, settled}
-use Rattle.iss_journal.specs.Frames.{Reads, damaged}
+use Rattle.iss_journal.specs.Frames.{damaged, Reads, version_1}
 use Rattle.iss_journal.specs.Promises.{ComesToRest, LeavesWithOrWithout, LosesNothing, OnlyLeaves, Shows, Works}
 use Rattle.iss_journal.specs.Retained.{retained}
 use Rattle.iss_journal.specs.Sound.{IsRead}
@@ -98,10 +98,10 @@ entries_after entries entry NoMemory = entries
 -- rule: Persistence: An event is kept before its outcome is handed out
 abbrev pub Writes : List (List ℕ) → List ℕ → List File → List File → Answer → Type 0
 Writes entries entry before now (Kept_taken outcome) =
-    LeavesWithOrWithout entries entry before now
-    × IfTold now (OnlyLeaves (Shows (retained (entries ++ entry ∷ []))))
+    LeavesWithOrWithout version_1 entries entry before now
+    × IfTold now (OnlyLeaves (Shows version_1 (retained (entries ++ entry ∷ []))))
 Writes entries entry before now Failed =
-    LeavesWithOrWithout entries entry before now × IfTold now (λ file. Shows entries file.kept)
+    LeavesWithOrWithout version_1 entries entry before now × IfTold now (λ file. Shows version_1 entries file.kept)
 Writes entries entry before now (Kept_dropped why) = now ≡ before
 Writes entries entry before now Stale = now ≡ before
 Writes entries entry before now NoMemory = now ≡ before
@@ -147,13 +147,13 @@ pub record IsJournaled {M Msg D : Type 0} (m : Module Msg) (refines : Relation M
 -- The journal was attached. It has the entries that the file held, the file's content is settled, and every crash image
 -- holds the entries from then on.
 pub record IsAttached (before now : Sight) (entries : List (List ℕ)) : Type 0 where
-  pub read : IfTold before.history (λ file. Shows entries file.content)
+  pub read : IfTold before.history (λ file. Shows version_1 entries file.content)
   pub rest : IfTold before.history (λ from. IfTold now.history (ComesToRest from.content))
-  pub durable : IfTold now.history (OnlyLeaves (Shows entries))
+  pub durable : IfTold now.history (OnlyLeaves (Shows version_1 entries))
 
 -- Holds for every result: a crash at any moment of the call lost no entry, and the call failed only if the disk did.
 pub record LosesNone (before now : Sight) (failed : Type 0) : Type 0 where
-  pub any_moment : LosesNothing before.history now.history
+  pub any_moment : LosesNothing version_1 before.history now.history
   pub cause : HasCause before.faults now.faults failed
   pub works : Works before.passes now.passes failed
   pub others : StaysHere before.current now.current before.files now.files
@@ -161,8 +161,8 @@ pub record LosesNone (before now : Sight) (failed : Type 0) : Type 0 where
 -- Either the file is damaged at this offset, or all entries are read and the node refuses the one after this gate.
 abbrev pub IsDamaged : {Msg : Type 0} → Setup → Module Msg → ℕ → List (List ℕ) → List File → ℕ → Type 0
 IsDamaged s m me entries before at =
-    IfTold before (λ file. Reads file.content (damaged at))
-    ⊎ ((gates : List ℕ) × IsRead entries gates before × StopsAt s m me at entries gates)
+    IfTold before (λ file. Reads version_1 file.content (damaged at))
+    ⊎ ((gates : List ℕ) × IsRead version_1 entries gates before × StopsAt s m me at entries gates)
 
 -- What a refusal at this offset leaves of the file. A damaged file stays byte for byte. A file that was read, and one
 -- of whose entries the node refuses, comes to rest: only what follows its last gate goes. So the next call finds the
@@ -170,8 +170,8 @@ IsDamaged s m me entries before at =
 -- rule: Journal: A damaged file stays byte for byte
 abbrev pub IsLeft : List (List ℕ) → List File → List File → ℕ → Type 0
 IsLeft entries before now at = IfTold before (λ from.
-    (Reads from.content (damaged at) × IfTold now (λ file. file ≡ settled from.content))
-    ⊎ (Shows entries from.content × IfTold now (ComesToRest from.content)))
+    (Reads version_1 from.content (damaged at) × IfTold now (λ file. file ≡ settled from.content))
+    ⊎ (Shows version_1 entries from.content × IfTold now (ComesToRest from.content)))
 
 -- ---- what does not change
 

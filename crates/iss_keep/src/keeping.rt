@@ -1,6 +1,6 @@
 // One event of a node with an attached journal: reserve room for the entry, step the node, append the entry or the
 // snapshot that takes its place.
-ghost use Rattle.std.specs.Prelude.{◌≡◌, ◌≤◌, ◌∷◌, [], false, true, length, IfOk, OnOk};
+ghost use Rattle.std.specs.Prelude.{◌≡◌, ◌≤◌, ◌∷◌, [], false, true, length, IfOk, IsErrOf, OnOk};
 ghost use Rattle.iss_journal.specs.Frames.{max_entry};
 ghost use Rattle.iss_journal.specs.Sound.{IsSound, disk_of, entries_of, is_attached};
 ghost use Rattle.iss_keep.specs.Entries.{spell_event};
@@ -21,8 +21,8 @@ use iss_rules::NodeEvent;
 use iss_sb::Sequenced;
 use std::alloc::Global;
 
-// The entry of an event: its kind byte, and its content. That of a packet is its bytes, which are shared, not copied, if
-// they support that.
+// The entry of an event: its kind byte, and its content. That of a packet is its bytes, which are shared, not copied,
+// if they support that.
 #[derive(Drop)]
 struct Entry {
     kind: u8,
@@ -59,31 +59,48 @@ fn entry_len(entry: &Entry) -> u64
     entry.content.as_slice().len() as u64 + 1
 }
 
+// The bytes of a snapshot, which its outcome and the journal share from now on: they are not copied. Without memory the
+// outcome loses them.
+#[inline(always)]
+fn share(entered: &mut Option<Bytes>) -> Result<Option<Bytes>, NoMemory>
+    ensures same { OnOk result (entered.new ≡ entered.old) }
+    ensures shared { IfOk result (λ snapshot. snapshot ≡ entered.old) }
+{
+    let Some(bytes) = entered.take() else {
+        return Ok(None);
+    };
+    let bytes = bytes.into_shared()?;
+    *entered = Some(bytes.copy()?);
+    Ok(Some(bytes))
+}
+
 // Appends the entry of an accepted event, or in its place the snapshot of the node that entered an epoch. The room of a
 // snapshot is made first: without it nothing is appended.
+// rule: Persistence: The snapshot of a node that entered an epoch takes the place of the event that ended the last one
 #[inline(always)]
 fn append_entry<D: Disk>(
     journal: &mut Journal<D>,
     entry: Entry,
-    entered: &Option<Bytes>,
+    entered: &mut Option<Bytes>,
 ) -> Result<(), EndError>
     requires sound { IsSound D.history D.room journal.old }
     requires attached { is_attached journal.old ≡ true }
-    requires short { length (entry_kept entered.now (entry.kind ∷ entry.content)) ≤ max_entry }
+    requires short { length (entry_kept entered.old (entry.kind ∷ entry.content)) ≤ max_entry }
     ensures written { (outcome : Outcome) →
-        IsWritten (entries_of journal.old) (entry_kept entered.now (entry.kind ∷ entry.content))
+        IsWritten (entries_of journal.old) (entry_kept entered.new (entry.kind ∷ entry.content))
         (sight D.history D.passes D.faults D.current D.files (disk_of journal.old))
         (sight D.history D.passes D.faults D.current D.files (disk_of journal.new)) (entries_of journal.new)
         (released (Node_taken outcome) result) }
+    ensures same { (IsErrOf result EndError.NoMemory → ⊥) → entered.new ≡ entered.old }
     ensures sound { IsSound D.history D.room journal.new }
     ensures attached { OnOk result (is_attached journal.new ≡ true) }
 {
-    let Some(snapshot) = entered else {
-        return journal.append(&[entry.kind], entry.content);
+    let Ok(snapshot) = share(entered) else {
+        return Err(EndError::NoMemory);
     };
-    match snapshot.copy() {
-        Ok(bytes) => journal.append(&[], bytes),
-        Err(_) => Err(EndError::NoMemory),
+    match snapshot {
+        Some(bytes) => journal.append(&[], bytes),
+        None => journal.append(&[entry.kind], entry.content),
     }
 }
 
@@ -95,19 +112,20 @@ fn append_or_retreat<M: Sequenced, D: Disk>(
     node: &mut Node<M>,
     journal: &mut Journal<D>,
     entry: Entry,
-    entered: &Option<Bytes>,
+    entered: &mut Option<Bytes>,
     savepoint: (usize, Epoch),
 ) -> Result<(), EndError>
     requires sound { IsSound D.history D.room journal.old }
     requires attached { is_attached journal.old ≡ true }
-    requires short { length (entry_kept entered.now (entry.kind ∷ entry.content)) ≤ max_entry }
+    requires short { length (entry_kept entered.old (entry.kind ∷ entry.content)) ≤ max_entry }
     requires slots { savepoint.0 ≤ length node.old.state.log.entries }
     requires epoch { savepoint.1.0 ≤ node.old.state.epoch }
     ensures written { (outcome : Outcome) →
-        IsWritten (entries_of journal.old) (entry_kept entered.now (entry.kind ∷ entry.content))
+        IsWritten (entries_of journal.old) (entry_kept entered.new (entry.kind ∷ entry.content))
         (sight D.history D.passes D.faults D.current D.files (disk_of journal.old))
         (sight D.history D.passes D.faults D.current D.files (disk_of journal.new)) (entries_of journal.new)
         (released (Node_taken outcome) result) }
+    ensures same { (IsErrOf result EndError.NoMemory → ⊥) → entered.new ≡ entered.old }
     ensures ended { (outcome : Outcome) →
         HasEnded outcome savepoint.0 savepoint.1.0 node.old node.new (released (Node_taken outcome) result) }
     ensures sound { IsSound D.history D.room journal.new }
@@ -158,7 +176,7 @@ fn apply_then_append<M: Sequenced, D: Disk>(
     *made = node.take(alloc, event);
     match made {
         NodeAnswer::Taken(outcome) => {
-            append_or_retreat(node, journal, entry, &outcome.entered, (slots, epoch))
+            append_or_retreat(node, journal, entry, &mut outcome.entered, (slots, epoch))
         }
         _ => Ok(()),
     }

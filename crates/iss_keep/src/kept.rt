@@ -133,10 +133,10 @@ impl<M: Sequenced, D: Disk> Kept<M, D> {
         release(made, kept)
     }
 
-    /// Recovers the node from its journal: rebuilds it from the snapshots, and replays the events behind them. `Damaged`
-    /// if the file is damaged, or if an entry is a snapshot that does not continue those before it, or no event, or one
-    /// that the node would drop at that point. A damaged file stays byte for byte, so that no later call takes it for a
-    /// new one. `Failed` only if the disk failed.
+    /// Recovers the node from its journal: rebuilds it from the snapshots, and replays the events behind them.
+    /// `Damaged` if the file is damaged, or if an entry is a snapshot that does not continue those before it, or no
+    /// event, or one that the node would drop at that point. A damaged file stays byte for byte, so that no later call
+    /// takes it for a new one. `Failed` only if the disk failed.
     pub fn reopen(&mut self) -> Result<(), AttachError>
         ensures stale { self.new.stale ≡ not (is_ok result) }
         ensures core { OnOk result ((found : Rebuilt M.Msg)

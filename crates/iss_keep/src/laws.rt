@@ -2,6 +2,7 @@
 //! `ensures`.
 ghost use Rattle.std.specs.Prelude.{◌≡◌, ◌⊎◌, ◌∷◌, ◌++◌, ◌<◌, ◌^◌, ℕ, List, reverse};
 ghost use Rattle.iss_base.specs.Lists.{Extends};
+ghost use Rattle.iss_journal.specs.Frames.{version_1};
 ghost use Rattle.iss_journal.specs.Promises.{Shows, ShowsWithOrWithout};
 ghost use Rattle.iss_keep.specs.Cores.{shown_of, step_of, stored_of};
 ghost use Rattle.iss_keep.specs.Internal.Makings.{AreApart, makings_from, makings_of};
@@ -37,7 +38,8 @@ pub fn a_crash_leaves_one_of_two<M: Sequenced>()
         AreNamed s.n (event ∷ events) → (stored_of s M.spec me (event ∷ events)).core.past.epoch < 2 ^ 64 →
         (entry bytes : List ℕ) (found : List (List ℕ)) →
         (stored_of s M.spec me (event ∷ events)).entries ≡ entry ∷ (stored_of s M.spec me events).entries →
-        ShowsWithOrWithout (shown_of (stored_of s M.spec me events)) entry bytes → Shows found bytes →
+        ShowsWithOrWithout version_1 (shown_of (stored_of s M.spec me events)) entry bytes →
+        Shows version_1 found bytes →
         Recovers s M.spec me found (stored_of s M.spec me events)
         ⊎ Recovers s M.spec me found (stored_of s M.spec me (event ∷ events)) }
 {
@@ -59,7 +61,7 @@ pub fn leaves_are_of_one_entry<M: Sequenced>()
 /// `signs`: each used leaf has one statement. Every signature of the node by that leaf is over that statement, or was
 /// received from elsewhere. `core`: the life that events give ends in the core that stored them. `taken`: an accepted
 /// event is the next deed. `again`: later events do not change earlier deeds.
-// rule: Persistence: No leaf signs two statements, over all restarts
+// rule: Signatures: A node signs at most one statement with each leaf
 pub fn leaves_are_of_one_statement<M: Sequenced>()
     ensures signs { (s : Setup) → IsSetupOf M.spec s → (me : ℕ) (events : List NodeEvent) →
         SignsOnceEach (frame_of s M.spec) me (life_of (frame_of s M.spec) me events) }

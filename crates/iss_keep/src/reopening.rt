@@ -92,8 +92,8 @@ fn read_at<M: Sequenced>(
     rebuilding.read(&entry)
 }
 
-// Rebuilds the node from the first `front` entries, which are snapshots. `Damaged` has the gate offset of the first that
-// does not continue those before it.
+// Rebuilds the node from the first `front` entries, which are snapshots. `Damaged` has the gate offset of the first
+// that does not continue those before it.
 fn rebuild<M: Sequenced, D: Disk>(
     alloc: Global,
     setup: &Setup,
@@ -211,7 +211,7 @@ fn replay_behind<M: Sequenced, D: Disk>(
 // rule: Persistence: A reopened node is that of its entries, with its next leaf
 // rule: Persistence: An entry that is no event of its node is damage, at the offset of its gate
 // rule: Persistence: No leaf is used by two entries, over all restarts
-// rule: Persistence: No leaf signs two statements, over all restarts
+// rule: Signatures: A node signs at most one statement with each leaf
 fn recover<M: Sequenced, D: Disk>(
     alloc: Global,
     setup: &Setup,

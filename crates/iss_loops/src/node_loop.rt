@@ -356,8 +356,8 @@ fn take_turn<N: JournaledNode, L: Links>(
 }
 
 /// The loop of one node, from the events that it has accepted since it was opened. If the links record their frames,
-/// the events that the node accepts are those of the definition, and so is what the links hold at the end. Each packet is
-/// sent after its event was journaled.
+/// the events that the node accepts are those of the definition, and so is what the links hold at the end. Each packet
+/// is sent after its event was journaled.
 ///
 /// # Errors
 ///

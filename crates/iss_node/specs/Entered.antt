@@ -61,7 +61,7 @@ abbrev pub saved_with : Bool → Saved → Snapshot → Saved
 saved_with handed saved s = cond handed (saved_after saved s) saved
 
 -- What an event hands out and notes if it entered an epoch. `v` is the state before the event.
--- rule: Persistence: A snapshot takes the place of the event that ended an epoch, unless it is too long for an entry
+-- rule: Persistence: A snapshot takes the place of the event that ended an epoch, unless it is too long
 abbrev pub IsKeptEntry : {M Msg : Type 0} → Module Msg → StateView M Msg → Option (Core Msg) → SavedState →
     Option (List ℕ) → Type 0
 IsKeptEntry m v None new bytes = (bytes ≡ None) × (new ≡ v.saved)

@@ -4,6 +4,7 @@ pub mod Cells
 pub mod Epochs
 pub mod Growth
 pub mod Inputs
+pub mod Marks
 pub mod Parcels
 pub mod Ready
 pub mod Rebuilding

@@ -76,7 +76,7 @@ impl<M: Sequenced> Node<M> {
         requires own { AreKeysOf me.0 setup.now.keys keys }
         ensures refines { IfOk result (λ v. RefinesCore M.spec M.refines v (record initial_core { leaf = keys.used })) }
         ensures same { IfOk result (λ v. (v.state.setup ≡ setup.now) × (v.state.me ≡ me)) }
-        ensures saved { IfOk result (λ v. v.state.saved ≡ record { from = 0; held = [] }) }
+        ensures saved { IfOk result (λ v. v.state.saved ≡ record { from = 0; low = 0; strays = [] }) }
     {
         epochs_are_fair();
         let standing = Standing::new();
@@ -300,7 +300,7 @@ impl<M: Sequenced> Node<M> {
 
 impl<M: Sequenced> NodeState<M> {
     // Takes an event, and notes the snapshot that takes its place, unless that is too long.
-    // rule: Persistence: A snapshot takes the place of the event that ended an epoch, unless it is too long for an entry
+    // rule: Persistence: A snapshot takes the place of the event that ended an epoch, unless it is too long
     fn kept_turn(&mut self, alloc: Global, event: NodeEvent) -> Result<StepResult, NoMemory>
         requires { RefinesSome M.spec M.refines self.old }
         ensures answer { IfOk result (λ a. IsKeptStepOf M.spec M.refines (IsOfNodes self.old.setup.n event) self.old

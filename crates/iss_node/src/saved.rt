@@ -1,6 +1,7 @@
 //! What the snapshots of a node hold.
-ghost use Rattle.std.specs.Prelude.{◌≡◌, [], OnOk};
-ghost use Rattle.iss_node.specs.Saved.{HasSaved, holds};
+ghost use Rattle.std.specs.Prelude.{◌≡◌, ◌+◌, ◌-◌, ◌^◌, ◌<◌, ℕ, [], true, OnOk};
+ghost use Rattle.iss_node.specs.Internal.Marks.{HasPut, HoldsTheSame};
+ghost use Rattle.iss_node.specs.Saved.{HasSaved, holds, stray};
 
 use iss_checkpoint::Cert;
 use iss_request::{Epoch, NoMemory};
@@ -12,7 +13,10 @@ use std::marker::Model;
 #[derive(Drop)]
 pub struct Saved {
     from: Epoch,
-    held: BTreeSet<u64>,
+    // The certificate of each epoch before this one is held.
+    low: u64,
+    // The further epochs whose certificates are held: those behind one that has none yet.
+    strays: BTreeSet<u64>,
 }
 
 impl Model for Saved {
@@ -20,17 +24,18 @@ impl Model for Saved {
 
     ghost Value = { SavedState };
 
-    ghost view = { λ s. record { from = s.from.0; held = s.held.keys } };
+    ghost view = { λ s. record { from = s.from.0; low = s.low; strays = s.strays.keys } };
 }
 
 impl Saved {
     /// There is no snapshot.
     pub(crate) fn nothing(alloc: Global) -> Saved
-        ensures { result ≡ record { from = 0; held = [] } }
+        ensures { result ≡ record { from = 0; low = 0; strays = [] } }
     {
         Saved {
             from: Epoch(0),
-            held: BTreeSet::new(alloc),
+            low: 0,
+            strays: BTreeSet::new(alloc),
         }
     }
 
@@ -45,7 +50,14 @@ impl Saved {
     pub(crate) fn holds(&self, epoch: Epoch) -> bool
         ensures { result ≡ holds self.now epoch.0 }
     {
-        self.held.contains(&epoch.0)
+        epoch.0 < self.low || self.strays.contains(&epoch.0)
+    }
+
+    /// The certificate of each epoch before this one is held.
+    pub(crate) fn low(&self) -> u64
+        ensures { result ≡ self.now.low }
+    {
+        self.low
     }
 
     /// Notes a further snapshot: where it ends, and its certificates.
@@ -54,8 +66,37 @@ impl Saved {
     {
         self.from = to;
         for cert in certs {
-            self.held.insert(cert.epoch.0)?;
+            self.put(cert.epoch)?;
         }
+        self.advance();
         Ok(())
+    }
+
+    // Notes that the certificate of an epoch is held.
+    fn put(&mut self, epoch: Epoch) -> Result<(), NoMemory>
+        ensures { OnOk result (HasPut self.old epoch.0 self.new) }
+    {
+        self.strays.insert(epoch.0)?;
+        Ok(())
+    }
+
+    // Moves the mark to the first epoch whose certificate is not held.
+    fn advance(&mut self)
+        ensures { HoldsTheSame self.old self.new }
+    {
+        while self.low < u64::MAX && self.strays.contains(&self.low) {
+            self.step();
+        }
+    }
+
+    // Moves the mark past an epoch whose certificate is held.
+    fn step(&mut self)
+        requires held { stray self.old self.old.low ≡ true }
+        requires more { self.old.low < 2 ^ 64 - 1 }
+        ensures same { HoldsTheSame self.old self.new }
+        ensures up { self.new.low ≡ self.old.low + 1 }
+    {
+        self.strays.remove(&self.low);
+        self.low += 1;
     }
 }

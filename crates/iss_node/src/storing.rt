@@ -95,8 +95,9 @@ impl<M: Sequenced> NodeState<M> {
             cs ≡ new_certs (holds self.now.saved) certs (below (suc (suc self.now.epoch)))) }
     {
         let end = sum(self.epoch.0, 2)?;
+        let low = self.saved.low().min(end);
         let mut certs = Seq::new(alloc);
-        for epoch in 0..end {
+        for epoch in low..end {
             self.put_new_cert(alloc, Epoch(epoch), &mut certs)?;
         }
         Ok(certs)

@@ -18,21 +18,7 @@ use Rattle.iss_rules.proofs.Epochs.{cut-extends, epoch-low, start-mono}
 use Rattle.iss_rules.proofs.Faithful.{IsReadValue}
 use Rattle.iss_rules.proofs.Logs.{IsLog, Later, Settled, before-later, log-chain, takes-later}
 use Rattle.iss_rules.proofs.Pieces.{adopts-later}
-
--- the values of pieces can be encoded
-abbrev pub AreReadPieces : Setup → List Piece → Type 0
-AreReadPieces s ps = (p : Piece) → In p ps → (v : Value) → In v p.values → IsReadValue s v
-
-adopted-read : (s : Setup) (ps : List Piece) → AreReadPieces s ps → (e k : ℕ) (v : Value) → adopted_at ps e k ≡ Some v → IsReadValue s v
-adopted-read s [] are e k v h = absurd (none-some v h)
-adopted-read s (p ∷ ps) are e k v h = elim (first-cases (adopted_at ps e k) (cond (eqb p.epoch e) (nth p.values k) None) v h) [
-  | inl a ↦ adopted-read s ps (λ q i. are q (inr i)) e k v a
-  | inr a ↦ go (eqb p.epoch e) a.1
-]
-  where
-    go : (b : Bool) → cond b (nth p.values k) None ≡ Some v → IsReadValue s v
-    go true q = are p (inl refl) v (nth-in p.values k v q)
-    go false q = absurd (none-some v q)
+use Rattle.iss_theorems.proofs.Refinement.LoggedValuesAreEncodable.{AreReadPieces, adopted-read}
 
 module _ {Msg : Type 0} (s : Setup) (R : Rules) (M : Module Msg) (sound : IsSoundRules s M R) (me : ℕ) where
   -- each history that a past has

@@ -21,8 +21,8 @@ pub fn journals_recover<M: Sequenced>()
     M::laws();
 }
 
-/// What is kept of an event that let a replica enter an epoch is a snapshot, unless that is too long for an entry: it has
-/// an encoding.
+/// What is kept of an event that let a replica enter an epoch is a snapshot, unless that is too long for an entry: it
+/// has an encoding.
 pub fn snapshots_fit<M: Sequenced>()
     ensures { (s : Setup) → IsSetupOf M.spec s → SnapshotsFit s M.spec }
 {

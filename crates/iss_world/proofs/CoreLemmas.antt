@@ -1,5 +1,7 @@
--- Which node a core runs, and cores at the start.
-use Rattle.std.proofs.Common.{inl, inr, ◌≡◌, ◌⊎◌, ℕ, zero, suc, ◌+◌, ◌-◌, ◌<◌, ◌≤◌, false, List, [], ◌∷◌, ◌++◌, length, length-append, slice_get, Some, refl, sym, ap, ◌∙◌, subst, arith, slice_index_or}
+-- Lists of cores, which node a core runs, and cores at the start.
+use Rattle.std.proofs.Common.{inl, inr, ◌≡◌, ◌≢◌, ◌⊎◌, ℕ, zero, suc, ◌+◌, ◌-◌, ◌<◌, ◌≤◌, true, false, List, [], ◌∷◌, ◌++◌, length, length-append, set, slice_get, Some, refl, sym, ap, ◌∙◌, subst, arith, slice_index_or}
+use Rattle.std.specs.Prelude.{eqb}
+use Rattle.std.proofs.lemmas.Bool.Decides.{eqb_tells}
 use Rattle.std.proofs.lemmas.List.{length-replicate}
 use Rattle.iss_disk.specs.declared.memory.MemoryDisk.{MemoryDisk}
 use Rattle.iss_keep.specs.State.{KeptState}
@@ -16,6 +18,41 @@ use Rattle.iss_world.specs.Books.{AreHashed, AreSigned}
 use Rattle.iss_world.specs.Internal.Shape.{IsSimulation}
 use Rattle.iss_world.specs.State.{AreBetweenCores}
 use Rattle.iss_world.specs.Refines.{AreFresh, IsFresh, RefinesMachines}
+
+-- ---- lists of cores
+
+pub get-set_same : {A : Type 0} (xs : List A) (i : ℕ) (a : A) → i < length xs → slice_get (set xs i a) i ≡ Some a
+get-set_same [] i a lt = absurd (omega (arith, lt))
+get-set_same (x ∷ xs) zero a lt = refl
+get-set_same (x ∷ xs) (suc i) a lt = get-set_same xs i a (omega (arith, lt))
+
+get-set_other : {A : Type 0} (xs : List A) (i j : ℕ) (a : A) → j ≢ i → slice_get (set xs i a) j ≡ slice_get xs j
+get-set_other [] i j a ne = refl
+get-set_other (x ∷ xs) zero zero a ne = absurd (ne refl)
+get-set_other (x ∷ xs) zero (suc j) a ne = refl
+get-set_other (x ∷ xs) (suc i) zero a ne = refl
+get-set_other (x ∷ xs) (suc i) (suc j) a ne = get-set_other xs i j a (λ e. ne (ap suc e))
+
+pub length-set_at : {A : Type 0} (xs : List A) (i : ℕ) (a : A) → length (set xs i a) ≡ length xs
+length-set_at [] i a = refl
+length-set_at (x ∷ xs) zero a = refl
+length-set_at (x ∷ xs) (suc i) a = ap suc (length-set_at xs i a)
+
+-- The element at index j after a write at index i.
+pub written : {A : Type 0} (xs : List A) (i j : ℕ) (a g : A) → i < length xs → slice_get (set xs i a) j ≡ Some g →
+    ((eqb j i ≡ true) × (j ≡ i) × (g ≡ a)) ⊎ ((eqb j i ≡ false) × (slice_get xs j ≡ Some g))
+written {A} xs i j a g lt h =
+    elim (eqb_tells j i) [
+      | inl t ↦ inl (
+        t.0,
+        t.1,
+        let k : slice_get (set xs i a) i ≡ Some g = subst (λ (k : ℕ). slice_get (set xs i a) k ≡ Some g) t.1 h in
+            let s : slice_get (set xs i a) i ≡ Some a = get-set_same xs i a lt in cc,
+      )
+      | inr t ↦ inr (t.0, sym (get-set_other xs i j a t.1) ∙ h)
+    ]
+
+-- ---- which node a core runs
 
 ascending-at : (from n : ℕ) (xs : List NodeId) (j : ℕ) (d : NodeId) → AreAscendingBelow from n xs → j < length xs → (slice_index_or xs j d).0 < n
 ascending-at from n [] j d h lt = absurd (omega (arith, lt))

@@ -3,6 +3,7 @@ pub mod CoreLemmas
 pub mod CourseLemmas
 pub mod HeadlineLemmas
 pub mod KeyLemmas
+pub mod MachineLemmas
 pub mod OverLemmas
 pub mod PostLemmas
 pub mod StepLemmas

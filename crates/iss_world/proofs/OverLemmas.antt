@@ -10,7 +10,7 @@ use Rattle.iss_disk.specs.MemoryLaws.{memory_here}
 use Rattle.iss_disk.specs.MemoryViews.{calls_of, current_of, faults_of, files_of}
 use Rattle.iss_disk.specs.StoredViews.{history_of}
 use Rattle.iss_disk.specs.declared.memory.MemoryDisk.{MemoryDisk}
-use Rattle.iss_journal.specs.Frames.{Reading, Reads}
+use Rattle.iss_journal.specs.Frames.{Reading, Reads, version_1}
 use Rattle.iss_journal.specs.Promises.{Shows}
 use Rattle.iss_keep.proofs.DiskLemmas.{attached-same, attached-synced, never-damaged, new-read, reopens-well, restarted-read, runs-all, runs-failed, runs-passed, stays-here, stored-kept, stored-told, written-synced}
 use Rattle.iss_keep.proofs.LifeLemmas.{stored-core}
@@ -172,7 +172,7 @@ module _ {M Msg : Type 0} (m : Module Msg) (refines : Relation M Msg) where
       abbrev StoresOn : Type 0
       StoresOn = (z : Stored Msg) → RefinesStored m refines old z → new.stale ≡ false → RefinesStored m refines new (stored_after old.setup m old.me.0 z event)
 
-      synced-now : (answer : Answer) → Written answer → IfTold (history_of new.disk.file) (λ file. Shows new.entries file.kept)
+      synced-now : (answer : Answer) → Written answer → IfTold (history_of new.disk.file) (λ file. Shows version_1 new.entries file.kept)
       synced-now answer w = written-synced old.entries w.entry (seen old.disk) (seen new.disk) new.entries answer w.written (stored-kept new.disk.file) over.synced
 
       kept-turn : (outcome : Outcome) → IsOfNodes old.setup.n event → IsSetupOf m old.setup → IsTurn m refines (IsOfNodes old.setup.n event) stepped new outcome →
@@ -286,8 +286,8 @@ module _ {M Msg : Type 0} (m : Module Msg) (refines : Relation M Msg) where
           named = named-still d.kept over.named;
           made = made-still d.kept c over.made;
           saved = λ z. saved-of-still d.kept (saved_of new.node.state.saved) (ap (λ (v : NodeView M Msg). saved_of v.state.saved) node ∙ over.saved z);
-          synced = subst (λ (es : List (List ℕ)). IfTold (history_of new.disk.file) (λ file. Shows es file.kept)) (sym entries)
-              (subst (λ (h : List File). IfTold h (λ file. Shows old.entries file.kept)) (sym history) over.synced);
+          synced = subst (λ (es : List (List ℕ)). IfTold (history_of new.disk.file) (λ file. Shows version_1 es file.kept)) (sym entries)
+              (subst (λ (h : List File). IfTold h (λ file. Shows version_1 old.entries file.kept)) (sym history) over.synced);
           calls = passes;
         }
       where
@@ -311,11 +311,11 @@ module _ {M Msg : Type 0} (m : Module Msg) (refines : Relation M Msg) where
       named = named-still d.kept over.named;
       made = made-still d.kept c over.made;
       epoch = ap (λ (v : NodeView M Msg). v.state.epoch) node ∙ (over-shows old c d over).epoch;
-      read = subst (λ (es : List (List ℕ)). IfTold (history_of new.disk.file) (λ file. Shows es file.content)) (sym entries)
+      read = subst (λ (es : List (List ℕ)). IfTold (history_of new.disk.file) (λ file. Shows version_1 es file.content)) (sym entries)
           (restarted-read old.entries (λ (x : MemoryDisk). history_of x.file) files_of current_of memory_here old.disk new.disk restarts current over.synced).0;
     }
 
-    module _ (one : (bytes : List ℕ) (r q : Reading) → Reads bytes r → Reads bytes q → r ≡ q) (events : List NodeEvent) (c : Core Msg) (leads : LeadsBy m old events c)
+    module _ (one : (bytes : List ℕ) (r q : Reading) → Reads version_1 bytes r → Reads version_1 bytes q → r ≡ q) (events : List NodeEvent) (c : Core Msg) (leads : LeadsBy m old events c)
         (recovers : (events : List NodeEvent) → AreNamed old.setup.n events → (stored_of old.setup m old.me.0 events).core.past.epoch < 2 ^ 64 →
         Recovers old.setup m old.me.0 (shown_of (stored_of old.setup m old.me.0 events)) (stored_of old.setup m old.me.0 events))
         (low : old.node.state.epoch < 2 ^ 64) where
@@ -338,7 +338,7 @@ module _ {M Msg : Type 0} (m : Module Msg) (refines : Relation M Msg) where
           LosesNone (seen old.disk) (seen new.disk) failed → RefinesMachine m refines new c (record { kept = events; passes = None; failed = false })
       reopened-over failed found works leads-to for slims attached loses =
           let told = stored-told old.disk.file in
-          let reads = read-told (λ file. Shows old.entries file.content) (history_of old.disk.file) told.0 told.1 told.2 leads.read in
+          let reads = read-told (λ file. Shows version_1 old.entries file.content) (history_of old.disk.file) told.0 told.1 told.2 leads.read in
           let same-entries : new.entries ≡ old.entries = attached-same one (seen old.disk) (seen new.disk) old.entries new.entries told.0 told.1 told.2 reads attached in
           let there : core_of_entries old.setup m old.me.0 old.entries ≡ Some found =
           subst (λ (es : List (List ℕ)). core_of_entries old.setup m old.me.0 es ≡ Some found) same-entries
@@ -367,7 +367,7 @@ module _ {M Msg : Type 0} (m : Module Msg) (refines : Relation M Msg) where
       pub not-damaged : (at : ℕ) → IsDamaged old.setup m old.me.0 new.entries (history_of old.disk.file) at → ⊥
       not-damaged at h =
           let told = stored-told old.disk.file in
-          let reads = read-told (λ file. Shows old.entries file.content) (history_of old.disk.file) told.0 told.1 told.2 leads.read in
+          let reads = read-told (λ file. Shows version_1 old.entries file.content) (history_of old.disk.file) told.0 told.1 told.2 leads.read in
           never-damaged one old.setup m old.me.0 old.entries new.entries back.found back-to at told.0 told.1 reads (history_of old.disk.file) told.2 h
 
   -- Over a new disk there are no entries, and the core has taken no event.
@@ -377,5 +377,5 @@ module _ {M Msg : Type 0} (m : Module Msg) (refines : Relation M Msg) where
     named = λ e i. absurd i;
     made = refl;
     epoch = epoch;
-    read = subst (λ (es : List (List ℕ)). IfTold (history_of g.disk.file) (λ file. Shows es file.content)) (sym entries) (new-read (history_of g.disk.file) history).0;
+    read = subst (λ (es : List (List ℕ)). IfTold (history_of g.disk.file) (λ file. Shows version_1 es file.content)) (sym entries) (new-read (history_of g.disk.file) history).0;
   }

@@ -1,7 +1,7 @@
 -- When a simulation and a world refine a run with disk failures and restarts, and what an event made of it. A kept
 -- node refines a core over its disk: it is at the core, or its disk has failed and it shows the core's log and epoch.
--- Its journal shows what stays of the events that the disk keeps. The networks are the same, and the books hold what the
--- run's hold.
+-- Its journal shows what stays of the events that the disk keeps. The networks are the same, and the books hold what
+-- the run's hold.
 use Rattle.std.specs.Prelude.{◌≡◌, ◌≢◌, ◌⊎◌, ◌↔◌, ℕ, ◌||◌, Bool, true, false, List, [], ◌∷◌, length, Option, Some, None, option_map, reverse, slice_get}
 use Rattle.iss_rules.specs.Ends.{End, Forged, Collision}
 use Rattle.iss_rules.specs.declared.events.NodeEvent.{NodeEvent}
@@ -9,6 +9,7 @@ use Rattle.iss_disk.specs.Calls.{IfTold, Passes, script, up_to}
 use Rattle.iss_disk.specs.MemoryViews.{calls_of}
 use Rattle.iss_disk.specs.StoredViews.{history_of}
 use Rattle.iss_disk.specs.declared.memory.MemoryDisk.{MemoryDisk}
+use Rattle.iss_journal.specs.Frames.{version_1}
 use Rattle.iss_journal.specs.Promises.{Shows}
 use Rattle.iss_keep.specs.Cores.{shown_of, stored_of}
 use Rattle.iss_keep.specs.Recovery.{AreNamed}
@@ -71,7 +72,7 @@ pub record RefinesMachine {M Msg : Type 0} (m : Module Msg) (refines : Relation 
   pub named : AreNamed g.setup.n d.kept
   pub made : core_of_kept (formats_of g.setup m) (rules_of g.setup) m g.me.0 d.kept ≡ c
   pub saved : d.failed ≡ false → saved_of g.node.state.saved ≡ (stored_of g.setup m g.me.0 d.kept).saved
-  pub synced : IfTold (history_of g.disk.file) (λ file. Shows g.entries file.kept)
+  pub synced : IfTold (history_of g.disk.file) (λ file. Shows version_1 g.entries file.kept)
   pub calls : calls_of g.disk ≡ calls_to_come d.passes
 
 -- Its journal shows what stays of these events, they lead to this core, whose epoch the node shows, and the file's
@@ -82,7 +83,7 @@ pub record LeadsBy {M Msg : Type 0} (m : Module Msg) (g : KeptState M Msg Memory
   pub named : AreNamed g.setup.n events
   pub made : core_of_kept (formats_of g.setup m) (rules_of g.setup) m g.me.0 events ≡ c
   pub epoch : g.node.state.epoch ≡ c.past.epoch
-  pub read : IfTold (history_of g.disk.file) (λ file. Shows g.entries file.content)
+  pub read : IfTold (history_of g.disk.file) (λ file. Shows version_1 g.entries file.content)
 
 -- ---- all cores
 

@@ -3,6 +3,8 @@
 
 pub mod configs;
 #[cfg(test)]
+mod parts;
+#[cfg(test)]
 mod snapshots;
 #[cfg(test)]
 mod tests;

@@ -1,12 +1,13 @@
 //! Journals with snapshots, over disks in memory: the bytes of one, and what makes one damaged.
-ghost use Rattle.std.specs.Prelude.{◌<◌};
+ghost use Rattle.std.specs.Prelude.{◌<◌, ◌≤◌};
+ghost use Rattle.iss_base.specs.Heights.{IsHeight};
 
 use crate::relay_config;
 use iss_cluster::start_node;
 use iss_disk::{Disk, MemoryDisk};
 use iss_journal::{AttachError, Journal};
 use iss_keep::{Answer, Kept};
-use iss_keys::Directory;
+use iss_keys::{Directory, Keys};
 use iss_packet::{Packet, PacketKind};
 use iss_request::{Bytes, Epoch, NodeId, ReqId, Request, Writer, write_request};
 use iss_rules::NodeEvent;
@@ -17,7 +18,7 @@ use std::process::Abort;
 use std::test::Fail;
 
 const THREE_NODES: &[u8] =
-    b"module = \"relay\"\nf = 0\nepoch = 3\nbuckets = 3\nbatch = 4\nwindow = 8\npolicy = \"simple\"\n\
+    b"module = \"relay\"\nf = 0\nepoch = 3\nbuckets = 3\nbatch = 4\nwindow = 2\npolicy = \"simple\"\n\
       clients = 1\nkeys = 2\nrequests = 0\nturns = 1\n";
 
 // Node 0 as it enters epoch 1 behind three empty batches: its kind, the epochs from 0 to 1, the batches, the next leaf,
@@ -110,14 +111,20 @@ fn a_snapshot_takes_the_place_of_the_event_that_ended_an_epoch(
     Ok(())
 }
 
-// Request 1 of client 0, which node 0 does not propose in the first epochs.
-fn request(alloc: Global) -> Result<Bytes, Fail> {
-    let directory = Directory::make(alloc, 3, 1, 2)?;
-    let mut keys = directory.keys_of_client(alloc, 0);
-    let id = ReqId {
-        client: 0,
-        number: 1,
-    };
+// The keys of client 0 of so many.
+fn client_keys(alloc: Global, clients: u32, height: u8) -> Result<Keys, Fail>
+    requires some { 0 < clients }
+    requires clients { clients ≤ 256 }
+    requires height { IsHeight height }
+{
+    let directory = Directory::make(alloc, 3, clients, height)?;
+    Ok(directory.keys_of_client(alloc, 0))
+}
+
+// The packet of a request of client 0. That of number 1 is not node 0's in the first epochs.
+pub(crate) fn request(alloc: Global, number: u32) -> Result<Bytes, Fail> {
+    let mut keys = client_keys(alloc, 1, 2)?;
+    let id = ReqId { client: 0, number };
     let request = Request {
         id,
         payload: Bytes::new(alloc),
@@ -135,27 +142,92 @@ fn request(alloc: Global) -> Result<Bytes, Fail> {
     Ok(packet.encode(alloc, 1)?)
 }
 
-// A journal of two snapshots. The first has a waiting request, a vote and an early packet, the second a certificate.
-fn two_snapshots(alloc: Global) -> Result<Vec<Vec<u8>>, Fail> {
+// The node behind a restart, if it is to restart.
+fn behind_restart(
+    alloc: Global,
+    kept: Kept<Relay, MemoryDisk>,
+    restarts: bool,
+) -> Result<Kept<Relay, MemoryDisk>, Fail> {
+    if !restarts {
+        return Ok(kept);
+    }
+    let mut again = node_over(alloc, 0, kept.into_disk())?;
+    again.reopen()?;
+    Ok(again)
+}
+
+// Node 0 in epoch 1. Its snapshot has a waiting request, a vote and an early packet. Returns its own vote too.
+fn one_epoch(alloc: Global) -> Result<(Kept<Relay, MemoryDisk>, Bytes), Fail> {
     let mut kept = new_node(alloc, 0)?;
     let mut other = new_node(alloc, 1)?;
     let vote = end_epoch(alloc, &mut other, 0)?;
-    take(alloc, &mut kept, request(alloc)?.as_slice())?;
+    take(alloc, &mut kept, request(alloc, 1)?.as_slice())?;
     take(alloc, &mut kept, vote.as_slice())?;
     take(alloc, &mut kept, &empty_batch(4))?;
     let own = end_epoch(alloc, &mut kept, 0)?;
+    Ok((kept, own))
+}
+
+// Node 0 in epoch 2, perhaps with a restart behind each snapshot. The second one has a certificate.
+fn two_epochs(alloc: Global, restarts: bool) -> Result<Kept<Relay, MemoryDisk>, Fail> {
+    let (first, own) = one_epoch(alloc)?;
+    let mut kept = behind_restart(alloc, first, restarts)?;
     take(alloc, &mut kept, own.as_slice())?;
     take(alloc, &mut kept, &empty_batch(3))?;
     take(alloc, &mut kept, &empty_batch(5))?;
+    behind_restart(alloc, kept, restarts)
+}
+
+// The two snapshots of node 0 in epoch 2.
+pub(crate) fn two_snapshots(alloc: Global) -> Result<Vec<Vec<u8>>, Fail> {
+    let kept = two_epochs(alloc, false)?;
     entries_of(alloc, kept)
 }
 
+// What node 0 in epoch 2 sends to node 1, which asks for epoch 0: the values of that epoch, and its certificate.
+fn piece(alloc: Global, restarts: bool) -> Result<Bytes, Fail> {
+    let mut kept = two_epochs(alloc, restarts)?;
+    match take(
+        alloc,
+        &mut kept,
+        &[1, 3, 1, 0, 0, 0, 0, 0, 0, 0, 0, 0, 0, 0, 0, 0],
+    )? {
+        Some(sent) => Ok(sent),
+        None => Err("no piece")?,
+    }
+}
+
+// The second snapshot is the same only if all that the first one has is there again.
+#[test]
+fn each_part_of_a_snapshot_outlives_a_restart(rt: HostRuntime) -> Result<(), Fail> {
+    let alloc = rt.alloc();
+    let kept = two_epochs(alloc, true)?;
+    let entries = entries_of(alloc, kept)?;
+    let others = two_snapshots(alloc)?;
+    assert_eq!(rt; entries.len(), 2);
+    assert_eq!(rt; others.len(), 2);
+    assert_eq!(rt; entries[0].as_slice(), others[0].as_slice());
+    assert_eq!(rt; entries[1].as_slice(), others[1].as_slice());
+    Ok(())
+}
+
+#[test]
+fn a_certificate_outlives_a_restart(rt: HostRuntime) -> Result<(), Fail> {
+    let alloc = rt.alloc();
+    let sent = piece(alloc, true)?;
+    let other = piece(alloc, false)?;
+    assert_eq!(rt; sent.as_slice(), other.as_slice());
+    assert_eq!(rt; sent.len(), 16 + 1 + 6 + 4469);
+    Ok(())
+}
+
 // The file of these entries.
-fn file_of(alloc: Global, entries: &[&[u8]]) -> Result<Vec<u8>, Fail> {
+pub(crate) fn file_of(alloc: Global, entries: &[&[u8]]) -> Result<Vec<u8>, Fail> {
     let mut file = Vec::new(alloc);
     for entry in entries {
         file.push(1)?;
-        file.extend_from_slice(&(entry.len() as u32).to_be_bytes())?;
+        let len = u32::try_from(entry.len()).unwrap_or(u32::MAX);
+        file.extend_from_slice(&len.to_be_bytes())?;
         file.extend_from_slice(entry)?;
     }
     file.push(0)?;
@@ -172,7 +244,7 @@ fn disk_with(alloc: Global, bytes: &[u8]) -> Result<MemoryDisk, Fail> {
 }
 
 // Checks the answer of node 0 that reads this file, and that the file stays as it is.
-fn check_opens(
+pub(crate) fn check_opens(
     rt: &impl Abort,
     alloc: Global,
     file: &[u8],
@@ -217,7 +289,7 @@ fn a_snapshot_is_damaged_at_each_byte(rt: HostRuntime) -> Result<(), Fail> {
 }
 
 // The gate of the second snapshot. Behind it are the parts of both at which a byte is changed.
-const SECOND: usize = 4559;
+pub(crate) const SECOND: usize = 4559;
 
 // In the first snapshot: where it begins and ends, the next leaf, the request's client and signature, the vote's epoch,
 // node, chain and signature, and the early packet's epoch and leader.

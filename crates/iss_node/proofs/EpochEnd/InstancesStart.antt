@@ -212,7 +212,7 @@ module _ {M Msg : Type 0} (m : Module Msg) (refines : M → Params → ℕ → L
     early = [];
     logged = [];
     ballots = ballots;
-    saved = record { from = 0; held = [] };
+    saved = record { from = 0; low = 0; strays = [] };
     keys = keys;
   }
 

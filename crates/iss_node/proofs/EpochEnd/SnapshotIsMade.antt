@@ -1,7 +1,8 @@
 -- The snapshot of a node is that of each core that its state refines.
-use Rattle.std.proofs.Common.{arith, inl, inr, ◌≡◌, ℕ, zero, suc, ◌+◌, ◌-◌, ◌*◌, ◌<◌, ◌≤◌, Bool, List, [], ◌∷◌, ◌++◌, Option, Some, drop, get_or, length, reverse, take, refl, sym, ap, ◌∙◌, subst, add-one}
+use Rattle.std.proofs.Common.{arith, inl, inr, ◌≡◌, ℕ, zero, suc, ◌+◌, ◌-◌, ◌*◌, ◌<◌, ◌≤◌, ◌||◌, Bool, true, cond, List, [], ◌∷◌, ◌++◌, Option, None, Some, drop, get_or, length, reverse, take, refl, sym, ap, ◌∙◌, subst, add-one}
 use Rattle.std.proofs.Math.Nat.{mul-le-mul_left, mul_comm}
 use Rattle.std.proofs.Math.Seq.{take-suc}
+use Rattle.std.proofs.lemmas.Bool.{le-leb}
 use Rattle.std.proofs.lemmas.Bool.Decides.{leb_tells}
 use Rattle.std.proofs.lemmas.List.{append-nil}
 use Rattle.iss_base.specs.Lists.{below}
@@ -13,7 +14,7 @@ use Rattle.iss_model.specs.Node.{values_of}
 use Rattle.iss_node.proofs.StateTransfer.HandOutRefines.{some-held, values-are}
 use Rattle.iss_node.specs.Internal.Storing.{and_new_cert, epochs_to}
 use Rattle.iss_node.specs.Internal.Transfers.{held_values}
-use Rattle.iss_node.specs.Saved.{holds}
+use Rattle.iss_node.specs.Saved.{SavedState, holds, stray}
 use Rattle.iss_node.specs.Entered.{saved_by}
 use Rattle.iss_node.specs.State.{RefinesPast, StateView, core_of, holding, seen_early, seen_one}
 use Rattle.iss_node.specs.declared.answers.Early.{Early}
@@ -76,6 +77,21 @@ certs-append held certs (e ∷ es) fs =
     assoc : (xs ys zs : List Cert) → (xs ++ ys) ++ zs ≡ xs ++ (ys ++ zs)
     assoc [] ys zs = refl
     assoc (x ∷ xs) ys zs = ap (λ (us : List Cert). x ∷ us) (assoc xs ys zs)
+
+-- What an earlier snapshot has is passed over.
+none-new : (held : ℕ → Bool) (e : ℕ) (o : Option Cert) → held e ≡ true → new_cert held e o ≡ []
+none-new held e None h = refl
+none-new held e (Some c) h = ap (λ (b : Bool). cond b [] (c ∷ [])) h
+
+none-below : (held : ℕ → Bool) (certs : List Cert) (n : ℕ) → ((e : ℕ) → e < n → held e ≡ true) → new_certs held certs (below n) ≡ []
+none-below held certs zero h = refl
+none-below held certs (suc n) h =
+    certs-append held certs (below n) (n ∷ [])
+    ∙ (ap (λ (xs : List Cert). xs ++ new_certs held certs (n ∷ [])) (none-below held certs n (λ e lt. h e (omega (arith, lt))))
+    ∙ ap (λ (xs : List Cert). xs ++ []) (none-new held n (cert_on certs n) (h n (omega arith))))
+
+pub certs-from : (saved : SavedState) (certs : List Cert) (n : ℕ) → n ≤ saved.low → [] ≡ new_certs (holds saved) certs (below n)
+certs-from saved certs n le = sym (none-below (holds saved) certs n (λ e lt. ap (λ (b : Bool). b || stray saved e) (le-leb (suc e) saved.low (omega (arith, lt, le)))))
 
 pub certs-next : {M Msg : Type 0} (v : StateView M Msg) (votes : List Vote) (certs : List Cert) → AreKept v.ballots votes certs → (e : ℕ) (found : List Cert) → found ≡ new_certs (holds v.saved) certs (below e) →
     and_new_cert v e found ≡ new_certs (holds v.saved) certs (below (suc e))

@@ -11,6 +11,7 @@ use Rattle.iss_model.specs.Node.{Core, Early as Kept_early, Turn, initial_core, 
 use Rattle.iss_node.proofs.EpochEnd.EpochEndRefines.{complete-is}
 use Rattle.iss_node.proofs.Log.LogIsDelivered.{has-slots}
 use Rattle.iss_node.proofs.Steps.EntriesCompose.{nothing-entered}
+use Rattle.iss_node.proofs.Steps.SavedAfter.{nothing-held}
 use Rattle.iss_node.proofs.Steps.OutcomesCompose.{nothing, nothing-made, nothing-sent}
 use Rattle.iss_node.proofs.Steps.VotesDoNotMatter.{each-held, held-parts}
 use Rattle.iss_node.specs.Internal.Ready.{IsOpen}
@@ -46,12 +47,12 @@ unfinished-first m v good =
     ]
 
 started-in : {M Msg : Type 0} (m : Module Msg) (refines : M → Params → ℕ → List (Item Msg) → Type 0) (v : StateView M Msg) → IsSetupOf m v.setup → (used : ℕ) → used ≡ 0 → StateRefinesCore m refines v (record initial_core { leaf = used }) →
-    saved_of v.saved ≡ nothing_saved → (early : List (Early Msg)) → early ≡ [] →
+    v.saved ≡ record { from = 0; low = 0; strays = [] } → (early : List (Early Msg)) → early ≡ [] →
     RefinesRebuilt m refines (record { state = v; early = early }) (record { core = initial_core; saved = nothing_saved })
 started-in {Msg = Msg} m refines v good used none h saved early is = record {
   read = record {
     core = subst (λ (k : ℕ). StateRefinesCore m refines v (record initial_core { leaf = k })) none h;
-    saved = saved;
+    saved = ap (λ (s : SavedState). saved_of s) saved ∙ nothing-held;
     epoch = refl;
     unfinished = unfinished-first m v good;
     landed = refl;
@@ -62,7 +63,7 @@ started-in {Msg = Msg} m refines v good used none h saved early is = record {
 
 -- The state of a node that has just started.
 pub started-so : {M Msg : Type 0} (m : Module Msg) (refines : M → Params → ℕ → List (Item Msg) → Type 0) (s : Setup) → IsSetupOf m s → (node : NodeView M Msg) → node.state.setup ≡ s →
-    (used : ℕ) → used ≡ 0 → RefinesCore m refines node (record initial_core { leaf = used }) → saved_of node.state.saved ≡ nothing_saved →
+    (used : ℕ) → used ≡ 0 → RefinesCore m refines node (record initial_core { leaf = used }) → node.state.saved ≡ record { from = 0; low = 0; strays = [] } →
     (v : StateView M Msg) → v ≡ node.state → (early : List (Early Msg)) → early ≡ [] →
     RefinesRebuilt m refines (record { state = v; early = early }) (record { core = initial_core; saved = nothing_saved })
 started-so {M = M} {Msg = Msg} m refines s good node same used none h saved v v_is early is =

@@ -80,7 +80,7 @@ loosen s R M w S g = record {
 abbrev pub AreReadPieces : Setup → List Piece → Type 0
 AreReadPieces s ps = (p : Piece) → In p ps → (v : Value) → In v p.values → IsReadValue s v
 
-adopted-read : (s : Setup) (ps : List Piece) → AreReadPieces s ps → (e k : ℕ) (v : Value) → adopted_at ps e k ≡ Some v → IsReadValue s v
+pub adopted-read : (s : Setup) (ps : List Piece) → AreReadPieces s ps → (e k : ℕ) (v : Value) → adopted_at ps e k ≡ Some v → IsReadValue s v
 adopted-read s [] are e k v h = absurd (none-some v h)
 adopted-read s (p ∷ ps) are e k v h = elim (first-cases (adopted_at ps e k) (cond (eqb p.epoch e) (nth p.values k) None) v h) [
   | inl a ↦ adopted-read s ps (λ q i. are q (inr i)) e k v a

@@ -1,4 +1,4 @@
-use Rattle.std.proofs.Common.{◌∙◌, true, false, List, Bool, sym, subst}
+use Rattle.std.proofs.Common.{◌∙◌, false, List, Bool, sym, subst}
 use Rattle.std.proofs.lemmas.Result.{on_ok_weaker}
 use Rattle.iss_certified.specs.Exported.{certs_shown}
 use Rattle.iss_model.specs.Run.{node_of}

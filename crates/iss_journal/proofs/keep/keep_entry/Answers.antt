@@ -1,5 +1,6 @@
 use Rattle.std.proofs.Common.{rules, ◌++◌}
 use Rattle.iss_disk.specs.Calls.{IfTold}
+use Rattle.iss_journal.specs.Frames.{version_1}
 use Rattle.iss_journal.specs.EntryViews.{entries_in}
 use Rattle.iss_journal.specs.Promises.{Shows}
 use Rattle.iss_journal.specs.RetainedViews.{shown_in}
@@ -23,7 +24,7 @@ returns-in_err-write_at-clause-stays g c =
     let entry = c.args.head.now ++ c.args.body.now in
     let staged = is_body (entries_in kept.entries.own) entry kept.entries.own.bytes.items c.staged-staged.result.now
     c.requires.staged c.staged-staged.ensures in
-    let so : IfTold (g.D.Disk.history c.write_at.new.self) (λ file. Shows (shown_in kept) file.kept) =
+    let so : IfTold (g.D.Disk.history c.write_at.new.self) (λ file. Shows version_1 (shown_in kept) file.kept) =
     (over1 kept entry c.requires.short c.end-gate.result c.staged-staged.result.now c.end-gate.ensures staged
     (g.D.Disk.history c.args.disk.now) (g.D.Disk.history c.write_at.new.self) c.requires.rests
     c.in_err-write_at.ensures.file).stays in search rules
@@ -44,7 +45,7 @@ returns-in_err-sync-clause-stays g c =
     let entry = c.args.head.now ++ c.args.body.now in
     let staged = is_body (entries_in kept.entries.own) entry kept.entries.own.bytes.items c.staged-staged.result.now
     c.requires.staged c.staged-staged.ensures in
-    let so : IfTold (g.D.Disk.history c.sync.new.self) (λ file. Shows (shown_in kept) file.kept) =
+    let so : IfTold (g.D.Disk.history c.sync.new.self) (λ file. Shows version_1 (shown_in kept) file.kept) =
     (over2 kept entry c.requires.short c.end-gate.result c.staged-staged.result.now c.end-gate.ensures staged
     (g.D.Disk.history c.args.disk.now) (g.D.Disk.history c.write_at.new.self) (g.D.Disk.history c.sync.new.self)
     c.requires.rests c.in_ok-write_at.ensures.file c.in_err-sync.ensures.file).stays in search rules
@@ -66,7 +67,7 @@ returns-in_err-write_at-2-clause-stays g c =
     let entry = c.args.head.now ++ c.args.body.now in
     let staged = is_body (entries_in kept.entries.own) entry kept.entries.own.bytes.items c.staged-staged.result.now
     c.requires.staged c.staged-staged.ensures in
-    let so : IfTold (g.D.Disk.history c.write_at-2.new.self) (λ file. Shows (shown_in kept) file.kept) =
+    let so : IfTold (g.D.Disk.history c.write_at-2.new.self) (λ file. Shows version_1 (shown_in kept) file.kept) =
     (over3 kept entry c.requires.short c.end-gate.result c.staged-staged.result.now c.end-gate.ensures staged
     (g.D.Disk.history c.args.disk.now) (g.D.Disk.history c.write_at.new.self) (g.D.Disk.history c.sync.new.self)
     (g.D.Disk.history c.write_at-2.new.self) c.requires.rests c.in_ok-write_at.ensures.file c.in_ok-sync.ensures.file
@@ -90,7 +91,7 @@ returns-in_err-sync-2-clause-stays g c =
     let entry = c.args.head.now ++ c.args.body.now in
     let staged = is_body (entries_in kept.entries.own) entry kept.entries.own.bytes.items c.staged-staged.result.now
     c.requires.staged c.staged-staged.ensures in
-    let so : IfTold (g.D.Disk.history c.sync-2.new.self) (λ file. Shows (shown_in kept) file.kept) =
+    let so : IfTold (g.D.Disk.history c.sync-2.new.self) (λ file. Shows version_1 (shown_in kept) file.kept) =
     (over4 kept entry c.requires.short c.end-gate.result c.staged-staged.result.now c.end-gate.ensures staged
     (g.D.Disk.history c.args.disk.now) (g.D.Disk.history c.write_at.new.self) (g.D.Disk.history c.sync.new.self)
     (g.D.Disk.history c.write_at-2.new.self) (g.D.Disk.history c.sync-2.new.self) c.requires.rests

@@ -1,5 +1,6 @@
 use Rattle.std.proofs.Common.{rules, IsErrOf, inr}
 use Rattle.iss_disk.specs.Calls.{IfTold}
+use Rattle.iss_journal.specs.Frames.{version_1}
 use Rattle.iss_journal.specs.Promises.{ComesToRest}
 use Rattle.iss_journal.specs.Sound.{IsRead, disk_of, entries_of, gates_of}
 use Rattle.iss_journal.specs.declared.errors.AttachError.TheVariants.{Damaged}
@@ -17,7 +18,7 @@ pub returns-in-Ok-clause-attached : goal.returns-in-Ok-clause-attached
 returns-in-Ok-clause-attached g c =
     let now = c.attach.new.self in
     let h = g.D.Disk.history (disk_of c.args.journal.now) in
-    let read : IsRead (entries_of now) (gates_of now) h = search rules in
+    let read : IsRead version_1 (entries_of now) (gates_of now) h = search rules in
     when-ok c.recover.result _ (record {
       read = read-shows (entries_of now) (gates_of now) h read;
       rest = search rules;
@@ -27,13 +28,13 @@ returns-in-Ok-clause-attached g c =
 pub returns-in-Ok-clause-damaged : goal.returns-in-Ok-clause-damaged
 returns-in-Ok-clause-damaged g c = λ at is.
     let now = c.attach.new.self in
-    let read : IsRead (entries_of now) (gates_of now) (g.D.Disk.history (disk_of c.args.journal.now)) = search rules in
+    let read : IsRead version_1 (entries_of now) (gates_of now) (g.D.Disk.history (disk_of c.args.journal.now)) = search rules in
     inr (gates_of now, read, c.recover.ensures.damaged at is)
 
 pub returns-in-Ok-clause-left : goal.returns-in-Ok-clause-left
 returns-in-Ok-clause-left g c = λ at is.
     let now = c.attach.new.self in
     let h = g.D.Disk.history (disk_of c.args.journal.now) in
-    let read : IsRead (entries_of now) (gates_of now) h = search rules in
+    let read : IsRead version_1 (entries_of now) (gates_of now) h = search rules in
     let rest : IfTold h (λ from. IfTold (g.D.Disk.history (disk_of now)) (ComesToRest from.content)) = search rules in
     left-read (entries_of now) (gates_of now) h (g.D.Disk.history (disk_of now)) at read rest

@@ -1,9 +1,8 @@
-use Rattle.std.proofs.Common.{rules, ◌≡◌, ◌∙◌, ◌<◌, ap, refl, subst, sym, ℕ, List, Option, [], IfSome, get_or, take}
+use Rattle.std.proofs.Common.{rules, ◌≡◌, ◌<◌, ap, refl, subst, ℕ, List, Option, [], IfSome, get_or, take}
 use Rattle.iss_journal.specs.SharedViews.{shared_in}
 use Rattle.iss_journal.specs.Sound.{entries_of, gates_of}
-use Rattle.iss_journal.specs.declared.errors.AttachError.{AttachError}
 use Rattle.iss_node.specs.Rebuilding.{RebuildingView}
-use Rattle.iss_keep.proofs.ReplayLemmas.{fail, finished, read-on, read-stops, same-gate, still-reads}
+use Rattle.iss_keep.proofs.ReplayLemmas.{finished, read-on, read-stops, same-gate, still-reads}
 use Rattle.iss_keep.specs.Internal.Replays.{IsRebuiltBy}
 use Rattle.iss_keep.proofs.reopening.rebuild.Goals as goal
 
@@ -37,7 +36,7 @@ returns-in_default-next-clause-damaged g c = λ at is.
     ap (λ (es : List (List ℕ)). get_or es c.loop-k.k []) c.entries-entries.ensures in
     read-stops c.args.setup.now g.M.Sequenced.spec g.M.Sequenced.refines c.args.me (entries_of c.args.journal.now) c.args.front c.requires.front c.loop-k.k lt
     c.loop-k.rebuilding c.in-Ok-read_at.next read entry c.loop-k.invariant.1 c.loop-k.invariant.0 c.in-Ok-read_at.ensures.read c.in_default-next.is
-    (gates_of c.args.journal.now) at (same-gate _ at (sym (ap (λ (e : AttachError). fail e) c.damage_at.ensures) ∙ is))
+    (gates_of c.args.journal.now) at (same-gate c.damage_at.result (get_or (gates_of c.args.journal.now) c.loop-k.k 0) at c.damage_at.ensures is)
 
 pub returns-in-Ok-finish-clause-refines : goal.returns-in-Ok-finish-clause-refines
 returns-in-Ok-finish-clause-refines g c =

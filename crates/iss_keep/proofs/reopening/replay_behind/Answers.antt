@@ -1,10 +1,9 @@
-use Rattle.std.proofs.Common.{rules, arith, ◌≡◌, ◌∙◌, ◌<◌, ◌≤◌, Bool, true, false, Ok, ap, refl, sym, length, ℕ, List, [], get_or}
+use Rattle.std.proofs.Common.{rules, arith, ◌≡◌, ◌<◌, ◌≤◌, Bool, true, false, Ok, ap, refl, sym, length, ℕ, List, [], get_or}
 use Rattle.iss_journal.specs.SharedViews.{shared_in}
 use Rattle.iss_journal.specs.Sound.{entries_of, gates_of}
 use Rattle.iss_request.specs.declared.setups.Setup.{Setup}
 use Rattle.iss_rebuilt.specs.Reading.{Rebuilt}
-use Rattle.iss_journal.specs.declared.errors.AttachError.{AttachError}
-use Rattle.iss_keep.proofs.ReplayLemmas.{fail, replay-end, replay-on, replay-stops, same-gate, still-of, went}
+use Rattle.iss_keep.proofs.ReplayLemmas.{replay-end, replay-on, replay-stops, same-gate, still-of, went}
 use Rattle.iss_keep.specs.Internal.Replays.{GoesTo, IsFound}
 use Rattle.iss_keep.proofs.reopening.replay_behind.Goals as goal
 
@@ -47,7 +46,7 @@ returns-then-not-taken-clause-damaged g c = λ at is.
     (λ (b : Bool). (found : Rebuilt g.row.M-Msg.Denot) → IsFound g.M.Sequenced.spec g.M.Sequenced.refines old found →
     GoesTo old.state.setup g.M.Sequenced.spec g.M.Sequenced.refines old.state.me.0 found read c.replay_at.new.node b)
     took c.replay_at.ensures.goes)
-    (gates_of c.args.journal.now) at (same-gate _ at (sym (ap (λ (e : AttachError). fail e) c.damage_at.ensures) ∙ is))
+    (gates_of c.args.journal.now) at (same-gate c.damage_at.result (get_or (gates_of c.args.journal.now) c.loop-k.k 0) at c.damage_at.ensures is)
 
 pub returns-clause-refines : goal.returns-clause-refines
 returns-clause-refines g c =

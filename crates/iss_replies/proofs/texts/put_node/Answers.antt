@@ -1,4 +1,4 @@
-use Rattle.std.proofs.Common.{◌≡◌, ◌∙◌, ◌++◌, sym, ap, map}
+use Rattle.std.proofs.Common.{◌∙◌, ◌++◌, sym, ap, map}
 use Rattle.iss_request.specs.declared.setups.Setup.{Setup}
 use Rattle.iss_schedule.specs.Words.{ended}
 use Rattle.iss_sb.specs.Evidence.{is_correct}

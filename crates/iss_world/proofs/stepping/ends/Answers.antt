@@ -2,7 +2,7 @@ use Rattle.std.proofs.Common.{List, ℕ, subst}
 use Rattle.iss_base.specs.Lists.{push_all}
 use Rattle.iss_world.specs.Books.{AreHashed}
 use Rattle.iss_world.proofs.BookLemmas.{if-ok}
-use Rattle.iss_world.proofs.StepLemmas.{ends-collided, ends-forged}
+use Rattle.iss_world.proofs.MachineLemmas.{ends-collided, ends-forged}
 use Rattle.iss_world.proofs.stepping.ends.Goals as goal
 
 pub returns-in-Some-clause-told : goal.returns-in-Some-clause-told

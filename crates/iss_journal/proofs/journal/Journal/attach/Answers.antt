@@ -1,7 +1,7 @@
 use Rattle.std.proofs.Common.{rules, arith, ◌≡◌, ◌∷◌, ◌∙◌, sym, subst, List, IsErrOf}
 use Rattle.iss_disk.specs.File.{File, Image, settled}
 use Rattle.iss_disk.specs.Calls.{IfTold}
-use Rattle.iss_journal.specs.Frames.{Reads, damaged, holds}
+use Rattle.iss_journal.specs.Frames.{damaged, holds, Reads, version_1}
 use Rattle.iss_journal.specs.EntryViews.{entries_in}
 use Rattle.iss_journal.specs.Promises.{LosesNothing, ComesToRest}
 use Rattle.iss_journal.specs.declared.errors.AttachError.TheVariants.{Damaged}
@@ -17,7 +17,7 @@ returns-in_err-reserve-clause-any_moment g c =
     history_same (g.D.Disk.history d0) (g.D.Disk.history d1) (g.D.Disk.files d0) (g.D.Disk.files d1)
     (g.D.Disk.current d0) (g.D.Disk.current d1) (g.met.D.Disk.here d0)
     (g.met.D.Disk.here d1) c.reserve.ensures.same in
-    subst (λ (h : List File). LosesNothing (g.D.Disk.history d0) h) (sym same) (loses_start (g.D.Disk.history d0))
+    subst (λ (h : List File). LosesNothing version_1 (g.D.Disk.history d0) h) (sym same) (loses_start (g.D.Disk.history d0))
 
 pub returns-in_err-sync-clause-any_moment : goal.returns-in_err-sync-clause-any_moment
 returns-in_err-sync-clause-any_moment g c =
@@ -29,7 +29,7 @@ returns-in_err-sync-clause-any_moment g c =
     (g.met.D.Disk.here d1) c.reserve.ensures.same in
     let read : (file : File) (past : List File) → g.D.Disk.history d1 ≡ file ∷ past → Image file file.content =
     λ file past is. g.met.D.Disk.read_is_image d1 (g.D.Disk.current d1).name file past (sym (g.met.D.Disk.here d1) ∙ is) in
-    subst (λ (h : List File). LosesNothing h (g.D.Disk.history c.sync.new.self)) same
+    subst (λ (h : List File). LosesNothing version_1 h (g.D.Disk.history c.sync.new.self)) same
     (sync_fails (g.D.Disk.history d1) (g.D.Disk.history c.sync.new.self) read c.in_err-sync.ensures.file)
 
 pub returns-in_err-all-clause-damaged : goal.returns-in_err-all-clause-damaged
@@ -41,8 +41,8 @@ returns-in_err-all-clause-damaged g c = λ at is.
     (g.D.Disk.current d0) (g.D.Disk.current d1) (g.met.D.Disk.here d0)
     (g.met.D.Disk.here d1) c.reserve.ensures.same in
     let damage : IsErrOf c.load.result (Damaged at) = search rules in
-    subst (λ (h : List File). IfTold h (λ file. Reads file.content (damaged at))) same
-    (before_sync (λ bytes. Reads bytes (damaged at)) (g.D.Disk.history d1)
+    subst (λ (h : List File). IfTold h (λ file. Reads version_1 file.content (damaged at))) same
+    (before_sync (λ bytes. Reads version_1 bytes (damaged at)) (g.D.Disk.history d1)
     (g.D.Disk.history c.sync.new.self) c.in_ok-sync.ensures.file (c.load.ensures.damaged at damage))
 
 pub returns-in_err-all-clause-any_moment : goal.returns-in_err-all-clause-any_moment
@@ -55,7 +55,7 @@ returns-in_err-all-clause-any_moment g c =
     (g.met.D.Disk.here d1) c.reserve.ensures.same in
     let read : (file : File) (past : List File) → g.D.Disk.history d1 ≡ file ∷ past → Image file file.content =
     λ file past is. g.met.D.Disk.read_is_image d1 (g.D.Disk.current d1).name file past (sym (g.met.D.Disk.here d1) ∙ is) in
-    subst (λ (h : List File). LosesNothing h (g.D.Disk.history c.load.new.disk)) same
+    subst (λ (h : List File). LosesNothing version_1 h (g.D.Disk.history c.load.new.disk)) same
     (sync_then (g.D.Disk.history d1) (g.D.Disk.history c.sync.new.self)
     (g.D.Disk.history c.load.new.disk) read c.in_ok-sync.ensures.file c.load.ensures.any_moment)
 
@@ -69,7 +69,7 @@ returns-clause-any_moment g c =
     (g.met.D.Disk.here d1) c.reserve.ensures.same in
     let read : (file : File) (past : List File) → g.D.Disk.history d1 ≡ file ∷ past → Image file file.content =
     λ file past is. g.met.D.Disk.read_is_image d1 (g.D.Disk.current d1).name file past (sym (g.met.D.Disk.here d1) ∙ is) in
-    subst (λ (h : List File). LosesNothing h (g.D.Disk.history c.load.new.disk)) same
+    subst (λ (h : List File). LosesNothing version_1 h (g.D.Disk.history c.load.new.disk)) same
     (sync_then (g.D.Disk.history d1) (g.D.Disk.history c.sync.new.self)
     (g.D.Disk.history c.load.new.disk) read c.in_ok-sync.ensures.file c.load.ensures.any_moment)
 
@@ -83,7 +83,7 @@ returns-in_err-kept-clause-any_moment g c =
     (g.met.D.Disk.here d1) c.reserve.ensures.same in
     let read : (file : File) (past : List File) → g.D.Disk.history d1 ≡ file ∷ past → Image file file.content =
     λ file past is. g.met.D.Disk.read_is_image d1 (g.D.Disk.current d1).name file past (sym (g.met.D.Disk.here d1) ∙ is) in
-    subst (λ (h : List File). LosesNothing h (g.D.Disk.history c.load.new.disk)) same
+    subst (λ (h : List File). LosesNothing version_1 h (g.D.Disk.history c.load.new.disk)) same
     (sync_then (g.D.Disk.history d1) (g.D.Disk.history c.sync.new.self)
     (g.D.Disk.history c.load.new.disk) read c.in_ok-sync.ensures.file c.load.ensures.any_moment)
 
@@ -112,8 +112,8 @@ returns-clause-entries g c =
     (g.met.D.Disk.here d1) c.reserve.ensures.same in
     let es = entries_in c.in_ok-all.all in
     is_read (g.D.Disk.history d0) es c.in_ok-kept.kept
-    (subst (λ (h : List File). IfTold h (λ file. Reads file.content (holds es))) same
-    (before_sync (λ bytes. Reads bytes (holds es)) (g.D.Disk.history d1)
+    (subst (λ (h : List File). IfTold h (λ file. Reads version_1 file.content (holds es))) same
+    (before_sync (λ bytes. Reads version_1 bytes (holds es)) (g.D.Disk.history d1)
     (g.D.Disk.history c.sync.new.self) c.in_ok-sync.ensures.file c.in_ok-all.ensures.entries)) c.in_ok-kept.ensures
 
 pub returns-clause-file : goal.returns-clause-file

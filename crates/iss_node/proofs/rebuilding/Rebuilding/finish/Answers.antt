@@ -12,8 +12,7 @@ pub of-requires : goal.of-requires
 of-requires g c =
     let m = g.M.Sequenced.spec in
     let v = c.self.inside.state in
-    let r = c.self.invariant.0 in
-    (
+    let r = c.self.invariant.0 in (
       (woken (frame_of v.setup m) v.me.0 r.core).core,
       wakes m g.M.Sequenced.refines v c.self.inside.early.items r c.self.invariant.1 c.take_each.new.self c.take_each.ensures.later c.nothing.result c.in_ok-_outcome._outcome c.nothing.ensures c.in_ok-_outcome.ensures.turn,
     )

@@ -3,7 +3,6 @@ use Rattle.iss_keys.specs.KeyStates.{KeyState}
 use Rattle.iss_model.specs.Node.{initial_core}
 use Rattle.iss_node.proofs.Snapshots.KeysAreOwn.{own-number}
 use Rattle.iss_node.proofs.Snapshots.NodeIsWoken.{started-so}
-use Rattle.iss_node.specs.Saved.{SavedState, saved_of}
 use Rattle.iss_rebuilt.specs.Stored.{nothing_saved}
 use Rattle.iss_node.proofs.rebuilding.Rebuilding.start.Goals as goal
 
@@ -16,7 +15,7 @@ invariant_of-result g c =
     let unused : c.keys_of_node-keys.result.used ≡ 0 = ap (λ (k : KeyState). k.used) (c.keys_of_node-keys.ensures.made s.n s.clients s.keys (c.directory.ensures ∙ c.requires.directory)) in (
       record { core = initial_core; saved = nothing_saved },
       started-so g.M.Sequenced.spec g.M.Sequenced.refines s c.requires.good c.in_ok-node.node c.in_ok-node.ensures.same.0 c.keys_of_node-keys.result.used unused c.in_ok-node.ensures.refines
-          (ap (λ (x : SavedState). saved_of x) c.in_ok-node.ensures.saved) c.into_state.result c.into_state.ensures c.new.result.items c.new.ensures.items,
+          c.in_ok-node.ensures.saved c.into_state.result c.into_state.ensures c.new.result.items c.new.ensures.items,
     )
 
 pub returns-clause-refines : goal.returns-clause-refines
@@ -24,4 +23,4 @@ returns-clause-refines g c =
     let s = c.args.setup.now in
     let unused : c.keys_of_node-keys.result.used ≡ 0 = ap (λ (k : KeyState). k.used) (c.keys_of_node-keys.ensures.made s.n s.clients s.keys (c.directory.ensures ∙ c.requires.directory)) in
     started-so g.M.Sequenced.spec g.M.Sequenced.refines s c.requires.good c.in_ok-node.node c.in_ok-node.ensures.same.0 c.keys_of_node-keys.result.used unused c.in_ok-node.ensures.refines
-    (ap (λ (x : SavedState). saved_of x) c.in_ok-node.ensures.saved) c.into_state.result c.into_state.ensures c.new.result.items c.new.ensures.items
+    c.in_ok-node.ensures.saved c.into_state.result c.into_state.ensures c.new.result.items c.new.ensures.items

@@ -1,10 +1,17 @@
-use Rattle.std.proofs.Common.{arith, ◌≡◌, ◌∙◌, ℕ, suc, ap, sym, add-one}
+use Rattle.std.proofs.Common.{arith, ◌≡◌, ◌≤◌, ◌∙◌, ℕ, suc, ap, sym, add-one}
 use Rattle.iss_base.specs.Lists.{below}
-use Rattle.iss_node.proofs.EpochEnd.SnapshotIsMade.{certs-next}
+use Rattle.iss_node.proofs.EpochEnd.SnapshotIsMade.{certs-from, certs-next}
 use Rattle.iss_node.specs.Saved.{holds}
 use Rattle.iss_node.specs.State.{StateView}
 use Rattle.iss_rebuilt.specs.Stored.{new_certs}
 use Rattle.iss_node.proofs.state.NodeState.new_certs.Goals as goal
+
+pub loop-epoch-init : goal.loop-epoch-init
+loop-epoch-init g c = λ votes certs kept.
+    let v = c.args.self.now in
+    let low = c.low.ensures ∙ ap (λ (z : StateView g.row.M.Denot g.row.M-Msg.Denot). z.saved.low) c.self.view_is in
+    let under : c.min-low.result ≤ v.saved.low = omega (arith, c.min-low.ensures, low) in
+    c.new-certs.ensures ∙ certs-from v.saved certs c.min-low.result under
 
 pub loop-epoch-preserved : goal.loop-epoch-preserved
 loop-epoch-preserved g c = λ votes certs kept.

@@ -14,7 +14,8 @@ use Rattle.iss_world.specs.Internal.Steps.{kept_to}
 use Rattle.iss_world.specs.declared.ends.EventOutcome.TheVariants.{Ended, Lost}
 use Rattle.iss_world.specs.declared.ends.Evidence.TheVariants.{Forged as Evidence_forged}
 use Rattle.iss_world.proofs.BookLemmas.{if-ok}
-use Rattle.iss_world.proofs.StepLemmas.{claims-here, machine-forged, machine-kept, machine-stopped, stale-here}
+use Rattle.iss_world.proofs.MachineLemmas.{machine-forged, machine-kept, machine-stopped}
+use Rattle.iss_world.proofs.StepLemmas.{claims-here, stale-here}
 use Rattle.iss_world.proofs.simulation.Simulation.take.Goals as goal
 
 pub returns-then-stale-clause-happened : goal.returns-then-stale-clause-happened

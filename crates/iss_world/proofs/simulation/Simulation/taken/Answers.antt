@@ -7,7 +7,8 @@ use Rattle.iss_sb.specs.declared.effects.To.{To}
 use Rattle.iss_world.specs.Books.{AreSigned}
 use Rattle.iss_world.specs.State.{SimulationState}
 use Rattle.iss_world.specs.Internal.Steps.{ends_by}
-use Rattle.iss_world.proofs.StepLemmas.{kept-end, no-end, same-network, still-running, turn-ended, turn-refines, with-network}
+use Rattle.iss_world.proofs.MachineLemmas.{kept-end, no-end}
+use Rattle.iss_world.proofs.StepLemmas.{same-network, still-running, turn-ended, turn-refines, with-network}
 use Rattle.iss_world.proofs.simulation.Simulation.taken.Goals as goal
 
 pub invariant_of-self : goal.invariant_of-self
