@@ -1,4 +1,6 @@
 //! Journals of snapshots in which one part is another: what of it a node takes, and what makes the journal damaged.
+ghost use Rattle.std.specs.Prelude.{◌<◌};
+
 use crate::snapshots::{SECOND, check_opens, file_of, request, two_snapshots};
 use iss_journal::AttachError;
 use std::alloc::Global;
@@ -125,7 +127,9 @@ fn nothing_known_or_past_the_bound_stands_in_a_snapshot(rt: HostRuntime) -> Resu
 }
 
 // Checks the first snapshot with a request of this number in the place of its own. The window has two numbers.
-fn check_request(rt: &impl Abort, alloc: Global, number: u32, opens: bool) -> Result<(), Fail> {
+fn check_request(rt: &impl Abort, alloc: Global, number: u32, opens: bool) -> Result<(), Fail>
+    requires { number < 4 }
+{
     let first = snapshot(alloc, false)?;
     let packet = request(alloc, number)?;
     let changed = with_part(

@@ -1,5 +1,5 @@
 //! Journals with snapshots, over disks in memory: the bytes of one, and what makes one damaged.
-ghost use Rattle.std.specs.Prelude.{◌<◌, ◌≤◌};
+ghost use Rattle.std.specs.Prelude.{◌≡◌, ◌<◌, ◌≤◌, IfOk};
 ghost use Rattle.iss_base.specs.Heights.{IsHeight};
 
 use crate::relay_config;
@@ -116,13 +116,17 @@ fn client_keys(alloc: Global, clients: u32, height: u8) -> Result<Keys, Fail>
     requires some { 0 < clients }
     requires clients { clients ≤ 256 }
     requires height { IsHeight height }
+    ensures { IfOk result (λ keys. keys.height ≡ height) }
 {
     let directory = Directory::make(alloc, 3, clients, height)?;
-    Ok(directory.keys_of_client(alloc, 0))
+    let keys = directory.keys_of_client(alloc, 0);
+    Ok(keys)
 }
 
 // The packet of a request of client 0. That of number 1 is not node 0's in the first epochs.
-pub(crate) fn request(alloc: Global, number: u32) -> Result<Bytes, Fail> {
+pub(crate) fn request(alloc: Global, number: u32) -> Result<Bytes, Fail>
+    requires { number < 4 }
+{
     let mut keys = client_keys(alloc, 1, 2)?;
     let id = ReqId { client: 0, number };
     let request = Request {
@@ -142,68 +146,90 @@ pub(crate) fn request(alloc: Global, number: u32) -> Result<Bytes, Fail> {
     Ok(packet.encode(alloc, 1)?)
 }
 
-// The node behind a restart, if it is to restart.
-fn behind_restart(
-    alloc: Global,
-    kept: Kept<Relay, MemoryDisk>,
-    restarts: bool,
-) -> Result<Kept<Relay, MemoryDisk>, Fail> {
-    if !restarts {
-        return Ok(kept);
+// Restarts the node, if it is to restart.
+fn restart(kept: &mut Kept<Relay, MemoryDisk>, restarts: bool) -> Result<(), Fail> {
+    if restarts {
+        kept.restart();
+        kept.reopen()?;
     }
-    let mut again = node_over(alloc, 0, kept.into_disk())?;
-    again.reopen()?;
-    Ok(again)
+    Ok(())
 }
 
-// Node 0 in epoch 1. Its snapshot has a waiting request, a vote and an early packet. Returns its own vote too.
-fn one_epoch(alloc: Global) -> Result<(Kept<Relay, MemoryDisk>, Bytes), Fail> {
-    let mut kept = new_node(alloc, 0)?;
+// The vote of node 1 for epoch 0.
+fn vote(alloc: Global) -> Result<Bytes, Fail> {
     let mut other = new_node(alloc, 1)?;
-    let vote = end_epoch(alloc, &mut other, 0)?;
-    take(alloc, &mut kept, request(alloc, 1)?.as_slice())?;
-    take(alloc, &mut kept, vote.as_slice())?;
-    take(alloc, &mut kept, &empty_batch(4))?;
-    let own = end_epoch(alloc, &mut kept, 0)?;
-    Ok((kept, own))
+    end_epoch(alloc, &mut other, 0)
 }
 
-// Node 0 in epoch 2, perhaps with a restart behind each snapshot. The second one has a certificate.
-fn two_epochs(alloc: Global, restarts: bool) -> Result<Kept<Relay, MemoryDisk>, Fail> {
-    let (first, own) = one_epoch(alloc)?;
-    let mut kept = behind_restart(alloc, first, restarts)?;
-    take(alloc, &mut kept, own.as_slice())?;
-    take(alloc, &mut kept, &empty_batch(3))?;
-    take(alloc, &mut kept, &empty_batch(5))?;
-    behind_restart(alloc, kept, restarts)
+// Node 0 enters epoch 1. Its snapshot has a waiting request, a vote and an early packet. Returns its own vote.
+fn enter_epoch_1(alloc: Global, kept: &mut Kept<Relay, MemoryDisk>) -> Result<Bytes, Fail> {
+    take(alloc, kept, request(alloc, 1)?.as_slice())?;
+    take(alloc, kept, vote(alloc)?.as_slice())?;
+    take(alloc, kept, &empty_batch(4))?;
+    end_epoch(alloc, kept, 0)
+}
+
+// It enters epoch 2. Its snapshot has a certificate.
+fn enter_epoch_2(
+    alloc: Global,
+    kept: &mut Kept<Relay, MemoryDisk>,
+    own: &Bytes,
+) -> Result<(), Fail> {
+    take(alloc, kept, own.as_slice())?;
+    take(alloc, kept, &empty_batch(3))?;
+    take(alloc, kept, &empty_batch(5))?;
+    Ok(())
+}
+
+// It enters both epochs, perhaps with a restart behind each.
+fn enter_both(
+    alloc: Global,
+    kept: &mut Kept<Relay, MemoryDisk>,
+    restarts: bool,
+) -> Result<(), Fail> {
+    let own = enter_epoch_1(alloc, kept)?;
+    restart(kept, restarts)?;
+    enter_epoch_2(alloc, kept, &own)?;
+    restart(kept, restarts)
 }
 
 // The two snapshots of node 0 in epoch 2.
-pub(crate) fn two_snapshots(alloc: Global) -> Result<Vec<Vec<u8>>, Fail> {
-    let kept = two_epochs(alloc, false)?;
+fn snapshots(alloc: Global, restarts: bool) -> Result<Vec<Vec<u8>>, Fail> {
+    let mut kept = new_node(alloc, 0)?;
+    enter_both(alloc, &mut kept, restarts)?;
     entries_of(alloc, kept)
 }
 
-// What node 0 in epoch 2 sends to node 1, which asks for epoch 0: the values of that epoch, and its certificate.
-fn piece(alloc: Global, restarts: bool) -> Result<Bytes, Fail> {
-    let mut kept = two_epochs(alloc, restarts)?;
-    match take(
-        alloc,
-        &mut kept,
-        &[1, 3, 1, 0, 0, 0, 0, 0, 0, 0, 0, 0, 0, 0, 0, 0],
-    )? {
-        Some(sent) => Ok(sent),
+// Those of a node that does not restart.
+pub(crate) fn two_snapshots(alloc: Global) -> Result<Vec<Vec<u8>>, Fail> {
+    snapshots(alloc, false)
+}
+
+// Node 1 asks for epoch 0.
+const ASK: [u8; 16] = [1, 3, 1, 0, 0, 0, 0, 0, 0, 0, 0, 0, 0, 0, 0, 0];
+
+// What node 0 sends to node 1, which asks for epoch 0: the values of that epoch, and its certificate.
+fn answer(alloc: Global, kept: &mut Kept<Relay, MemoryDisk>) -> Result<Bytes, Fail> {
+    let sent = take(alloc, kept, &ASK)?;
+    match sent {
+        Some(piece) => Ok(piece),
         None => Err("no piece")?,
     }
+}
+
+// That of node 0 in epoch 2.
+fn piece(alloc: Global, restarts: bool) -> Result<Bytes, Fail> {
+    let mut kept = new_node(alloc, 0)?;
+    enter_both(alloc, &mut kept, restarts)?;
+    answer(alloc, &mut kept)
 }
 
 // The second snapshot is the same only if all that the first one has is there again.
 #[test]
 fn each_part_of_a_snapshot_outlives_a_restart(rt: HostRuntime) -> Result<(), Fail> {
     let alloc = rt.alloc();
-    let kept = two_epochs(alloc, true)?;
-    let entries = entries_of(alloc, kept)?;
-    let others = two_snapshots(alloc)?;
+    let entries = snapshots(alloc, true)?;
+    let others = snapshots(alloc, false)?;
     assert_eq!(rt; entries.len(), 2);
     assert_eq!(rt; others.len(), 2);
     assert_eq!(rt; entries[0].as_slice(), others[0].as_slice());
@@ -282,7 +308,7 @@ fn a_snapshot_is_damaged_at_each_byte(rt: HostRuntime) -> Result<(), Fail> {
     let alloc = rt.alloc();
     let file = file_of(alloc, &[SNAPSHOT])?;
     check_opens(&rt, alloc, &file, Ok(()))?;
-    for at in 1..file.len() - 1 {
+    for at in 1..file.len().saturating_sub(1) {
         check_damaged(&rt, alloc, &file, at, 0)?;
     }
     Ok(())
