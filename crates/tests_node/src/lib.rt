@@ -3,6 +3,10 @@
 
 pub mod configs;
 #[cfg(test)]
+mod parts;
+#[cfg(test)]
+mod snapshots;
+#[cfg(test)]
 mod tests;
 
-pub use configs::pbft_config;
+pub use configs::{pbft_config, relay_config};
