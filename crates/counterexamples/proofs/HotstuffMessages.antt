@@ -22,7 +22,7 @@ use Rattle.iss_sb.proofs.Signatures.{signature-shape, signature-verifies}
 use Rattle.hs_tree.specs.declared.certificates.Certificate.{Certificate}
 use Rattle.hs_tree.specs.declared.certificates.Certificate.TheVariants.{Root, Votes}
 use Rattle.hs_tree.specs.declared.messages.Message.{Message}
-use Rattle.hs_tree.specs.declared.messages.Message.TheVariants.{Prepare, PreCommit, Commit, Decide, Vote}
+use Rattle.hs_tree.specs.Signed.{Prepare, PreCommit, Commit, Decide, Vote, signed}
 use Rattle.hs_tree.specs.Certificates.{IsSpelledCertificate, root_row, votes_row}
 use Rattle.hs_tree.specs.Statements.{claims, own_statement, vote_statement, with_signature}
 use Rattle.hs_tree.specs.Tree.{basic}

@@ -20,7 +20,7 @@ use Rattle.iss_sb.specs.Evidence.{Item, World, IsReached, IsReadMessage, IsStrin
 use Rattle.iss_sb.specs.Laws.{IsBroadcast}
 use Rattle.hs_tree.specs.declared.certificates.Certificate.TheVariants.{Root}
 use Rattle.hs_tree.specs.declared.messages.Message.{Message}
-use Rattle.hs_tree.specs.declared.messages.Message.TheVariants.{Prepare}
+use Rattle.hs_tree.specs.Signed.{Prepare}
 use Rattle.hs_tree.specs.Tree.{plain_string, root}
 use Rattle.hs_views.proofs.SmallWorlds.{IsOneOf, all_differ, each-of, one-takes, separate-by, starts, two-takes, world, zero-takes}
 use Rattle.hs_views.proofs.Tests.{AreStrings, each-string}

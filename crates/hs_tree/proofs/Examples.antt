@@ -21,7 +21,7 @@ use Rattle.hs_tree.specs.declared.certificates.Certificate.TheVariants.{Root, Vo
 use Rattle.iss_sb.specs.declared.signers.Signed.{Signed}
 use Rattle.iss_sb.specs.Ascending.{ascending}
 use Rattle.iss_sb.specs.Signers.{parse_signed}
-use Rattle.hs_tree.specs.declared.messages.Message.TheVariants.{NewView, Prepare, PreCommit, Commit, Decide, Vote}
+use Rattle.hs_tree.specs.Signed.{NewView, Prepare, PreCommit, Commit, Decide, Vote}
 use Rattle.hs_tree.specs.Certificates.{is_quorum, parse_certificate, parse_votes, spell_certificate}
 use Rattle.hs_tree.specs.Messages.{parse, parse_prepare, parse_vote, spell}
 use Rattle.hs_tree.specs.Statements.{claims, own_statement}

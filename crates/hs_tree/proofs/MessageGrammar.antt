@@ -15,7 +15,9 @@ use Rattle.iss_sb.specs.declared.content.Content.{Content}
 use Rattle.iss_sb.specs.Content.{parse_content, spell_content}
 use Rattle.hs_tree.specs.declared.certificates.Certificate.{Certificate}
 use Rattle.hs_tree.specs.declared.messages.Message.{Message}
-use Rattle.hs_tree.specs.declared.messages.Message.TheVariants.{NewView, Prepare, PreCommit, Commit, Decide, Vote}
+use Rattle.hs_tree.specs.declared.messages.Body.{Body}
+use Rattle.hs_tree.specs.declared.messages.Body.TheVariants.{NewView as New_view_body, Prepare as Prepare_body, PreCommit as Pre_commit_body, Commit as Commit_body, Decide as Decide_body, Vote as Vote_body}
+use Rattle.hs_tree.specs.Signed.{NewView, Prepare, PreCommit, Commit, Decide, Vote, signed}
 use Rattle.hs_tree.specs.Certificates.{is_phase, parse_certificate, spell_certificate}
 use Rattle.hs_tree.specs.Messages.{IsSpelledMessage, IsSpelledShown, fields_of, fits_shown, fits_vote, has_shows, is_message, is_view, new_view_row, no_message, parse, parse_new_view, parse_prepare, parse_shown, parse_vote, prepare_row, shown_row, spell, spell_shown, vote_row}
 use Rattle.hs_tree.proofs.CertificateGrammar.{certificate-again, certificate-parts, certificate-spelled, certificate-whole}
@@ -264,20 +266,23 @@ module _ (phases version : ℕ) where
       let row : front ≡ shown_row kind view (spell_certificate phases shown) sig = h.row ∙ ap (λ (x : List ℕ). shown_row kind view x sig) (certificate-spelled phases shown h.certificate h.spelled) in
       rw fit row
 
-  pub spelled-is : (msg : Message) (front : List ℕ) → IsSpelledMessage phases version msg front → front ≡ spell phases version msg
-  spelled-is (NewView round high sig) front h =
+  spelled-is-body : (body : Body) (sig : List ℕ) (front : List ℕ) → IsSpelledMessage phases version (signed body sig) front → front ≡ spell phases version (signed body sig)
+  spelled-is-body (New_view_body round high) sig front h =
       let row : front ≡ new_view_row round (spell_certificate phases high) sig = h.row ∙ ap (λ (x : List ℕ). new_view_row round x sig) (certificate-spelled phases high h.certificate h.spelled) in
       rw (both _ _ (lt-ltb round (2 ^ 16) h.round_fits) h.signed) row
-  spelled-is (Prepare view what just sig) front h =
+  spelled-is-body (Prepare_body view what just) sig front h =
       let row : front ≡ prepare_row view (spell_content version what) (spell_certificate phases just) sig =
       h.row ∙ ap (λ (x : List ℕ). prepare_row view x h.certificate sig) (content-table version what h.behind h.what_is).0 ∙ ap (λ (x : List ℕ). prepare_row view (spell_content version what) x sig) (certificate-spelled phases just h.certificate h.spelled) in
       rw (both _ _ (lt-ltb view (2 ^ 32) h.view_fits) h.signed) row
-  spelled-is (PreCommit view shown sig) front h = shown-spelled 3 view shown sig front h
-  spelled-is (Commit view shown sig) front h = shown-spelled 4 view shown sig front h
-  spelled-is (Decide view shown sig) front h = shown-spelled 5 view shown sig front h
-  spelled-is (Vote phase view d sig) front h =
+  spelled-is-body (Pre_commit_body view shown) sig front h = shown-spelled 3 view shown sig front h
+  spelled-is-body (Commit_body view shown) sig front h = shown-spelled 4 view shown sig front h
+  spelled-is-body (Decide_body view shown) sig front h = shown-spelled 5 view shown sig front h
+  spelled-is-body (Vote_body phase view d) sig front h =
       let fit = both _ _ (both _ _ (le-leb 1 phase h.phase_low) (le-leb phase phases h.phase_fits)) (both _ _ (lt-ltb view (2 ^ 32) h.view_fits) (both _ _ ((Decides-eqb (length d) 32).1 h.digest_fits) h.signed)) in
       rw fit h.row
+
+  pub spelled-is : (msg : Message) (front : List ℕ) → IsSpelledMessage phases version msg front → front ≡ spell phases version msg
+  spelled-is msg front h = spelled-is-body msg.body msg.sig front h
 
   -- ---- An encoding is decoded
 
@@ -350,8 +355,8 @@ module _ (phases version : ℕ) where
           let c = certificate-fate shown in
           rw q (whole-of c.read (shown_row kind view (spell_certificate phases shown) sig) (parse phases version) (make view shown sig) (shown-fate c.read make kind view shown sig (spell_certificate phases shown) known fields a.0 (ltb-true view (2 ^ 32) b.0) b.1 c.fate))
 
-  pub whole : (msg : Message) → Whole (spell phases version msg) (parse phases version) msg
-  whole (NewView round high sig) = go (nat_lt round (2 ^ 16) && is_signature sig) refl
+  whole-body : (body : Body) (sig : List ℕ) → Whole (spell phases version (signed body sig)) (parse phases version) (signed body sig)
+  whole-body (New_view_body round high) sig = go (nat_lt round (2 ^ 16) && is_signature sig) refl
     where
       go : (b : Bool) → (nat_lt round (2 ^ 16) && is_signature sig) ≡ b → Whole (spell phases version (NewView round high sig)) (parse phases version) (NewView round high sig)
       go false q = inr (rw q none)
@@ -359,7 +364,7 @@ module _ (phases version : ℕ) where
           let a = and-true (nat_lt round (2 ^ 16)) (is_signature sig) q in
           let c = certificate-fate high in
           rw q (whole-of c.read (new_view_row round (spell_certificate phases high) sig) (parse phases version) (NewView round high sig) (new_view-fate c.read round high sig (spell_certificate phases high) (ltb-true round (2 ^ 16) a.0) a.1 c.fate))
-  whole (Prepare view what just sig) = go (is_view view && is_signature sig) refl
+  whole-body (Prepare_body view what just) sig = go (is_view view && is_signature sig) refl
     where
       go : (b : Bool) → (is_view view && is_signature sig) ≡ b → Whole (spell phases version (Prepare view what just sig)) (parse phases version) (Prepare view what just sig)
       go false q = inr (rw q none)
@@ -368,10 +373,10 @@ module _ (phases version : ℕ) where
           let w = fate-of (spell_content version what) (parse_content version) what (content-whole version what) in
           let c = certificate-fate just in
           rw q (whole-of (w.read && c.read) (prepare_row view (spell_content version what) (spell_certificate phases just) sig) (parse phases version) (Prepare view what just sig) (prepare-fate w.read c.read view what just sig (spell_content version what) (spell_certificate phases just) (ltb-true view (2 ^ 32) a.0) a.1 w.fate c.fate))
-  whole (PreCommit view shown sig) = shown-whole PreCommit 3 view shown sig (known-shown 3 refl refl refl refl) refl
-  whole (Commit view shown sig) = shown-whole Commit 4 view shown sig (known-shown 4 refl refl refl refl) refl
-  whole (Decide view shown sig) = shown-whole Decide 5 view shown sig (known-shown 5 refl refl refl refl) refl
-  whole (Vote phase view d sig) = go (fits_vote phases phase view d sig) refl
+  whole-body (Pre_commit_body view shown) sig = shown-whole PreCommit 3 view shown sig (known-shown 3 refl refl refl refl) refl
+  whole-body (Commit_body view shown) sig = shown-whole Commit 4 view shown sig (known-shown 4 refl refl refl refl) refl
+  whole-body (Decide_body view shown) sig = shown-whole Decide 5 view shown sig (known-shown 5 refl refl refl refl) refl
+  whole-body (Vote_body phase view d) sig = go (fits_vote phases phase view d sig) refl
     where
       go : (b : Bool) → fits_vote phases phase view d sig ≡ b → Whole (spell phases version (Vote phase view d sig)) (parse phases version) (Vote phase view d sig)
       go false q = inr (rw q none)
@@ -380,6 +385,9 @@ module _ (phases version : ℕ) where
           let b = and-true (is_view view) _ a.1 in
           let c = and-true (length d == 32) (is_signature sig) b.1 in
           inl (rw q (vote-again phase view d sig a.0 (ltb-true view (2 ^ 32) b.0) ((Decides-eqb (length d) 32).0 c.0) c.1))
+
+  pub whole : (msg : Message) → Whole (spell phases version msg) (parse phases version) msg
+  whole msg = whole-body msg.body msg.sig
 
   pub message-grammar : IsGrammar (spell phases version) (parse phases version)
   message-grammar = record {
@@ -395,21 +403,24 @@ module _ (phases version : ℕ) where
       subst (λ (x : List ℕ). Again x (parse phases version) (make view shown sig)) (sym h.row)
       (shown-fate true make kind view shown sig h.certificate known fields ((Decides-eqb phases 3).1 h.three) h.view_fits h.signed (certificate-again phases shown h.certificate h.spelled))
 
-  pub table-again : (msg : Message) (bytes : List ℕ) → IsSpelledMessage phases version msg bytes → Again bytes (parse phases version) msg
-  table-again (NewView round high sig) bytes h =
+  table-again-body : (body : Body) (sig : List ℕ) (bytes : List ℕ) → IsSpelledMessage phases version (signed body sig) bytes → Again bytes (parse phases version) (signed body sig)
+  table-again-body (New_view_body round high) sig bytes h =
       subst (λ (x : List ℕ). Again x (parse phases version) (NewView round high sig)) (sym h.row)
       (new_view-fate true round high sig h.certificate h.round_fits h.signed (certificate-again phases high h.certificate h.spelled))
-  table-again (Prepare view what just sig) bytes h =
+  table-again-body (Prepare_body view what just) sig bytes h =
       let w = content-table version what h.behind h.what_is in
       let read = subst (λ (x : List ℕ). Again x (parse_content version) what) (sym w.0) w.1 in
       subst (λ (x : List ℕ). Again x (parse phases version) (Prepare view what just sig)) (sym h.row)
       (prepare-fate true true view what just sig h.behind h.certificate h.view_fits h.signed read (certificate-again phases just h.certificate h.spelled))
-  table-again (PreCommit view shown sig) bytes h = shown-table PreCommit 3 view shown sig bytes (known-shown 3 refl refl refl refl) refl h
-  table-again (Commit view shown sig) bytes h = shown-table Commit 4 view shown sig bytes (known-shown 4 refl refl refl refl) refl h
-  table-again (Decide view shown sig) bytes h = shown-table Decide 5 view shown sig bytes (known-shown 5 refl refl refl refl) refl h
-  table-again (Vote phase view d sig) bytes h =
+  table-again-body (Pre_commit_body view shown) sig bytes h = shown-table PreCommit 3 view shown sig bytes (known-shown 3 refl refl refl refl) refl h
+  table-again-body (Commit_body view shown) sig bytes h = shown-table Commit 4 view shown sig bytes (known-shown 4 refl refl refl refl) refl h
+  table-again-body (Decide_body view shown) sig bytes h = shown-table Decide 5 view shown sig bytes (known-shown 5 refl refl refl refl) refl h
+  table-again-body (Vote_body phase view d) sig bytes h =
       subst (λ (x : List ℕ). Again x (parse phases version) (Vote phase view d sig)) (sym h.row)
       (vote-again phase view d sig (both _ _ (le-leb 1 phase h.phase_low) (le-leb phase phases h.phase_fits)) h.view_fits h.digest_fits h.signed)
+
+  pub table-again : (msg : Message) (bytes : List ℕ) → IsSpelledMessage phases version msg bytes → Again bytes (parse phases version) msg
+  table-again msg bytes h = table-again-body msg.body msg.sig bytes h
 
   -- decoding all of the bytes is the relation of the encoding
   pub message-related : (msg : Message) (bytes : List ℕ) → (parse phases version bytes ≡ Good msg []) ↔ IsSpelledMessage phases version msg bytes

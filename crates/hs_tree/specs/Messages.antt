@@ -2,7 +2,7 @@
 -- table is also stated as a relation, so each message has exactly one encoding. A bad field is named where it stands:
 -- among votes it is the first node that does not ascend. Numbers have their highest byte first.
 --
---   message       its number (1 byte), its fields, and its signature
+--   message       its number (1 byte), the fields of its body, and its sender's signature
 --   NewView       1: round (2), certificate
 --   Prepare       2: view (4), what the node holds (as in an entry of Raft's log), certificate
 --   PreCommit, Commit, Decide     3, 4, 5: view (4), certificate; where nodes pass three phases
@@ -15,7 +15,9 @@ use Rattle.iss_sb.specs.declared.content.Content.{Content}
 use Rattle.iss_sb.specs.Content.{IsSpelledContent, parse_content, spell_content}
 use Rattle.hs_tree.specs.declared.certificates.Certificate.{Certificate}
 use Rattle.hs_tree.specs.declared.messages.Message.{Message}
-use Rattle.hs_tree.specs.declared.messages.Message.TheVariants.{NewView, Prepare, PreCommit, Commit, Decide, Vote}
+use Rattle.hs_tree.specs.declared.messages.Body.{Body}
+use Rattle.hs_tree.specs.declared.messages.Body.TheVariants.{NewView as New_view_body, Prepare as Prepare_body, PreCommit as Pre_commit_body, Commit as Commit_body, Decide as Decide_body, Vote as Vote_body}
+use Rattle.hs_tree.specs.Signed.{NewView, Prepare, PreCommit, Commit, Decide, Vote, signed}
 use Rattle.hs_tree.specs.Certificates.{IsSpelledCertificate, is_phase, parse_certificate, spell_certificate}
 
 -- ---- Which messages have an encoding
@@ -54,18 +56,21 @@ abbrev pub spell_shown : ℕ → ℕ → ℕ → Certificate → List ℕ → Li
 spell_shown phases kind view shown sig =
     if fits_shown phases view sig then shown_row kind view (spell_certificate phases shown) sig else no_message
 
-abbrev pub spell : ℕ → ℕ → Message → List ℕ
-spell phases version (NewView round high sig) =
+abbrev pub spell_signed : ℕ → ℕ → Body → List ℕ → List ℕ
+spell_signed phases version (New_view_body round high) sig =
     if nat_lt round (2 ^ 16) && is_signature sig then new_view_row round (spell_certificate phases high) sig
     else no_message
-spell phases version (Prepare view what just sig) =
+spell_signed phases version (Prepare_body view what just) sig =
     if is_view view && is_signature sig
     then prepare_row view (spell_content version what) (spell_certificate phases just) sig else no_message
-spell phases version (PreCommit view shown sig) = spell_shown phases 3 view shown sig
-spell phases version (Commit view shown sig) = spell_shown phases 4 view shown sig
-spell phases version (Decide view shown sig) = spell_shown phases 5 view shown sig
-spell phases version (Vote phase view d sig) =
+spell_signed phases version (Pre_commit_body view shown) sig = spell_shown phases 3 view shown sig
+spell_signed phases version (Commit_body view shown) sig = spell_shown phases 4 view shown sig
+spell_signed phases version (Decide_body view shown) sig = spell_shown phases 5 view shown sig
+spell_signed phases version (Vote_body phase view d) sig =
     if fits_vote phases phase view d sig then vote_row phase view d sig else no_message
+
+abbrev pub spell : ℕ → ℕ → Message → List ℕ
+spell phases version msg = spell_signed phases version msg.body msg.sig
 
 -- ---- The encoding as a relation between messages and bytes
 
@@ -102,15 +107,18 @@ pub record IsSpelledVote (phases phase view : ℕ) (d sig bytes : List ℕ) : Ty
   pub signed : is_signature sig ≡ true
   pub row : bytes ≡ vote_row phase view d sig
 
+abbrev pub IsSpelledSigned : ℕ → ℕ → Body → List ℕ → List ℕ → Type 0
+IsSpelledSigned phases version (New_view_body round high) sig bytes = IsSpelledNewView phases round high sig bytes
+IsSpelledSigned phases version (Prepare_body view what just) sig bytes =
+    IsSpelledPrepare phases version view what just sig bytes
+IsSpelledSigned phases version (Pre_commit_body view shown) sig bytes = IsSpelledShown phases 3 view shown sig bytes
+IsSpelledSigned phases version (Commit_body view shown) sig bytes = IsSpelledShown phases 4 view shown sig bytes
+IsSpelledSigned phases version (Decide_body view shown) sig bytes = IsSpelledShown phases 5 view shown sig bytes
+IsSpelledSigned phases version (Vote_body phase view d) sig bytes = IsSpelledVote phases phase view d sig bytes
+
 -- rule: HotStuff: A message has one encoding for its number of phases and version
 abbrev pub IsSpelledMessage : ℕ → ℕ → Message → List ℕ → Type 0
-IsSpelledMessage phases version (NewView round high sig) bytes = IsSpelledNewView phases round high sig bytes
-IsSpelledMessage phases version (Prepare view what just sig) bytes =
-    IsSpelledPrepare phases version view what just sig bytes
-IsSpelledMessage phases version (PreCommit view shown sig) bytes = IsSpelledShown phases 3 view shown sig bytes
-IsSpelledMessage phases version (Commit view shown sig) bytes = IsSpelledShown phases 4 view shown sig bytes
-IsSpelledMessage phases version (Decide view shown sig) bytes = IsSpelledShown phases 5 view shown sig bytes
-IsSpelledMessage phases version (Vote phase view d sig) bytes = IsSpelledVote phases phase view d sig bytes
+IsSpelledMessage phases version msg bytes = IsSpelledSigned phases version msg.body msg.sig bytes
 
 -- ---- Decoding
 

@@ -3,10 +3,11 @@ ghost use Rattle.std.specs.Prelude.{◌≡◌, ℕ, List, IfOk, OnOk, Err};
 ghost use Rattle.iss_request.specs.Fields.{IsRead, IsUnreadable, and_bytes};
 ghost use Rattle.hs_tree.specs.declared.certificates.Certificate.{Certificate};
 ghost use Rattle.hs_tree.specs.declared.messages.Message.{Message};
+ghost use Rattle.hs_tree.specs.Signed.{NewView, Prepare, Vote};
 ghost use Rattle.hs_tree.specs.Messages.{is_message, parse, parse_new_view, parse_prepare, parse_shown, parse_vote, spell, spell_shown};
 
 use crate::certificates::{Certificate, is_phase, read_certificate, read_phase, write_certificate};
-use crate::messages::{Message, Poll};
+use crate::messages::{Body, Message, Poll};
 use iss_request::{Bytes, DecodeError, Fields, NoMemory, Writer, has_shape, read_signature};
 use iss_sb::{Content, read_content, write_content};
 use std::alloc::Global;
@@ -39,28 +40,17 @@ pub const VOTE: u8 = 6;
 pub fn write(phases: u8, msg: &Message, out: &mut Writer) -> Result<(), NoMemory>
     ensures { OnOk result (out.new ≡ and_bytes out.old (spell phases out.old.version msg.now)) }
 {
-    match msg {
-        Message::NewView { round, high, sig } => write_new_view(phases, *round, high, sig, out),
-        Message::Prepare {
-            view,
-            what,
-            just,
-            sig,
-        } => write_prepare(phases, *view, what, just, sig, out),
-        Message::PreCommit { view, shown, sig } => {
-            write_shown(phases, PRE_COMMIT, *view, shown, sig, out)
-        }
-        Message::Commit { view, shown, sig } => {
-            write_shown(phases, COMMIT, *view, shown, sig, out)
-        }
-        Message::Decide { view, shown, sig } => {
-            write_shown(phases, DECIDE, *view, shown, sig, out)
-        }
-        Message::Vote {
+    let sig = &msg.sig;
+    match &msg.body {
+        Body::NewView { round, high } => write_new_view(phases, *round, high, sig, out),
+        Body::Prepare { view, what, just } => write_prepare(phases, *view, what, just, sig, out),
+        Body::PreCommit { view, shown } => write_shown(phases, PRE_COMMIT, *view, shown, sig, out),
+        Body::Commit { view, shown } => write_shown(phases, COMMIT, *view, shown, sig, out),
+        Body::Decide { view, shown } => write_shown(phases, DECIDE, *view, shown, sig, out),
+        Body::Vote {
             phase,
             view,
             digest,
-            sig,
         } => {
             let poll = Poll {
                 phase: *phase,
@@ -80,7 +70,7 @@ fn write_new_view(
     out: &mut Writer,
 ) -> Result<(), NoMemory>
     ensures { OnOk result (out.new ≡ and_bytes out.old
-        (spell phases out.old.version (Message.NewView round high.now sig.now))) }
+        (spell phases out.old.version (NewView round high.now sig.now))) }
 {
     let sig = sig.as_slice();
     if !has_shape(sig) {
@@ -101,7 +91,7 @@ fn write_prepare(
     out: &mut Writer,
 ) -> Result<(), NoMemory>
     ensures { OnOk result (out.new ≡ and_bytes out.old
-        (spell phases out.old.version (Message.Prepare view what.now just.now sig.now))) }
+        (spell phases out.old.version (Prepare view what.now just.now sig.now))) }
 {
     let sig = sig.as_slice();
     if !has_shape(sig) {
@@ -137,7 +127,7 @@ fn write_shown(
 
 fn write_vote(phases: u8, poll: &Poll, sig: &Bytes, out: &mut Writer) -> Result<(), NoMemory>
     ensures { OnOk result (out.new ≡ and_bytes out.old
-        (spell phases out.old.version (Message.Vote poll.now.phase poll.now.view poll.now.digest sig.now))) }
+        (spell phases out.old.version (Vote poll.now.phase poll.now.view poll.now.digest sig.now))) }
 {
     let sig = sig.as_slice();
     if !is_phase(phases, poll.phase) || !has_shape(sig) {
@@ -179,27 +169,27 @@ pub fn read(alloc: Global, phases: u8, f: &mut Fields) -> Result<Message, Decode
         PREPARE => read_prepare(alloc, phases, f),
         PRE_COMMIT => {
             let s = read_shown(alloc, phases, f)?;
-            Ok(Message::PreCommit {
+            let body = Body::PreCommit {
                 view: s.view,
                 shown: s.shown,
-                sig: s.sig,
-            })
+            };
+            Ok(Message { body, sig: s.sig })
         }
         COMMIT => {
             let s = read_shown(alloc, phases, f)?;
-            Ok(Message::Commit {
+            let body = Body::Commit {
                 view: s.view,
                 shown: s.shown,
-                sig: s.sig,
-            })
+            };
+            Ok(Message { body, sig: s.sig })
         }
         DECIDE => {
             let s = read_shown(alloc, phases, f)?;
-            Ok(Message::Decide {
+            let body = Body::Decide {
                 view: s.view,
                 shown: s.shown,
-                sig: s.sig,
-            })
+            };
+            Ok(Message { body, sig: s.sig })
         }
         _ => read_vote(alloc, phases, f),
     }
@@ -212,7 +202,8 @@ fn read_new_view(alloc: Global, phases: u8, f: &mut Fields) -> Result<Message, D
     let round = f.read_u16()?;
     let high = read_certificate(alloc, phases, f)?;
     let sig = read_signature(alloc, f)?;
-    Ok(Message::NewView { round, high, sig })
+    let body = Body::NewView { round, high };
+    Ok(Message { body, sig })
 }
 
 fn read_prepare(alloc: Global, phases: u8, f: &mut Fields) -> Result<Message, DecodeError>
@@ -224,12 +215,8 @@ fn read_prepare(alloc: Global, phases: u8, f: &mut Fields) -> Result<Message, De
     let what = read_content(alloc, f)?;
     let just = read_certificate(alloc, phases, f)?;
     let sig = read_signature(alloc, f)?;
-    Ok(Message::Prepare {
-        view,
-        what,
-        just,
-        sig,
-    })
+    let body = Body::Prepare { view, what, just };
+    Ok(Message { body, sig })
 }
 
 // The fields of a PreCommit, Commit or Decide.
@@ -260,10 +247,10 @@ fn read_vote(alloc: Global, phases: u8, f: &mut Fields) -> Result<Message, Decod
     let view = f.read_u32()?;
     let digest = f.read_digest()?;
     let sig = read_signature(alloc, f)?;
-    Ok(Message::Vote {
+    let body = Body::Vote {
         phase,
         view,
         digest,
-        sig,
-    })
+    };
+    Ok(Message { body, sig })
 }

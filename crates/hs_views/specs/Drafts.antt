@@ -4,7 +4,8 @@ use Rattle.iss_sb.specs.declared.effects.Params.{Params}
 use Rattle.iss_sb.specs.declared.effects.To.{To}
 use Rattle.iss_sb.specs.declared.effects.To.TheVariants.{All as To_all}
 use Rattle.hs_tree.specs.declared.messages.Message.{Message}
-use Rattle.hs_tree.specs.Statements.{own_statement}
+use Rattle.hs_tree.specs.Signed.{signed}
+use Rattle.hs_tree.specs.Statements.{stated}
 use Rattle.hs_tree.specs.Tree.{Form}
 use Rattle.hs_views.specs.declared.drafts.Draft.{Draft}
 use Rattle.hs_views.specs.declared.drafts.Recipient.{Recipient}
@@ -21,10 +22,10 @@ abbrev pub count_of : Option Draft → ℕ
 count_of None = 0
 count_of (Some d) = 1
 
--- the draft is this one message with its recipient, and has the statement that its sender signs
+-- the draft is this one unsigned message with its recipient, and has the statement of its body
 pub record IsDraft (form : Form) (p : Params) (d : Draft) (xs : List (To × Message)) : Type 0 where
-  pub message : xs ≡ (to_nodes p d.to, d.msg) ∷ []
-  pub statement : d.statement ≡ own_statement form p d.msg
+  pub message : xs ≡ (to_nodes p d.to, signed d.body []) ∷ []
+  pub statement : d.statement ≡ stated form p d.body
 
 -- the optional draft is this list of unsigned messages, which has at most one
 abbrev pub AreDrafts : Form → Params → Option Draft → List (To × Message) → Type 0

@@ -5,7 +5,7 @@ use Rattle.iss_sb.specs.declared.effects.To.{To}
 use Rattle.iss_sb.specs.declared.effects.To.TheVariants.{One as To_one}
 use Rattle.iss_sb.specs.Statements.{signature}
 use Rattle.hs_tree.specs.declared.messages.Message.{Message}
-use Rattle.hs_tree.specs.declared.messages.Message.TheVariants.{Vote}
+use Rattle.hs_tree.specs.Signed.{Vote, signed}
 use Rattle.hs_tree.specs.Statements.{own_statement, with_signature}
 use Rattle.hs_tree.specs.Tree.{Form}
 use Rattle.hs_views.specs.Views.{leader_of, round_of}

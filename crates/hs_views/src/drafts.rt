@@ -6,7 +6,7 @@ ghost use Rattle.iss_sb.specs.Calls.{AreToNodes, IsToNode};
 ghost use Rattle.iss_sb.specs.declared.effects.To.{To};
 ghost use Rattle.iss_sb.specs.declared.effects.To.TheVariants.{All as To_all};
 ghost use Rattle.hs_tree.specs.declared.messages.Message.{Message};
-ghost use Rattle.hs_tree.specs.declared.messages.Message.TheVariants.{NewView, Prepare};
+ghost use Rattle.hs_tree.specs.Signed.{NewView, Prepare};
 ghost use Rattle.hs_tree.specs.Protocols.{form_of};
 ghost use Rattle.hs_tree.specs.Statements.{node_digest};
 ghost use Rattle.hs_tree.specs.Tree.{Form};
@@ -17,7 +17,7 @@ use crate::fields::Proposal;
 use crate::views::{leader_of, round_of};
 use hs_tree::signing::{node_statement, round_statement, start_statement, vote_statement};
 use hs_tree::wire::PREPARE;
-use hs_tree::{Certificate, Message, Poll, Protocol, with_signature};
+use hs_tree::{Body, Certificate, Message, Poll, Protocol};
 use iss_keys::Keys;
 use iss_request::{Bytes, NoMemory, Seq};
 use iss_sb::{Params, To, sign};
@@ -30,11 +30,11 @@ pub enum Recipient {
     Leader(u16),
 }
 
-/// An unsigned message, with its recipient and the statement that its sender signs.
+/// The body of a message, with its recipient and the statement that its sender signs.
 #[derive(Drop)]
 pub struct Draft {
     pub to: Recipient,
-    pub msg: Message,
+    pub body: Body,
     pub statement: Bytes,
 }
 
@@ -65,14 +65,12 @@ pub fn vote_draft(
     let out = start_statement(alloc, p, tag)?;
     let statement = vote_statement(out, &poll)?;
     let round = round_of(poll.view);
-    let sig = Bytes::new(alloc);
     Ok(Draft {
         to: Recipient::Leader(round),
-        msg: Message::Vote {
+        body: Body::Vote {
             phase: poll.phase,
             view: poll.view,
             digest: poll.digest,
-            sig,
         },
         statement,
     })
@@ -95,17 +93,11 @@ pub fn proposal_draft(
     let view = proposal.view;
     let out = start_statement(alloc, p, tag)?;
     let statement = node_statement(out, PREPARE, view, digest)?;
-    let sig = Bytes::new(alloc);
     let what = proposal.what;
     let just = proposal.just;
     Ok(Draft {
         to: Recipient::All,
-        msg: Message::Prepare {
-            view,
-            what,
-            just,
-            sig,
-        },
+        body: Body::Prepare { view, what, just },
         statement,
     })
 }
@@ -124,10 +116,9 @@ pub fn round_draft(
     let tag = protocol.tag();
     let out = start_statement(alloc, p, tag)?;
     let statement = round_statement(out, round, high.view())?;
-    let sig = Bytes::new(alloc);
     Ok(Draft {
         to: Recipient::Leader(round),
-        msg: Message::NewView { round, high, sig },
+        body: Body::NewView { round, high },
         statement,
     })
 }
@@ -153,6 +144,6 @@ pub fn send(
     };
     let to = to_nodes(p, draft.to);
     let sig = sign(&draft.statement, keys)?;
-    let msg = with_signature(draft.msg, sig);
-    sends.push((to, msg))
+    let body = draft.body;
+    sends.push((to, Message { body, sig }))
 }

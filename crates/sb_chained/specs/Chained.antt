@@ -16,7 +16,9 @@ use Rattle.iss_sb.specs.Evidence.{Item, Made, Module, accepts}
 use Rattle.iss_sb.specs.declared.content.Content.{Content}
 use Rattle.hs_tree.specs.declared.certificates.Certificate.{Certificate}
 use Rattle.hs_tree.specs.declared.messages.Message.{Message}
-use Rattle.hs_tree.specs.declared.messages.Message.TheVariants.{NewView, Prepare, PreCommit, Commit, Decide, Vote}
+use Rattle.hs_tree.specs.declared.messages.Body.{Body}
+use Rattle.hs_tree.specs.declared.messages.Body.TheVariants.{NewView, Prepare}
+use Rattle.hs_tree.specs.Signed.{signed}
 use Rattle.hs_tree.specs.Messages.{parse, spell}
 use Rattle.hs_tree.specs.Statements.{claims, node_string}
 use Rattle.hs_tree.specs.Tree.{Node, branch, chained as form, strings_of, value_at_slot, value_of}
@@ -37,14 +39,13 @@ abbrev pub offered : Params → State → List (Slot × Batch) → Content → C
 offered p s old what just = offered_at p old what (slots_below s just)
 
 -- the batch that the replica accepts with a message
-abbrev pub asked_by : Params → State → List (Slot × Batch) → ℕ → Message → Option (Slot × Batch)
-asked_by p s old from (NewView round high sig) = None
-asked_by p s old from (Prepare view what just sig) =
+abbrev pub asked_of : Params → State → List (Slot × Batch) → ℕ → Body → Option (Slot × Batch)
+asked_of p s old from (Prepare view what just) =
     if may_prepare p s from view what just then offered p s old what just else None
-asked_by p s old from (PreCommit view shown sig) = None
-asked_by p s old from (Commit view shown sig) = None
-asked_by p s old from (Decide view shown sig) = None
-asked_by p s old from (Vote phase view d sig) = None
+asked_of p s old from other = None
+
+abbrev pub asked_by : Params → State → List (Slot × Batch) → ℕ → Message → Option (Slot × Batch)
+asked_by p s old from msg = asked_of p s old from msg.body
 
 -- the batch that the replica accepts with an input
 abbrev pub asks : Params → ℕ → List (Item Message) → Input Message → Option (Slot × Batch)
@@ -59,14 +60,13 @@ abbrev pub voted : Params → ℕ → List ℕ → List (To × Message)
 voted p view d = vote_for p 1 view d
 
 -- the answer to a message: a vote for a proposal that is taken
-abbrev pub answers_heard : Params → State → ℕ → Message → List (To × Message)
-answers_heard p s from (NewView round high sig) = []
-answers_heard p s from (Prepare view what just sig) =
+abbrev pub answers_to : Params → State → ℕ → Body → List (To × Message)
+answers_to p s from (Prepare view what just) =
     if may_prepare p s from view what just then voted p view (node_digest p view what just) else []
-answers_heard p s from (PreCommit view shown sig) = []
-answers_heard p s from (Commit view shown sig) = []
-answers_heard p s from (Decide view shown sig) = []
-answers_heard p s from (Vote phase view d sig) = []
+answers_to p s from other = []
+
+abbrev pub answers_heard : Params → State → ℕ → Message → List (To × Message)
+answers_heard p s from msg = answers_to p s from msg.body
 
 -- the answer to an input
 -- rule: Chained HotStuff: A timeout enters the next round and tells its leader the highest certificate
@@ -74,12 +74,12 @@ abbrev pub answers : Params → State → Input Message → List (To × Message)
 answers p s (Cast slot batch) = []
 answers p s (Receive from msg) = answers_heard p s from.0 msg
 answers p s Timeout =
-    if may_end s then (to_leader p (suc (round_of s.view)), NewView (suc (round_of s.view)) s.high []) ∷ [] else []
+    if may_end s then (to_leader p (suc (round_of s.view)), signed (NewView (suc (round_of s.view)) s.high) []) ∷ [] else []
 
 -- the Prepare message of a turn
 abbrev pub proposals : Option Turn → List (To × Message)
 proposals None = []
-proposals (Some t) = (To_all, Prepare t.view t.what t.just []) ∷ []
+proposals (Some t) = (To_all, signed (Prepare t.view t.what t.just) []) ∷ []
 
 -- all unsigned messages of a step
 abbrev pub drafts : Params → ℕ → State → Input Message → List (To × Message)
@@ -94,14 +94,13 @@ sign_all p me leaf xs = signed_from form p me leaf xs
 abbrev pub strings_at : Params → ℕ → Content → Certificate → List (List ℕ)
 strings_at p view what just = strings_of p.setup.version (value_of what) ++ node_string form p view what just ∷ []
 
-abbrev pub taken_strings : Params → State → ℕ → Message → List (List ℕ)
-taken_strings p s from (NewView round high sig) = []
-taken_strings p s from (Prepare view what just sig) =
+abbrev pub strings_of_body : Params → State → ℕ → Body → List (List ℕ)
+strings_of_body p s from (Prepare view what just) =
     if may_prepare p s from view what just then strings_at p view what just else []
-taken_strings p s from (PreCommit view shown sig) = []
-taken_strings p s from (Commit view shown sig) = []
-taken_strings p s from (Decide view shown sig) = []
-taken_strings p s from (Vote phase view d sig) = []
+strings_of_body p s from other = []
+
+abbrev pub taken_strings : Params → State → ℕ → Message → List (List ℕ)
+taken_strings p s from msg = strings_of_body p s from msg.body
 
 abbrev pub taken_of : Params → State → Input Message → List (List ℕ)
 taken_of p s (Cast slot batch) = []

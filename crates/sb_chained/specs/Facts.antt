@@ -18,7 +18,7 @@ use Rattle.iss_sb.specs.Legal.{Front}
 use Rattle.iss_sb.specs.declared.content.Content.{Content}
 use Rattle.iss_sb.specs.declared.content.Content.TheVariants.{Holds}
 use Rattle.hs_tree.specs.declared.messages.Message.{Message}
-use Rattle.hs_tree.specs.declared.messages.Message.TheVariants.{Vote}
+use Rattle.hs_tree.specs.Signed.{Vote}
 use Rattle.hs_tree.specs.Certificates.{digest_of}
 use Rattle.hs_tree.specs.Statements.{inside}
 use Rattle.hs_tree.specs.Tree.{root, value_at_slot}

@@ -5,7 +5,7 @@ ghost use Rattle.iss_request.specs.declared.ids.NodeId.{NodeId};
 ghost use Rattle.iss_request.specs.declared.ids.Slot.{Slot};
 ghost use Rattle.iss_request.specs.declared.requests.Batch.{Batch};
 ghost use Rattle.iss_sb.specs.Calls.{AllIn, IsGoodInput, IsGoodParams, IsTrueStep, named, slots_of};
-ghost use Rattle.hs_tree.specs.declared.messages.Message.TheVariants.{NewView, Prepare, Vote};
+ghost use Rattle.hs_tree.specs.Signed.{NewView, Prepare, Vote};
 ghost use Rattle.hs_views.specs.Accepted.{AreAccepted};
 ghost use Rattle.sb_chained.specs.Chained.{asked_by, chained, offered};
 ghost use Rattle.sb_chained.specs.Internal.Instances.{IsDeciding, IsShown, Refines, Takes};
@@ -16,7 +16,7 @@ ghost use Rattle.sb_chained.specs.Refines.{RefinesState};
 use crate::accepting::{cast_slot, offered_slot};
 use crate::outcomes::{Outcome, Taken};
 use crate::state::{Node, PHASE};
-use hs_tree::{Certificate, Message, Poll, Protocol, claims};
+use hs_tree::{Body, Certificate, Message, Poll, Protocol, claims};
 use hs_views::{Accepted, Proposal, SignedVote, keep_at, keep_what, pair};
 use iss_keys::Keys;
 use iss_request::{
@@ -72,13 +72,8 @@ impl Chained {
             AreAccepted self.now.accepted old →
             named result ≡ asked_by p.now s old from.0 msg.now }
     {
-        match msg {
-            Message::Prepare {
-                view,
-                what,
-                just,
-                ..
-            } => self.offered(p, from, *view, what, just),
+        match &msg.body {
+            Body::Prepare { view, what, just } => self.offered(p, from, *view, what, just),
             _ => None,
         }
     }
@@ -274,34 +269,29 @@ impl Chained {
     ) -> Result<Taken, NoMemory>
         ensures { IfOk result (λ t. Takes context.now.p.now self.old self.new (Input.Receive from msg) t) }
     {
-        match msg {
-            Message::NewView { round, high, .. } => self.new_view(context, from, round, high),
-            Message::Prepare {
-                view,
-                what,
-                just,
-                ..
-            } => self.prepare(context, from, Proposal { view, what, just }),
-            Message::Vote {
+        match msg.body {
+            Body::NewView { round, high } => self.new_view(context, from, round, high),
+            Body::Prepare { view, what, just } => self.prepare(
+                context,
+                from,
+                Proposal { view, what, just },
+            ),
+            Body::Vote {
                 phase,
                 view,
                 digest,
-                sig,
             } => {
                 let poll = Poll {
                     phase,
                     view,
                     digest,
                 };
-                let vote = SignedVote { poll, sig };
+                let vote = SignedVote { poll, sig: msg.sig };
                 self.vote(context, from, vote)
             }
-            Message::PreCommit { .. } => Ok(Taken::of(
-                context.alloc,
-                Outcome::nothing(context.alloc),
-            )),
-            Message::Commit { .. } => Ok(Taken::of(context.alloc, Outcome::nothing(context.alloc))),
-            Message::Decide { .. } => Ok(Taken::of(context.alloc, Outcome::nothing(context.alloc))),
+            Body::PreCommit { .. } => Ok(Taken::of(context.alloc, Outcome::nothing(context.alloc))),
+            Body::Commit { .. } => Ok(Taken::of(context.alloc, Outcome::nothing(context.alloc))),
+            Body::Decide { .. } => Ok(Taken::of(context.alloc, Outcome::nothing(context.alloc))),
         }
     }
 

@@ -18,7 +18,7 @@ use Rattle.iss_sb.specs.Legal.{Front}
 use Rattle.iss_sb.specs.declared.content.Content.{Content}
 use Rattle.iss_sb.specs.declared.content.Content.TheVariants.{Holds}
 use Rattle.hs_tree.specs.declared.messages.Message.{Message}
-use Rattle.hs_tree.specs.declared.messages.Message.TheVariants.{Vote}
+use Rattle.hs_tree.specs.Signed.{Vote}
 use Rattle.hs_tree.specs.Certificates.{digest_of, is_phase}
 use Rattle.hs_tree.specs.Paths.{Has, Path, hash}
 use Rattle.hs_tree.specs.Statements.{inside}

@@ -16,9 +16,11 @@ use Rattle.iss_sb.specs.Evidence.{Item, Made, Module, accepts}
 use Rattle.iss_sb.specs.declared.content.Content.{Content}
 use Rattle.hs_tree.specs.declared.certificates.Certificate.{Certificate}
 use Rattle.hs_tree.specs.declared.messages.Message.{Message}
-use Rattle.hs_tree.specs.declared.messages.Message.TheVariants.{NewView, Prepare, PreCommit, Commit, Decide, Vote}
+use Rattle.hs_tree.specs.declared.messages.Body.{Body}
+use Rattle.hs_tree.specs.declared.messages.Body.TheVariants.{NewView, Prepare, PreCommit, Commit, Decide, Vote}
 use Rattle.hs_tree.specs.Certificates.{digest_of}
 use Rattle.hs_tree.specs.Messages.{parse, spell}
+use Rattle.hs_tree.specs.Signed.{signed}
 use Rattle.hs_tree.specs.Statements.{claims, node_string}
 use Rattle.hs_tree.specs.Tree.{basic, branch, is_known, strings_of, value_at_slot, value_of}
 use Rattle.sb_hotstuff.specs.Rules.{State, after, certificate, is_good, is_reached, keeps_vote, kept, may_cast, may_end, may_prepare, may_second, may_third, node_digest, proposed, slots_below, start}
@@ -38,14 +40,13 @@ abbrev pub offered : Params → State → List (Slot × Batch) → Content → C
 offered p s old what just = offered_at p old what (slots_below s just)
 
 -- the batch that the replica accepts with a message
-abbrev pub asked_by : Params → State → List (Slot × Batch) → ℕ → Message → Option (Slot × Batch)
-asked_by p s old from (NewView round high sig) = None
-asked_by p s old from (Prepare view what just sig) =
+abbrev pub asked_of : Params → State → List (Slot × Batch) → ℕ → Body → Option (Slot × Batch)
+asked_of p s old from (Prepare view what just) =
     if may_prepare p s from view what just then offered p s old what just else None
-asked_by p s old from (PreCommit view shown sig) = None
-asked_by p s old from (Commit view shown sig) = None
-asked_by p s old from (Decide view shown sig) = None
-asked_by p s old from (Vote phase view d sig) = None
+asked_of p s old from other = None
+
+abbrev pub asked_by : Params → State → List (Slot × Batch) → ℕ → Message → Option (Slot × Batch)
+asked_by p s old from msg = asked_of p s old from msg.body
 
 -- the batch that a replica in state s accepts with an input, after these batches
 abbrev pub asked_in : Params → ℕ → State → List (Slot × Batch) → Input Message → Option (Slot × Batch)
@@ -65,21 +66,22 @@ voted p phase view d = vote_for p phase view d
 -- the message that broadcasts a quorum certificate of a phase: PreCommit, Commit or Decide
 abbrev pub shows : ℕ → ℕ → Certificate → Message
 shows phase view c =
-    if phase == 1 then PreCommit view c [] else (if phase == 2 then Commit view c [] else Decide view c [])
+    if phase == 1 then signed (PreCommit view c) [] else
+    (if phase == 2 then signed (Commit view c) [] else signed (Decide view c) [])
 
 -- the answer to a message: a vote, a new certificate, or nothing
-abbrev pub answers_heard : Params → State → State → ℕ → Message → List (To × Message)
-answers_heard p s k from (NewView round high sig) = []
-answers_heard p s k from (Prepare view what just sig) =
+abbrev pub answers_to : Params → State → State → ℕ → Body → List (To × Message)
+answers_to p s k from (Prepare view what just) =
     if may_prepare p s from view what just then voted p 1 view (node_digest p view what just) else []
-answers_heard p s k from (PreCommit view shown sig) =
-    if may_second p s view shown then voted p 2 view (digest_of shown) else []
-answers_heard p s k from (Commit view shown sig) =
-    if may_third p s view shown then voted p 3 view (digest_of shown) else []
-answers_heard p s k from (Decide view shown sig) = []
-answers_heard p s k from (Vote phase view d sig) =
+answers_to p s k from (PreCommit view shown) = if may_second p s view shown then voted p 2 view (digest_of shown) else []
+answers_to p s k from (Commit view shown) = if may_third p s view shown then voted p 3 view (digest_of shown) else []
+answers_to p s k from (Vote phase view d) =
     if keeps_vote p s from phase view d && is_reached p k phase view d
     then (To_all, shows phase view (certificate p k phase view d)) ∷ [] else []
+answers_to p s k from other = []
+
+abbrev pub answers_heard : Params → State → State → ℕ → Message → List (To × Message)
+answers_heard p s k from msg = answers_to p s k from msg.body
 
 -- the answer to an input
 -- rule: HotStuff: A timeout enters the next round and tells its leader the highest certificate
@@ -87,12 +89,12 @@ abbrev pub answers : Params → State → State → Input Message → List (To �
 answers p s k (Cast slot batch) = []
 answers p s k (Receive from msg) = answers_heard p s k from.0 msg
 answers p s k Timeout =
-    if may_end s then (to_leader p (suc (round_of s.view)), NewView (suc (round_of s.view)) s.high []) ∷ [] else []
+    if may_end s then (to_leader p (suc (round_of s.view)), signed (NewView (suc (round_of s.view)) s.high) []) ∷ [] else []
 
 -- the Prepare message of a turn
 abbrev pub proposals : Option Turn → List (To × Message)
 proposals None = []
-proposals (Some t) = (To_all, Prepare t.view t.what t.just []) ∷ []
+proposals (Some t) = (To_all, signed (Prepare t.view t.what t.just) []) ∷ []
 
 -- all unsigned messages of a step
 abbrev pub drafts : Params → ℕ → State → Input Message → List (To × Message)
@@ -107,14 +109,13 @@ sign_all p me leaf xs = signed_from basic p me leaf xs
 abbrev pub strings_at : Params → ℕ → Content → Certificate → List (List ℕ)
 strings_at p view what just = strings_of p.setup.version (value_of what) ++ node_string basic p view what just ∷ []
 
-abbrev pub taken_strings : Params → State → ℕ → Message → List (List ℕ)
-taken_strings p s from (NewView round high sig) = []
-taken_strings p s from (Prepare view what just sig) =
+abbrev pub strings_of_body : Params → State → ℕ → Body → List (List ℕ)
+strings_of_body p s from (Prepare view what just) =
     if may_prepare p s from view what just then strings_at p view what just else []
-taken_strings p s from (PreCommit view shown sig) = []
-taken_strings p s from (Commit view shown sig) = []
-taken_strings p s from (Decide view shown sig) = []
-taken_strings p s from (Vote phase view d sig) = []
+strings_of_body p s from other = []
+
+abbrev pub taken_strings : Params → State → ℕ → Message → List (List ℕ)
+taken_strings p s from msg = strings_of_body p s from msg.body
 
 abbrev pub taken_of : Params → State → Input Message → List (List ℕ)
 taken_of p s (Cast slot batch) = []
@@ -139,15 +140,14 @@ makes p me xs input leaf = record {
 -- ---- Decisions: a valid commitQC of a known node decides its branch
 
 -- the value that a message decides at slot n
-abbrev pub decides_heard : Params → State → Message → ℕ → Option Value
-decides_heard p s (NewView round high sig) n = None
-decides_heard p s (Prepare view what just sig) n = None
-decides_heard p s (PreCommit view shown sig) n = None
-decides_heard p s (Commit view shown sig) n = None
-decides_heard p s (Decide view shown sig) n =
+abbrev pub decides_by : Params → State → Body → ℕ → Option Value
+decides_by p s (Decide view shown) n =
     if is_good p 3 view shown && is_known s.tree (digest_of shown)
     then value_at_slot (branch s.tree (digest_of shown)) 0 p.slots n else None
-decides_heard p s (Vote phase view d sig) n = None
+decides_by p s other n = None
+
+abbrev pub decides_heard : Params → State → Message → ℕ → Option Value
+decides_heard p s msg n = decides_by p s msg.body n
 
 -- the value that an input decides at slot n
 -- rule: HotStuff: A certificate of the third phase delivers its node's branch, each slot once

@@ -1,7 +1,7 @@
 //! The rules of HotStuff, one function each: the next state, and what is sent.
 ghost use Rattle.std.specs.Prelude.{◌≡◌, List, ℕ, true, IfOk};
 ghost use Rattle.iss_request.specs.declared.ids.NodeId.{NodeId};
-ghost use Rattle.hs_tree.specs.declared.messages.Message.TheVariants.{NewView, Prepare, PreCommit, Commit, Vote};
+ghost use Rattle.hs_tree.specs.Signed.{NewView, Prepare, PreCommit, Commit, Vote};
 ghost use Rattle.sb_hotstuff.specs.Rules.{State, may_prepare};
 ghost use Rattle.sb_hotstuff.specs.Refines.{RefinesState};
 ghost use Rattle.sb_hotstuff.specs.Steps.{Does};

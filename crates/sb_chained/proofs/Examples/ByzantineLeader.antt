@@ -23,7 +23,7 @@ use Rattle.iss_sb.proofs.Signatures.{signature-shape, signature-verifies}
 use Rattle.hs_tree.specs.declared.certificates.Certificate.{Certificate}
 use Rattle.hs_tree.specs.declared.certificates.Certificate.TheVariants.{Votes}
 use Rattle.hs_tree.specs.declared.messages.Message.{Message}
-use Rattle.hs_tree.specs.declared.messages.Message.TheVariants.{Vote}
+use Rattle.hs_tree.specs.Signed.{Vote, signed}
 use Rattle.hs_tree.specs.Certificates.{IsSpelledCertificate, votes_row}
 use Rattle.hs_tree.specs.Statements.{own_statement, vote_statement, with_signature}
 use Rattle.hs_tree.specs.Tree.{chained as form}

@@ -24,7 +24,7 @@ use Rattle.iss_sb.proofs.Contents.{content-table}
 use Rattle.iss_sb.proofs.Signatures.{signature-shape}
 use Rattle.hs_tree.specs.declared.certificates.Certificate.TheVariants.{Root}
 use Rattle.hs_tree.specs.declared.messages.Message.{Message}
-use Rattle.hs_tree.specs.declared.messages.Message.TheVariants.{NewView, Prepare, Vote}
+use Rattle.hs_tree.specs.Signed.{NewView, Prepare, Vote, signed}
 use Rattle.hs_tree.specs.Certificates.{root_row}
 use Rattle.hs_tree.specs.Statements.{own_statement}
 use Rattle.hs_tree.specs.Tree.{chained as form, root}

@@ -4,6 +4,7 @@ use Rattle.std.specs.Prelude.{nat_lt}
 use Rattle.std.proofs.lemmas.Bool.{eqb-false, leb-true}
 use Rattle.iss_base.specs.Lists.{In, nth}
 use Rattle.iss_base.proofs.Lists.{and-true, in_append}
+use Rattle.iss_request.specs.declared.ids.NodeId.{NodeId}
 use Rattle.iss_request.specs.declared.ids.Slot.{Slot}
 use Rattle.iss_request.specs.declared.requests.Batch.{Batch}
 use Rattle.iss_sb.specs.declared.effects.Input.{Input}
@@ -23,7 +24,9 @@ use Rattle.iss_sb.specs.declared.content.Content.TheVariants.{Nil, Holds, Mark}
 use Rattle.hs_tree.specs.declared.certificates.Certificate.{Certificate}
 use Rattle.hs_tree.specs.declared.certificates.Certificate.TheVariants.{Root}
 use Rattle.hs_tree.specs.declared.messages.Message.{Message}
-use Rattle.hs_tree.specs.declared.messages.Message.TheVariants.{NewView, Prepare, PreCommit, Commit, Decide, Vote}
+use Rattle.hs_tree.specs.declared.messages.Body.{Body}
+use Rattle.hs_tree.specs.declared.messages.Body.TheVariants.{NewView as New_view_body, Prepare as Prepare_body, PreCommit as Pre_commit_body, Commit as Commit_body, Decide as Decide_body, Vote as Vote_body}
+use Rattle.hs_tree.specs.Signed.{NewView, Prepare, Vote, signed}
 use Rattle.hs_tree.specs.Certificates.{digest_of}
 use Rattle.hs_tree.specs.Statements.{own_statement}
 use Rattle.hs_tree.proofs.Claimed.{prepare-unsigned}
@@ -60,8 +63,8 @@ module _ (p : Params) (to : To) (view : ℕ) (what : Content) (just : Certificat
   abbrev Sent : List (To × Message) → Type 0
   Sent ds = In {A = To × Message} (to, Prepare view what just sig) ds
 
-  one-is : (a : To) (n : Message) → Sent ((a, n) ∷ []) → Prepare view what just sig ≡ n
-  one-is a n (inl e) = ap (λ (z : To × Message). z.1) e
+  one-is : (a : To) (n : Message) → Sent ((a, n) ∷ []) → Prepare_body view what just ≡ n.body
+  one-is a n (inl e) = ap (λ (z : To × Message). z.1.body) e
   one-is a n (inr h) = absurd h
 
   none-if : (t : Bool) (ds : List (To × Message)) → (Sent ds → ⊥) → Sent (if t then ds else []) → ⊥
@@ -71,14 +74,17 @@ module _ (p : Params) (to : To) (view : ℕ) (what : Content) (just : Certificat
   none-voted : (v : ℕ) (e : List ℕ) → Sent (voted p v e) → ⊥
   none-voted v e h = let m = one-is _ (Vote 1 v e []) h in cc
 
+  none-answered-body : (s : State) (from : NodeId) (body : Body) (sig : List ℕ) → Sent (answers p s (Receive from (signed body sig))) → ⊥
+  none-answered-body s from (New_view_body round high) x h = h
+  none-answered-body s from (Prepare_body v c j) x h = none-if (may_prepare p s from.0 v c j) (voted p v (node_digest p v c j)) (none-voted v (node_digest p v c j)) h
+  none-answered-body s from (Pre_commit_body v shown) x h = h
+  none-answered-body s from (Commit_body v shown) x h = h
+  none-answered-body s from (Decide_body v shown) x h = h
+  none-answered-body s from (Vote_body q v e) x h = h
+
   none-answered : (s : State) (i : Input Message) → Sent (answers p s i) → ⊥
   none-answered s (Cast slot batch) h = h
-  none-answered s (Receive from (NewView round high x)) h = h
-  none-answered s (Receive from (Prepare v c j x)) h = none-if (may_prepare p s from.0 v c j) (voted p v (node_digest p v c j)) (none-voted v (node_digest p v c j)) h
-  none-answered s (Receive from (PreCommit v shown x)) h = h
-  none-answered s (Receive from (Commit v shown x)) h = h
-  none-answered s (Receive from (Decide v shown x)) h = h
-  none-answered s (Receive from (Vote q v e x)) h = h
+  none-answered s (Receive from msg) h = none-answered-body s from msg.body msg.sig h
   none-answered s Timeout h = none-if (may_end s) _ (λ z. let m = one-is _ (NewView (suc (round_of s.view)) s.high []) z in cc) h
 
   of-turn : (o : Option Turn) → Sent (proposals o) → IsTurn o view what just
@@ -207,16 +213,19 @@ module _ (p : Params) (w : World Message) (good : IsGoodParams chained p) (reach
       late : (r : ℕ) → 1 ≤ r → (r * 65536 + 1) / 65536 ≡ 0 → ⊥
       late r l e = omega (arith, l, e)
 
-  proposed-ok : (s k : State) (i : Input Message) → LeaderOk k → MayOk (proposed p me s k i)
-  proposed-ok s k (Cast slot batch) h = by-if MayOk (may_cast p me s slot.0) (next_turn p k k.turns) None (next-ok k k.turns h h.turns) tt
-  proposed-ok s k (Receive from (NewView round high sig)) h = by-test MayOk (keeps_news p me s from.0 round high) (turn_on p k round (first_high p k round)) None (λ q.
+  proposed-ok-body : (s k : State) (from : NodeId) (body : Body) (sig : List ℕ) → LeaderOk k → MayOk (proposed p me s k (Receive from (signed body sig)))
+  proposed-ok-body s k from (New_view_body round high) sig h = by-test MayOk (keeps_news p me s from.0 round high) (turn_on p k round (first_high p k round)) None (λ q.
       let a = and-true _ _ (and-true _ _ (and-true _ _ q).0).0 in
       first-ok k round (first_high p k round) (leb-true 1 round a.0)) tt
-  proposed-ok s k (Receive from (Prepare view what just sig)) h = tt
-  proposed-ok s k (Receive from (PreCommit view shown sig)) h = tt
-  proposed-ok s k (Receive from (Commit view shown sig)) h = tt
-  proposed-ok s k (Receive from (Decide view shown sig)) h = tt
-  proposed-ok s k (Receive from (Vote phase view d sig)) h = by-if MayOk _ (next_turn p k k.turns) None (next-ok k k.turns h h.turns) tt
+  proposed-ok-body s k from (Prepare_body view what just) sig h = tt
+  proposed-ok-body s k from (Pre_commit_body view shown) sig h = tt
+  proposed-ok-body s k from (Commit_body view shown) sig h = tt
+  proposed-ok-body s k from (Decide_body view shown) sig h = tt
+  proposed-ok-body s k from (Vote_body phase view d) sig h = by-if MayOk _ (next_turn p k k.turns) None (next-ok k k.turns h h.turns) tt
+
+  proposed-ok : (s k : State) (i : Input Message) → LeaderOk k → MayOk (proposed p me s k i)
+  proposed-ok s k (Cast slot batch) h = by-if MayOk (may_cast p me s slot.0) (next_turn p k k.turns) None (next-ok k k.turns h h.turns) tt
+  proposed-ok s k (Receive from msg) h = proposed-ok-body s k from msg.body msg.sig h
   proposed-ok s k Timeout h = tt
 
   -- ---- the state

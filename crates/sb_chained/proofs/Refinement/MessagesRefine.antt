@@ -16,7 +16,8 @@ use Rattle.iss_sb.specs.declared.content.Content.{Content}
 use Rattle.hs_tree.specs.declared.certificates.Certificate.{Certificate}
 use Rattle.hs_tree.specs.declared.certificates.Certificate.TheVariants.{Root, Votes}
 use Rattle.hs_tree.specs.declared.messages.Message.{Message}
-use Rattle.hs_tree.specs.declared.messages.Message.TheVariants.{NewView, Prepare, PreCommit, Commit, Decide, Vote}
+use Rattle.hs_tree.specs.declared.messages.Body.{Body}
+use Rattle.hs_tree.specs.Signed.{NewView, Prepare, PreCommit, Commit, Decide, Vote, signed}
 use Rattle.hs_tree.specs.Tree.{Node as Tree_node}
 use Rattle.hs_views.proofs.Tests.{none-within}
 use Rattle.hs_views.specs.declared.accepted.Accepted.{Accepted}
@@ -367,3 +368,8 @@ pub timeout-takes : (p : Params) (m : Chained) (node : Node) (o : Outcome) (t : 
 timeout-takes p m node o t alone makes =
     takes-none p m (record m { node = node }) Timeout t refl alone.accepted (none-within t.delivers p.slots alone.delivers) (λ s old h. refl)
     (λ s h. makes-does p m (record m { node = node }) s Timeout o t refl alone.outcome alone.delivers (λ k. refl) (makes s h))
+
+-- ---- a message, by its body
+
+pub by-body : (p : Params) (m n : Chained) (from : NodeId) (msg : Message) (body : Body) (t : Taken) → msg.body ≡ body → Takes p m n (Receive from (signed body msg.sig)) t → Takes p m n (Receive from msg) t
+by-body p m n from msg body t is d = subst (λ (z : Body). Takes p m n (Receive from (signed z msg.sig)) t) (sym is) d

@@ -15,7 +15,9 @@ use Rattle.iss_sb.specs.Statements.{signature}
 use Rattle.iss_sb.specs.declared.content.Content.{Content}
 use Rattle.hs_tree.specs.declared.certificates.Certificate.{Certificate}
 use Rattle.hs_tree.specs.declared.messages.Message.{Message}
-use Rattle.hs_tree.specs.declared.messages.Message.TheVariants.{NewView, Prepare, PreCommit, Commit, Decide, Vote}
+use Rattle.hs_tree.specs.declared.messages.Body.{Body}
+use Rattle.hs_tree.specs.declared.messages.Body.TheVariants.{NewView as New_view_body, Prepare as Prepare_body, PreCommit as Pre_commit_body, Commit as Commit_body, Decide as Decide_body, Vote as Vote_body}
+use Rattle.hs_tree.specs.Signed.{Prepare, Vote, signed}
 use Rattle.hs_tree.specs.Statements.{own_statement, with_signature}
 use Rattle.hs_tree.specs.Tree.{chained as form}
 use Rattle.sb_chained.specs.Facts.{VotedIn}
@@ -23,7 +25,7 @@ use Rattle.sb_chained.specs.Chained.{answers, answers_heard, drafts, chained, ma
 use Rattle.sb_chained.specs.Rules.{State, after, heard, is_allowed, is_safe, is_usable, keeps_news, keeps_vote, kept, may_cast, may_end, may_prepare, node_digest, proposed, shows, slots_below, taken, with_cast, with_news, with_node, with_round, with_turn, with_vote}
 use Rattle.hs_views.specs.Views.{Turn, round_of}
 use Rattle.sb_chained.proofs.Safety.CertificatesShown.{shown-like}
-use Rattle.hs_views.proofs.Tests.{by-test, each-option}
+use Rattle.hs_views.proofs.Tests.{by-test, each-option, same-body}
 
 pub record IsFirst (p : Params) (s : State) (i : Input Message) (view : ℕ) (d : List ℕ) : Type 0 where
   pub from : NodeId
@@ -41,12 +43,7 @@ record IsUnsigned (ds : List (To × Message)) (to : To) (view : ℕ) (d : List �
   pub sent : In {A = To × Message} (to, Vote 1 view d sig) ds
 
 vote-unsigned : (s t : List ℕ) (msg : Message) (view : ℕ) (d : List ℕ) → Vote 1 view d s ≡ with_signature t msg → (sig : List ℕ) × (msg ≡ Vote 1 view d sig)
-vote-unsigned s t (NewView round high old) view d h = absurd cc
-vote-unsigned s t (Prepare v what just old) view d h = absurd cc
-vote-unsigned s t (PreCommit v shown old) view d h = absurd cc
-vote-unsigned s t (Commit v shown old) view d h = absurd cc
-vote-unsigned s t (Decide v shown old) view d h = absurd cc
-vote-unsigned s t (Vote q v e old) view d h = (old, (let a : q ≡ 1 = cc in let b : v ≡ view = cc in let c : e ≡ d = cc in cc))
+vote-unsigned s t msg view d h = (msg.sig, ap (λ (z : Message). signed z.body msg.sig) (sym h))
 
 unsigned : (p : Params) (me leaf : ℕ) (ds : List (To × Message)) (to : To) (view : ℕ) (d sig : List ℕ) → In {A = To × Message} (to, Vote 1 view d sig) (sign_all p me leaf ds) → IsUnsigned ds to view d
 unsigned p me leaf [] to view d sig h = absurd h
@@ -60,8 +57,8 @@ module _ (p : Params) (to : To) (view : ℕ) (d sig : List ℕ) where
   abbrev Sent : List (To × Message) → Type 0
   Sent ds = In {A = To × Message} (to, Vote 1 view d sig) ds
 
-  one-is : (a b : To) (m n : Message) → In {A = To × Message} (a, m) ((b, n) ∷ []) → m ≡ n
-  one-is a b m n (inl e) = ap (λ (z : To × Message). z.1) e
+  one-is : (a b : To) (m n : Message) → In {A = To × Message} (a, m) ((b, n) ∷ []) → m.body ≡ n.body
+  one-is a b m n (inl e) = ap (λ (z : To × Message). z.1.body) e
   one-is a b m n (inr h) = absurd h
 
   by-true : (t : Bool) (ds : List (To × Message)) (C : Type 0) → (t ≡ true → Sent ds → C) → Sent (if t then ds else []) → C
@@ -70,26 +67,29 @@ module _ (p : Params) (to : To) (view : ℕ) (d sig : List ℕ) where
 
   none-proposed : (o : Option Turn) → Sent (proposals o) → ⊥
   none-proposed None h = h
-  none-proposed (Some t) (inl e) = let m : Vote 1 view d sig ≡ Prepare t.view t.what t.just [] = ap (λ (z : To × Message). z.1) e in cc
+  none-proposed (Some t) (inl e) = let m : Vote_body 1 view d ≡ Prepare_body t.view t.what t.just = ap (λ (z : To × Message). z.1.body) e in cc
   none-proposed (Some t) (inr h) = h
 
   abbrev Why : State → Input Message → Type 0
   Why s i = IsFirst p s i view d
 
-  why-heard : (s : State) (from : NodeId) (msg : Message) → Sent (answers_heard p s from.0 msg) → Why s (Receive from msg)
-  why-heard s from (NewView round high x) h = absurd h
-  why-heard s from (Prepare v what just x) h = by-true (may_prepare p s from.0 v what just) (voted p v (node_digest p v what just)) (Why s (Receive from (Prepare v what just x))) (λ t z. go t (one-is to _ (Vote 1 view d sig) (Vote 1 v (node_digest p v what just) []) z)) h
+  why-heard-body : (s : State) (from : NodeId) (body : Body) (sig : List ℕ) → Sent (answers_heard p s from.0 (signed body sig)) → Why s (Receive from (signed body sig))
+  why-heard-body s from (New_view_body round high) x h = absurd h
+  why-heard-body s from (Prepare_body v what just) x h = by-true (may_prepare p s from.0 v what just) (voted p v (node_digest p v what just)) (Why s (Receive from (Prepare v what just x))) (λ t z. go t (one-is to _ (Vote 1 view d sig) (Vote 1 v (node_digest p v what just) []) z)) h
     where
-      go : may_prepare p s from.0 v what just ≡ true → Vote 1 view d sig ≡ Vote 1 v (node_digest p v what just) [] → Why s (Receive from (Prepare v what just x))
+      go : may_prepare p s from.0 v what just ≡ true → Vote_body 1 view d ≡ Vote_body 1 v (node_digest p v what just) → Why s (Receive from (Prepare v what just x))
       go t e =
           let b : view ≡ v = cc in
           let c : d ≡ node_digest p v what just = cc in
           subst (λ (z : ℕ). IsFirst p s (Receive from (Prepare v what just x)) z d) (sym b)
           (record { from = from; what = what; just = just; sig = x; is = refl; may = t; digest_is = c })
-  why-heard s from (PreCommit v shown x) h = absurd h
-  why-heard s from (Commit v shown x) h = absurd h
-  why-heard s from (Decide v shown x) h = absurd h
-  why-heard s from (Vote q v e x) h = absurd h
+  why-heard-body s from (Pre_commit_body v shown) x h = absurd h
+  why-heard-body s from (Commit_body v shown) x h = absurd h
+  why-heard-body s from (Decide_body v shown) x h = absurd h
+  why-heard-body s from (Vote_body q v e) x h = absurd h
+
+  why-heard : (s : State) (from : NodeId) (msg : Message) → Sent (answers_heard p s from.0 msg) → Why s (Receive from msg)
+  why-heard s from msg h = why-heard-body s from msg.body msg.sig h
 
   why-answer : (s : State) (i : Input Message) → Sent (answers p s i) → Why s i
   why-answer s (Cast slot batch) h = absurd h
@@ -134,13 +134,16 @@ tests p s from view what just h =
 pub round-above : (v : ℕ) → v ≤ suc (v / 65536) * 65536
 round-above v = omega arith
 
+heard-view-body : (p : Params) (me : ℕ) (s : State) (from : ℕ) (body : Body) (sig : List ℕ) → Rises s.view (heard p me s from (signed body sig))
+heard-view-body p me s from (New_view_body round high) sig = by-test (Rises s.view) (keeps_news p me s from round high) (with_news s from round high) s (λ t. same s.view) (same s.view)
+heard-view-body p me s from (Prepare_body view what just) sig = by-test (Rises s.view) (may_prepare p s from view what just) (with_node p s view what just) s (λ t. let a = (tests p s from view what just t).above in omega (arith, a)) (same s.view)
+heard-view-body p me s from (Pre_commit_body view shown) sig = same s.view
+heard-view-body p me s from (Commit_body view shown) sig = same s.view
+heard-view-body p me s from (Decide_body view shown) sig = same s.view
+heard-view-body p me s from (Vote_body phase view d) sig = by-test (Rises s.view) (keeps_vote p s from phase view d) (with_vote s from view d sig) s (λ t. same s.view) (same s.view)
+
 heard-view : (p : Params) (me : ℕ) (s : State) (from : ℕ) (msg : Message) → Rises s.view (heard p me s from msg)
-heard-view p me s from (NewView round high sig) = by-test (Rises s.view) (keeps_news p me s from round high) (with_news s from round high) s (λ t. same s.view) (same s.view)
-heard-view p me s from (Prepare view what just sig) = by-test (Rises s.view) (may_prepare p s from view what just) (with_node p s view what just) s (λ t. let a = (tests p s from view what just t).above in omega (arith, a)) (same s.view)
-heard-view p me s from (PreCommit view shown sig) = same s.view
-heard-view p me s from (Commit view shown sig) = same s.view
-heard-view p me s from (Decide view shown sig) = same s.view
-heard-view p me s from (Vote phase view d sig) = by-test (Rises s.view) (keeps_vote p s from phase view d) (with_vote s from view d sig) s (λ t. same s.view) (same s.view)
+heard-view p me s from msg = heard-view-body p me s from msg.body msg.sig
 
 pub taken-view : (p : Params) (me : ℕ) (s : State) (i : Input Message) → Rises s.view (taken p me s i)
 taken-view p me s (Cast slot batch) = by-test (Rises s.view) (may_cast p me s slot.0) (with_cast s batch) s (λ q. same s.view) (same s.view)
@@ -174,7 +177,7 @@ cause-new p me x xs view d made v = cause p me x.leaf xs x.input v.to view d v.s
 -- an input has one cause of a vote
 cause-one : (p : Params) (s : State) (i : Input Message) (view v : ℕ) (d e : List ℕ) → IsFirst p s i view d → IsFirst p s i v e → (view ≡ v) × (d ≡ e)
 cause-one p s i view v d e f g =
-    let k : Receive f.from (Prepare view f.what f.just f.sig) ≡ Receive g.from (Prepare v g.what g.just g.sig) = sym f.is ∙ g.is in
+    let k : Prepare_body view f.what f.just ≡ Prepare_body v g.what g.just = same-body _ _ _ _ (sym f.is ∙ g.is) in
     let a : view ≡ v = cc in
     let c : f.what ≡ g.what = cc in
     let j : f.just ≡ g.just = cc in

@@ -29,7 +29,7 @@ use Rattle.hs_tree.specs.declared.certificates.Certificate.{Certificate}
 use Rattle.hs_tree.specs.declared.certificates.Certificate.TheVariants.{Root, Votes}
 use Rattle.iss_sb.specs.declared.signers.Signed.{Signed}
 use Rattle.hs_tree.specs.declared.messages.Message.{Message}
-use Rattle.hs_tree.specs.declared.messages.Message.TheVariants.{Prepare}
+use Rattle.hs_tree.specs.Signed.{Prepare, signed}
 use Rattle.hs_tree.specs.Certificates.{digest_of, is_quorum, signers, view_of}
 use Rattle.iss_sb.specs.Statements.{claim}
 use Rattle.hs_tree.specs.Statements.{certificate_claims, inside, vote_claims, vote_statement}

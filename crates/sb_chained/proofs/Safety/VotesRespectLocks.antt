@@ -16,7 +16,9 @@ use Rattle.iss_sb.specs.declared.content.Content.{Content}
 use Rattle.hs_tree.specs.declared.certificates.Certificate.{Certificate}
 use Rattle.hs_tree.specs.declared.certificates.Certificate.TheVariants.{Root, Votes}
 use Rattle.hs_tree.specs.declared.messages.Message.{Message}
-use Rattle.hs_tree.specs.declared.messages.Message.TheVariants.{NewView, Prepare, PreCommit, Commit, Decide, Vote}
+use Rattle.hs_tree.specs.declared.messages.Body.{Body}
+use Rattle.hs_tree.specs.declared.messages.Body.TheVariants.{NewView as New_view_body, Prepare as Prepare_body, PreCommit as Pre_commit_body, Commit as Commit_body, Decide as Decide_body, Vote as Vote_body}
+use Rattle.hs_tree.specs.Signed.{Prepare, signed}
 use Rattle.hs_tree.specs.Certificates.{digest_of, view_of}
 use Rattle.hs_tree.specs.Tree.{Node, branch, extends, is_known, root}
 use Rattle.sb_chained.specs.Chained.{chained, decided, decides, state, value_on}
@@ -62,13 +64,16 @@ turn-lock : (s : State) (o : Option Turn) → (with_turn s o).lock ≡ s.lock
 turn-lock s None = refl
 turn-lock s (Some t) = refl
 
+heard-lock-body : (p : Params) (me : ℕ) (s : State) (from : ℕ) (body : Body) (sig : List ℕ) → (heard p me s from (signed body sig)).lock ≡ s.lock
+heard-lock-body p me s from (New_view_body round high) sig = by-test (λ (t : State). t.lock ≡ s.lock) (keeps_news p me s from round high) (with_news s from round high) s (λ q. refl) refl
+heard-lock-body p me s from (Prepare_body view what just) sig = by-test (λ (t : State). t.lock ≡ s.lock) (may_prepare p s from view what just) (with_node p s view what just) s (λ q. refl) refl
+heard-lock-body p me s from (Pre_commit_body view shown) sig = refl
+heard-lock-body p me s from (Commit_body view shown) sig = refl
+heard-lock-body p me s from (Decide_body view shown) sig = refl
+heard-lock-body p me s from (Vote_body phase view d) sig = by-test (λ (t : State). t.lock ≡ s.lock) (keeps_vote p s from phase view d) (with_vote s from view d sig) s (λ q. refl) refl
+
 heard-lock : (p : Params) (me : ℕ) (s : State) (from : ℕ) (msg : Message) → (heard p me s from msg).lock ≡ s.lock
-heard-lock p me s from (NewView round high sig) = by-test (λ (t : State). t.lock ≡ s.lock) (keeps_news p me s from round high) (with_news s from round high) s (λ q. refl) refl
-heard-lock p me s from (Prepare view what just sig) = by-test (λ (t : State). t.lock ≡ s.lock) (may_prepare p s from view what just) (with_node p s view what just) s (λ q. refl) refl
-heard-lock p me s from (PreCommit view shown sig) = refl
-heard-lock p me s from (Commit view shown sig) = refl
-heard-lock p me s from (Decide view shown sig) = refl
-heard-lock p me s from (Vote phase view d sig) = by-test (λ (t : State). t.lock ≡ s.lock) (keeps_vote p s from phase view d) (with_vote s from view d sig) s (λ q. refl) refl
+heard-lock p me s from msg = heard-lock-body p me s from msg.body msg.sig
 
 taken-lock : (p : Params) (me : ℕ) (s : State) (i : Input Message) → (taken p me s i).lock ≡ s.lock
 taken-lock p me s (Cast slot batch) = by-test (λ (t : State). t.lock ≡ s.lock) (may_cast p me s slot.0) (with_cast s batch) s (λ q. refl) refl

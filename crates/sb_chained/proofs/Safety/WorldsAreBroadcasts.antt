@@ -23,7 +23,7 @@ use Rattle.iss_sb.specs.declared.content.Content.{Content}
 use Rattle.iss_sb.specs.declared.content.Content.TheVariants.{Holds}
 use Rattle.hs_tree.specs.declared.certificates.Certificate.{Certificate}
 use Rattle.hs_tree.specs.declared.messages.Message.{Message}
-use Rattle.hs_tree.specs.declared.messages.Message.TheVariants.{Prepare}
+use Rattle.hs_tree.specs.Signed.{Prepare, signed}
 use Rattle.hs_tree.specs.Certificates.{digest_of}
 use Rattle.iss_sb.specs.Statements.{claim}
 use Rattle.hs_tree.specs.Statements.{certificate_claims, own_statement}

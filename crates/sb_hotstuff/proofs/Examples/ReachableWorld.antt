@@ -14,7 +14,7 @@ use Rattle.iss_sb.specs.Evidence.{Item, World, IsCredible, IsReached, IsReadMess
 use Rattle.iss_sb.specs.Laws.{IsBroadcast}
 use Rattle.hs_tree.specs.declared.certificates.Certificate.TheVariants.{Root}
 use Rattle.hs_tree.specs.declared.messages.Message.{Message}
-use Rattle.hs_tree.specs.declared.messages.Message.TheVariants.{Prepare}
+use Rattle.hs_tree.specs.Signed.{Prepare, signed}
 use Rattle.hs_tree.specs.Certificates.{root_row}
 use Rattle.hs_tree.specs.Tree.{plain_string, root}
 use Rattle.hs_views.proofs.SmallWorlds.{IsOneOf, all_differ, each-of, one-takes, separate-by, starts, world, zero-takes}

@@ -20,7 +20,7 @@ use Rattle.iss_sb.specs.declared.effects.To.TheVariants.{All as To_all, One as T
 use Rattle.iss_sb.specs.Evidence.{Item, World, IsCredible, IsReadMessage, IsSigned, Verifies, and_then}
 use Rattle.hs_tree.specs.declared.certificates.Certificate.TheVariants.{Root}
 use Rattle.hs_tree.specs.declared.messages.Message.{Message}
-use Rattle.hs_tree.specs.declared.messages.Message.TheVariants.{NewView, Prepare}
+use Rattle.hs_tree.specs.Signed.{NewView, Prepare, signed}
 use Rattle.hs_tree.specs.Certificates.{root_row}
 use Rattle.hs_tree.specs.Statements.{own_statement}
 use Rattle.hs_tree.specs.Tree.{basic}

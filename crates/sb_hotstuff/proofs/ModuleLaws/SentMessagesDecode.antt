@@ -7,6 +7,7 @@ use Rattle.iss_base.specs.Lists.{In, nth, same_bytes}
 use Rattle.iss_base.proofs.Lists.{and-true, in_append, nth-below, nth-in}
 use Rattle.iss_request.specs.Formats.{is_signature}
 use Rattle.iss_request.specs.declared.requests.Batch.{Batch}
+use Rattle.iss_request.specs.declared.ids.NodeId.{NodeId}
 use Rattle.iss_sb.specs.declared.effects.Input.{Input}
 use Rattle.iss_sb.specs.declared.effects.Input.TheVariants.{Cast, Receive, Timeout}
 use Rattle.iss_sb.specs.declared.effects.Params.{Params}
@@ -24,7 +25,9 @@ use Rattle.hs_tree.specs.declared.certificates.Certificate.{Certificate}
 use Rattle.hs_tree.specs.declared.certificates.Certificate.TheVariants.{Root, Votes}
 use Rattle.iss_sb.specs.declared.signers.Signed.{Signed}
 use Rattle.hs_tree.specs.declared.messages.Message.{Message}
-use Rattle.hs_tree.specs.declared.messages.Message.TheVariants.{NewView, Prepare, PreCommit, Commit, Decide, Vote}
+use Rattle.hs_tree.specs.declared.messages.Body.{Body}
+use Rattle.hs_tree.specs.declared.messages.Body.TheVariants.{NewView as New_view_body, Prepare as Prepare_body, PreCommit as Pre_commit_body, Commit as Commit_body, Decide as Decide_body, Vote as Vote_body}
+use Rattle.hs_tree.specs.Signed.{NewView, PreCommit, Commit, Decide, Vote, signed}
 use Rattle.iss_sb.specs.Signers.{AreSigners}
 use Rattle.hs_tree.specs.Certificates.{IsSpelledCertificate, digest_of, root_row, view_of, votes_row}
 use Rattle.hs_tree.specs.Messages.{IsSpelledMessage, spell}
@@ -266,18 +269,21 @@ module _ (p : Params) (good : IsGoodParams hotstuff p) where
   vote-parts : (phase view : ℕ) (d sig : List ℕ) → SpelledAs (Vote phase view d sig) → is_signature sig ≡ true
   vote-parts phase view d sig h = h.1.signed
 
-  heard-fits : (me : ℕ) (s : State) (from : ℕ) (msg : Message) → SpelledAs msg → Fits s → Fits (heard p me s from msg)
-  heard-fits me s from (NewView round high sig) m h = by-if Fits (keeps_news p me s from round high) (with_news s from round high) s
+  heard-fits-body : (me : ℕ) (s : State) (from : ℕ) (body : Body) (sig : List ℕ) → SpelledAs (signed body sig) → Fits s → Fits (heard p me s from (signed body sig))
+  heard-fits-body me s from (New_view_body round high) sig m h = by-if Fits (keeps_news p me s from round high) (with_news s from round high) s
       (record { high = h.high; votes = h.votes; news = ((m.1.certificate, m.1.spelled), h.news); turns = h.turns; casts = h.casts; few = h.few }) h
-  heard-fits me s from (Prepare view what just sig) m h = by-if Fits (may_prepare p s from view what just) (with_node p s view what just) s
+  heard-fits-body me s from (Prepare_body view what just) sig m h = by-if Fits (may_prepare p s from view what just) (with_node p s view what just) s
       (record { high = h.high; votes = h.votes; news = h.news; turns = h.turns; casts = h.casts; few = h.few }) h
-  heard-fits me s from (PreCommit view shown sig) m h = by-if Fits (may_second p s view shown) (record s { high = shown; second = true }) s
+  heard-fits-body me s from (Pre_commit_body view shown) sig m h = by-if Fits (may_second p s view shown) (record s { high = shown; second = true }) s
       (record { high = (m.1.certificate, m.1.spelled); votes = h.votes; news = h.news; turns = h.turns; casts = h.casts; few = h.few }) h
-  heard-fits me s from (Commit view shown sig) m h = by-if Fits (may_third p s view shown) (record s { lock = shown; third = true }) s
+  heard-fits-body me s from (Commit_body view shown) sig m h = by-if Fits (may_third p s view shown) (record s { lock = shown; third = true }) s
       (record { high = h.high; votes = h.votes; news = h.news; turns = h.turns; casts = h.casts; few = h.few }) h
-  heard-fits me s from (Decide view shown sig) m h = h
-  heard-fits me s from (Vote phase view d sig) m h = by-if Fits (keeps_vote p s from phase view d) (with_vote s from phase view d sig) s
+  heard-fits-body me s from (Decide_body view shown) sig m h = h
+  heard-fits-body me s from (Vote_body phase view d) sig m h = by-if Fits (keeps_vote p s from phase view d) (with_vote s from phase view d sig) s
       (record { high = h.high; votes = (m.1.signed, h.votes); news = h.news; turns = h.turns; casts = h.casts; few = h.few }) h
+
+  heard-fits : (me : ℕ) (s : State) (from : ℕ) (msg : Message) → SpelledAs msg → Fits s → Fits (heard p me s from msg)
+  heard-fits me s from msg m h = heard-fits-body me s from msg.body msg.sig m h
 
   cast-fits : (s : State) (b : Batch) → length s.casts < length p.slots → IsReadBatch p b → Fits s → Fits (with_cast s b)
   cast-fits s b l r h =
@@ -310,14 +316,17 @@ module _ (p : Params) (good : IsGoodParams hotstuff p) where
   kept-fits me s (Receive from msg) m h = heard-fits me s from.0 msg m h
   kept-fits me s Timeout m h = by-if Fits (may_end s) (with_round s) s (record { high = h.high; votes = h.votes; news = h.news; turns = h.turns; casts = h.casts; few = h.few }) h
 
+  proposed-new-body : (me : ℕ) (s k : State) (from : NodeId) (body : Body) (sig : List ℕ) → Heard (Receive from (signed body sig)) → Fits k → MayTurn (proposed p me s k (Receive from (signed body sig)))
+  proposed-new-body me s k from (New_view_body round high) sig m h = by-if MayTurn (keeps_news p me s from.0 round high) (first_turn p k round) None (let l = m.1.round_fits in first-new k round (omega (arith, l)) h) tt
+  proposed-new-body me s k from (Prepare_body view what just) sig m h = tt
+  proposed-new-body me s k from (Pre_commit_body view shown) sig m h = tt
+  proposed-new-body me s k from (Commit_body view shown) sig m h = tt
+  proposed-new-body me s k from (Decide_body view shown) sig m h = tt
+  proposed-new-body me s k from (Vote_body phase view d) sig m h = by-if MayTurn _ (next_turn p k k.turns) None (next-new k k.turns h h.turns) tt
+
   pub proposed-new : (me : ℕ) (s k : State) (i : Input Message) → Heard i → Fits k → MayTurn (proposed p me s k i)
   proposed-new me s k (Cast slot batch) m h = by-if MayTurn (may_cast p me s slot.0) (next_turn p k k.turns) None (next-new k k.turns h h.turns) tt
-  proposed-new me s k (Receive from (NewView round high sig)) m h = by-if MayTurn (keeps_news p me s from.0 round high) (first_turn p k round) None (let l = m.1.round_fits in first-new k round (omega (arith, l)) h) tt
-  proposed-new me s k (Receive from (Prepare view what just sig)) m h = tt
-  proposed-new me s k (Receive from (PreCommit view shown sig)) m h = tt
-  proposed-new me s k (Receive from (Commit view shown sig)) m h = tt
-  proposed-new me s k (Receive from (Decide view shown sig)) m h = tt
-  proposed-new me s k (Receive from (Vote phase view d sig)) m h = by-if MayTurn _ (next_turn p k k.turns) None (next-new k k.turns h h.turns) tt
+  proposed-new me s k (Receive from msg) m h = proposed-new-body me s k from msg.body msg.sig m h
   proposed-new me s k Timeout m h = tt
 
   turn-fits : (s : State) (o : Option Turn) → Fits s → MayTurn o → Fits (with_turn s o)
@@ -366,17 +375,20 @@ module _ (p : Params) (good : IsGoodParams hotstuff p) where
       go true q e more = let k = is-same t.view view (and-true (t.view == view) (same t) q).0 in let l = h.0.some in omega (arith, k, l)
       go false q e more = more e
 
-  answer-signs : (s k : State) (from : ℕ) (msg : Message) → SpelledAs msg → Fits s → Fits k → SignsAll (answers_heard p s k from msg)
-  answer-signs s k from (NewView round high sig) m h g = tt
-  answer-signs s k from (Prepare view what just sig) m h g = by-if SignsAll (may_prepare p s from view what just) (voted p 1 view (node_digest p view what just)) [] (vote-signs 1 view (node_digest p view what just) (omega arith) (omega arith) m.1.view_fits (digest-long basic p view what just)) tt
-  answer-signs s k from (PreCommit view shown sig) m h g = by-if SignsAll (may_second p s view shown) (voted p 2 view (digest_of shown)) [] (vote-signs 2 view (digest_of shown) (omega arith) (omega arith) m.1.view_fits (digest-length shown (m.1.certificate, m.1.spelled))) tt
-  answer-signs s k from (Commit view shown sig) m h g = by-if SignsAll (may_third p s view shown) (voted p 3 view (digest_of shown)) [] (vote-signs 3 view (digest_of shown) (omega arith) (omega arith) m.1.view_fits (digest-length shown (m.1.certificate, m.1.spelled))) tt
-  answer-signs s k from (Decide view shown sig) m h g = tt
-  answer-signs s k from (Vote phase view d sig) m h g = by-test SignsAll (keeps_vote p s from phase view d && is_reached p k phase view d) _ [] (λ q.
+  answer-signs-body : (s k : State) (from : ℕ) (body : Body) (sig : List ℕ) → SpelledAs (signed body sig) → Fits s → Fits k → SignsAll (answers_heard p s k from (signed body sig))
+  answer-signs-body s k from (New_view_body round high) sig m h g = tt
+  answer-signs-body s k from (Prepare_body view what just) sig m h g = by-if SignsAll (may_prepare p s from view what just) (voted p 1 view (node_digest p view what just)) [] (vote-signs 1 view (node_digest p view what just) (omega arith) (omega arith) m.1.view_fits (digest-long basic p view what just)) tt
+  answer-signs-body s k from (Pre_commit_body view shown) sig m h g = by-if SignsAll (may_second p s view shown) (voted p 2 view (digest_of shown)) [] (vote-signs 2 view (digest_of shown) (omega arith) (omega arith) m.1.view_fits (digest-length shown (m.1.certificate, m.1.spelled))) tt
+  answer-signs-body s k from (Commit_body view shown) sig m h g = by-if SignsAll (may_third p s view shown) (voted p 3 view (digest_of shown)) [] (vote-signs 3 view (digest_of shown) (omega arith) (omega arith) m.1.view_fits (digest-length shown (m.1.certificate, m.1.spelled))) tt
+  answer-signs-body s k from (Decide_body view shown) sig m h g = tt
+  answer-signs-body s k from (Vote_body phase view d) sig m h g = by-test SignsAll (keeps_vote p s from phase view d && is_reached p k phase view d) _ [] (λ q.
       let a = and-true (keeps_vote p s from phase view d) (is_reached p k phase view d) q in
       let b = and-true _ _ (and-true _ _ a.0).0 in
       let c = certificate-spelled k phase view d m.1.phase_low m.1.phase_fits (own-some s.turns view d h.turns b.1) m.1.view_fits m.1.digest_fits g.votes in
       (shows-sign phase view (certificate p k phase view d) m.1.view_fits c, tt)) tt
+
+  answer-signs : (s k : State) (from : ℕ) (msg : Message) → SpelledAs msg → Fits s → Fits k → SignsAll (answers_heard p s k from msg)
+  answer-signs s k from msg m h g = answer-signs-body s k from msg.body msg.sig m h g
 
   answers-sign : (s k : State) (i : Input Message) → Heard i → Fits s → Fits k → SignsAll (answers p s k i)
   answers-sign s k (Cast slot batch) m h g = tt

@@ -12,7 +12,7 @@ use Rattle.iss_sb.specs.declared.effects.To.TheVariants.{All as To_all}
 use Rattle.iss_sb.specs.declared.content.Content.{Content}
 use Rattle.hs_tree.specs.declared.certificates.Certificate.{Certificate}
 use Rattle.hs_tree.specs.declared.messages.Message.{Message}
-use Rattle.hs_tree.specs.declared.messages.Message.TheVariants.{NewView, Prepare, Vote}
+use Rattle.hs_tree.specs.Signed.{NewView, Prepare, Vote}
 use Rattle.sb_hotstuff.specs.declared.outcomes.Outcome.{Outcome}
 use Rattle.hs_views.specs.declared.drafts.Draft.{Draft}
 use Rattle.sb_hotstuff.specs.declared.state.Node.{Node}

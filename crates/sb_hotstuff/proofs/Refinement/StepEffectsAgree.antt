@@ -21,7 +21,8 @@ use Rattle.iss_sb.proofs.Delivered.{delivered-decided}
 use Rattle.iss_sb.specs.declared.content.Content.{Content}
 use Rattle.hs_tree.specs.declared.certificates.Certificate.{Certificate}
 use Rattle.hs_tree.specs.declared.messages.Message.{Message}
-use Rattle.hs_tree.specs.declared.messages.Message.TheVariants.{Prepare, Decide}
+use Rattle.hs_tree.specs.declared.messages.Body.{Body}
+use Rattle.hs_tree.specs.Signed.{Prepare, Decide, signed}
 use Rattle.hs_tree.specs.Certificates.{digest_of}
 use Rattle.hs_tree.specs.Known.{Keeps, values}
 use Rattle.hs_tree.specs.Tree.{Node as Tree_node, basic, branch, filled, is_known, value_at_slot}
@@ -157,6 +158,10 @@ module _ (p : Params) (m : HotStuff) (node : Node) (accepted : Accepted) (slot :
     delivers = λ s h. inl (record { decides = λ k. refl; delivers = none; same = refl });
     within = none-within t.delivers p.slots none;
   }
+
+-- a message, by its body
+pub by-body : (p : Params) (m n : HotStuff) (from : NodeId) (msg : Message) (body : Body) (t : Taken) → msg.body ≡ body → Takes p m n (Receive from (signed body msg.sig)) t → Takes p m n (Receive from msg) t
+by-body p m n from msg body t is d = subst (λ (z : Body). Takes p m n (Receive from (signed z msg.sig)) t) (sym is) d
 
 -- a proposal that does not pass its test
 pub unprepared-takes : (p : Params) (m : HotStuff) (o : Outcome) (t : Taken) → IsQuiet o → IsAlone o t → (from : NodeId) (view : ℕ) (what : Content) (just : Certificate) (sig : List ℕ) →

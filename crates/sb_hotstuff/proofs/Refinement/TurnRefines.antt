@@ -14,7 +14,7 @@ use Rattle.iss_sb.specs.declared.content.Content.{Content}
 use Rattle.iss_sb.specs.declared.content.Content.TheVariants.{Nil, Holds}
 use Rattle.hs_tree.specs.declared.certificates.Certificate.{Certificate}
 use Rattle.hs_tree.specs.declared.certificates.Certificate.TheVariants.{Root}
-use Rattle.hs_tree.specs.declared.messages.Message.TheVariants.{Prepare}
+use Rattle.hs_tree.specs.Signed.{Prepare}
 use Rattle.hs_tree.specs.declared.signing.Hashed.{Hashed}
 use Rattle.hs_tree.specs.Certificates.{digest_of}
 use Rattle.hs_tree.specs.Hashed.{IsHashed}

@@ -2,7 +2,7 @@ use Rattle.std.proofs.Common.{ap, arith, sym}
 use Rattle.std.proofs.lemmas.Result.{IfOk-weaker}
 use Rattle.iss_request.proofs.Readings.{exit, named}
 use Rattle.iss_sb.proofs.Read.{read-by, unread-by}
-use Rattle.hs_tree.specs.declared.messages.Message.TheVariants.{PreCommit, Commit, Decide}
+use Rattle.hs_tree.specs.Signed.{PreCommit, Commit, Decide}
 use Rattle.hs_tree.specs.Messages.{fields_of, parse, parse_new_view, parse_prepare, parse_shown, parse_vote}
 use Rattle.hs_tree.proofs.Reading.{fields-read, fields-unread, number-unread, unknown-unread, vote-fields}
 use Rattle.hs_tree.proofs.wire.read.Goals as goal
