@@ -1,5 +1,4 @@
--- What holds of messages of both protocols: claims name their instance, a signature leaves the rest as it was, and a
--- node's digest has 32 bytes.
+-- What holds of messages of both protocols: claims name their instance, and a node's digest has 32 bytes.
 use Rattle.std.proofs.Common.{◌≡◌, ℕ, List, [], ◌∷◌, ◌++◌, length, refl, ap, ◌∙◌, inl, inr}
 use Rattle.sha2.proofs.Facts256.{length-sha256}
 use Rattle.iss_base.specs.Lists.{In}
@@ -14,10 +13,9 @@ use Rattle.hs_tree.specs.declared.certificates.Certificate.{Certificate}
 use Rattle.hs_tree.specs.declared.certificates.Certificate.TheVariants.{Root, Votes}
 use Rattle.hs_tree.specs.declared.messages.Message.{Message}
 use Rattle.hs_tree.specs.declared.messages.Body.{Body}
-use Rattle.hs_tree.specs.declared.messages.Body.TheVariants.{NewView as New_view_body, Prepare as Prepare_body, PreCommit as Pre_commit_body, Commit as Commit_body, Decide as Decide_body, Vote as Vote_body}
-use Rattle.hs_tree.specs.Signed.{Prepare, signed}
+use Rattle.hs_tree.specs.declared.messages.Body.TheVariants.{NewView, Prepare, PreCommit, Commit, Decide, Vote}
 use Rattle.hs_tree.specs.Certificates.{digest_of}
-use Rattle.hs_tree.specs.Statements.{certificate_claims, claims, inside, node_digest, own_statement, stated, vote_claims, with_signature}
+use Rattle.hs_tree.specs.Statements.{certificate_claims, claims, inside, node_digest, stated, vote_claims}
 use Rattle.hs_tree.specs.Tree.{Form}
 
 pub digest-long : (form : Form) (p : Params) (view : ℕ) (what : Content) (just : Certificate) → length (node_digest form p view what just) ≡ 32
@@ -33,12 +31,12 @@ abbrev pub Names : Form → Params → List ℕ → Type 0
 Names form p s = (rest : List ℕ) × (s ≡ statement_head p form.tag ++ rest)
 
 own-names : (form : Form) (p : Params) (body : Body) → Names form p (stated form p body)
-own-names form p (New_view_body round high) = (_, refl)
-own-names form p (Prepare_body view what just) = (_, refl)
-own-names form p (Pre_commit_body view shown) = (_, refl)
-own-names form p (Commit_body view shown) = (_, refl)
-own-names form p (Decide_body view shown) = (_, refl)
-own-names form p (Vote_body phase view d) = (_, refl)
+own-names form p (NewView round high) = (_, refl)
+own-names form p (Prepare view what just) = (_, refl)
+own-names form p (PreCommit view shown) = (_, refl)
+own-names form p (Commit view shown) = (_, refl)
+own-names form p (Decide view shown) = (_, refl)
+own-names form p (Vote phase view d) = (_, refl)
 
 vote-is : (s : List ℕ) (vs : List Signed) (c : Claim) → In c (vote_claims s vs) → c.statement ≡ s
 vote-is s [] c h = absurd h
@@ -50,16 +48,11 @@ certificate-names form p Root c h = absurd h
 certificate-names form p (Votes view phase d votes) c h = (6 ∷ (phase ∷ four_bytes view ++ d), vote-is _ votes c h)
 
 pub named : (form : Form) (p : Params) (from : ℕ) (msg : Message) (c : Claim) → In c (claims form p from msg) → Names form p c.statement
-named form p from msg c h = elim (in_append c (certificate_claims form p (inside msg)) _ h) [
-  | inl k ↦ certificate-names form p (inside msg) c k
+named form p from msg c h = elim (in_append c (certificate_claims form p (inside msg.body)) _ h) [
+  | inl k ↦ certificate-names form p (inside msg.body) c k
   | inr k ↦ own k
 ]
   where
-    own : In c (claim from (own_statement form p msg) msg.sig ∷ []) → Names form p c.statement
+    own : In c (claim from (stated form p msg.body) msg.sig ∷ []) → Names form p c.statement
     own (inl e) = let n = own-names form p msg.body in (n.0, ap (λ (z : Claim). z.statement) e ∙ n.1)
     own (inr k) = absurd k
-
--- ---- What is signed is a proposal only if it was one before
-
-pub prepare-unsigned : (s t : List ℕ) (msg : Message) (view : ℕ) (what : Content) (just : Certificate) → Prepare view what just s ≡ with_signature t msg → (sig : List ℕ) × (msg ≡ Prepare view what just sig)
-prepare-unsigned s t msg view what just h = (msg.sig, ap (λ (z : Message). signed z.body msg.sig) (sym h))

@@ -39,24 +39,14 @@ stated form p (Commit view shown) = statement form p 4 (four_bytes view ++ diges
 stated form p (Decide view shown) = statement form p 5 (four_bytes view ++ digest_of shown)
 stated form p (Vote phase view d) = vote_statement form p phase view d
 
-abbrev pub own_statement : Form → Params → Message → List ℕ
-own_statement form p msg = stated form p msg.body
-
--- the message with this signature instead of its own
-abbrev pub with_signature : List ℕ → Message → Message
-with_signature sig msg = record msg { sig = sig }
-
 -- the certificate in a body, the root's if there is none
-abbrev pub certificate_in : Body → Certificate
-certificate_in (NewView round high) = high
-certificate_in (Prepare view what just) = just
-certificate_in (PreCommit view shown) = shown
-certificate_in (Commit view shown) = shown
-certificate_in (Decide view shown) = shown
-certificate_in (Vote phase view d) = Root
-
-abbrev pub inside : Message → Certificate
-inside msg = certificate_in msg.body
+abbrev pub inside : Body → Certificate
+inside (NewView round high) = high
+inside (Prepare view what just) = just
+inside (PreCommit view shown) = shown
+inside (Commit view shown) = shown
+inside (Decide view shown) = shown
+inside (Vote phase view d) = Root
 
 -- ---- Claims, in the order of the bytes
 
@@ -70,8 +60,8 @@ abbrev pub certificate_claims : Form → Params → Certificate → List Claim
 certificate_claims form p Root = []
 certificate_claims form p (Votes view phase d votes) = vote_claims (vote_statement form p phase view d) votes
 
--- the votes of the certificate in the message, then the sender's own signature
+-- the votes of the certificate in the body, then the sender's own signature
 -- rule: HotStuff: A message claims the votes of its certificate, then its sender's signature
 abbrev pub claims : Form → Params → ℕ → Message → List Claim
 claims form p from msg =
-    certificate_claims form p (inside msg) ++ claim from (own_statement form p msg) msg.sig ∷ []
+    certificate_claims form p (inside msg.body) ++ claim from (stated form p msg.body) msg.sig ∷ []

@@ -2,7 +2,7 @@
 ghost use Rattle.std.specs.Prelude.{◌≡◌, ◌++◌, IfOk, OnOk};
 ghost use Rattle.iss_sb.specs.Statements.{claim};
 ghost use Rattle.hs_tree.specs.Protocols.{form_of};
-ghost use Rattle.hs_tree.specs.Statements.{certificate_claims, certificate_in, claims, own_statement, stated};
+ghost use Rattle.hs_tree.specs.Statements.{certificate_claims, claims, inside, stated};
 
 use crate::messages::{Body, Message, Poll};
 use crate::protocols::Protocol;
@@ -61,7 +61,7 @@ fn put_inside(
     body: &Body,
     all: &mut Seq<Claim>,
 ) -> Result<(), NoMemory>
-    ensures { OnOk result (all.new ≡ all.old ++ certificate_claims (form_of protocol) p.now (certificate_in body.now)) }
+    ensures { OnOk result (all.new ≡ all.old ++ certificate_claims (form_of protocol) p.now (inside body.now)) }
 {
     let tag = protocol.tag();
     match body {
@@ -82,7 +82,7 @@ fn own_claim(
     from: NodeId,
     m: &Message,
 ) -> Result<Claim, NoMemory>
-    ensures { IfOk result (λ c. c ≡ claim from.0 (own_statement (form_of protocol) p.now m.now) m.now.sig) }
+    ensures { IfOk result (λ c. c ≡ claim from.0 (stated (form_of protocol) p.now m.now.body) m.now.sig) }
 {
     let statement = body_statement(alloc, protocol, p, &m.body)?;
     let sig = m.sig.copy()?;
