@@ -26,9 +26,10 @@ use Rattle.iss_sb.specs.declared.content.Content.TheVariants.{Nil, Holds, Mark}
 use Rattle.hs_tree.specs.declared.certificates.Certificate.{Certificate}
 use Rattle.hs_tree.specs.declared.certificates.Certificate.TheVariants.{Root}
 use Rattle.hs_tree.specs.declared.messages.Message.{Message}
-use Rattle.hs_tree.specs.Signed.{Prepare, signed}
+use Rattle.hs_tree.specs.declared.messages.Body.TheVariants.{Prepare}
+use Rattle.hs_tree.specs.Messages.{signed}
 use Rattle.hs_tree.specs.Certificates.{root_row}
-use Rattle.hs_tree.specs.Statements.{own_statement}
+use Rattle.hs_tree.specs.Statements.{stated}
 use Rattle.hs_tree.specs.Tree.{plain_string, root}
 use Rattle.hs_tree.proofs.MessageGrammar.{spelled-read}
 use Rattle.hs_views.proofs.SmallWorlds.{IsOneOf, all_differ, one-takes, separate-by, starts, two-takes, world, zero-takes}
@@ -84,10 +85,10 @@ d_v = 231 ∷ 154 ∷ 65 ∷ 83 ∷ 189 ∷ 51 ∷ 199 ∷ 235 ∷ 191 ∷ 41 �
 -- ---- The messages
 
 abbrev own : ℕ → Content → Certificate → List ℕ
-own view what just = own_statement viewless q (Prepare view what just [])
+own view what just = stated viewless q (Prepare view what just)
 
 abbrev proposal : ℕ → Content → Certificate → Message
-proposal view what just = Prepare view what just (signature q 3 0 (own view what just))
+proposal view what just = signed (Prepare view what just) (signature q 3 0 (own view what just))
 
 abbrev c_h : Certificate
 c_h = shown 1 d_h 1 0 2 0

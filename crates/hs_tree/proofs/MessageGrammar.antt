@@ -17,9 +17,8 @@ use Rattle.hs_tree.specs.declared.certificates.Certificate.{Certificate}
 use Rattle.hs_tree.specs.declared.messages.Message.{Message}
 use Rattle.hs_tree.specs.declared.messages.Body.{Body}
 use Rattle.hs_tree.specs.declared.messages.Body.TheVariants.{NewView, Prepare, PreCommit, Commit, Decide, Vote}
-use Rattle.hs_tree.specs.Signed.{signed}
 use Rattle.hs_tree.specs.Certificates.{is_phase, parse_certificate, spell_certificate}
-use Rattle.hs_tree.specs.Messages.{IsSpelledBody, IsSpelledMessage, IsSpelledShown, fields_of, fits_vote, has_shows, is_message, is_view, new_view_row, no_message, parse, parse_body, parse_new_view, parse_prepare, parse_shown, parse_vote, prepare_row, shown_row, spell, spell_body, spell_shown, vote_row}
+use Rattle.hs_tree.specs.Messages.{IsSpelledBody, IsSpelledMessage, IsSpelledShown, fields_of, fits_vote, has_shows, is_message, is_view, new_view_row, no_message, parse, parse_body, parse_new_view, parse_prepare, parse_shown, parse_vote, prepare_row, shown_row, signed, spell, spell_body, spell_shown, vote_row}
 use Rattle.hs_tree.proofs.CertificateGrammar.{certificate-again, certificate-parts, certificate-spelled, certificate-whole}
 use Rattle.iss_sb.proofs.Contents.{content-grammar, content-read, content-related, content-table, content-whole}
 use Rattle.hs_tree.proofs.Rows.{Again, Fate, HasFate, Never, Whole, again-fate, again-whole, block-field, by-same, byte-field, byte-never, fate-again, fate-fate, fate-of, fate-same, first-never, glue, last-again, last-fate, never-same, number-field, signature-field, then-again, whole-of}

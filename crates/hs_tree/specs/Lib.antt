@@ -4,6 +4,5 @@ pub mod Known
 pub mod Messages
 pub mod Paths
 pub mod Protocols
-pub mod Signed
 pub mod Statements
 pub mod Tree

@@ -18,8 +18,11 @@ use Rattle.hs_tree.specs.declared.certificates.Certificate.{Certificate}
 use Rattle.hs_tree.specs.declared.messages.Message.{Message}
 use Rattle.hs_tree.specs.declared.messages.Body.{Body}
 use Rattle.hs_tree.specs.declared.messages.Body.TheVariants.{NewView, Prepare, PreCommit, Commit, Decide, Vote}
-use Rattle.hs_tree.specs.Signed.{signed}
 use Rattle.hs_tree.specs.Certificates.{IsSpelledCertificate, is_phase, parse_certificate, spell_certificate}
+
+-- a body with its sender's signature
+abbrev pub signed : Body → List ℕ → Message
+signed body sig = record { body = body; sig = sig }
 
 -- ---- Which bodies have an encoding
 

@@ -9,8 +9,8 @@ use Rattle.iss_sb.specs.declared.content.Content.{Content}
 use Rattle.hs_tree.specs.declared.certificates.Certificate.{Certificate}
 use Rattle.hs_tree.specs.declared.messages.Message.{Message}
 use Rattle.hs_tree.specs.declared.messages.Body.{Body}
-use Rattle.hs_tree.specs.declared.messages.Body.TheVariants.{NewView as New_view_body, Prepare as Prepare_body, Vote as Vote_body}
-use Rattle.hs_tree.specs.Signed.{NewView, Prepare, Vote}
+use Rattle.hs_tree.specs.declared.messages.Body.TheVariants.{NewView, Prepare, Vote}
+use Rattle.hs_tree.specs.Messages.{signed}
 use Rattle.hs_tree.specs.Certificates.{view_of}
 use Rattle.hs_tree.specs.Statements.{node_digest, statement, vote_statement}
 use Rattle.hs_tree.specs.Tree.{Form}
@@ -23,21 +23,21 @@ pub one-message : (t : To) (m n : Message) → m ≡ n → ◌≡◌ {A = List (
 one-message t m n k = λ i. (t, k i) ∷ []
 
 pub vote-drafted : (form : Form) (p : Params) (phase view round : ℕ) (d stated : List ℕ) → round ≡ view / 65536 → stated ≡ vote_statement form p phase view d →
-    IsDraft form p (record { to = Leader round; body = Vote_body phase view d; statement = stated }) (vote_for p phase view d)
+    IsDraft form p (record { to = Leader round; body = Vote phase view d; statement = stated }) (vote_for p phase view d)
 vote-drafted form p phase view round d stated hr h = record {
-  message = λ i. (to_leader p (sym hr i), Vote phase view d []) ∷ [];
+  message = λ i. (to_leader p (sym hr i), signed (Vote phase view d) []) ∷ [];
   statement = h;
 }
 
 pub round-drafted : (form : Form) (p : Params) (round v : ℕ) (high : Certificate) (stated : List ℕ) → v ≡ view_of high → stated ≡ statement form p 1 (two_bytes round ++ four_bytes v) →
-    IsDraft form p (record { to = Leader round; body = New_view_body round high; statement = stated }) ((to_leader p round, NewView round high []) ∷ [])
+    IsDraft form p (record { to = Leader round; body = NewView round high; statement = stated }) ((to_leader p round, signed (NewView round high) []) ∷ [])
 round-drafted form p round v high stated hv h = record {
   message = refl;
   statement = h ∙ ap (λ (z : ℕ). statement form p 1 (two_bytes round ++ four_bytes z)) hv;
 }
 
 pub proposal-drafted : (form : Form) (p : Params) (view : ℕ) (what : Content) (just : Certificate) (d stated : List ℕ) → d ≡ node_digest form p view what just → stated ≡ statement form p 2 (four_bytes view ++ d) →
-    IsDraft form p (record { to = Recipient_all; body = Prepare_body view what just; statement = stated }) ((To_all, Prepare view what just []) ∷ [])
+    IsDraft form p (record { to = Recipient_all; body = Prepare view what just; statement = stated }) ((To_all, signed (Prepare view what just) []) ∷ [])
 proposal-drafted form p view what just d stated hd h = record {
   message = refl;
   statement = h ∙ ap (λ (z : List ℕ). statement form p 2 (four_bytes view ++ z)) hd;

@@ -5,8 +5,8 @@ ghost use Rattle.iss_keys.specs.KeyStates.{left_of};
 ghost use Rattle.iss_sb.specs.Calls.{AreToNodes, IsToNode};
 ghost use Rattle.iss_sb.specs.declared.effects.To.{To};
 ghost use Rattle.iss_sb.specs.declared.effects.To.TheVariants.{All as To_all};
-ghost use Rattle.hs_tree.specs.declared.messages.Message.{Message};
-ghost use Rattle.hs_tree.specs.Signed.{NewView, Prepare};
+ghost use Rattle.hs_tree.specs.declared.messages.Body.TheVariants.{NewView, Prepare};
+ghost use Rattle.hs_tree.specs.declared.messages.Body.{Body};
 ghost use Rattle.hs_tree.specs.Protocols.{form_of};
 ghost use Rattle.hs_tree.specs.Statements.{node_digest};
 ghost use Rattle.hs_tree.specs.Tree.{Form};
@@ -87,7 +87,7 @@ pub fn proposal_draft(
     ensures { IfOk result (λ d.
         digest.now ≡ node_digest (form_of protocol) p.now proposal.view proposal.what proposal.just →
         AreDrafts (form_of protocol) p.now (Some d)
-        ((To_all, Prepare proposal.view proposal.what proposal.just []) ∷ [])) }
+        ((To_all, Prepare proposal.view proposal.what proposal.just) ∷ [])) }
 {
     let tag = protocol.tag();
     let view = proposal.view;
@@ -111,7 +111,7 @@ pub fn round_draft(
     high: Certificate,
 ) -> Result<Draft, NoMemory>
     ensures { IfOk result (λ d. AreDrafts (form_of protocol) p.now (Some d)
-        ((to_leader p.now round, NewView round high []) ∷ [])) }
+        ((to_leader p.now round, NewView round high) ∷ [])) }
 {
     let tag = protocol.tag();
     let out = start_statement(alloc, p, tag)?;
@@ -133,7 +133,7 @@ pub fn send(
     requires some { 1 ≤ p.now.setup.n }
     requires few { p.now.setup.n ≤ 255 }
     requires left { 0 < left_of keys.old }
-    ensures sends { OnOk result ((form : Form) (me : ℕ) (xs : List (To × Message)) →
+    ensures sends { OnOk result ((form : Form) (me : ℕ) (xs : List (To × Body)) →
         AreKeysOf me p.now.setup.keys keys.old → AreDrafts form p.now draft xs →
         sends.new ≡ sends.old ++ signed_from form p.now me keys.old.used xs) }
     ensures used { OnOk result (keys.new ≡ record keys.old { used = keys.old.used + count_of draft }) }

@@ -10,10 +10,10 @@ use Rattle.iss_sb.specs.declared.content.Content.{Content}
 use Rattle.hs_tree.specs.declared.certificates.Certificate.{Certificate}
 use Rattle.hs_tree.specs.declared.messages.Message.{Message}
 use Rattle.hs_tree.specs.declared.messages.Body.{Body}
-use Rattle.hs_tree.specs.declared.messages.Body.TheVariants.{NewView as New_view_body, Prepare as Prepare_body, PreCommit as Pre_commit_body, Commit as Commit_body, Decide as Decide_body, Vote as Vote_body}
-use Rattle.hs_tree.specs.Signed.{Prepare, Vote, signed}
+use Rattle.hs_tree.specs.declared.messages.Body.TheVariants.{NewView, Prepare, PreCommit, Commit, Decide, Vote}
+use Rattle.hs_tree.specs.Messages.{signed}
 use Rattle.hs_tree.specs.Certificates.{is_quorum, view_of}
-use Rattle.hs_tree.specs.Statements.{own_statement, vote_statement}
+use Rattle.hs_tree.specs.Statements.{stated, vote_statement}
 use Rattle.hs_tree.specs.Tree.{basic}
 use Rattle.sb_hotstuff.specs.Rules.{State, is_good, is_shown, may_second, may_third, node_digest}
 use Rattle.hs_views.specs.Views.{turn_of}
@@ -75,22 +75,22 @@ vote-same p phase view d q v e h =
 -- a message whose own statement is a vote's is that vote
 pub record IsVote (msg : Message) (phase view : ℕ) (d : List ℕ) : Type 0 where
   pub sig : List ℕ
-  pub is : msg ≡ Vote phase view d sig
+  pub is : msg ≡ signed (Vote phase view d) sig
 
-own-vote-body : (p : Params) (body : Body) (sig : List ℕ) (phase view : ℕ) (d : List ℕ) → own_statement basic p (signed body sig) ≡ vote_statement basic p phase view d → IsVote (signed body sig) phase view d
-own-vote-body p (New_view_body round high) sig phase view d h = let k = behind p 1 6 _ _ h in absurd cc
-own-vote-body p (Prepare_body v what just) sig phase view d h = let k = behind p 2 6 _ _ h in absurd cc
-own-vote-body p (Pre_commit_body v shown) sig phase view d h = let k = behind p 3 6 _ _ h in absurd cc
-own-vote-body p (Commit_body v shown) sig phase view d h = let k = behind p 4 6 _ _ h in absurd cc
-own-vote-body p (Decide_body v shown) sig phase view d h = let k = behind p 5 6 _ _ h in absurd cc
-own-vote-body p (Vote_body q v e) sig phase view d h =
+own-vote-body : (p : Params) (body : Body) (sig : List ℕ) (phase view : ℕ) (d : List ℕ) → stated basic p body ≡ vote_statement basic p phase view d → IsVote (signed body sig) phase view d
+own-vote-body p (NewView round high) sig phase view d h = let k = behind p 1 6 _ _ h in absurd cc
+own-vote-body p (Prepare v what just) sig phase view d h = let k = behind p 2 6 _ _ h in absurd cc
+own-vote-body p (PreCommit v shown) sig phase view d h = let k = behind p 3 6 _ _ h in absurd cc
+own-vote-body p (Commit v shown) sig phase view d h = let k = behind p 4 6 _ _ h in absurd cc
+own-vote-body p (Decide v shown) sig phase view d h = let k = behind p 5 6 _ _ h in absurd cc
+own-vote-body p (Vote q v e) sig phase view d h =
     let s = vote-same p q v e phase view d h in
     let x = s.phase_is in
     let y = s.view_is in
     let z = s.digest_is in
     record { sig = sig; is = cc }
 
-pub own-vote : (p : Params) (msg : Message) (phase view : ℕ) (d : List ℕ) → own_statement basic p msg ≡ vote_statement basic p phase view d → IsVote msg phase view d
+pub own-vote : (p : Params) (msg : Message) (phase view : ℕ) (d : List ℕ) → stated basic p msg.body ≡ vote_statement basic p phase view d → IsVote msg phase view d
 own-vote p msg phase view d h = own-vote-body p msg.body msg.sig phase view d h
 
 -- a message whose own statement is a proposal's is a proposal of that view and node
@@ -98,20 +98,20 @@ pub record IsProposal (p : Params) (msg : Message) (view : ℕ) (d : List ℕ) :
   pub what : Content
   pub just : Certificate
   pub sig : List ℕ
-  pub is : msg ≡ Prepare view what just sig
+  pub is : msg ≡ signed (Prepare view what just) sig
   pub digest_is : node_digest p view what just ≡ d
 
-own-proposal-body : (p : Params) (body : Body) (sig : List ℕ) (view : ℕ) (d : List ℕ) → own_statement basic p (signed body sig) ≡ statement_head p 4 ++ (2 ∷ (four_bytes view ++ d)) → IsProposal p (signed body sig) view d
-own-proposal-body p (New_view_body round high) sig view d h = let k = behind p 1 2 _ _ h in absurd cc
-own-proposal-body p (Pre_commit_body v shown) sig view d h = let k = behind p 3 2 _ _ h in absurd cc
-own-proposal-body p (Commit_body v shown) sig view d h = let k = behind p 4 2 _ _ h in absurd cc
-own-proposal-body p (Decide_body v shown) sig view d h = let k = behind p 5 2 _ _ h in absurd cc
-own-proposal-body p (Vote_body q v e) sig view d h = let k = behind p 6 2 _ _ h in absurd cc
-own-proposal-body p (Prepare_body v what just) sig view d h =
+own-proposal-body : (p : Params) (body : Body) (sig : List ℕ) (view : ℕ) (d : List ℕ) → stated basic p body ≡ statement_head p 4 ++ (2 ∷ (four_bytes view ++ d)) → IsProposal p (signed body sig) view d
+own-proposal-body p (NewView round high) sig view d h = let k = behind p 1 2 _ _ h in absurd cc
+own-proposal-body p (PreCommit v shown) sig view d h = let k = behind p 3 2 _ _ h in absurd cc
+own-proposal-body p (Commit v shown) sig view d h = let k = behind p 4 2 _ _ h in absurd cc
+own-proposal-body p (Decide v shown) sig view d h = let k = behind p 5 2 _ _ h in absurd cc
+own-proposal-body p (Vote q v e) sig view d h = let k = behind p 6 2 _ _ h in absurd cc
+own-proposal-body p (Prepare v what just) sig view d h =
     let k = behind p 2 2 (four_bytes v ++ node_digest p v what just) (four_bytes view ++ d) h in
     let rest : four_bytes v ++ node_digest p v what just ≡ four_bytes view ++ d = cc in
     let b = wide-same 3 v view (node_digest p v what just) d rest in
-    subst (λ (z : ℕ). IsProposal p (Prepare v what just sig) z d) b.0 (record { what = what; just = just; sig = sig; is = refl; digest_is = b.1 })
+    subst (λ (z : ℕ). IsProposal p (signed (Prepare v what just) sig) z d) b.0 (record { what = what; just = just; sig = sig; is = refl; digest_is = b.1 })
 
-pub own-proposal : (p : Params) (msg : Message) (view : ℕ) (d : List ℕ) → own_statement basic p msg ≡ statement_head p 4 ++ (2 ∷ (four_bytes view ++ d)) → IsProposal p msg view d
+pub own-proposal : (p : Params) (msg : Message) (view : ℕ) (d : List ℕ) → stated basic p msg.body ≡ statement_head p 4 ++ (2 ∷ (four_bytes view ++ d)) → IsProposal p msg view d
 own-proposal p msg view d h = own-proposal-body p msg.body msg.sig view d h

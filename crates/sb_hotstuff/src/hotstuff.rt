@@ -4,7 +4,8 @@ ghost use Rattle.iss_keys.specs.KeyStates.{left_of};
 ghost use Rattle.iss_request.specs.declared.ids.Slot.{Slot};
 ghost use Rattle.iss_request.specs.declared.requests.Batch.{Batch};
 ghost use Rattle.iss_sb.specs.Calls.{IsGoodInput, IsGoodParams, IsTrueStep, named};
-ghost use Rattle.hs_tree.specs.Signed.{Prepare, Decide};
+ghost use Rattle.hs_tree.specs.declared.messages.Body.TheVariants.{Prepare, Decide};
+ghost use Rattle.hs_tree.specs.Messages.{signed};
 ghost use Rattle.hs_views.specs.Accepted.{AreAccepted};
 ghost use Rattle.sb_hotstuff.specs.HotStuff.{asked_by, hotstuff, offered};
 ghost use Rattle.sb_hotstuff.specs.Internal.Instances.{Refines, Takes};
@@ -67,7 +68,7 @@ impl HotStuff {
         requires { IsGoodParams hotstuff p.now }
         ensures { (s : State) (old : List (Slot × Batch)) → RefinesState self.now.node s →
             AreAccepted self.now.accepted old →
-            named result ≡ asked_by p.now s old from.0 msg.now }
+            named result ≡ asked_by p.now s old from.0 msg.now.body }
     {
         match &msg.body {
             Body::Prepare { view, what, just } => self.offered(p, from, *view, what, just),
@@ -103,7 +104,7 @@ impl HotStuff {
         proposal: Proposal,
     ) -> Result<Taken, NoMemory>
         ensures { IfOk result (λ t. (sig : List ℕ) → Takes context.now.p.now self.old self.new
-            (Input.Receive from (Prepare proposal.view proposal.what proposal.just sig)) t) }
+            (Input.Receive from (signed (Prepare proposal.view proposal.what proposal.just) sig)) t) }
     {
         let view = proposal.view;
         let what = proposal.what;
@@ -132,7 +133,7 @@ impl HotStuff {
         shown: Certificate,
     ) -> Result<Taken, NoMemory>
         ensures { IfOk result (λ t. (from : NodeId) (sig : List ℕ) →
-            Takes context.now.p.now self.old self.new (Input.Receive from (Decide view shown sig)) t) }
+            Takes context.now.p.now self.old self.new (Input.Receive from (signed (Decide view shown) sig)) t) }
     {
         let mut taken = Taken::of(context.alloc, Outcome::nothing(context.alloc));
         if !self.node.may_deliver(context.p, view, &shown) {

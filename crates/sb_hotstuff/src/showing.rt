@@ -1,7 +1,6 @@
 //! The messages that broadcast quorum certificates.
 ghost use Rattle.std.specs.Prelude.{◌≡◌, ◌==◌, ◌∷◌, [], Some, IfOk, if◌then◌else◌};
 ghost use Rattle.iss_sb.specs.declared.effects.To.TheVariants.{All as To_all};
-ghost use Rattle.hs_tree.specs.declared.messages.Body.TheVariants.{PreCommit, Commit, Decide};
 ghost use Rattle.sb_hotstuff.specs.Drafts.{AreDrafts};
 ghost use Rattle.sb_hotstuff.specs.HotStuff.{shows};
 
@@ -15,8 +14,7 @@ use std::alloc::Global;
 
 // The message that broadcasts a certificate of this phase.
 fn shown_body(phase: u8, view: u32, shown: Certificate) -> Body
-    ensures { result ≡
-        (if phase == 1 then PreCommit view shown else (if phase == 2 then Commit view shown else Decide view shown)) }
+    ensures { result ≡ shows phase view shown }
 {
     match phase {
         1 => Body::PreCommit { view, shown },

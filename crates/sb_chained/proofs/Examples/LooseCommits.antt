@@ -25,9 +25,10 @@ use Rattle.iss_sb.specs.declared.content.Content.TheVariants.{Nil, Holds, Mark}
 use Rattle.hs_tree.specs.declared.certificates.Certificate.{Certificate}
 use Rattle.hs_tree.specs.declared.certificates.Certificate.TheVariants.{Root}
 use Rattle.hs_tree.specs.declared.messages.Message.{Message}
-use Rattle.hs_tree.specs.Signed.{Prepare, signed}
+use Rattle.hs_tree.specs.declared.messages.Body.TheVariants.{Prepare}
+use Rattle.hs_tree.specs.Messages.{signed}
 use Rattle.hs_tree.specs.Certificates.{root_row}
-use Rattle.hs_tree.specs.Statements.{own_statement}
+use Rattle.hs_tree.specs.Statements.{stated}
 use Rattle.hs_tree.specs.Tree.{chained as form, root, viewed_string}
 use Rattle.hs_tree.proofs.MessageGrammar.{spelled-read}
 use Rattle.hs_views.proofs.SmallWorlds.{IsOneOf, all_differ, one-takes, separate-by, starts, two-takes, world, zero-takes}
@@ -79,10 +80,10 @@ d_v = 237 ∷ 231 ∷ 71 ∷ 188 ∷ 50 ∷ 226 ∷ 73 ∷ 214 ∷ 159 ∷ 81 �
 -- ---- The messages
 
 abbrev own : ℕ → Content → Certificate → List ℕ
-own view what just = own_statement form q (Prepare view what just [])
+own view what just = stated form q (Prepare view what just)
 
 abbrev proposal : ℕ → Content → Certificate → Message
-proposal view what just = Prepare view what just (signature q 3 0 (own view what just))
+proposal view what just = signed (Prepare view what just) (signature q 3 0 (own view what just))
 
 abbrev c_z : Certificate
 c_z = shown 1 d_z 0 0 1 0

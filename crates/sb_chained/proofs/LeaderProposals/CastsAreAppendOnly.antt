@@ -12,8 +12,8 @@ use Rattle.iss_sb.specs.Legal.{Front}
 use Rattle.hs_tree.specs.declared.certificates.Certificate.{Certificate}
 use Rattle.hs_tree.specs.declared.messages.Message.{Message}
 use Rattle.hs_tree.specs.declared.messages.Body.{Body}
-use Rattle.hs_tree.specs.declared.messages.Body.TheVariants.{NewView as New_view_body, Prepare as Prepare_body, PreCommit as Pre_commit_body, Commit as Commit_body, Decide as Decide_body, Vote as Vote_body}
-use Rattle.hs_tree.specs.Signed.{signed}
+use Rattle.hs_tree.specs.declared.messages.Body.TheVariants.{NewView, Prepare, PreCommit, Commit, Decide, Vote}
+use Rattle.hs_tree.specs.Messages.{signed}
 use Rattle.sb_chained.specs.Chained.{state}
 use Rattle.sb_chained.specs.Rules.{State, heard, keeps_news, keeps_vote, kept, may_cast, may_end, may_prepare, proposed, shows, taken, with_cast, with_news, with_node, with_round, with_shown, with_turn, with_vote}
 use Rattle.hs_views.specs.Views.{Turn}
@@ -24,15 +24,15 @@ abbrev pub Same : State → State → Type 0
 Same s t = (t.turns ≡ s.turns) × (t.casts ≡ s.casts)
 
 module _ (p : Params) (me : ℕ) where
-  heard-same-body : (s : State) (from : ℕ) (body : Body) (sig : List ℕ) → Same s (heard p me s from (signed body sig))
-  heard-same-body s from (New_view_body round high) sig = by-if (Same s) (keeps_news p me s from round high) (with_news s from round high) s (refl, refl) (refl, refl)
-  heard-same-body s from (Prepare_body view what just) sig = by-if (Same s) (may_prepare p s from view what just) (with_node p s view what just) s (refl, refl) (refl, refl)
-  heard-same-body s from (Pre_commit_body view shown) sig = (refl, refl)
-  heard-same-body s from (Commit_body view shown) sig = (refl, refl)
-  heard-same-body s from (Decide_body view shown) sig = (refl, refl)
-  heard-same-body s from (Vote_body phase view d) sig = by-if (Same s) (keeps_vote p s from phase view d) (with_vote s from view d sig) s (refl, refl) (refl, refl)
+  heard-same-body : (s : State) (from : ℕ) (body : Body) (sig : List ℕ) → Same s (heard p me s from body sig)
+  heard-same-body s from (NewView round high) sig = by-if (Same s) (keeps_news p me s from round high) (with_news s from round high) s (refl, refl) (refl, refl)
+  heard-same-body s from (Prepare view what just) sig = by-if (Same s) (may_prepare p s from view what just) (with_node p s view what just) s (refl, refl) (refl, refl)
+  heard-same-body s from (PreCommit view shown) sig = (refl, refl)
+  heard-same-body s from (Commit view shown) sig = (refl, refl)
+  heard-same-body s from (Decide view shown) sig = (refl, refl)
+  heard-same-body s from (Vote phase view d) sig = by-if (Same s) (keeps_vote p s from phase view d) (with_vote s from view d sig) s (refl, refl) (refl, refl)
 
-  heard-same : (s : State) (from : ℕ) (msg : Message) → Same s (heard p me s from msg)
+  heard-same : (s : State) (from : ℕ) (msg : Message) → Same s (heard p me s from msg.body msg.sig)
   heard-same s from msg = heard-same-body s from msg.body msg.sig
 
   -- a certificate that is shown changes neither
@@ -42,7 +42,7 @@ module _ (p : Params) (me : ℕ) where
   pub kept-same : (s : State) (from : NodeId) (msg : Message) → Same s (kept p me s (Receive from msg))
   kept-same s from msg =
       let h = heard-same s from.0 msg in
-      let t = heard p me s from.0 msg in
+      let t = heard p me s from.0 msg.body msg.sig in
       let g = shown-same t (shows p me s t (Receive from msg)) in
       (g.0 ∙ h.0, g.1 ∙ h.1)
 

@@ -20,8 +20,8 @@ use Rattle.iss_sb.specs.declared.content.Content.TheVariants.{Nil, Holds, Mark}
 use Rattle.hs_tree.specs.declared.certificates.Certificate.{Certificate}
 use Rattle.hs_tree.specs.declared.messages.Message.{Message}
 use Rattle.hs_tree.specs.declared.messages.Body.{Body}
-use Rattle.hs_tree.specs.declared.messages.Body.TheVariants.{NewView as New_view_body, Prepare as Prepare_body, PreCommit as Pre_commit_body, Commit as Commit_body, Decide as Decide_body, Vote as Vote_body}
-use Rattle.hs_tree.specs.Signed.{Prepare, signed}
+use Rattle.hs_tree.specs.declared.messages.Body.TheVariants.{NewView, Prepare, PreCommit, Commit, Decide, Vote}
+use Rattle.hs_tree.specs.Messages.{signed}
 use Rattle.hs_tree.specs.Certificates.{digest_of}
 use Rattle.hs_tree.specs.Tree.{branch, root}
 use Rattle.sb_chained.specs.Chained.{asks, chained, offered, state}
@@ -57,7 +57,7 @@ module _ (p : Params) (w : World Message) (good : IsGoodParams chained p) (reach
       }
 
   by-proposal : (x : Item Message) (older : List (Item Message)) → Front (x ∷ older) (w l) → (from : NodeId) (v : ℕ) (c : Batch) (just : Certificate) (sig : List ℕ) (s : Slot) (b : Batch) →
-      x.input ≡ Receive from (Prepare v (Holds c) just sig) → may_prepare p (state p l older) from.0 v (Holds c) just ≡ true → IsOffered (nth p.slots (slots_below (state p l older) just)) c s b → IsCastAt s b
+      x.input ≡ Receive from (signed (Prepare v (Holds c) just) sig) → may_prepare p (state p l older) from.0 v (Holds c) just ≡ true → IsOffered (nth p.slots (slots_below (state p l older) just)) c s b → IsCastAt s b
   by-proposal x older f from v c just sig s b e q o =
       let st = state p l older in
       let k = part-here p w good reached l x older f in
@@ -70,17 +70,17 @@ module _ (p : Params) (w : World Message) (good : IsGoodParams chained p) (reach
       record { place = slots_below st just; slot = o.slot; cast = own.cast ∙ ap (λ (z : Batch). Some z) o.batch }
 
   asked-at-body : (x : Item Message) (older : List (Item Message)) → Front (x ∷ older) (w l) → (from : NodeId) (body : Body) (sig : List ℕ) (s : Slot) (b : Batch) → x.input ≡ (Receive from (signed body sig)) → asks p l older (Receive from (signed body sig)) ≡ Some (s, b) → IsCastAt s b
-  asked-at-body x older f from (New_view_body round high) sig s b e h = absurd cc
-  asked-at-body x older f from (Pre_commit_body view shown) sig s b e h = absurd cc
-  asked-at-body x older f from (Commit_body view shown) sig s b e h = absurd cc
-  asked-at-body x older f from (Decide_body view shown) sig s b e h = absurd cc
-  asked-at-body x older f from (Vote_body phase view d) sig s b e h = absurd cc
-  asked-at-body x older f from (Prepare_body v what just) sig s b e h =
+  asked-at-body x older f from (NewView round high) sig s b e h = absurd cc
+  asked-at-body x older f from (PreCommit view shown) sig s b e h = absurd cc
+  asked-at-body x older f from (Commit view shown) sig s b e h = absurd cc
+  asked-at-body x older f from (Decide view shown) sig s b e h = absurd cc
+  asked-at-body x older f from (Vote phase view d) sig s b e h = absurd cc
+  asked-at-body x older f from (Prepare v what just) sig s b e h =
       let st = state p l older in
       let t = if-in (may_prepare p st from.0 v what just) (offered p st (accepts older) what just) (s, b) h in
       go what e t.passed t.is
     where
-      go : (c : Content) → x.input ≡ Receive from (Prepare v c just sig) → may_prepare p (state p l older) from.0 v c just ≡ true → offered p (state p l older) (accepts older) c just ≡ Some (s, b) → IsCastAt s b
+      go : (c : Content) → x.input ≡ Receive from (signed (Prepare v c just) sig) → may_prepare p (state p l older) from.0 v c just ≡ true → offered p (state p l older) (accepts older) c just ≡ Some (s, b) → IsCastAt s b
       go Nil is q o = absurd cc
       go (Holds c) is q o = by-proposal x older f from v c just sig s b is q (unless-is (accepts older) c (nth p.slots (slots_below (state p l older) just)) s b o)
       go Mark is q o = absurd cc

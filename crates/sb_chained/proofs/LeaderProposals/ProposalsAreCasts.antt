@@ -25,10 +25,10 @@ use Rattle.hs_tree.specs.declared.certificates.Certificate.{Certificate}
 use Rattle.hs_tree.specs.declared.certificates.Certificate.TheVariants.{Root}
 use Rattle.hs_tree.specs.declared.messages.Message.{Message}
 use Rattle.hs_tree.specs.declared.messages.Body.{Body}
-use Rattle.hs_tree.specs.declared.messages.Body.TheVariants.{NewView as New_view_body, Prepare as Prepare_body, PreCommit as Pre_commit_body, Commit as Commit_body, Decide as Decide_body, Vote as Vote_body}
-use Rattle.hs_tree.specs.Signed.{NewView, Prepare, Vote, signed}
+use Rattle.hs_tree.specs.declared.messages.Body.TheVariants.{NewView, Prepare, PreCommit, Commit, Decide, Vote}
+use Rattle.hs_tree.specs.Messages.{signed}
 use Rattle.hs_tree.specs.Certificates.{digest_of}
-use Rattle.hs_tree.specs.Statements.{own_statement}
+use Rattle.hs_tree.specs.Statements.{stated}
 use Rattle.hs_tree.proofs.Claimed.{prepare-unsigned}
 use Rattle.hs_tree.specs.Tree.{chained as form, filled, root, weight}
 use Rattle.sb_chained.specs.Chained.{answers, asks, chained, drafts, proposals, sign_all, state, voted}
@@ -42,13 +42,13 @@ use Rattle.hs_views.proofs.Tests.{by-if, by-test, is-same}
 
 -- ---- Unsigned messages
 
-unsigned : (p : Params) (me leaf : ℕ) (ds : List (To × Message)) (to : To) (view : ℕ) (what : Content) (just : Certificate) (sig : List ℕ) → In {A = To × Message} (to, Prepare view what just sig) (sign_all p me leaf ds) →
-    (old : List ℕ) × In {A = To × Message} (to, Prepare view what just old) ds
+unsigned : (p : Params) (me leaf : ℕ) (ds : List (To × Message)) (to : To) (view : ℕ) (what : Content) (just : Certificate) (sig : List ℕ) → In {A = To × Message} (to, signed (Prepare view what just) sig) (sign_all p me leaf ds) →
+    (old : List ℕ) × In {A = To × Message} (to, signed (Prepare view what just) old) ds
 unsigned p me leaf [] to view what just sig h = absurd h
 unsigned p me leaf (x ∷ ds) to view what just sig (inl e) =
-    let r = prepare-unsigned sig (signature p me leaf (own_statement form p x.1)) x.1 view what just (ap (λ (z : To × Message). z.1) e) in
+    let r = prepare-unsigned sig (signature p me leaf (stated form p x.1.body)) x.1 view what just (ap (λ (z : To × Message). z.1) e) in
     let goes : to ≡ x.0 = ap (λ (z : To × Message). z.0) e in
-    (r.0, inl (ap (λ (z : To). let y : To × Message = (z, Prepare view what just r.0) in y) goes ∙ ap (λ (z : Message). let y : To × Message = (x.0, z) in y) (sym r.1)))
+    (r.0, inl (ap (λ (z : To). let y : To × Message = (z, signed (Prepare view what just) r.0) in y) goes ∙ ap (λ (z : Message). let y : To × Message = (x.0, z) in y) (sym r.1)))
 unsigned p me leaf (x ∷ ds) to view what just sig (inr k) = let r = unsigned p me (suc leaf) ds to view what just sig k in (r.0, inr r.1)
 
 -- a proposal that is sent belongs to the turn that the input triggered
@@ -61,9 +61,9 @@ pub record IsTurn (o : Option Turn) (view : ℕ) (what : Content) (just : Certif
 
 module _ (p : Params) (to : To) (view : ℕ) (what : Content) (just : Certificate) (sig : List ℕ) where
   abbrev Sent : List (To × Message) → Type 0
-  Sent ds = In {A = To × Message} (to, Prepare view what just sig) ds
+  Sent ds = In {A = To × Message} (to, signed (Prepare view what just) sig) ds
 
-  one-is : (a : To) (n : Message) → Sent ((a, n) ∷ []) → Prepare_body view what just ≡ n.body
+  one-is : (a : To) (n : Message) → Sent ((a, n) ∷ []) → Prepare view what just ≡ n.body
   one-is a n (inl e) = ap (λ (z : To × Message). z.1.body) e
   one-is a n (inr h) = absurd h
 
@@ -72,36 +72,36 @@ module _ (p : Params) (to : To) (view : ℕ) (what : Content) (just : Certificat
   none-if false ds h k = k
 
   none-voted : (v : ℕ) (e : List ℕ) → Sent (voted p v e) → ⊥
-  none-voted v e h = let m = one-is _ (Vote 1 v e []) h in cc
+  none-voted v e h = let m = one-is _ (signed (Vote 1 v e) []) h in cc
 
   none-answered-body : (s : State) (from : NodeId) (body : Body) (sig : List ℕ) → Sent (answers p s (Receive from (signed body sig))) → ⊥
-  none-answered-body s from (New_view_body round high) x h = h
-  none-answered-body s from (Prepare_body v c j) x h = none-if (may_prepare p s from.0 v c j) (voted p v (node_digest p v c j)) (none-voted v (node_digest p v c j)) h
-  none-answered-body s from (Pre_commit_body v shown) x h = h
-  none-answered-body s from (Commit_body v shown) x h = h
-  none-answered-body s from (Decide_body v shown) x h = h
-  none-answered-body s from (Vote_body q v e) x h = h
+  none-answered-body s from (NewView round high) x h = h
+  none-answered-body s from (Prepare v c j) x h = none-if (may_prepare p s from.0 v c j) (voted p v (node_digest p v c j)) (none-voted v (node_digest p v c j)) h
+  none-answered-body s from (PreCommit v shown) x h = h
+  none-answered-body s from (Commit v shown) x h = h
+  none-answered-body s from (Decide v shown) x h = h
+  none-answered-body s from (Vote q v e) x h = h
 
   none-answered : (s : State) (i : Input Message) → Sent (answers p s i) → ⊥
   none-answered s (Cast slot batch) h = h
   none-answered s (Receive from msg) h = none-answered-body s from msg.body msg.sig h
-  none-answered s Timeout h = none-if (may_end s) _ (λ z. let m = one-is _ (NewView (suc (round_of s.view)) s.high []) z in cc) h
+  none-answered s Timeout h = none-if (may_end s) _ (λ z. let m = one-is _ (signed (NewView (suc (round_of s.view)) s.high) []) z in cc) h
 
   of-turn : (o : Option Turn) → Sent (proposals o) → IsTurn o view what just
   of-turn None h = absurd h
   of-turn (Some t) h =
-      let m = one-is To_all (Prepare t.view t.what t.just []) h in
+      let m = one-is To_all (signed (Prepare t.view t.what t.just) []) h in
       let a : t.view ≡ view = cc in
       let b : t.what ≡ what = cc in
       let c : t.just ≡ just = cc in
       record { turn = t; is = refl; view_is = a; what_is = b; just_is = c }
 
 -- a proposal among the unsigned messages is that of the step's turn
-pub proposal-turn : (p : Params) (me : ℕ) (s : State) (i : Input Message) (to : To) (view : ℕ) (what : Content) (just : Certificate) (sig : List ℕ) → In {A = To × Message} (to, Prepare view what just sig) (drafts p me s i) →
+pub proposal-turn : (p : Params) (me : ℕ) (s : State) (i : Input Message) (to : To) (view : ℕ) (what : Content) (just : Certificate) (sig : List ℕ) → In {A = To × Message} (to, signed (Prepare view what just) sig) (drafts p me s i) →
     IsTurn (proposed p me s (kept p me s i) i) view what just
 proposal-turn p me s i to view what just sig h =
     let k = kept p me s i in
-    elim (in_append {A = To × Message} (to, Prepare view what just sig) (answers p s i) (proposals (proposed p me s k i)) h) [
+    elim (in_append {A = To × Message} (to, signed (Prepare view what just) sig) (answers p s i) (proposals (proposed p me s k i)) h) [
       | inl a ↦ absurd (none-answered p to view what just sig s i a)
       | inr a ↦ of-turn p to view what just sig (proposed p me s k i) a
     ]
@@ -214,14 +214,14 @@ module _ (p : Params) (w : World Message) (good : IsGoodParams chained p) (reach
       late r l e = omega (arith, l, e)
 
   proposed-ok-body : (s k : State) (from : NodeId) (body : Body) (sig : List ℕ) → LeaderOk k → MayOk (proposed p me s k (Receive from (signed body sig)))
-  proposed-ok-body s k from (New_view_body round high) sig h = by-test MayOk (keeps_news p me s from.0 round high) (turn_on p k round (first_high p k round)) None (λ q.
+  proposed-ok-body s k from (NewView round high) sig h = by-test MayOk (keeps_news p me s from.0 round high) (turn_on p k round (first_high p k round)) None (λ q.
       let a = and-true _ _ (and-true _ _ (and-true _ _ q).0).0 in
       first-ok k round (first_high p k round) (leb-true 1 round a.0)) tt
-  proposed-ok-body s k from (Prepare_body view what just) sig h = tt
-  proposed-ok-body s k from (Pre_commit_body view shown) sig h = tt
-  proposed-ok-body s k from (Commit_body view shown) sig h = tt
-  proposed-ok-body s k from (Decide_body view shown) sig h = tt
-  proposed-ok-body s k from (Vote_body phase view d) sig h = by-if MayOk _ (next_turn p k k.turns) None (next-ok k k.turns h h.turns) tt
+  proposed-ok-body s k from (Prepare view what just) sig h = tt
+  proposed-ok-body s k from (PreCommit view shown) sig h = tt
+  proposed-ok-body s k from (Commit view shown) sig h = tt
+  proposed-ok-body s k from (Decide view shown) sig h = tt
+  proposed-ok-body s k from (Vote phase view d) sig h = by-if MayOk _ (next_turn p k k.turns) None (next-ok k k.turns h h.turns) tt
 
   proposed-ok : (s k : State) (i : Input Message) → LeaderOk k → MayOk (proposed p me s k i)
   proposed-ok s k (Cast slot batch) h = by-if MayOk (may_cast p me s slot.0) (next_turn p k k.turns) None (next-ok k k.turns h h.turns) tt
@@ -290,11 +290,11 @@ module _ (p : Params) (w : World Message) (good : IsGoodParams chained p) (reach
       pub ok : TurnOk turn
       pub at : Proposed turn
 
-    pub proposal-why : (x : Item Message) (xs : List (Item Message)) (to : To) (view : ℕ) (what : Content) (just : Certificate) (sig : List ℕ) → P (x ∷ xs) → In {A = To × Message} (to, Prepare view what just sig) x.made.sends → IsProposed view what just
+    pub proposal-why : (x : Item Message) (xs : List (Item Message)) (to : To) (view : ℕ) (what : Content) (just : Certificate) (sig : List ℕ) → P (x ∷ xs) → In {A = To × Message} (to, signed (Prepare view what just) sig) x.made.sends → IsProposed view what just
     proposal-why x xs to view what just sig f sent =
         let s = state p me xs in
         let k = kept p me s x.input in
-        let made = subst (λ (z : Made Message). In {A = To × Message} (to, Prepare view what just sig) z.sends) (part-made p w good reached me (x ∷ xs) f).0 sent in
+        let made = subst (λ (z : Made Message). In {A = To × Message} (to, signed (Prepare view what just) sig) z.sends) (part-made p w good reached me (x ∷ xs) f).0 sent in
         let r = unsigned p me x.leaf (drafts p me s x.input) to view what just sig made in
         let t = proposal-turn p me s x.input to view what just r.0 r.1 in
         let ok = subst MayOk t.is (proposed-ok s k x.input (step-ok x xs f (leader-ok xs (front-older x xs (w me) f)))) in

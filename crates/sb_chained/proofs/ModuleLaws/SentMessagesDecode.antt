@@ -26,12 +26,11 @@ use Rattle.hs_tree.specs.declared.certificates.Certificate.TheVariants.{Root, Vo
 use Rattle.iss_sb.specs.declared.signers.Signed.{Signed}
 use Rattle.hs_tree.specs.declared.messages.Message.{Message}
 use Rattle.hs_tree.specs.declared.messages.Body.{Body}
-use Rattle.hs_tree.specs.declared.messages.Body.TheVariants.{NewView as New_view_body, Prepare as Prepare_body, PreCommit as Pre_commit_body, Commit as Commit_body, Decide as Decide_body, Vote as Vote_body}
-use Rattle.hs_tree.specs.Signed.{NewView, Vote, signed}
+use Rattle.hs_tree.specs.declared.messages.Body.TheVariants.{NewView, Prepare, PreCommit, Commit, Decide, Vote}
 use Rattle.iss_sb.specs.Signers.{AreSigners}
 use Rattle.hs_tree.specs.Certificates.{IsSpelledCertificate, digest_of, root_row, view_of, votes_row}
-use Rattle.hs_tree.specs.Messages.{IsSpelledMessage, spell}
-use Rattle.hs_tree.specs.Statements.{own_statement, with_signature}
+use Rattle.hs_tree.specs.Messages.{IsSpelledMessage, signed, spell}
+use Rattle.hs_tree.specs.Statements.{stated}
 use Rattle.hs_tree.specs.Tree.{Node, chained as form, is_known, weight}
 use Rattle.iss_sb.proofs.Contents.{batch-table}
 use Rattle.hs_tree.proofs.MessageGrammar.{read-spelled, spelled-read}
@@ -310,21 +309,21 @@ module _ (p : Params) (good : IsGoodParams chained p) where
 
   -- ---- The state
 
-  vote-parts : (phase view : ℕ) (d sig : List ℕ) → SpelledAs (Vote phase view d sig) → is_signature sig ≡ true
+  vote-parts : (phase view : ℕ) (d sig : List ℕ) → SpelledAs (signed (Vote phase view d) sig) → is_signature sig ≡ true
   vote-parts phase view d sig h = h.1.signed
 
-  heard-fits-body : (me : ℕ) (s : State) (from : ℕ) (body : Body) (sig : List ℕ) → SpelledAs (signed body sig) → Fits s → Fits (heard p me s from (signed body sig))
-  heard-fits-body me s from (New_view_body round high) sig m h = by-if Fits (keeps_news p me s from round high) (with_news s from round high) s
+  heard-fits-body : (me : ℕ) (s : State) (from : ℕ) (body : Body) (sig : List ℕ) → SpelledAs (signed body sig) → Fits s → Fits (heard p me s from body sig)
+  heard-fits-body me s from (NewView round high) sig m h = by-if Fits (keeps_news p me s from round high) (with_news s from round high) s
       (record { high = h.high; votes = h.votes; news = ((m.1.certificate, m.1.spelled), h.news); turns = h.turns; full = h.full; casts = h.casts; few = h.few }) h
-  heard-fits-body me s from (Prepare_body view what just) sig m h = by-if Fits (may_prepare p s from view what just) (with_node p s view what just) s
+  heard-fits-body me s from (Prepare view what just) sig m h = by-if Fits (may_prepare p s from view what just) (with_node p s view what just) s
       (record { high = h.high; votes = h.votes; news = h.news; turns = h.turns; full = h.full; casts = h.casts; few = h.few }) h
-  heard-fits-body me s from (Pre_commit_body view shown) sig m h = h
-  heard-fits-body me s from (Commit_body view shown) sig m h = h
-  heard-fits-body me s from (Decide_body view shown) sig m h = h
-  heard-fits-body me s from (Vote_body phase view d) sig m h = by-if Fits (keeps_vote p s from phase view d) (with_vote s from view d sig) s
+  heard-fits-body me s from (PreCommit view shown) sig m h = h
+  heard-fits-body me s from (Commit view shown) sig m h = h
+  heard-fits-body me s from (Decide view shown) sig m h = h
+  heard-fits-body me s from (Vote phase view d) sig m h = by-if Fits (keeps_vote p s from phase view d) (with_vote s from view d sig) s
       (record { high = h.high; votes = (m.1.signed, h.votes); news = h.news; turns = h.turns; full = h.full; casts = h.casts; few = h.few }) h
 
-  heard-fits : (me : ℕ) (s : State) (from : ℕ) (msg : Message) → SpelledAs msg → Fits s → Fits (heard p me s from msg)
+  heard-fits : (me : ℕ) (s : State) (from : ℕ) (msg : Message) → SpelledAs msg → Fits s → Fits (heard p me s from msg.body msg.sig)
   heard-fits me s from msg m h = heard-fits-body me s from msg.body msg.sig m h
 
   cast-fits : (s : State) (b : Batch) → length s.casts < length p.slots → IsReadBatch p b → Fits s → Fits (with_cast s b)
@@ -360,12 +359,12 @@ module _ (p : Params) (good : IsGoodParams chained p) where
   taken-fits me s Timeout m h = by-if Fits (may_end s) (with_round s) s (record { high = h.high; votes = h.votes; news = h.news; turns = h.turns; full = h.full; casts = h.casts; few = h.few }) h
 
   shows-spelled-body : (me : ℕ) (s k : State) (from : NodeId) (body : Body) (sig : List ℕ) → Heard (Receive from (signed body sig)) → Fits s → Fits k → MaySpell (shows p me s k (Receive from (signed body sig)))
-  shows-spelled-body me s k from (New_view_body round high) sig m h g = by-if MaySpell (keeps_news p me s from.0 round high) (first_high p k round) None (high-spelled k round g) tt
-  shows-spelled-body me s k from (Prepare_body view what just) sig m h g = by-if MaySpell (is_usable p s from.0 view just) (Some just) None (m.1.certificate, m.1.spelled) tt
-  shows-spelled-body me s k from (Pre_commit_body view shown) sig m h g = tt
-  shows-spelled-body me s k from (Commit_body view shown) sig m h g = tt
-  shows-spelled-body me s k from (Decide_body view shown) sig m h g = tt
-  shows-spelled-body me s k from (Vote_body phase view d) sig m h g = by-test MaySpell (keeps_vote p s from.0 phase view d && is_reached p k view d) (Some (certificate p k view d)) None (λ q.
+  shows-spelled-body me s k from (NewView round high) sig m h g = by-if MaySpell (keeps_news p me s from.0 round high) (first_high p k round) None (high-spelled k round g) tt
+  shows-spelled-body me s k from (Prepare view what just) sig m h g = by-if MaySpell (is_usable p s from.0 view just) (Some just) None (m.1.certificate, m.1.spelled) tt
+  shows-spelled-body me s k from (PreCommit view shown) sig m h g = tt
+  shows-spelled-body me s k from (Commit view shown) sig m h g = tt
+  shows-spelled-body me s k from (Decide view shown) sig m h g = tt
+  shows-spelled-body me s k from (Vote phase view d) sig m h g = by-test MaySpell (keeps_vote p s from.0 phase view d && is_reached p k view d) (Some (certificate p k view d)) None (λ q.
       let a = and-true (keeps_vote p s from.0 phase view d) (is_reached p k view d) q in
       let b = and-true _ _ (and-true _ _ a.0).0 in
       certificate-spelled k view d (own-some s.turns view d h.turns b.1) m.1.view_fits m.1.digest_fits g.votes) tt
@@ -391,12 +390,12 @@ module _ (p : Params) (good : IsGoodParams chained p) where
       shown-fits t (shows p me s t i) (shows-spelled me s t i m h g) g
 
   proposed-new-body : (me : ℕ) (s k : State) (from : NodeId) (body : Body) (sig : List ℕ) → Heard (Receive from (signed body sig)) → Fits k → MayTurn k.turns (proposed p me s k (Receive from (signed body sig)))
-  proposed-new-body me s k from (New_view_body round high) sig m h = by-if (MayTurn k.turns) (keeps_news p me s from.0 round high) (turn_on p k round (first_high p k round)) None (let l = m.1.round_fits in first-new k round (omega (arith, l)) h) tt
-  proposed-new-body me s k from (Prepare_body view what just) sig m h = tt
-  proposed-new-body me s k from (Pre_commit_body view shown) sig m h = tt
-  proposed-new-body me s k from (Commit_body view shown) sig m h = tt
-  proposed-new-body me s k from (Decide_body view shown) sig m h = tt
-  proposed-new-body me s k from (Vote_body phase view d) sig m h = by-if (MayTurn k.turns) _ (next_turn p k k.turns) None (next-new k k.turns h h.turns) tt
+  proposed-new-body me s k from (NewView round high) sig m h = by-if (MayTurn k.turns) (keeps_news p me s from.0 round high) (turn_on p k round (first_high p k round)) None (let l = m.1.round_fits in first-new k round (omega (arith, l)) h) tt
+  proposed-new-body me s k from (Prepare view what just) sig m h = tt
+  proposed-new-body me s k from (PreCommit view shown) sig m h = tt
+  proposed-new-body me s k from (Commit view shown) sig m h = tt
+  proposed-new-body me s k from (Decide view shown) sig m h = tt
+  proposed-new-body me s k from (Vote phase view d) sig m h = by-if (MayTurn k.turns) _ (next_turn p k k.turns) None (next-new k k.turns h h.turns) tt
 
   pub proposed-new : (me : ℕ) (s k : State) (i : Input Message) → Heard i → Fits k → MayTurn k.turns (proposed p me s k i)
   proposed-new me s k (Cast slot batch) m h = by-if (MayTurn k.turns) (may_cast p me s slot.0) (next_turn p k k.turns) None (next-new k k.turns h h.turns) tt
@@ -444,15 +443,15 @@ module _ (p : Params) (good : IsGoodParams chained p) where
   vote-signs : (view : ℕ) (d : List ℕ) → view < 2 ^ 32 → length d ≡ 32 → SignsAll (voted p view d)
   vote-signs view d l long = ((λ sig shape. (_, record { phase_low = omega arith; phase_fits = omega arith; view_fits = l; digest_fits = long; signed = shape; row = refl })), tt)
 
-  answer-signs-body : (s : State) (from : ℕ) (body : Body) (sig : List ℕ) → SpelledAs (signed body sig) → SignsAll (answers_heard p s from (signed body sig))
-  answer-signs-body s from (New_view_body round high) sig m = tt
-  answer-signs-body s from (Prepare_body view what just) sig m = by-if SignsAll (may_prepare p s from view what just) (voted p view (node_digest p view what just)) [] (vote-signs view (node_digest p view what just) m.1.view_fits (digest-long form p view what just)) tt
-  answer-signs-body s from (Pre_commit_body view shown) sig m = tt
-  answer-signs-body s from (Commit_body view shown) sig m = tt
-  answer-signs-body s from (Decide_body view shown) sig m = tt
-  answer-signs-body s from (Vote_body phase view d) sig m = tt
+  answer-signs-body : (s : State) (from : ℕ) (body : Body) (sig : List ℕ) → SpelledAs (signed body sig) → SignsAll (answers_heard p s from body)
+  answer-signs-body s from (NewView round high) sig m = tt
+  answer-signs-body s from (Prepare view what just) sig m = by-if SignsAll (may_prepare p s from view what just) (voted p view (node_digest p view what just)) [] (vote-signs view (node_digest p view what just) m.1.view_fits (digest-long form p view what just)) tt
+  answer-signs-body s from (PreCommit view shown) sig m = tt
+  answer-signs-body s from (Commit view shown) sig m = tt
+  answer-signs-body s from (Decide view shown) sig m = tt
+  answer-signs-body s from (Vote phase view d) sig m = tt
 
-  answer-signs : (s : State) (from : ℕ) (msg : Message) → SpelledAs msg → SignsAll (answers_heard p s from msg)
+  answer-signs : (s : State) (from : ℕ) (msg : Message) → SpelledAs msg → SignsAll (answers_heard p s from msg.body)
   answer-signs s from msg m = answer-signs-body s from msg.body msg.sig m
 
   answers-sign : (s : State) (i : Input Message) → Heard i → Fits s → SignsAll (answers p s i)
@@ -469,8 +468,8 @@ module _ (p : Params) (good : IsGoodParams chained p) where
   signed-read : (me leaf : ℕ) (ds : List (To × Message)) → SignsAll ds → (to : To) (msg : Message) → In {A = To × Message} (to, msg) (sign_all p me leaf ds) → IsReadMessage chained p msg
   signed-read me leaf [] h to msg k = absurd k
   signed-read me leaf (x ∷ ds) h to msg (inl e) =
-      let s = h.0 (signature p me leaf (own_statement form p x.1)) (signature-shape chained p good me leaf (own_statement form p x.1)) in
-      subst (λ (z : To × Message). IsReadMessage chained p z.1) (sym e) (spelled-read 1 p.setup.version (with_signature (signature p me leaf (own_statement form p x.1)) x.1) s.0 s.1)
+      let s = h.0 (signature p me leaf (stated form p x.1.body)) (signature-shape chained p good me leaf (stated form p x.1.body)) in
+      subst (λ (z : To × Message). IsReadMessage chained p z.1) (sym e) (spelled-read 1 p.setup.version (with_signature (signature p me leaf (stated form p x.1.body)) x.1) s.0 s.1)
   signed-read me leaf (x ∷ ds) h to msg (inr k) = signed-read me (suc leaf) ds h.1 to msg k
 
 pub sent-again : (p : Params) (me : ℕ) (xs : List (Item Message)) (i : Input Message) (leaf : ℕ) (to : To) (msg : Message) → IsGoodParams chained p → me < p.setup.n →

@@ -18,8 +18,8 @@ use Rattle.iss_sb.specs.Laws.{IsLawful}
 use Rattle.iss_sb.proofs.Slots.{place-In}
 use Rattle.hs_tree.specs.declared.messages.Message.{Message}
 use Rattle.hs_tree.specs.declared.messages.Body.{Body}
-use Rattle.hs_tree.specs.declared.messages.Body.TheVariants.{NewView as New_view_body, Prepare as Prepare_body, PreCommit as Pre_commit_body, Commit as Commit_body, Decide as Decide_body, Vote as Vote_body}
-use Rattle.hs_tree.specs.Signed.{signed}
+use Rattle.hs_tree.specs.declared.messages.Body.TheVariants.{NewView, Prepare, PreCommit, Commit, Decide, Vote}
+use Rattle.hs_tree.specs.Messages.{signed}
 use Rattle.hs_tree.specs.Tree.{Node, branch, chained as form}
 use Rattle.sb_chained.specs.Chained.{answers, answers_heard, asks, chained, decided, decides, drafts, offered, proposals, sign_all, state, value_on, voted}
 use Rattle.sb_chained.specs.Rules.{State, committed_by, kept, may_cast, may_end, may_prepare, node_digest, proposed, shows, slots_below, taken}
@@ -41,14 +41,14 @@ module _ (p : Params) (me : ℕ) (xs : List (Item Message)) where
   castable s b c h = rw ((cast-is s b (s, b) h).passed) refl
 
 asked-In-body : (p : Params) (me : ℕ) (xs : List (Item Message)) (from : NodeId) (body : Body) (sig : List ℕ) (x : Slot × Batch) → asks p me xs (Receive from (signed body sig)) ≡ Some x → In x.0 p.slots
-asked-In-body p me xs from (New_view_body round high) sig x h = absurd cc
-asked-In-body p me xs from (Prepare_body view what just) sig x h =
+asked-In-body p me xs from (NewView round high) sig x h = absurd cc
+asked-In-body p me xs from (Prepare view what just) sig x h =
     let s = state p me xs in
     offered-In p (accepts xs) what (slots_below s just) x (if-in (may_prepare p s from.0 view what just) (offered p s (accepts xs) what just) x h).is
-asked-In-body p me xs from (Pre_commit_body view shown) sig x h = absurd cc
-asked-In-body p me xs from (Commit_body view shown) sig x h = absurd cc
-asked-In-body p me xs from (Decide_body view shown) sig x h = absurd cc
-asked-In-body p me xs from (Vote_body phase view d) sig x h = absurd cc
+asked-In-body p me xs from (PreCommit view shown) sig x h = absurd cc
+asked-In-body p me xs from (Commit view shown) sig x h = absurd cc
+asked-In-body p me xs from (Decide view shown) sig x h = absurd cc
+asked-In-body p me xs from (Vote phase view d) sig x h = absurd cc
 
 asked-In : AsksInside chained
 asked-In p me xs (Cast s b) x h =
@@ -100,15 +100,15 @@ module _ (p : Params) (some : 0 < p.setup.n) where
   voted_fine : (view : ℕ) (d : List ℕ) → Fine (voted p view d)
   voted_fine view d = record { to = (below (p.leader.0 + round_of view), tt); few = omega arith }
 
-  answer_fine-body : (s : State) (from : ℕ) (body : Body) (sig : List ℕ) → Fine (answers_heard p s from (signed body sig))
-  answer_fine-body s from (New_view_body round high) sig = none_fine p.setup.n
-  answer_fine-body s from (Prepare_body view what just) sig = by-if Fine (may_prepare p s from view what just) (voted p view (node_digest p view what just)) [] (voted_fine view (node_digest p view what just)) (none_fine p.setup.n)
-  answer_fine-body s from (Pre_commit_body view shown) sig = none_fine p.setup.n
-  answer_fine-body s from (Commit_body view shown) sig = none_fine p.setup.n
-  answer_fine-body s from (Decide_body view shown) sig = none_fine p.setup.n
-  answer_fine-body s from (Vote_body phase view d) sig = none_fine p.setup.n
+  answer_fine-body : (s : State) (from : ℕ) (body : Body) (sig : List ℕ) → Fine (answers_heard p s from body)
+  answer_fine-body s from (NewView round high) sig = none_fine p.setup.n
+  answer_fine-body s from (Prepare view what just) sig = by-if Fine (may_prepare p s from view what just) (voted p view (node_digest p view what just)) [] (voted_fine view (node_digest p view what just)) (none_fine p.setup.n)
+  answer_fine-body s from (PreCommit view shown) sig = none_fine p.setup.n
+  answer_fine-body s from (Commit view shown) sig = none_fine p.setup.n
+  answer_fine-body s from (Decide view shown) sig = none_fine p.setup.n
+  answer_fine-body s from (Vote phase view d) sig = none_fine p.setup.n
 
-  answer_fine : (s : State) (from : ℕ) (msg : Message) → Fine (answers_heard p s from msg)
+  answer_fine : (s : State) (from : ℕ) (msg : Message) → Fine (answers_heard p s from msg.body)
   answer_fine s from msg = answer_fine-body s from msg.body msg.sig
 
   answers_fine : (s : State) (i : Input Message) → Fine (answers p s i)

@@ -16,9 +16,9 @@ use Rattle.iss_sb.specs.declared.content.Content.{Content}
 use Rattle.hs_tree.specs.declared.certificates.Certificate.{Certificate}
 use Rattle.hs_tree.specs.declared.messages.Message.{Message}
 use Rattle.hs_tree.specs.declared.messages.Body.{Body}
-use Rattle.hs_tree.specs.declared.messages.Body.TheVariants.{NewView as New_view_body, Prepare as Prepare_body, PreCommit as Pre_commit_body, Commit as Commit_body, Decide as Decide_body, Vote as Vote_body}
-use Rattle.hs_tree.specs.Signed.{Prepare, Vote, signed}
-use Rattle.hs_tree.specs.Statements.{own_statement, with_signature}
+use Rattle.hs_tree.specs.declared.messages.Body.TheVariants.{NewView, Prepare, PreCommit, Commit, Decide, Vote}
+use Rattle.hs_tree.specs.Messages.{signed}
+use Rattle.hs_tree.specs.Statements.{stated}
 use Rattle.hs_tree.specs.Tree.{chained as form}
 use Rattle.sb_chained.specs.Facts.{VotedIn}
 use Rattle.sb_chained.specs.Chained.{answers, answers_heard, drafts, chained, makes, proposals, sign_all, state, voted}
@@ -32,7 +32,7 @@ pub record IsFirst (p : Params) (s : State) (i : Input Message) (view : ℕ) (d 
   pub what : Content
   pub just : Certificate
   pub sig : List ℕ
-  pub is : i ≡ Receive from (Prepare view what just sig)
+  pub is : i ≡ Receive from (signed (Prepare view what just) sig)
   pub may : may_prepare p s from.0 view what just ≡ true
   pub digest_is : d ≡ node_digest p view what just
 
@@ -40,22 +40,22 @@ pub record IsFirst (p : Params) (s : State) (i : Input Message) (view : ℕ) (d 
 
 record IsUnsigned (ds : List (To × Message)) (to : To) (view : ℕ) (d : List ℕ) : Type 0 where
   pub sig : List ℕ
-  pub sent : In {A = To × Message} (to, Vote 1 view d sig) ds
+  pub sent : In {A = To × Message} (to, signed (Vote 1 view d) sig) ds
 
-vote-unsigned : (s t : List ℕ) (msg : Message) (view : ℕ) (d : List ℕ) → Vote 1 view d s ≡ with_signature t msg → (sig : List ℕ) × (msg ≡ Vote 1 view d sig)
+vote-unsigned : (s t : List ℕ) (msg : Message) (view : ℕ) (d : List ℕ) → signed (Vote 1 view d) s ≡ with_signature t msg → (sig : List ℕ) × (msg ≡ signed (Vote 1 view d) sig)
 vote-unsigned s t msg view d h = (msg.sig, ap (λ (z : Message). signed z.body msg.sig) (sym h))
 
-unsigned : (p : Params) (me leaf : ℕ) (ds : List (To × Message)) (to : To) (view : ℕ) (d sig : List ℕ) → In {A = To × Message} (to, Vote 1 view d sig) (sign_all p me leaf ds) → IsUnsigned ds to view d
+unsigned : (p : Params) (me leaf : ℕ) (ds : List (To × Message)) (to : To) (view : ℕ) (d sig : List ℕ) → In {A = To × Message} (to, signed (Vote 1 view d) sig) (sign_all p me leaf ds) → IsUnsigned ds to view d
 unsigned p me leaf [] to view d sig h = absurd h
 unsigned p me leaf (x ∷ ds) to view d sig (inl e) =
-    let r = vote-unsigned sig (signature p me leaf (own_statement form p x.1)) x.1 view d (ap (λ (z : To × Message). z.1) e) in
+    let r = vote-unsigned sig (signature p me leaf (stated form p x.1.body)) x.1 view d (ap (λ (z : To × Message). z.1) e) in
     let goes : to ≡ x.0 = ap (λ (z : To × Message). z.0) e in
-    record { sig = r.0; sent = inl (ap (λ (z : To). let y : To × Message = (z, Vote 1 view d r.0) in y) goes ∙ ap (λ (z : Message). let y : To × Message = (x.0, z) in y) (sym r.1)) }
+    record { sig = r.0; sent = inl (ap (λ (z : To). let y : To × Message = (z, signed (Vote 1 view d) r.0) in y) goes ∙ ap (λ (z : Message). let y : To × Message = (x.0, z) in y) (sym r.1)) }
 unsigned p me leaf (x ∷ ds) to view d sig (inr k) = let r = unsigned p me (suc leaf) ds to view d sig k in record { sig = r.sig; sent = inr r.sent }
 
 module _ (p : Params) (to : To) (view : ℕ) (d sig : List ℕ) where
   abbrev Sent : List (To × Message) → Type 0
-  Sent ds = In {A = To × Message} (to, Vote 1 view d sig) ds
+  Sent ds = In {A = To × Message} (to, signed (Vote 1 view d) sig) ds
 
   one-is : (a b : To) (m n : Message) → In {A = To × Message} (a, m) ((b, n) ∷ []) → m.body ≡ n.body
   one-is a b m n (inl e) = ap (λ (z : To × Message). z.1.body) e
@@ -67,44 +67,44 @@ module _ (p : Params) (to : To) (view : ℕ) (d sig : List ℕ) where
 
   none-proposed : (o : Option Turn) → Sent (proposals o) → ⊥
   none-proposed None h = h
-  none-proposed (Some t) (inl e) = let m : Vote_body 1 view d ≡ Prepare_body t.view t.what t.just = ap (λ (z : To × Message). z.1.body) e in cc
+  none-proposed (Some t) (inl e) = let m : Vote 1 view d ≡ Prepare t.view t.what t.just = ap (λ (z : To × Message). z.1.body) e in cc
   none-proposed (Some t) (inr h) = h
 
   abbrev Why : State → Input Message → Type 0
   Why s i = IsFirst p s i view d
 
-  why-heard-body : (s : State) (from : NodeId) (body : Body) (sig : List ℕ) → Sent (answers_heard p s from.0 (signed body sig)) → Why s (Receive from (signed body sig))
-  why-heard-body s from (New_view_body round high) x h = absurd h
-  why-heard-body s from (Prepare_body v what just) x h = by-true (may_prepare p s from.0 v what just) (voted p v (node_digest p v what just)) (Why s (Receive from (Prepare v what just x))) (λ t z. go t (one-is to _ (Vote 1 view d sig) (Vote 1 v (node_digest p v what just) []) z)) h
+  why-heard-body : (s : State) (from : NodeId) (body : Body) (sig : List ℕ) → Sent (answers_heard p s from.0 body) → Why s (Receive from (signed body sig))
+  why-heard-body s from (NewView round high) x h = absurd h
+  why-heard-body s from (Prepare v what just) x h = by-true (may_prepare p s from.0 v what just) (voted p v (node_digest p v what just)) (Why s (Receive from (signed (Prepare v what just) x))) (λ t z. go t (one-is to _ (signed (Vote 1 view d) sig) (signed (Vote 1 v (node_digest p v what just)) []) z)) h
     where
-      go : may_prepare p s from.0 v what just ≡ true → Vote_body 1 view d ≡ Vote_body 1 v (node_digest p v what just) → Why s (Receive from (Prepare v what just x))
+      go : may_prepare p s from.0 v what just ≡ true → Vote 1 view d ≡ Vote 1 v (node_digest p v what just) → Why s (Receive from (signed (Prepare v what just) x))
       go t e =
           let b : view ≡ v = cc in
           let c : d ≡ node_digest p v what just = cc in
-          subst (λ (z : ℕ). IsFirst p s (Receive from (Prepare v what just x)) z d) (sym b)
+          subst (λ (z : ℕ). IsFirst p s (Receive from (signed (Prepare v what just) x)) z d) (sym b)
           (record { from = from; what = what; just = just; sig = x; is = refl; may = t; digest_is = c })
-  why-heard-body s from (Pre_commit_body v shown) x h = absurd h
-  why-heard-body s from (Commit_body v shown) x h = absurd h
-  why-heard-body s from (Decide_body v shown) x h = absurd h
-  why-heard-body s from (Vote_body q v e) x h = absurd h
+  why-heard-body s from (PreCommit v shown) x h = absurd h
+  why-heard-body s from (Commit v shown) x h = absurd h
+  why-heard-body s from (Decide v shown) x h = absurd h
+  why-heard-body s from (Vote q v e) x h = absurd h
 
-  why-heard : (s : State) (from : NodeId) (msg : Message) → Sent (answers_heard p s from.0 msg) → Why s (Receive from msg)
+  why-heard : (s : State) (from : NodeId) (msg : Message) → Sent (answers_heard p s from.0 msg.body) → Why s (Receive from msg)
   why-heard s from msg h = why-heard-body s from msg.body msg.sig h
 
   why-answer : (s : State) (i : Input Message) → Sent (answers p s i) → Why s i
   why-answer s (Cast slot batch) h = absurd h
   why-answer s (Receive from msg) h = why-heard s from msg h
-  why-answer s Timeout h = absurd (by-true (may_end s) _ ⊥ (λ t z. let e = one-is to _ (Vote 1 view d sig) _ z in cc) h)
+  why-answer s Timeout h = absurd (by-true (may_end s) _ ⊥ (λ t z. let e = one-is to _ (signed (Vote 1 view d) sig) _ z in cc) h)
 
   why : (me : ℕ) (s : State) (i : Input Message) → Sent (drafts p me s i) → Why s i
   why me s i h =
       let o = proposed p me s (kept p me s i) i in
-      elim (in_append {A = To × Message} (to, Vote 1 view d sig) (answers p s i) (proposals o) h) [
+      elim (in_append {A = To × Message} (to, signed (Vote 1 view d) sig) (answers p s i) (proposals o) h) [
         | inl a ↦ why-answer s i a
         | inr a ↦ absurd (none-proposed o a)
       ]
 
-pub cause : (p : Params) (me leaf : ℕ) (xs : List (Item Message)) (i : Input Message) (to : To) (view : ℕ) (d sig : List ℕ) → In {A = To × Message} (to, Vote 1 view d sig) (makes p me xs i leaf).sends → IsFirst p (state p me xs) i view d
+pub cause : (p : Params) (me leaf : ℕ) (xs : List (Item Message)) (i : Input Message) (to : To) (view : ℕ) (d sig : List ℕ) → In {A = To × Message} (to, signed (Vote 1 view d) sig) (makes p me xs i leaf).sends → IsFirst p (state p me xs) i view d
 cause p me leaf xs i to view d sig h =
     let r = unsigned p me leaf (drafts p me (state p me xs) i) to view d sig h in
     why p to view d r.sig me (state p me xs) i r.sent
@@ -134,15 +134,15 @@ tests p s from view what just h =
 pub round-above : (v : ℕ) → v ≤ suc (v / 65536) * 65536
 round-above v = omega arith
 
-heard-view-body : (p : Params) (me : ℕ) (s : State) (from : ℕ) (body : Body) (sig : List ℕ) → Rises s.view (heard p me s from (signed body sig))
-heard-view-body p me s from (New_view_body round high) sig = by-test (Rises s.view) (keeps_news p me s from round high) (with_news s from round high) s (λ t. same s.view) (same s.view)
-heard-view-body p me s from (Prepare_body view what just) sig = by-test (Rises s.view) (may_prepare p s from view what just) (with_node p s view what just) s (λ t. let a = (tests p s from view what just t).above in omega (arith, a)) (same s.view)
-heard-view-body p me s from (Pre_commit_body view shown) sig = same s.view
-heard-view-body p me s from (Commit_body view shown) sig = same s.view
-heard-view-body p me s from (Decide_body view shown) sig = same s.view
-heard-view-body p me s from (Vote_body phase view d) sig = by-test (Rises s.view) (keeps_vote p s from phase view d) (with_vote s from view d sig) s (λ t. same s.view) (same s.view)
+heard-view-body : (p : Params) (me : ℕ) (s : State) (from : ℕ) (body : Body) (sig : List ℕ) → Rises s.view (heard p me s from body sig)
+heard-view-body p me s from (NewView round high) sig = by-test (Rises s.view) (keeps_news p me s from round high) (with_news s from round high) s (λ t. same s.view) (same s.view)
+heard-view-body p me s from (Prepare view what just) sig = by-test (Rises s.view) (may_prepare p s from view what just) (with_node p s view what just) s (λ t. let a = (tests p s from view what just t).above in omega (arith, a)) (same s.view)
+heard-view-body p me s from (PreCommit view shown) sig = same s.view
+heard-view-body p me s from (Commit view shown) sig = same s.view
+heard-view-body p me s from (Decide view shown) sig = same s.view
+heard-view-body p me s from (Vote phase view d) sig = by-test (Rises s.view) (keeps_vote p s from phase view d) (with_vote s from view d sig) s (λ t. same s.view) (same s.view)
 
-heard-view : (p : Params) (me : ℕ) (s : State) (from : ℕ) (msg : Message) → Rises s.view (heard p me s from msg)
+heard-view : (p : Params) (me : ℕ) (s : State) (from : ℕ) (msg : Message) → Rises s.view (heard p me s from msg.body msg.sig)
 heard-view p me s from msg = heard-view-body p me s from msg.body msg.sig
 
 pub taken-view : (p : Params) (me : ℕ) (s : State) (i : Input Message) → Rises s.view (taken p me s i)
@@ -166,18 +166,18 @@ after-view p me s i =
 
 pub first-view : (p : Params) (me : ℕ) (s : State) (i : Input Message) (view : ℕ) (d : List ℕ) → IsFirst p s i view d → (after p me s i).view ≡ view
 first-view p me s i view d f =
-    let here : (taken p me s (Receive f.from (Prepare view f.what f.just f.sig))).view ≡ view = rw (f.may) refl in
+    let here : (taken p me s (Receive f.from (signed (Prepare view f.what f.just) f.sig))).view ≡ view = rw (f.may) refl in
     after-is p me s i ∙ subst (λ (z : Input Message). (taken p me s z).view ≡ view) (sym f.is) here
 
 -- ---- In one history
 
 pub cause-new : (p : Params) (me : ℕ) (x : Item Message) (xs : List (Item Message)) (view : ℕ) (d : List ℕ) → AreMade chained p me (x ∷ xs) → VotedIn x view d → IsFirst p (state p me xs) x.input view d
-cause-new p me x xs view d made v = cause p me x.leaf xs x.input v.to view d v.sig (subst (λ (z : Made Message). In {A = To × Message} (v.to, Vote 1 view d v.sig) z.sends) made.0 v.sent)
+cause-new p me x xs view d made v = cause p me x.leaf xs x.input v.to view d v.sig (subst (λ (z : Made Message). In {A = To × Message} (v.to, signed (Vote 1 view d) v.sig) z.sends) made.0 v.sent)
 
 -- an input has one cause of a vote
 cause-one : (p : Params) (s : State) (i : Input Message) (view v : ℕ) (d e : List ℕ) → IsFirst p s i view d → IsFirst p s i v e → (view ≡ v) × (d ≡ e)
 cause-one p s i view v d e f g =
-    let k : Prepare_body view f.what f.just ≡ Prepare_body v g.what g.just = same-body _ _ _ _ (sym f.is ∙ g.is) in
+    let k : Prepare view f.what f.just ≡ Prepare v g.what g.just = same-body _ _ _ _ (sym f.is ∙ g.is) in
     let a : view ≡ v = cc in
     let c : f.what ≡ g.what = cc in
     let j : f.just ≡ g.just = cc in

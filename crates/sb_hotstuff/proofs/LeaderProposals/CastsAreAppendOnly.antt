@@ -10,8 +10,8 @@ use Rattle.iss_sb.specs.Evidence.{Item}
 use Rattle.iss_sb.specs.Legal.{Front}
 use Rattle.hs_tree.specs.declared.messages.Message.{Message}
 use Rattle.hs_tree.specs.declared.messages.Body.{Body}
-use Rattle.hs_tree.specs.declared.messages.Body.TheVariants.{NewView as New_view_body, Prepare as Prepare_body, PreCommit as Pre_commit_body, Commit as Commit_body, Decide as Decide_body, Vote as Vote_body}
-use Rattle.hs_tree.specs.Signed.{signed}
+use Rattle.hs_tree.specs.declared.messages.Body.TheVariants.{NewView, Prepare, PreCommit, Commit, Decide, Vote}
+use Rattle.hs_tree.specs.Messages.{signed}
 use Rattle.sb_hotstuff.specs.HotStuff.{state}
 use Rattle.sb_hotstuff.specs.Rules.{State, heard, keeps_news, keeps_vote, kept, may_cast, may_end, may_prepare, may_second, may_third, proposed, with_cast, with_news, with_node, with_round, with_turn, with_vote}
 use Rattle.hs_views.specs.Views.{Turn}
@@ -21,15 +21,15 @@ abbrev pub Same : State → State → Type 0
 Same s t = (t.turns ≡ s.turns) × (t.casts ≡ s.casts)
 
 module _ (p : Params) (me : ℕ) where
-  heard-same-body : (s : State) (from : ℕ) (body : Body) (sig : List ℕ) → Same s (heard p me s from (signed body sig))
-  heard-same-body s from (New_view_body round high) sig = by-if (Same s) (keeps_news p me s from round high) (with_news s from round high) s (refl, refl) (refl, refl)
-  heard-same-body s from (Prepare_body view what just) sig = by-if (Same s) (may_prepare p s from view what just) (with_node p s view what just) s (refl, refl) (refl, refl)
-  heard-same-body s from (Pre_commit_body view shown) sig = by-if (Same s) (may_second p s view shown) (record s { high = shown; second = true }) s (refl, refl) (refl, refl)
-  heard-same-body s from (Commit_body view shown) sig = by-if (Same s) (may_third p s view shown) (record s { lock = shown; third = true }) s (refl, refl) (refl, refl)
-  heard-same-body s from (Decide_body view shown) sig = (refl, refl)
-  heard-same-body s from (Vote_body phase view d) sig = by-if (Same s) (keeps_vote p s from phase view d) (with_vote s from phase view d sig) s (refl, refl) (refl, refl)
+  heard-same-body : (s : State) (from : ℕ) (body : Body) (sig : List ℕ) → Same s (heard p me s from body sig)
+  heard-same-body s from (NewView round high) sig = by-if (Same s) (keeps_news p me s from round high) (with_news s from round high) s (refl, refl) (refl, refl)
+  heard-same-body s from (Prepare view what just) sig = by-if (Same s) (may_prepare p s from view what just) (with_node p s view what just) s (refl, refl) (refl, refl)
+  heard-same-body s from (PreCommit view shown) sig = by-if (Same s) (may_second p s view shown) (record s { high = shown; second = true }) s (refl, refl) (refl, refl)
+  heard-same-body s from (Commit view shown) sig = by-if (Same s) (may_third p s view shown) (record s { lock = shown; third = true }) s (refl, refl) (refl, refl)
+  heard-same-body s from (Decide view shown) sig = (refl, refl)
+  heard-same-body s from (Vote phase view d) sig = by-if (Same s) (keeps_vote p s from phase view d) (with_vote s from phase view d sig) s (refl, refl) (refl, refl)
 
-  pub heard-same : (s : State) (from : ℕ) (msg : Message) → Same s (heard p me s from msg)
+  pub heard-same : (s : State) (from : ℕ) (msg : Message) → Same s (heard p me s from msg.body msg.sig)
   heard-same s from msg = heard-same-body s from msg.body msg.sig
 
   abbrev pub IsAt : State → ℕ → Batch → Type 0

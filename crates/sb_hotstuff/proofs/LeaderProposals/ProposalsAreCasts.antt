@@ -25,11 +25,11 @@ use Rattle.hs_tree.specs.declared.certificates.Certificate.{Certificate}
 use Rattle.hs_tree.specs.declared.certificates.Certificate.TheVariants.{Root}
 use Rattle.hs_tree.specs.declared.messages.Message.{Message}
 use Rattle.hs_tree.specs.declared.messages.Body.{Body}
-use Rattle.hs_tree.specs.declared.messages.Body.TheVariants.{NewView as New_view_body, Prepare as Prepare_body, PreCommit as Pre_commit_body, Commit as Commit_body, Decide as Decide_body, Vote as Vote_body}
-use Rattle.hs_tree.specs.Signed.{NewView, Prepare, PreCommit, Commit, Decide, Vote, signed}
+use Rattle.hs_tree.specs.declared.messages.Body.TheVariants.{NewView, Prepare, PreCommit, Commit, Decide, Vote}
+use Rattle.hs_tree.specs.Messages.{signed}
 use Rattle.hs_tree.specs.Certificates.{digest_of}
 use Rattle.hs_tree.specs.Paths.{Has, hash}
-use Rattle.hs_tree.specs.Statements.{own_statement}
+use Rattle.hs_tree.specs.Statements.{stated}
 use Rattle.hs_tree.proofs.Claimed.{prepare-unsigned}
 use Rattle.hs_tree.specs.Tree.{basic, filled, is_known, root, weight}
 use Rattle.iss_sb.proofs.Contents.{content-table}
@@ -45,13 +45,13 @@ use Rattle.hs_views.proofs.Tests.{by-if, by-test, is-same}
 
 -- ---- Unsigned messages
 
-unsigned : (p : Params) (me leaf : ℕ) (ds : List (To × Message)) (to : To) (view : ℕ) (what : Content) (just : Certificate) (sig : List ℕ) → In {A = To × Message} (to, Prepare view what just sig) (sign_all p me leaf ds) →
-    (old : List ℕ) × In {A = To × Message} (to, Prepare view what just old) ds
+unsigned : (p : Params) (me leaf : ℕ) (ds : List (To × Message)) (to : To) (view : ℕ) (what : Content) (just : Certificate) (sig : List ℕ) → In {A = To × Message} (to, signed (Prepare view what just) sig) (sign_all p me leaf ds) →
+    (old : List ℕ) × In {A = To × Message} (to, signed (Prepare view what just) old) ds
 unsigned p me leaf [] to view what just sig h = absurd h
 unsigned p me leaf (x ∷ ds) to view what just sig (inl e) =
-    let r = prepare-unsigned sig (signature p me leaf (own_statement basic p x.1)) x.1 view what just (ap (λ (z : To × Message). z.1) e) in
+    let r = prepare-unsigned sig (signature p me leaf (stated basic p x.1.body)) x.1 view what just (ap (λ (z : To × Message). z.1) e) in
     let goes : to ≡ x.0 = ap (λ (z : To × Message). z.0) e in
-    (r.0, inl (ap (λ (z : To). let y : To × Message = (z, Prepare view what just r.0) in y) goes ∙ ap (λ (z : Message). let y : To × Message = (x.0, z) in y) (sym r.1)))
+    (r.0, inl (ap (λ (z : To). let y : To × Message = (z, signed (Prepare view what just) r.0) in y) goes ∙ ap (λ (z : Message). let y : To × Message = (x.0, z) in y) (sym r.1)))
 unsigned p me leaf (x ∷ ds) to view what just sig (inr k) = let r = unsigned p me (suc leaf) ds to view what just sig k in (r.0, inr r.1)
 
 -- a proposal that is sent belongs to the turn that the input triggered
@@ -64,9 +64,9 @@ pub record IsTurn (o : Option Turn) (view : ℕ) (what : Content) (just : Certif
 
 module _ (p : Params) (to : To) (view : ℕ) (what : Content) (just : Certificate) (sig : List ℕ) where
   abbrev Sent : List (To × Message) → Type 0
-  Sent ds = In {A = To × Message} (to, Prepare view what just sig) ds
+  Sent ds = In {A = To × Message} (to, signed (Prepare view what just) sig) ds
 
-  one-is : (a : To) (n : Message) → Sent ((a, n) ∷ []) → Prepare_body view what just ≡ n.body
+  one-is : (a : To) (n : Message) → Sent ((a, n) ∷ []) → Prepare view what just ≡ n.body
   one-is a n (inl e) = ap (λ (z : To × Message). z.1.body) e
   one-is a n (inr h) = absurd h
 
@@ -75,45 +75,45 @@ module _ (p : Params) (to : To) (view : ℕ) (what : Content) (just : Certificat
   none-if false ds h k = k
 
   none-voted : (q v : ℕ) (e : List ℕ) → Sent (voted p q v e) → ⊥
-  none-voted q v e h = let m = one-is _ (Vote q v e []) h in cc
+  none-voted q v e h = let m = one-is _ (signed (Vote q v e) []) h in cc
 
-  none-shown : (q v : ℕ) (c : Certificate) → Prepare_body view what just ≡ (shows q v c).body → ⊥
+  none-shown : (q v : ℕ) (c : Certificate) → Prepare view what just ≡ (shows q v c).body → ⊥
   none-shown q v c h = go (q == 1) (q == 2) h
     where
-      go : (a b : Bool) → Prepare_body view what just ≡ (let m : Message = if a then PreCommit v c [] else (if b then Commit v c [] else Decide v c []) in m).body → ⊥
+      go : (a b : Bool) → Prepare view what just ≡ (let m : Message = if a then signed (PreCommit v c) [] else (if b then signed (Commit v c) [] else signed (Decide v c) []) in m).body → ⊥
       go true b e = cc
       go false true e = cc
       go false false e = cc
 
   none-answered-body : (s k : State) (from : NodeId) (body : Body) (sig : List ℕ) → Sent (answers p s k (Receive from (signed body sig))) → ⊥
-  none-answered-body s k from (New_view_body round high) x h = h
-  none-answered-body s k from (Prepare_body v c j) x h = none-if (may_prepare p s from.0 v c j) (voted p 1 v (node_digest p v c j)) (none-voted 1 v (node_digest p v c j)) h
-  none-answered-body s k from (Pre_commit_body v shown) x h = none-if (may_second p s v shown) (voted p 2 v (digest_of shown)) (none-voted 2 v (digest_of shown)) h
-  none-answered-body s k from (Commit_body v shown) x h = none-if (may_third p s v shown) (voted p 3 v (digest_of shown)) (none-voted 3 v (digest_of shown)) h
-  none-answered-body s k from (Decide_body v shown) x h = h
-  none-answered-body s k from (Vote_body q v e) x h = none-if (keeps_vote p s from.0 q v e && is_reached p k q v e) ((To_all, shows q v (certificate p k q v e)) ∷ []) (λ z. none-shown q v (certificate p k q v e) (one-is To_all (shows q v (certificate p k q v e)) z)) h
+  none-answered-body s k from (NewView round high) x h = h
+  none-answered-body s k from (Prepare v c j) x h = none-if (may_prepare p s from.0 v c j) (voted p 1 v (node_digest p v c j)) (none-voted 1 v (node_digest p v c j)) h
+  none-answered-body s k from (PreCommit v shown) x h = none-if (may_second p s v shown) (voted p 2 v (digest_of shown)) (none-voted 2 v (digest_of shown)) h
+  none-answered-body s k from (Commit v shown) x h = none-if (may_third p s v shown) (voted p 3 v (digest_of shown)) (none-voted 3 v (digest_of shown)) h
+  none-answered-body s k from (Decide v shown) x h = h
+  none-answered-body s k from (Vote q v e) x h = none-if (keeps_vote p s from.0 q v e && is_reached p k q v e) ((To_all, shows q v (certificate p k q v e)) ∷ []) (λ z. none-shown q v (certificate p k q v e) (one-is To_all (shows q v (certificate p k q v e)) z)) h
 
   none-answered : (s k : State) (i : Input Message) → Sent (answers p s k i) → ⊥
   none-answered s k (Cast slot batch) h = h
   none-answered s k (Receive from msg) h = none-answered-body s k from msg.body msg.sig h
-  none-answered s k Timeout h = none-if (may_end s) _ (λ z. let m = one-is _ (NewView (suc (round_of s.view)) s.high []) z in cc) h
+  none-answered s k Timeout h = none-if (may_end s) _ (λ z. let m = one-is _ (signed (NewView (suc (round_of s.view)) s.high) []) z in cc) h
 
   of-turn : (o : Option Turn) → Sent (proposals o) → IsTurn o view what just
   of-turn None h = absurd h
   of-turn (Some t) h =
-      let m = one-is To_all (Prepare t.view t.what t.just []) h in
+      let m = one-is To_all (signed (Prepare t.view t.what t.just) []) h in
       let a : t.view ≡ view = cc in
       let b : t.what ≡ what = cc in
       let c : t.just ≡ just = cc in
       record { turn = t; is = refl; view_is = a; what_is = b; just_is = c }
 
-pub proposal-turn : (p : Params) (me leaf : ℕ) (xs : List (Item Message)) (i : Input Message) (to : To) (view : ℕ) (what : Content) (just : Certificate) (sig : List ℕ) → In {A = To × Message} (to, Prepare view what just sig) (makes p me xs i leaf).sends →
+pub proposal-turn : (p : Params) (me leaf : ℕ) (xs : List (Item Message)) (i : Input Message) (to : To) (view : ℕ) (what : Content) (just : Certificate) (sig : List ℕ) → In {A = To × Message} (to, signed (Prepare view what just) sig) (makes p me xs i leaf).sends →
     IsTurn (proposed p me (state p me xs) (kept p me (state p me xs) i) i) view what just
 proposal-turn p me leaf xs i to view what just sig h =
     let s = state p me xs in
     let k = kept p me s i in
     let r = unsigned p me leaf (drafts p me s i) to view what just sig h in
-    elim (in_append {A = To × Message} (to, Prepare view what just r.0) (answers p s k i) (proposals (proposed p me s k i)) r.1) [
+    elim (in_append {A = To × Message} (to, signed (Prepare view what just) r.0) (answers p s k i) (proposals (proposed p me s k i)) r.1) [
       | inl a ↦ absurd (none-answered p to view what just r.0 s k i a)
       | inr a ↦ of-turn p to view what just r.0 (proposed p me s k i) a
     ]
@@ -223,14 +223,14 @@ module _ (p : Params) (w : World Message) (good : IsGoodParams hotstuff p) (lega
       late r l e = omega (arith, l, e)
 
   proposed-ok-body : (s k : State) (from : NodeId) (body : Body) (sig : List ℕ) → LeaderOk k → MayOk (proposed p me s k (Receive from (signed body sig)))
-  proposed-ok-body s k from (New_view_body round high) sig h = by-test MayOk (keeps_news p me s from.0 round high) (first_turn p k round) None (λ q.
+  proposed-ok-body s k from (NewView round high) sig h = by-test MayOk (keeps_news p me s from.0 round high) (first_turn p k round) None (λ q.
       let a = and-true _ _ (and-true _ _ (and-true _ _ q).0).0 in
       first-ok k round (leb-true 1 round a.0)) tt
-  proposed-ok-body s k from (Prepare_body view what just) sig h = tt
-  proposed-ok-body s k from (Pre_commit_body view shown) sig h = tt
-  proposed-ok-body s k from (Commit_body view shown) sig h = tt
-  proposed-ok-body s k from (Decide_body view shown) sig h = tt
-  proposed-ok-body s k from (Vote_body phase view d) sig h = by-if MayOk _ (next_turn p k k.turns) None (next-ok k k.turns h h.turns) tt
+  proposed-ok-body s k from (Prepare view what just) sig h = tt
+  proposed-ok-body s k from (PreCommit view shown) sig h = tt
+  proposed-ok-body s k from (Commit view shown) sig h = tt
+  proposed-ok-body s k from (Decide view shown) sig h = tt
+  proposed-ok-body s k from (Vote phase view d) sig h = by-if MayOk _ (next_turn p k k.turns) None (next-ok k k.turns h h.turns) tt
 
   proposed-ok : (s k : State) (i : Input Message) → LeaderOk k → MayOk (proposed p me s k i)
   proposed-ok s k (Cast slot batch) h = by-if MayOk (may_cast p me s slot.0) (next_turn p k k.turns) None (next-ok k k.turns h h.turns) tt
@@ -274,7 +274,7 @@ module _ (p : Params) (w : World Message) (good : IsGoodParams hotstuff p) (lega
 
   kept-ok : (s : State) (i : Input Message) → ((slot : Slot) (b : Batch) → i ≡ Cast slot b → may_cast p me s slot.0 ≡ true → In {A = Slot × Batch} (slot, b) (accepts (w me))) → Later (kept p me s i).casts → LeaderOk s → LeaderOk (kept p me s i)
   kept-ok s (Cast slot batch) a l h = by-test (λ (z : State). Later z.casts → LeaderOk z) (may_cast p me s slot.0) (with_cast s batch) s (λ q m. cast-kept s slot batch q (a slot batch refl q) m h) (λ m. h) l
-  kept-ok s (Receive from msg) a l h = same-ok s (heard p me s from.0 msg) (heard-same p me s from.0 msg) h
+  kept-ok s (Receive from msg) a l h = same-ok s (heard p me s from.0 msg.body msg.sig) (heard-same p me s from.0 msg) h
   kept-ok s Timeout a l h = by-if LeaderOk (may_end s) (with_round s) s (record { turns = h.turns; casts = h.casts }) h
 
   turn-ok : (s : State) (o : Option Turn) → LeaderOk s → MayOk o → MayHold o → LeaderOk (with_turn s o)
@@ -325,11 +325,11 @@ module _ (p : Params) (w : World Message) (good : IsGoodParams hotstuff p) (lega
     pub ok : TurnOk turn
     pub has : Holder (digest_of turn.just) turn.what
 
-  pub proposal-why : (x : Item Message) (xs : List (Item Message)) (to : To) (view : ℕ) (what : Content) (just : Certificate) (sig : List ℕ) → IsPart (x ∷ xs) → In {A = To × Message} (to, Prepare view what just sig) x.made.sends → IsProposed view what just
+  pub proposal-why : (x : Item Message) (xs : List (Item Message)) (to : To) (view : ℕ) (what : Content) (just : Certificate) (sig : List ℕ) → IsPart (x ∷ xs) → In {A = To × Message} (to, signed (Prepare view what just) sig) x.made.sends → IsProposed view what just
   proposal-why x xs to view what just sig h sent =
       let s = state p me xs in
       let k = kept p me s x.input in
-      let made = subst (λ (z : Made Message). In {A = To × Message} (to, Prepare view what just sig) z.sends) h.heard.1 sent in
+      let made = subst (λ (z : Made Message). In {A = To × Message} (to, signed (Prepare view what just) sig) z.sends) h.heard.1 sent in
       let t = proposal-turn p me x.leaf xs x.input to view what just sig made in
       let ok = subst MayOk t.is (proposed-ok s k x.input (step-ok x xs h (state-ok xs (part-older x xs h)))) in
       let has = subst MayHold t.is (step-holds x xs h) in

@@ -26,12 +26,11 @@ use Rattle.hs_tree.specs.declared.certificates.Certificate.TheVariants.{Root, Vo
 use Rattle.iss_sb.specs.declared.signers.Signed.{Signed}
 use Rattle.hs_tree.specs.declared.messages.Message.{Message}
 use Rattle.hs_tree.specs.declared.messages.Body.{Body}
-use Rattle.hs_tree.specs.declared.messages.Body.TheVariants.{NewView as New_view_body, Prepare as Prepare_body, PreCommit as Pre_commit_body, Commit as Commit_body, Decide as Decide_body, Vote as Vote_body}
-use Rattle.hs_tree.specs.Signed.{NewView, PreCommit, Commit, Decide, Vote, signed}
+use Rattle.hs_tree.specs.declared.messages.Body.TheVariants.{NewView, Prepare, PreCommit, Commit, Decide, Vote}
 use Rattle.iss_sb.specs.Signers.{AreSigners}
 use Rattle.hs_tree.specs.Certificates.{IsSpelledCertificate, digest_of, root_row, view_of, votes_row}
-use Rattle.hs_tree.specs.Messages.{IsSpelledMessage, spell}
-use Rattle.hs_tree.specs.Statements.{own_statement, with_signature}
+use Rattle.hs_tree.specs.Messages.{IsSpelledMessage, signed, spell}
+use Rattle.hs_tree.specs.Statements.{stated}
 use Rattle.hs_tree.specs.Tree.{basic, is_known}
 use Rattle.iss_sb.proofs.Contents.{batch-table}
 use Rattle.hs_tree.proofs.MessageGrammar.{read-spelled, spelled-read}
@@ -266,23 +265,23 @@ module _ (p : Params) (good : IsGoodParams hotstuff p) where
 
   -- ---- The state
 
-  vote-parts : (phase view : ℕ) (d sig : List ℕ) → SpelledAs (Vote phase view d sig) → is_signature sig ≡ true
+  vote-parts : (phase view : ℕ) (d sig : List ℕ) → SpelledAs (signed (Vote phase view d) sig) → is_signature sig ≡ true
   vote-parts phase view d sig h = h.1.signed
 
-  heard-fits-body : (me : ℕ) (s : State) (from : ℕ) (body : Body) (sig : List ℕ) → SpelledAs (signed body sig) → Fits s → Fits (heard p me s from (signed body sig))
-  heard-fits-body me s from (New_view_body round high) sig m h = by-if Fits (keeps_news p me s from round high) (with_news s from round high) s
+  heard-fits-body : (me : ℕ) (s : State) (from : ℕ) (body : Body) (sig : List ℕ) → SpelledAs (signed body sig) → Fits s → Fits (heard p me s from body sig)
+  heard-fits-body me s from (NewView round high) sig m h = by-if Fits (keeps_news p me s from round high) (with_news s from round high) s
       (record { high = h.high; votes = h.votes; news = ((m.1.certificate, m.1.spelled), h.news); turns = h.turns; casts = h.casts; few = h.few }) h
-  heard-fits-body me s from (Prepare_body view what just) sig m h = by-if Fits (may_prepare p s from view what just) (with_node p s view what just) s
+  heard-fits-body me s from (Prepare view what just) sig m h = by-if Fits (may_prepare p s from view what just) (with_node p s view what just) s
       (record { high = h.high; votes = h.votes; news = h.news; turns = h.turns; casts = h.casts; few = h.few }) h
-  heard-fits-body me s from (Pre_commit_body view shown) sig m h = by-if Fits (may_second p s view shown) (record s { high = shown; second = true }) s
+  heard-fits-body me s from (PreCommit view shown) sig m h = by-if Fits (may_second p s view shown) (record s { high = shown; second = true }) s
       (record { high = (m.1.certificate, m.1.spelled); votes = h.votes; news = h.news; turns = h.turns; casts = h.casts; few = h.few }) h
-  heard-fits-body me s from (Commit_body view shown) sig m h = by-if Fits (may_third p s view shown) (record s { lock = shown; third = true }) s
+  heard-fits-body me s from (Commit view shown) sig m h = by-if Fits (may_third p s view shown) (record s { lock = shown; third = true }) s
       (record { high = h.high; votes = h.votes; news = h.news; turns = h.turns; casts = h.casts; few = h.few }) h
-  heard-fits-body me s from (Decide_body view shown) sig m h = h
-  heard-fits-body me s from (Vote_body phase view d) sig m h = by-if Fits (keeps_vote p s from phase view d) (with_vote s from phase view d sig) s
+  heard-fits-body me s from (Decide view shown) sig m h = h
+  heard-fits-body me s from (Vote phase view d) sig m h = by-if Fits (keeps_vote p s from phase view d) (with_vote s from phase view d sig) s
       (record { high = h.high; votes = (m.1.signed, h.votes); news = h.news; turns = h.turns; casts = h.casts; few = h.few }) h
 
-  heard-fits : (me : ℕ) (s : State) (from : ℕ) (msg : Message) → SpelledAs msg → Fits s → Fits (heard p me s from msg)
+  heard-fits : (me : ℕ) (s : State) (from : ℕ) (msg : Message) → SpelledAs msg → Fits s → Fits (heard p me s from msg.body msg.sig)
   heard-fits me s from msg m h = heard-fits-body me s from msg.body msg.sig m h
 
   cast-fits : (s : State) (b : Batch) → length s.casts < length p.slots → IsReadBatch p b → Fits s → Fits (with_cast s b)
@@ -317,12 +316,12 @@ module _ (p : Params) (good : IsGoodParams hotstuff p) where
   kept-fits me s Timeout m h = by-if Fits (may_end s) (with_round s) s (record { high = h.high; votes = h.votes; news = h.news; turns = h.turns; casts = h.casts; few = h.few }) h
 
   proposed-new-body : (me : ℕ) (s k : State) (from : NodeId) (body : Body) (sig : List ℕ) → Heard (Receive from (signed body sig)) → Fits k → MayTurn (proposed p me s k (Receive from (signed body sig)))
-  proposed-new-body me s k from (New_view_body round high) sig m h = by-if MayTurn (keeps_news p me s from.0 round high) (first_turn p k round) None (let l = m.1.round_fits in first-new k round (omega (arith, l)) h) tt
-  proposed-new-body me s k from (Prepare_body view what just) sig m h = tt
-  proposed-new-body me s k from (Pre_commit_body view shown) sig m h = tt
-  proposed-new-body me s k from (Commit_body view shown) sig m h = tt
-  proposed-new-body me s k from (Decide_body view shown) sig m h = tt
-  proposed-new-body me s k from (Vote_body phase view d) sig m h = by-if MayTurn _ (next_turn p k k.turns) None (next-new k k.turns h h.turns) tt
+  proposed-new-body me s k from (NewView round high) sig m h = by-if MayTurn (keeps_news p me s from.0 round high) (first_turn p k round) None (let l = m.1.round_fits in first-new k round (omega (arith, l)) h) tt
+  proposed-new-body me s k from (Prepare view what just) sig m h = tt
+  proposed-new-body me s k from (PreCommit view shown) sig m h = tt
+  proposed-new-body me s k from (Commit view shown) sig m h = tt
+  proposed-new-body me s k from (Decide view shown) sig m h = tt
+  proposed-new-body me s k from (Vote phase view d) sig m h = by-if MayTurn _ (next_turn p k k.turns) None (next-new k k.turns h h.turns) tt
 
   pub proposed-new : (me : ℕ) (s k : State) (i : Input Message) → Heard i → Fits k → MayTurn (proposed p me s k i)
   proposed-new me s k (Cast slot batch) m h = by-if MayTurn (may_cast p me s slot.0) (next_turn p k k.turns) None (next-new k k.turns h h.turns) tt
@@ -361,8 +360,8 @@ module _ (p : Params) (good : IsGoodParams hotstuff p) where
   vote-signs phase view d a b l long = ((λ sig shape. (_, record { phase_low = a; phase_fits = b; view_fits = l; digest_fits = long; signed = shape; row = refl })), tt)
 
   shows-sign : (phase view : ℕ) (c : Certificate) → view < 2 ^ 32 → Spelled c → Signs (shows phase view c)
-  shows-sign phase view c l h = by-if Signs (phase == 1) (PreCommit view c []) _ (λ sig shape. (_, record { three = refl; view_fits = l; certificate = h.0; spelled = h.1; signed = shape; row = refl }))
-      (by-if Signs (phase == 2) (Commit view c []) (Decide view c []) (λ sig shape. (_, record { three = refl; view_fits = l; certificate = h.0; spelled = h.1; signed = shape; row = refl })) (λ sig shape. (_, record { three = refl; view_fits = l; certificate = h.0; spelled = h.1; signed = shape; row = refl })))
+  shows-sign phase view c l h = by-if Signs (phase == 1) (signed (PreCommit view c) []) _ (λ sig shape. (_, record { three = refl; view_fits = l; certificate = h.0; spelled = h.1; signed = shape; row = refl }))
+      (by-if Signs (phase == 2) (signed (Commit view c) []) (signed (Decide view c) []) (λ sig shape. (_, record { three = refl; view_fits = l; certificate = h.0; spelled = h.1; signed = shape; row = refl })) (λ sig shape. (_, record { three = refl; view_fits = l; certificate = h.0; spelled = h.1; signed = shape; row = refl })))
 
   own-some : (ts : List Turn) (view : ℕ) (d : List ℕ) → TurnsFit ts → is_own_turn ts view d ≡ true → 1 ≤ view
   own-some [] view d h g = absurd (true≢false (sym g))
@@ -375,19 +374,19 @@ module _ (p : Params) (good : IsGoodParams hotstuff p) where
       go true q e more = let k = is-same t.view view (and-true (t.view == view) (same t) q).0 in let l = h.0.some in omega (arith, k, l)
       go false q e more = more e
 
-  answer-signs-body : (s k : State) (from : ℕ) (body : Body) (sig : List ℕ) → SpelledAs (signed body sig) → Fits s → Fits k → SignsAll (answers_heard p s k from (signed body sig))
-  answer-signs-body s k from (New_view_body round high) sig m h g = tt
-  answer-signs-body s k from (Prepare_body view what just) sig m h g = by-if SignsAll (may_prepare p s from view what just) (voted p 1 view (node_digest p view what just)) [] (vote-signs 1 view (node_digest p view what just) (omega arith) (omega arith) m.1.view_fits (digest-long basic p view what just)) tt
-  answer-signs-body s k from (Pre_commit_body view shown) sig m h g = by-if SignsAll (may_second p s view shown) (voted p 2 view (digest_of shown)) [] (vote-signs 2 view (digest_of shown) (omega arith) (omega arith) m.1.view_fits (digest-length shown (m.1.certificate, m.1.spelled))) tt
-  answer-signs-body s k from (Commit_body view shown) sig m h g = by-if SignsAll (may_third p s view shown) (voted p 3 view (digest_of shown)) [] (vote-signs 3 view (digest_of shown) (omega arith) (omega arith) m.1.view_fits (digest-length shown (m.1.certificate, m.1.spelled))) tt
-  answer-signs-body s k from (Decide_body view shown) sig m h g = tt
-  answer-signs-body s k from (Vote_body phase view d) sig m h g = by-test SignsAll (keeps_vote p s from phase view d && is_reached p k phase view d) _ [] (λ q.
+  answer-signs-body : (s k : State) (from : ℕ) (body : Body) (sig : List ℕ) → SpelledAs (signed body sig) → Fits s → Fits k → SignsAll (answers_heard p s k from body)
+  answer-signs-body s k from (NewView round high) sig m h g = tt
+  answer-signs-body s k from (Prepare view what just) sig m h g = by-if SignsAll (may_prepare p s from view what just) (voted p 1 view (node_digest p view what just)) [] (vote-signs 1 view (node_digest p view what just) (omega arith) (omega arith) m.1.view_fits (digest-long basic p view what just)) tt
+  answer-signs-body s k from (PreCommit view shown) sig m h g = by-if SignsAll (may_second p s view shown) (voted p 2 view (digest_of shown)) [] (vote-signs 2 view (digest_of shown) (omega arith) (omega arith) m.1.view_fits (digest-length shown (m.1.certificate, m.1.spelled))) tt
+  answer-signs-body s k from (Commit view shown) sig m h g = by-if SignsAll (may_third p s view shown) (voted p 3 view (digest_of shown)) [] (vote-signs 3 view (digest_of shown) (omega arith) (omega arith) m.1.view_fits (digest-length shown (m.1.certificate, m.1.spelled))) tt
+  answer-signs-body s k from (Decide view shown) sig m h g = tt
+  answer-signs-body s k from (Vote phase view d) sig m h g = by-test SignsAll (keeps_vote p s from phase view d && is_reached p k phase view d) _ [] (λ q.
       let a = and-true (keeps_vote p s from phase view d) (is_reached p k phase view d) q in
       let b = and-true _ _ (and-true _ _ a.0).0 in
       let c = certificate-spelled k phase view d m.1.phase_low m.1.phase_fits (own-some s.turns view d h.turns b.1) m.1.view_fits m.1.digest_fits g.votes in
       (shows-sign phase view (certificate p k phase view d) m.1.view_fits c, tt)) tt
 
-  answer-signs : (s k : State) (from : ℕ) (msg : Message) → SpelledAs msg → Fits s → Fits k → SignsAll (answers_heard p s k from msg)
+  answer-signs : (s k : State) (from : ℕ) (msg : Message) → SpelledAs msg → Fits s → Fits k → SignsAll (answers_heard p s k from msg.body)
   answer-signs s k from msg m h g = answer-signs-body s k from msg.body msg.sig m h g
 
   answers-sign : (s k : State) (i : Input Message) → Heard i → Fits s → Fits k → SignsAll (answers p s k i)
@@ -404,8 +403,8 @@ module _ (p : Params) (good : IsGoodParams hotstuff p) where
   signed-read : (me leaf : ℕ) (ds : List (To × Message)) → SignsAll ds → (to : To) (msg : Message) → In {A = To × Message} (to, msg) (sign_all p me leaf ds) → IsReadMessage hotstuff p msg
   signed-read me leaf [] h to msg k = absurd k
   signed-read me leaf (x ∷ ds) h to msg (inl e) =
-      let s = h.0 (signature p me leaf (own_statement basic p x.1)) (signature-shape hotstuff p good me leaf (own_statement basic p x.1)) in
-      subst (λ (z : To × Message). IsReadMessage hotstuff p z.1) (sym e) (spelled-read 3 p.setup.version (with_signature (signature p me leaf (own_statement basic p x.1)) x.1) s.0 s.1)
+      let s = h.0 (signature p me leaf (stated basic p x.1.body)) (signature-shape hotstuff p good me leaf (stated basic p x.1.body)) in
+      subst (λ (z : To × Message). IsReadMessage hotstuff p z.1) (sym e) (spelled-read 3 p.setup.version (with_signature (signature p me leaf (stated basic p x.1.body)) x.1) s.0 s.1)
   signed-read me leaf (x ∷ ds) h to msg (inr k) = signed-read me (suc leaf) ds h.1 to msg k
 
 pub sent-again : (p : Params) (me : ℕ) (xs : List (Item Message)) (i : Input Message) (leaf : ℕ) (to : To) (msg : Message) → IsGoodParams hotstuff p → me < p.setup.n →

@@ -18,8 +18,8 @@ use Rattle.iss_sb.specs.Laws.{IsLawful}
 use Rattle.iss_sb.proofs.Slots.{place-In}
 use Rattle.hs_tree.specs.declared.messages.Message.{Message}
 use Rattle.hs_tree.specs.declared.messages.Body.{Body}
-use Rattle.hs_tree.specs.declared.messages.Body.TheVariants.{NewView as New_view_body, Prepare as Prepare_body, PreCommit as Pre_commit_body, Commit as Commit_body, Decide as Decide_body, Vote as Vote_body}
-use Rattle.hs_tree.specs.Signed.{signed}
+use Rattle.hs_tree.specs.declared.messages.Body.TheVariants.{NewView, Prepare, PreCommit, Commit, Decide, Vote}
+use Rattle.hs_tree.specs.Messages.{signed}
 use Rattle.hs_tree.specs.Certificates.{digest_of}
 use Rattle.hs_tree.specs.Tree.{basic, branch, is_known, value_at_slot}
 use Rattle.sb_hotstuff.specs.HotStuff.{answers, answers_heard, asks, decided, decides, drafts, hotstuff, offered, proposals, sign_all, state, voted}
@@ -42,14 +42,14 @@ module _ (p : Params) (me : ℕ) (xs : List (Item Message)) where
   castable s b c h = rw ((cast-is s b (s, b) h).passed) refl
 
 asked-In-body : (p : Params) (me : ℕ) (xs : List (Item Message)) (from : NodeId) (body : Body) (sig : List ℕ) (x : Slot × Batch) → asks p me xs (Receive from (signed body sig)) ≡ Some x → In x.0 p.slots
-asked-In-body p me xs from (New_view_body round high) sig x h = absurd cc
-asked-In-body p me xs from (Prepare_body view what just) sig x h =
+asked-In-body p me xs from (NewView round high) sig x h = absurd cc
+asked-In-body p me xs from (Prepare view what just) sig x h =
     let s = state p me xs in
     offered-In p (accepts xs) what (slots_below s just) x (if-in (may_prepare p s from.0 view what just) (offered p s (accepts xs) what just) x h).is
-asked-In-body p me xs from (Pre_commit_body view shown) sig x h = absurd cc
-asked-In-body p me xs from (Commit_body view shown) sig x h = absurd cc
-asked-In-body p me xs from (Decide_body view shown) sig x h = absurd cc
-asked-In-body p me xs from (Vote_body phase view d) sig x h = absurd cc
+asked-In-body p me xs from (PreCommit view shown) sig x h = absurd cc
+asked-In-body p me xs from (Commit view shown) sig x h = absurd cc
+asked-In-body p me xs from (Decide view shown) sig x h = absurd cc
+asked-In-body p me xs from (Vote phase view d) sig x h = absurd cc
 
 asked-In : AsksInside hotstuff
 asked-In p me xs (Cast s b) x h =
@@ -62,13 +62,13 @@ asked-In p me xs Timeout x h = absurd cc
 -- ---- Decisions
 
 decides-In-body : (p : Params) (s : State) (from : NodeId) (body : Body) (sig : List ℕ) (n : Slot) (x : Value) → decides p s (Receive from (signed body sig)) n.0 ≡ Some x → In n p.slots
-decides-In-body p s from (New_view_body round high) sig n x h = absurd cc
-decides-In-body p s from (Prepare_body view what just) sig n x h = absurd cc
-decides-In-body p s from (Pre_commit_body view shown) sig n x h = absurd cc
-decides-In-body p s from (Commit_body view shown) sig n x h = absurd cc
-decides-In-body p s from (Decide_body view shown) sig n x h =
+decides-In-body p s from (NewView round high) sig n x h = absurd cc
+decides-In-body p s from (Prepare view what just) sig n x h = absurd cc
+decides-In-body p s from (PreCommit view shown) sig n x h = absurd cc
+decides-In-body p s from (Commit view shown) sig n x h = absurd cc
+decides-In-body p s from (Decide view shown) sig n x h =
     value-In (branch s.tree (digest_of shown)) 0 p.slots n x (if-in (is_good p 3 view shown && is_known s.tree (digest_of shown)) (value_at_slot (branch s.tree (digest_of shown)) 0 p.slots n.0) x h).is
-decides-In-body p s from (Vote_body phase view d) sig n x h = absurd cc
+decides-In-body p s from (Vote phase view d) sig n x h = absurd cc
 
 decides-In : (p : Params) (s : State) (i : Input Message) (n : Slot) (x : Value) → decides p s i n.0 ≡ Some x → In n p.slots
 decides-In p s (Cast slot batch) n x h = absurd cc
@@ -108,15 +108,15 @@ module _ (p : Params) (some : 0 < p.setup.n) where
   voted_fine : (phase view : ℕ) (d : List ℕ) → Fine (voted p phase view d)
   voted_fine phase view d = record { to = (below (p.leader.0 + round_of view), tt); few = omega arith }
 
-  answer_fine-body : (s k : State) (from : ℕ) (body : Body) (sig : List ℕ) → Fine (answers_heard p s k from (signed body sig))
-  answer_fine-body s k from (New_view_body round high) sig = none_fine p.setup.n
-  answer_fine-body s k from (Prepare_body view what just) sig = by-if Fine (may_prepare p s from view what just) (voted p 1 view (node_digest p view what just)) [] (voted_fine 1 view (node_digest p view what just)) (none_fine p.setup.n)
-  answer_fine-body s k from (Pre_commit_body view shown) sig = by-if Fine (may_second p s view shown) (voted p 2 view (digest_of shown)) [] (voted_fine 2 view (digest_of shown)) (none_fine p.setup.n)
-  answer_fine-body s k from (Commit_body view shown) sig = by-if Fine (may_third p s view shown) (voted p 3 view (digest_of shown)) [] (voted_fine 3 view (digest_of shown)) (none_fine p.setup.n)
-  answer_fine-body s k from (Decide_body view shown) sig = none_fine p.setup.n
-  answer_fine-body s k from (Vote_body phase view d) sig = by-if Fine (keeps_vote p s from phase view d && is_reached p k phase view d) _ [] (record { to = (tt, tt); few = omega arith }) (none_fine p.setup.n)
+  answer_fine-body : (s k : State) (from : ℕ) (body : Body) (sig : List ℕ) → Fine (answers_heard p s k from body)
+  answer_fine-body s k from (NewView round high) sig = none_fine p.setup.n
+  answer_fine-body s k from (Prepare view what just) sig = by-if Fine (may_prepare p s from view what just) (voted p 1 view (node_digest p view what just)) [] (voted_fine 1 view (node_digest p view what just)) (none_fine p.setup.n)
+  answer_fine-body s k from (PreCommit view shown) sig = by-if Fine (may_second p s view shown) (voted p 2 view (digest_of shown)) [] (voted_fine 2 view (digest_of shown)) (none_fine p.setup.n)
+  answer_fine-body s k from (Commit view shown) sig = by-if Fine (may_third p s view shown) (voted p 3 view (digest_of shown)) [] (voted_fine 3 view (digest_of shown)) (none_fine p.setup.n)
+  answer_fine-body s k from (Decide view shown) sig = none_fine p.setup.n
+  answer_fine-body s k from (Vote phase view d) sig = by-if Fine (keeps_vote p s from phase view d && is_reached p k phase view d) _ [] (record { to = (tt, tt); few = omega arith }) (none_fine p.setup.n)
 
-  answer_fine : (s k : State) (from : ℕ) (msg : Message) → Fine (answers_heard p s k from msg)
+  answer_fine : (s k : State) (from : ℕ) (msg : Message) → Fine (answers_heard p s k from msg.body)
   answer_fine s k from msg = answer_fine-body s k from msg.body msg.sig
 
   answers_fine : (s k : State) (i : Input Message) → Fine (answers p s k i)

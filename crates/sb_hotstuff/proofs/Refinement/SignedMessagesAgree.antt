@@ -7,7 +7,7 @@ use Rattle.iss_sb.specs.declared.effects.To.{To}
 use Rattle.iss_sb.specs.Calls.{AreToNodes}
 use Rattle.iss_sb.specs.Statements.{signature}
 use Rattle.hs_tree.specs.declared.messages.Message.{Message}
-use Rattle.hs_tree.specs.Statements.{own_statement, with_signature}
+use Rattle.hs_tree.specs.Statements.{stated}
 use Rattle.hs_tree.specs.Tree.{basic}
 use Rattle.sb_hotstuff.specs.declared.outcomes.Taken.{Taken}
 use Rattle.hs_views.specs.declared.drafts.Draft.{Draft}
@@ -36,7 +36,7 @@ sign-both p me leaf [] ys = ap (λ (n : ℕ). sign_all p me n ys) (none leaf)
     none : (n : ℕ) → n ≡ n + 0
     none n = omega arith
 sign-both p me leaf (x ∷ xs) ys =
-    ap (λ (z : List (To × Message)). (x.0, with_signature (signature p me leaf (own_statement basic p x.1)) x.1) ∷ z)
+    ap (λ (z : List (To × Message)). (x.0, with_signature (signature p me leaf (stated basic p x.1.body)) x.1) ∷ z)
     (sign-both p me (suc leaf) xs ys ∙ ap (λ (n : ℕ). sign_all p me (suc leaf) xs ++ sign_all p me n ys) (next leaf (length xs)))
   where
     next : (n k : ℕ) → suc n + k ≡ n + suc k
