@@ -59,21 +59,18 @@ pub record IsVote (msg : Message) (phase view : ℕ) (d : List ℕ) : Type 0 whe
   pub sig : List ℕ
   pub is : msg ≡ signed (Vote phase view d) sig
 
-own-vote-body : (p : Params) (body : Body) (sig : List ℕ) (phase view : ℕ) (d : List ℕ) → stated form p body ≡ vote_statement form p phase view d → IsVote (signed body sig) phase view d
-own-vote-body p (NewView round high) sig phase view d h = let k = behind p 1 6 _ _ h in absurd cc
-own-vote-body p (Prepare v what just) sig phase view d h = let k = behind p 2 6 _ _ h in absurd cc
-own-vote-body p (PreCommit v shown) sig phase view d h = let k = behind p 3 6 _ _ h in absurd cc
-own-vote-body p (Commit v shown) sig phase view d h = let k = behind p 4 6 _ _ h in absurd cc
-own-vote-body p (Decide v shown) sig phase view d h = let k = behind p 5 6 _ _ h in absurd cc
-own-vote-body p (Vote q v e) sig phase view d h =
+pub own-vote : (p : Params) (body : Body) (sig : List ℕ) (phase view : ℕ) (d : List ℕ) → stated form p body ≡ vote_statement form p phase view d → IsVote (signed body sig) phase view d
+own-vote p (NewView round high) sig phase view d h = let k = behind p 1 6 _ _ h in absurd cc
+own-vote p (Prepare v what just) sig phase view d h = let k = behind p 2 6 _ _ h in absurd cc
+own-vote p (PreCommit v shown) sig phase view d h = let k = behind p 3 6 _ _ h in absurd cc
+own-vote p (Commit v shown) sig phase view d h = let k = behind p 4 6 _ _ h in absurd cc
+own-vote p (Decide v shown) sig phase view d h = let k = behind p 5 6 _ _ h in absurd cc
+own-vote p (Vote q v e) sig phase view d h =
     let s = vote-same p q v e phase view d h in
     let x = s.phase_is in
     let y = s.view_is in
     let z = s.digest_is in
     record { sig = sig; is = cc }
-
-pub own-vote : (p : Params) (msg : Message) (phase view : ℕ) (d : List ℕ) → stated form p msg.body ≡ vote_statement form p phase view d → IsVote msg phase view d
-own-vote p msg phase view d h = own-vote-body p msg.body msg.sig phase view d h
 
 -- a message whose own statement is a proposal's is a proposal of that view and node
 pub record IsProposal (p : Params) (msg : Message) (view : ℕ) (d : List ℕ) : Type 0 where
@@ -83,17 +80,14 @@ pub record IsProposal (p : Params) (msg : Message) (view : ℕ) (d : List ℕ) :
   pub is : msg ≡ signed (Prepare view what just) sig
   pub digest_is : node_digest p view what just ≡ d
 
-own-proposal-body : (p : Params) (body : Body) (sig : List ℕ) (view : ℕ) (d : List ℕ) → stated form p body ≡ statement_head p 5 ++ (2 ∷ (four_bytes view ++ d)) → IsProposal p (signed body sig) view d
-own-proposal-body p (NewView round high) sig view d h = let k = behind p 1 2 _ _ h in absurd cc
-own-proposal-body p (PreCommit v shown) sig view d h = let k = behind p 3 2 _ _ h in absurd cc
-own-proposal-body p (Commit v shown) sig view d h = let k = behind p 4 2 _ _ h in absurd cc
-own-proposal-body p (Decide v shown) sig view d h = let k = behind p 5 2 _ _ h in absurd cc
-own-proposal-body p (Vote q v e) sig view d h = let k = behind p 6 2 _ _ h in absurd cc
-own-proposal-body p (Prepare v what just) sig view d h =
+pub own-proposal : (p : Params) (body : Body) (sig : List ℕ) (view : ℕ) (d : List ℕ) → stated form p body ≡ statement_head p 5 ++ (2 ∷ (four_bytes view ++ d)) → IsProposal p (signed body sig) view d
+own-proposal p (NewView round high) sig view d h = let k = behind p 1 2 _ _ h in absurd cc
+own-proposal p (PreCommit v shown) sig view d h = let k = behind p 3 2 _ _ h in absurd cc
+own-proposal p (Commit v shown) sig view d h = let k = behind p 4 2 _ _ h in absurd cc
+own-proposal p (Decide v shown) sig view d h = let k = behind p 5 2 _ _ h in absurd cc
+own-proposal p (Vote q v e) sig view d h = let k = behind p 6 2 _ _ h in absurd cc
+own-proposal p (Prepare v what just) sig view d h =
     let k = behind p 2 2 (four_bytes v ++ node_digest p v what just) (four_bytes view ++ d) h in
     let rest : four_bytes v ++ node_digest p v what just ≡ four_bytes view ++ d = cc in
     let b = wide-same 3 v view (node_digest p v what just) d rest in
     subst (λ (z : ℕ). IsProposal p (signed (Prepare v what just) sig) z d) b.0 (record { what = what; just = just; sig = sig; is = refl; digest_is = b.1 })
-
-pub own-proposal : (p : Params) (msg : Message) (view : ℕ) (d : List ℕ) → stated form p msg.body ≡ statement_head p 5 ++ (2 ∷ (four_bytes view ++ d)) → IsProposal p msg view d
-own-proposal p msg view d h = own-proposal-body p msg.body msg.sig view d h

@@ -24,16 +24,11 @@ abbrev pub Same : State → State → Type 0
 Same s t = (t.turns ≡ s.turns) × (t.casts ≡ s.casts)
 
 module _ (p : Params) (me : ℕ) where
-  heard-same-body : (s : State) (from : ℕ) (body : Body) (sig : List ℕ) → Same s (heard p me s from body sig)
-  heard-same-body s from (NewView round high) sig = by-if (Same s) (keeps_news p me s from round high) (with_news s from round high) s (refl, refl) (refl, refl)
-  heard-same-body s from (Prepare view what just) sig = by-if (Same s) (may_prepare p s from view what just) (with_node p s view what just) s (refl, refl) (refl, refl)
-  heard-same-body s from (PreCommit view shown) sig = (refl, refl)
-  heard-same-body s from (Commit view shown) sig = (refl, refl)
-  heard-same-body s from (Decide view shown) sig = (refl, refl)
-  heard-same-body s from (Vote phase view d) sig = by-if (Same s) (keeps_vote p s from phase view d) (with_vote s from view d sig) s (refl, refl) (refl, refl)
-
-  heard-same : (s : State) (from : ℕ) (msg : Message) → Same s (heard p me s from msg.body msg.sig)
-  heard-same s from msg = heard-same-body s from msg.body msg.sig
+  heard-same : (s : State) (from : ℕ) (body : Body) (sig : List ℕ) → Same s (heard p me s from body sig)
+  heard-same s from (NewView round high) sig = by-if (Same s) (keeps_news p me s from round high) (with_news s from round high) s (refl, refl) (refl, refl)
+  heard-same s from (Prepare view what just) sig = by-if (Same s) (may_prepare p s from view what just) (with_node p s view what just) s (refl, refl) (refl, refl)
+  heard-same s from (Vote phase view d) sig = by-if (Same s) (keeps_vote p s from phase view d) (with_vote s from view d sig) s (refl, refl) (refl, refl)
+  heard-same s from other sig = (refl, refl)
 
   -- a certificate that is shown changes neither
   pub shown-same : (s : State) (o : Option Certificate) → Same s (with_shown s o)
@@ -41,7 +36,7 @@ module _ (p : Params) (me : ℕ) where
 
   pub kept-same : (s : State) (from : NodeId) (msg : Message) → Same s (kept p me s (Receive from msg))
   kept-same s from msg =
-      let h = heard-same s from.0 msg in
+      let h = heard-same s from.0 msg.body msg.sig in
       let t = heard p me s from.0 msg.body msg.sig in
       let g = shown-same t (shows p me s t (Receive from msg)) in
       (g.0 ∙ h.0, g.1 ∙ h.1)
@@ -51,7 +46,7 @@ module _ (p : Params) (me : ℕ) where
 
   taken-more : (s : State) (i : Input Message) (k : ℕ) (b : Batch) → IsAt s k b → IsAt (taken p me s i) k b
   taken-more s (Cast slot batch) k b e = by-if (λ (z : State). IsAt z k b) (may_cast p me s slot.0) (with_cast s batch) s (nth-first s.casts batch b k e) e
-  taken-more s (Receive from msg) k b e = ap (λ (cs : List Batch). nth cs k) (heard-same s from.0 msg).1 ∙ e
+  taken-more s (Receive from msg) k b e = ap (λ (cs : List Batch). nth cs k) (heard-same s from.0 msg.body msg.sig).1 ∙ e
   taken-more s Timeout k b e = by-if (λ (z : State). IsAt z k b) (may_end s) (with_round s) s e e
 
   kept-more : (s : State) (i : Input Message) (k : ℕ) (b : Batch) → IsAt s k b → IsAt (kept p me s i) k b

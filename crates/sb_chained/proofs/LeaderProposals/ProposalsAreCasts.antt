@@ -74,17 +74,13 @@ module _ (p : Params) (to : To) (view : ℕ) (what : Content) (just : Certificat
   none-voted : (v : ℕ) (e : List ℕ) → Sent (voted p v e) → ⊥
   none-voted v e h = let m = one-is _ (signed (Vote 1 v e) []) h in cc
 
-  none-answered-body : (s : State) (from : NodeId) (body : Body) (sig : List ℕ) → Sent (answers p s (Receive from (signed body sig))) → ⊥
-  none-answered-body s from (NewView round high) x h = h
-  none-answered-body s from (Prepare v c j) x h = none-if (may_prepare p s from.0 v c j) (voted p v (node_digest p v c j)) (none-voted v (node_digest p v c j)) h
-  none-answered-body s from (PreCommit v shown) x h = h
-  none-answered-body s from (Commit v shown) x h = h
-  none-answered-body s from (Decide v shown) x h = h
-  none-answered-body s from (Vote q v e) x h = h
+  none-answered-heard : (s : State) (from : NodeId) (body : Body) (sig : List ℕ) → Sent (answers p s (Receive from (signed body sig))) → ⊥
+  none-answered-heard s from (Prepare v c j) x h = none-if (may_prepare p s from.0 v c j) (voted p v (node_digest p v c j)) (none-voted v (node_digest p v c j)) h
+  none-answered-heard s from other x h = h
 
   none-answered : (s : State) (i : Input Message) → Sent (answers p s i) → ⊥
   none-answered s (Cast slot batch) h = h
-  none-answered s (Receive from msg) h = none-answered-body s from msg.body msg.sig h
+  none-answered s (Receive from msg) h = none-answered-heard s from msg.body msg.sig h
   none-answered s Timeout h = none-if (may_end s) _ (λ z. let m = one-is _ (signed (NewView (suc (round_of s.view)) s.high) []) z in cc) h
 
   of-turn : (o : Option Turn) → Sent (proposals o) → IsTurn o view what just
@@ -213,19 +209,16 @@ module _ (p : Params) (w : World Message) (good : IsGoodParams chained p) (reach
       late : (r : ℕ) → 1 ≤ r → (r * 65536 + 1) / 65536 ≡ 0 → ⊥
       late r l e = omega (arith, l, e)
 
-  proposed-ok-body : (s k : State) (from : NodeId) (body : Body) (sig : List ℕ) → LeaderOk k → MayOk (proposed p me s k (Receive from (signed body sig)))
-  proposed-ok-body s k from (NewView round high) sig h = by-test MayOk (keeps_news p me s from.0 round high) (turn_on p k round (first_high p k round)) None (λ q.
+  proposed-ok-heard : (s k : State) (from : NodeId) (body : Body) (sig : List ℕ) → LeaderOk k → MayOk (proposed p me s k (Receive from (signed body sig)))
+  proposed-ok-heard s k from (NewView round high) sig h = by-test MayOk (keeps_news p me s from.0 round high) (turn_on p k round (first_high p k round)) None (λ q.
       let a = and-true _ _ (and-true _ _ (and-true _ _ q).0).0 in
       first-ok k round (first_high p k round) (leb-true 1 round a.0)) tt
-  proposed-ok-body s k from (Prepare view what just) sig h = tt
-  proposed-ok-body s k from (PreCommit view shown) sig h = tt
-  proposed-ok-body s k from (Commit view shown) sig h = tt
-  proposed-ok-body s k from (Decide view shown) sig h = tt
-  proposed-ok-body s k from (Vote phase view d) sig h = by-if MayOk _ (next_turn p k k.turns) None (next-ok k k.turns h h.turns) tt
+  proposed-ok-heard s k from (Vote phase view d) sig h = by-if MayOk _ (next_turn p k k.turns) None (next-ok k k.turns h h.turns) tt
+  proposed-ok-heard s k from other sig h = tt
 
   proposed-ok : (s k : State) (i : Input Message) → LeaderOk k → MayOk (proposed p me s k i)
   proposed-ok s k (Cast slot batch) h = by-if MayOk (may_cast p me s slot.0) (next_turn p k k.turns) None (next-ok k k.turns h h.turns) tt
-  proposed-ok s k (Receive from msg) h = proposed-ok-body s k from msg.body msg.sig h
+  proposed-ok s k (Receive from msg) h = proposed-ok-heard s k from msg.body msg.sig h
   proposed-ok s k Timeout h = tt
 
   -- ---- the state

@@ -312,19 +312,14 @@ module _ (p : Params) (good : IsGoodParams chained p) where
   vote-parts : (phase view : ℕ) (d sig : List ℕ) → SpelledAs (signed (Vote phase view d) sig) → is_signature sig ≡ true
   vote-parts phase view d sig h = h.1.signed
 
-  heard-fits-body : (me : ℕ) (s : State) (from : ℕ) (body : Body) (sig : List ℕ) → SpelledAs (signed body sig) → Fits s → Fits (heard p me s from body sig)
-  heard-fits-body me s from (NewView round high) sig m h = by-if Fits (keeps_news p me s from round high) (with_news s from round high) s
+  heard-fits : (me : ℕ) (s : State) (from : ℕ) (body : Body) (sig : List ℕ) → SpelledAs (signed body sig) → Fits s → Fits (heard p me s from body sig)
+  heard-fits me s from (NewView round high) sig m h = by-if Fits (keeps_news p me s from round high) (with_news s from round high) s
       (record { high = h.high; votes = h.votes; news = ((m.1.certificate, m.1.spelled), h.news); turns = h.turns; full = h.full; casts = h.casts; few = h.few }) h
-  heard-fits-body me s from (Prepare view what just) sig m h = by-if Fits (may_prepare p s from view what just) (with_node p s view what just) s
+  heard-fits me s from (Prepare view what just) sig m h = by-if Fits (may_prepare p s from view what just) (with_node p s view what just) s
       (record { high = h.high; votes = h.votes; news = h.news; turns = h.turns; full = h.full; casts = h.casts; few = h.few }) h
-  heard-fits-body me s from (PreCommit view shown) sig m h = h
-  heard-fits-body me s from (Commit view shown) sig m h = h
-  heard-fits-body me s from (Decide view shown) sig m h = h
-  heard-fits-body me s from (Vote phase view d) sig m h = by-if Fits (keeps_vote p s from phase view d) (with_vote s from view d sig) s
+  heard-fits me s from (Vote phase view d) sig m h = by-if Fits (keeps_vote p s from phase view d) (with_vote s from view d sig) s
       (record { high = h.high; votes = (m.1.signed, h.votes); news = h.news; turns = h.turns; full = h.full; casts = h.casts; few = h.few }) h
-
-  heard-fits : (me : ℕ) (s : State) (from : ℕ) (msg : Message) → SpelledAs msg → Fits s → Fits (heard p me s from msg.body msg.sig)
-  heard-fits me s from msg m h = heard-fits-body me s from msg.body msg.sig m h
+  heard-fits me s from other sig m h = h
 
   cast-fits : (s : State) (b : Batch) → length s.casts < length p.slots → IsReadBatch p b → Fits s → Fits (with_cast s b)
   cast-fits s b l r h =
@@ -355,23 +350,21 @@ module _ (p : Params) (good : IsGoodParams chained p) where
   pub taken-fits : (me : ℕ) (s : State) (i : Input Message) → Heard i → Fits s → Fits (taken p me s i)
   taken-fits me s (Cast slot batch) m h = by-test Fits (may_cast p me s slot.0) (with_cast s batch) s
       (λ q. cast-fits s batch (place-below slot.0 p.slots (length s.casts) (and-true _ (is_slot slot.0 (nth p.slots (length s.casts))) q).1) m h) h
-  taken-fits me s (Receive from msg) m h = heard-fits me s from.0 msg m h
+  taken-fits me s (Receive from msg) m h = heard-fits me s from.0 msg.body msg.sig m h
   taken-fits me s Timeout m h = by-if Fits (may_end s) (with_round s) s (record { high = h.high; votes = h.votes; news = h.news; turns = h.turns; full = h.full; casts = h.casts; few = h.few }) h
 
-  shows-spelled-body : (me : ℕ) (s k : State) (from : NodeId) (body : Body) (sig : List ℕ) → Heard (Receive from (signed body sig)) → Fits s → Fits k → MaySpell (shows p me s k (Receive from (signed body sig)))
-  shows-spelled-body me s k from (NewView round high) sig m h g = by-if MaySpell (keeps_news p me s from.0 round high) (first_high p k round) None (high-spelled k round g) tt
-  shows-spelled-body me s k from (Prepare view what just) sig m h g = by-if MaySpell (is_usable p s from.0 view just) (Some just) None (m.1.certificate, m.1.spelled) tt
-  shows-spelled-body me s k from (PreCommit view shown) sig m h g = tt
-  shows-spelled-body me s k from (Commit view shown) sig m h g = tt
-  shows-spelled-body me s k from (Decide view shown) sig m h g = tt
-  shows-spelled-body me s k from (Vote phase view d) sig m h g = by-test MaySpell (keeps_vote p s from.0 phase view d && is_reached p k view d) (Some (certificate p k view d)) None (λ q.
+  shows-spelled-heard : (me : ℕ) (s k : State) (from : NodeId) (body : Body) (sig : List ℕ) → Heard (Receive from (signed body sig)) → Fits s → Fits k → MaySpell (shows p me s k (Receive from (signed body sig)))
+  shows-spelled-heard me s k from (NewView round high) sig m h g = by-if MaySpell (keeps_news p me s from.0 round high) (first_high p k round) None (high-spelled k round g) tt
+  shows-spelled-heard me s k from (Prepare view what just) sig m h g = by-if MaySpell (is_usable p s from.0 view just) (Some just) None (m.1.certificate, m.1.spelled) tt
+  shows-spelled-heard me s k from (Vote phase view d) sig m h g = by-test MaySpell (keeps_vote p s from.0 phase view d && is_reached p k view d) (Some (certificate p k view d)) None (λ q.
       let a = and-true (keeps_vote p s from.0 phase view d) (is_reached p k view d) q in
       let b = and-true _ _ (and-true _ _ a.0).0 in
       certificate-spelled k view d (own-some s.turns view d h.turns b.1) m.1.view_fits m.1.digest_fits g.votes) tt
+  shows-spelled-heard me s k from other sig m h g = tt
 
   shows-spelled : (me : ℕ) (s k : State) (i : Input Message) → Heard i → Fits s → Fits k → MaySpell (shows p me s k i)
   shows-spelled me s k (Cast slot batch) m h g = tt
-  shows-spelled me s k (Receive from msg) m h g = shows-spelled-body me s k from msg.body msg.sig m h g
+  shows-spelled me s k (Receive from msg) m h g = shows-spelled-heard me s k from msg.body msg.sig m h g
   shows-spelled me s k Timeout m h g = tt
 
   noted-fits : (s : State) (q : Certificate) (o : Option Node) → Spelled q → Fits s → Fits (noted s q o)
@@ -389,17 +382,14 @@ module _ (p : Params) (good : IsGoodParams chained p) where
       let g = taken-fits me s i m h in
       shown-fits t (shows p me s t i) (shows-spelled me s t i m h g) g
 
-  proposed-new-body : (me : ℕ) (s k : State) (from : NodeId) (body : Body) (sig : List ℕ) → Heard (Receive from (signed body sig)) → Fits k → MayTurn k.turns (proposed p me s k (Receive from (signed body sig)))
-  proposed-new-body me s k from (NewView round high) sig m h = by-if (MayTurn k.turns) (keeps_news p me s from.0 round high) (turn_on p k round (first_high p k round)) None (let l = m.1.round_fits in first-new k round (omega (arith, l)) h) tt
-  proposed-new-body me s k from (Prepare view what just) sig m h = tt
-  proposed-new-body me s k from (PreCommit view shown) sig m h = tt
-  proposed-new-body me s k from (Commit view shown) sig m h = tt
-  proposed-new-body me s k from (Decide view shown) sig m h = tt
-  proposed-new-body me s k from (Vote phase view d) sig m h = by-if (MayTurn k.turns) _ (next_turn p k k.turns) None (next-new k k.turns h h.turns) tt
+  proposed-new-heard : (me : ℕ) (s k : State) (from : NodeId) (body : Body) (sig : List ℕ) → Heard (Receive from (signed body sig)) → Fits k → MayTurn k.turns (proposed p me s k (Receive from (signed body sig)))
+  proposed-new-heard me s k from (NewView round high) sig m h = by-if (MayTurn k.turns) (keeps_news p me s from.0 round high) (turn_on p k round (first_high p k round)) None (let l = m.1.round_fits in first-new k round (omega (arith, l)) h) tt
+  proposed-new-heard me s k from (Vote phase view d) sig m h = by-if (MayTurn k.turns) _ (next_turn p k k.turns) None (next-new k k.turns h h.turns) tt
+  proposed-new-heard me s k from other sig m h = tt
 
   pub proposed-new : (me : ℕ) (s k : State) (i : Input Message) → Heard i → Fits k → MayTurn k.turns (proposed p me s k i)
   proposed-new me s k (Cast slot batch) m h = by-if (MayTurn k.turns) (may_cast p me s slot.0) (next_turn p k k.turns) None (next-new k k.turns h h.turns) tt
-  proposed-new me s k (Receive from msg) m h = proposed-new-body me s k from msg.body msg.sig m h
+  proposed-new me s k (Receive from msg) m h = proposed-new-heard me s k from msg.body msg.sig m h
   proposed-new me s k Timeout m h = tt
 
   full-more : (ts : List Turn) (t : Turn) → FullFits ts → NewTurn ts t → FullFits (t ∷ ts)
@@ -443,20 +433,13 @@ module _ (p : Params) (good : IsGoodParams chained p) where
   vote-signs : (view : ℕ) (d : List ℕ) → view < 2 ^ 32 → length d ≡ 32 → SignsAll (voted p view d)
   vote-signs view d l long = ((λ sig shape. (_, record { phase_low = omega arith; phase_fits = omega arith; view_fits = l; digest_fits = long; signed = shape; row = refl })), tt)
 
-  answer-signs-body : (s : State) (from : ℕ) (body : Body) (sig : List ℕ) → SpelledAs (signed body sig) → SignsAll (answers_heard p s from body)
-  answer-signs-body s from (NewView round high) sig m = tt
-  answer-signs-body s from (Prepare view what just) sig m = by-if SignsAll (may_prepare p s from view what just) (voted p view (node_digest p view what just)) [] (vote-signs view (node_digest p view what just) m.1.view_fits (digest-long form p view what just)) tt
-  answer-signs-body s from (PreCommit view shown) sig m = tt
-  answer-signs-body s from (Commit view shown) sig m = tt
-  answer-signs-body s from (Decide view shown) sig m = tt
-  answer-signs-body s from (Vote phase view d) sig m = tt
-
-  answer-signs : (s : State) (from : ℕ) (msg : Message) → SpelledAs msg → SignsAll (answers_heard p s from msg.body)
-  answer-signs s from msg m = answer-signs-body s from msg.body msg.sig m
+  answer-signs : (s : State) (from : ℕ) (body : Body) (sig : List ℕ) → SpelledAs (signed body sig) → SignsAll (answers_heard p s from body)
+  answer-signs s from (Prepare view what just) sig m = by-if SignsAll (may_prepare p s from view what just) (voted p view (node_digest p view what just)) [] (vote-signs view (node_digest p view what just) m.1.view_fits (digest-long form p view what just)) tt
+  answer-signs s from other sig m = tt
 
   answers-sign : (s : State) (i : Input Message) → Heard i → Fits s → SignsAll (answers p s i)
   answers-sign s (Cast slot batch) m h = tt
-  answers-sign s (Receive from msg) m h = answer-signs s from.0 msg m
+  answers-sign s (Receive from msg) m h = answer-signs s from.0 msg.body msg.sig m
   answers-sign s Timeout m h = by-test SignsAll (may_end s) _ [] (λ q. let l = ltb-true (round_of s.view) 65535 q in ((λ sig shape. (_, record { round_fits = omega (arith, l); certificate = h.high.0; spelled = h.high.1; signed = shape; row = refl })), tt)) tt
 
   drafts-sign : (me : ℕ) (s : State) (i : Input Message) → Heard i → Fits s → SignsAll (drafts p me s i)

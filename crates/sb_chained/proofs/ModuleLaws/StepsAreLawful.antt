@@ -40,22 +40,18 @@ module _ (p : Params) (me : ℕ) (xs : List (Item Message)) where
   castable : (s : Slot) (b c : Batch) → asks p me xs (Cast s b) ≡ Some (s, b) → asks p me xs (Cast s c) ≡ Some (s, c)
   castable s b c h = rw ((cast-is s b (s, b) h).passed) refl
 
-asked-In-body : (p : Params) (me : ℕ) (xs : List (Item Message)) (from : NodeId) (body : Body) (sig : List ℕ) (x : Slot × Batch) → asks p me xs (Receive from (signed body sig)) ≡ Some x → In x.0 p.slots
-asked-In-body p me xs from (NewView round high) sig x h = absurd cc
-asked-In-body p me xs from (Prepare view what just) sig x h =
+asked-In-heard : (p : Params) (me : ℕ) (xs : List (Item Message)) (from : NodeId) (body : Body) (sig : List ℕ) (x : Slot × Batch) → asks p me xs (Receive from (signed body sig)) ≡ Some x → In x.0 p.slots
+asked-In-heard p me xs from (Prepare view what just) sig x h =
     let s = state p me xs in
     offered-In p (accepts xs) what (slots_below s just) x (if-in (may_prepare p s from.0 view what just) (offered p s (accepts xs) what just) x h).is
-asked-In-body p me xs from (PreCommit view shown) sig x h = absurd cc
-asked-In-body p me xs from (Commit view shown) sig x h = absurd cc
-asked-In-body p me xs from (Decide view shown) sig x h = absurd cc
-asked-In-body p me xs from (Vote phase view d) sig x h = absurd cc
+asked-In-heard p me xs from other sig x h = absurd cc
 
 asked-In : AsksInside chained
 asked-In p me xs (Cast s b) x h =
     let c = cast-is p me xs s b x h in
     let t = and-true _ (is_slot s.0 (nth p.slots (length (state p me xs).casts))) c.passed in
     subst (λ (z : Slot × Batch). In z.0 p.slots) c.is (place-In s p.slots (length (state p me xs).casts) t.1)
-asked-In p me xs (Receive from msg) x h = asked-In-body p me xs from msg.body msg.sig x h
+asked-In p me xs (Receive from msg) x h = asked-In-heard p me xs from msg.body msg.sig x h
 asked-In p me xs Timeout x h = absurd cc
 
 -- ---- Decisions
@@ -100,20 +96,13 @@ module _ (p : Params) (some : 0 < p.setup.n) where
   voted_fine : (view : ℕ) (d : List ℕ) → Fine (voted p view d)
   voted_fine view d = record { to = (below (p.leader.0 + round_of view), tt); few = omega arith }
 
-  answer_fine-body : (s : State) (from : ℕ) (body : Body) (sig : List ℕ) → Fine (answers_heard p s from body)
-  answer_fine-body s from (NewView round high) sig = none_fine p.setup.n
-  answer_fine-body s from (Prepare view what just) sig = by-if Fine (may_prepare p s from view what just) (voted p view (node_digest p view what just)) [] (voted_fine view (node_digest p view what just)) (none_fine p.setup.n)
-  answer_fine-body s from (PreCommit view shown) sig = none_fine p.setup.n
-  answer_fine-body s from (Commit view shown) sig = none_fine p.setup.n
-  answer_fine-body s from (Decide view shown) sig = none_fine p.setup.n
-  answer_fine-body s from (Vote phase view d) sig = none_fine p.setup.n
-
-  answer_fine : (s : State) (from : ℕ) (msg : Message) → Fine (answers_heard p s from msg.body)
-  answer_fine s from msg = answer_fine-body s from msg.body msg.sig
+  answer_fine : (s : State) (from : ℕ) (body : Body) (sig : List ℕ) → Fine (answers_heard p s from body)
+  answer_fine s from (Prepare view what just) sig = by-if Fine (may_prepare p s from view what just) (voted p view (node_digest p view what just)) [] (voted_fine view (node_digest p view what just)) (none_fine p.setup.n)
+  answer_fine s from other sig = none_fine p.setup.n
 
   answers_fine : (s : State) (i : Input Message) → Fine (answers p s i)
   answers_fine s (Cast slot batch) = none_fine p.setup.n
-  answers_fine s (Receive from msg) = answer_fine s from.0 msg
+  answers_fine s (Receive from msg) = answer_fine s from.0 msg.body msg.sig
   answers_fine s Timeout = by-if Fine (may_end s) _ [] (record { to = (below (p.leader.0 + suc (round_of s.view)), tt); few = omega arith }) (none_fine p.setup.n)
 
   drafts_fine : (me : ℕ) (s : State) (i : Input Message) → IsFine p.setup.n 2 (drafts p me s i)

@@ -372,5 +372,5 @@ timeout-takes p m node o t alone makes =
 
 -- ---- a message, by its body
 
-pub by-body : (p : Params) (m n : Chained) (from : NodeId) (msg : Message) (body : Body) (t : Taken) → msg.body ≡ body → Takes p m n (Receive from (signed body msg.sig)) t → Takes p m n (Receive from msg) t
-by-body p m n from msg body t is d = subst (λ (z : Body). Takes p m n (Receive from (signed z msg.sig)) t) (sym is) d
+pub by-heard : (p : Params) (m n : Chained) (from : NodeId) (msg : Message) (body : Body) (t : Taken) → msg.body ≡ body → Takes p m n (Receive from (signed body msg.sig)) t → Takes p m n (Receive from msg) t
+by-heard p m n from msg body t is d = subst (λ (z : Body). Takes p m n (Receive from (signed z msg.sig)) t) (sym is) d

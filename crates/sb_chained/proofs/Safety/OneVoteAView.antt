@@ -73,9 +73,8 @@ module _ (p : Params) (to : To) (view : ℕ) (d sig : List ℕ) where
   abbrev Why : State → Input Message → Type 0
   Why s i = IsFirst p s i view d
 
-  why-heard-body : (s : State) (from : NodeId) (body : Body) (sig : List ℕ) → Sent (answers_heard p s from.0 body) → Why s (Receive from (signed body sig))
-  why-heard-body s from (NewView round high) x h = absurd h
-  why-heard-body s from (Prepare v what just) x h = by-true (may_prepare p s from.0 v what just) (voted p v (node_digest p v what just)) (Why s (Receive from (signed (Prepare v what just) x))) (λ t z. go t (one-is to _ (signed (Vote 1 view d) sig) (signed (Vote 1 v (node_digest p v what just)) []) z)) h
+  why-heard : (s : State) (from : NodeId) (body : Body) (sig : List ℕ) → Sent (answers_heard p s from.0 body) → Why s (Receive from (signed body sig))
+  why-heard s from (Prepare v what just) x h = by-true (may_prepare p s from.0 v what just) (voted p v (node_digest p v what just)) (Why s (Receive from (signed (Prepare v what just) x))) (λ t z. go t (one-is to _ (signed (Vote 1 view d) sig) (signed (Vote 1 v (node_digest p v what just)) []) z)) h
     where
       go : may_prepare p s from.0 v what just ≡ true → Vote 1 view d ≡ Vote 1 v (node_digest p v what just) → Why s (Receive from (signed (Prepare v what just) x))
       go t e =
@@ -83,17 +82,11 @@ module _ (p : Params) (to : To) (view : ℕ) (d sig : List ℕ) where
           let c : d ≡ node_digest p v what just = cc in
           subst (λ (z : ℕ). IsFirst p s (Receive from (signed (Prepare v what just) x)) z d) (sym b)
           (record { from = from; what = what; just = just; sig = x; is = refl; may = t; digest_is = c })
-  why-heard-body s from (PreCommit v shown) x h = absurd h
-  why-heard-body s from (Commit v shown) x h = absurd h
-  why-heard-body s from (Decide v shown) x h = absurd h
-  why-heard-body s from (Vote q v e) x h = absurd h
-
-  why-heard : (s : State) (from : NodeId) (msg : Message) → Sent (answers_heard p s from.0 msg.body) → Why s (Receive from msg)
-  why-heard s from msg h = why-heard-body s from msg.body msg.sig h
+  why-heard s from other x h = absurd h
 
   why-answer : (s : State) (i : Input Message) → Sent (answers p s i) → Why s i
   why-answer s (Cast slot batch) h = absurd h
-  why-answer s (Receive from msg) h = why-heard s from msg h
+  why-answer s (Receive from msg) h = why-heard s from msg.body msg.sig h
   why-answer s Timeout h = absurd (by-true (may_end s) _ ⊥ (λ t z. let e = one-is to _ (signed (Vote 1 view d) sig) _ z in cc) h)
 
   why : (me : ℕ) (s : State) (i : Input Message) → Sent (drafts p me s i) → Why s i
@@ -134,20 +127,15 @@ tests p s from view what just h =
 pub round-above : (v : ℕ) → v ≤ suc (v / 65536) * 65536
 round-above v = omega arith
 
-heard-view-body : (p : Params) (me : ℕ) (s : State) (from : ℕ) (body : Body) (sig : List ℕ) → Rises s.view (heard p me s from body sig)
-heard-view-body p me s from (NewView round high) sig = by-test (Rises s.view) (keeps_news p me s from round high) (with_news s from round high) s (λ t. same s.view) (same s.view)
-heard-view-body p me s from (Prepare view what just) sig = by-test (Rises s.view) (may_prepare p s from view what just) (with_node p s view what just) s (λ t. let a = (tests p s from view what just t).above in omega (arith, a)) (same s.view)
-heard-view-body p me s from (PreCommit view shown) sig = same s.view
-heard-view-body p me s from (Commit view shown) sig = same s.view
-heard-view-body p me s from (Decide view shown) sig = same s.view
-heard-view-body p me s from (Vote phase view d) sig = by-test (Rises s.view) (keeps_vote p s from phase view d) (with_vote s from view d sig) s (λ t. same s.view) (same s.view)
-
-heard-view : (p : Params) (me : ℕ) (s : State) (from : ℕ) (msg : Message) → Rises s.view (heard p me s from msg.body msg.sig)
-heard-view p me s from msg = heard-view-body p me s from msg.body msg.sig
+heard-view : (p : Params) (me : ℕ) (s : State) (from : ℕ) (body : Body) (sig : List ℕ) → Rises s.view (heard p me s from body sig)
+heard-view p me s from (NewView round high) sig = by-test (Rises s.view) (keeps_news p me s from round high) (with_news s from round high) s (λ t. same s.view) (same s.view)
+heard-view p me s from (Prepare view what just) sig = by-test (Rises s.view) (may_prepare p s from view what just) (with_node p s view what just) s (λ t. let a = (tests p s from view what just t).above in omega (arith, a)) (same s.view)
+heard-view p me s from (Vote phase view d) sig = by-test (Rises s.view) (keeps_vote p s from phase view d) (with_vote s from view d sig) s (λ t. same s.view) (same s.view)
+heard-view p me s from other sig = same s.view
 
 pub taken-view : (p : Params) (me : ℕ) (s : State) (i : Input Message) → Rises s.view (taken p me s i)
 taken-view p me s (Cast slot batch) = by-test (Rises s.view) (may_cast p me s slot.0) (with_cast s batch) s (λ q. same s.view) (same s.view)
-taken-view p me s (Receive from msg) = heard-view p me s from.0 msg
+taken-view p me s (Receive from msg) = heard-view p me s from.0 msg.body msg.sig
 taken-view p me s Timeout = by-test (Rises s.view) (may_end s) (with_round s) s (λ t. round-above s.view) (same s.view)
 
 -- the view after an input is that of what was taken

@@ -64,20 +64,15 @@ turn-lock : (s : State) (o : Option Turn) → (with_turn s o).lock ≡ s.lock
 turn-lock s None = refl
 turn-lock s (Some t) = refl
 
-heard-lock-body : (p : Params) (me : ℕ) (s : State) (from : ℕ) (body : Body) (sig : List ℕ) → (heard p me s from body sig).lock ≡ s.lock
-heard-lock-body p me s from (NewView round high) sig = by-test (λ (t : State). t.lock ≡ s.lock) (keeps_news p me s from round high) (with_news s from round high) s (λ q. refl) refl
-heard-lock-body p me s from (Prepare view what just) sig = by-test (λ (t : State). t.lock ≡ s.lock) (may_prepare p s from view what just) (with_node p s view what just) s (λ q. refl) refl
-heard-lock-body p me s from (PreCommit view shown) sig = refl
-heard-lock-body p me s from (Commit view shown) sig = refl
-heard-lock-body p me s from (Decide view shown) sig = refl
-heard-lock-body p me s from (Vote phase view d) sig = by-test (λ (t : State). t.lock ≡ s.lock) (keeps_vote p s from phase view d) (with_vote s from view d sig) s (λ q. refl) refl
-
-heard-lock : (p : Params) (me : ℕ) (s : State) (from : ℕ) (msg : Message) → (heard p me s from msg.body msg.sig).lock ≡ s.lock
-heard-lock p me s from msg = heard-lock-body p me s from msg.body msg.sig
+heard-lock : (p : Params) (me : ℕ) (s : State) (from : ℕ) (body : Body) (sig : List ℕ) → (heard p me s from body sig).lock ≡ s.lock
+heard-lock p me s from (NewView round high) sig = by-test (λ (t : State). t.lock ≡ s.lock) (keeps_news p me s from round high) (with_news s from round high) s (λ q. refl) refl
+heard-lock p me s from (Prepare view what just) sig = by-test (λ (t : State). t.lock ≡ s.lock) (may_prepare p s from view what just) (with_node p s view what just) s (λ q. refl) refl
+heard-lock p me s from (Vote phase view d) sig = by-test (λ (t : State). t.lock ≡ s.lock) (keeps_vote p s from phase view d) (with_vote s from view d sig) s (λ q. refl) refl
+heard-lock p me s from other sig = refl
 
 taken-lock : (p : Params) (me : ℕ) (s : State) (i : Input Message) → (taken p me s i).lock ≡ s.lock
 taken-lock p me s (Cast slot batch) = by-test (λ (t : State). t.lock ≡ s.lock) (may_cast p me s slot.0) (with_cast s batch) s (λ q. refl) refl
-taken-lock p me s (Receive from msg) = heard-lock p me s from.0 msg
+taken-lock p me s (Receive from msg) = heard-lock p me s from.0 msg.body msg.sig
 taken-lock p me s Timeout = by-test (λ (t : State). t.lock ≡ s.lock) (may_end s) (with_round s) s (λ q. refl) refl
 
 after-high : (p : Params) (me : ℕ) (s : State) (i : Input Message) → Higher s.lock.view (after p me s i)

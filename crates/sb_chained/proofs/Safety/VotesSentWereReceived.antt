@@ -177,19 +177,14 @@ module _ (p : Params) (G : Claim → Type 0) where
 
   -- ---- The state
 
-  heard-said-body : (me : ℕ) (s : State) (from : ℕ) (body : Body) (sig : List ℕ) → Comes from (signed body sig) → IsSaid s → IsSaid (heard p me s from body sig)
-  heard-said-body me s from (NewView round high) sig m h = by-if IsSaid (keeps_news p me s from round high) (with_news s from round high) s
+  heard-said : (me : ℕ) (s : State) (from : ℕ) (body : Body) (sig : List ℕ) → Comes from (signed body sig) → IsSaid s → IsSaid (heard p me s from body sig)
+  heard-said me s from (NewView round high) sig m h = by-if IsSaid (keeps_news p me s from round high) (with_news s from round high) s
       (record { high = h.high; votes = h.votes; news = (came-said from (signed (NewView round high) sig) m, h.news) }) h
-  heard-said-body me s from (Prepare view what just) sig m h = by-if IsSaid (may_prepare p s from view what just) (with_node p s view what just) s (record { high = h.high; votes = h.votes; news = h.news }) h
-  heard-said-body me s from (PreCommit view shown) sig m h = h
-  heard-said-body me s from (Commit view shown) sig m h = h
-  heard-said-body me s from (Decide view shown) sig m h = h
-  heard-said-body me s from (Vote phase view d) sig m h = by-test IsSaid (keeps_vote p s from phase view d) (with_vote s from view d sig) s (λ q.
+  heard-said me s from (Prepare view what just) sig m h = by-if IsSaid (may_prepare p s from view what just) (with_node p s view what just) s (record { high = h.high; votes = h.votes; news = h.news }) h
+  heard-said me s from (Vote phase view d) sig m h = by-test IsSaid (keeps_vote p s from phase view d) (with_vote s from view d sig) s (λ q.
       let one = is-same phase 1 (and-true (phase == 1) _ (and-true _ _ q).0).0 in
       record { high = h.high; votes = (subst (λ (z : ℕ). G (claim from (vote_statement form p z view d) sig)) one (came-own from (signed (Vote phase view d) sig) m), h.votes); news = h.news }) h
-
-  heard-said : (me : ℕ) (s : State) (from : ℕ) (msg : Message) → Comes from msg → IsSaid s → IsSaid (heard p me s from msg.body msg.sig)
-  heard-said me s from msg m h = heard-said-body me s from msg.body msg.sig m h
+  heard-said me s from other sig m h = h
 
   abbrev ComesIn : Input Message → Type 0
   ComesIn (Cast slot batch) = Unit {0}
@@ -198,21 +193,19 @@ module _ (p : Params) (G : Claim → Type 0) where
 
   taken-said : (me : ℕ) (s : State) (i : Input Message) → ComesIn i → IsSaid s → IsSaid (taken p me s i)
   taken-said me s (Cast slot batch) m h = by-if IsSaid (may_cast p me s slot.0) (with_cast s batch) s (record { high = h.high; votes = h.votes; news = h.news }) h
-  taken-said me s (Receive from msg) m h = heard-said me s from.0 msg m h
+  taken-said me s (Receive from msg) m h = heard-said me s from.0 msg.body msg.sig m h
   taken-said me s Timeout m h = by-if IsSaid (may_end s) (with_round s) s (record { high = h.high; votes = h.votes; news = h.news }) h
 
   -- what is shown came, or was kept
-  shows-said-body : (me : ℕ) (s k : State) (from : NodeId) (body : Body) (sig : List ℕ) → ComesIn (Receive from (signed body sig)) → IsSaid k → MaySaid (shows p me s k (Receive from (signed body sig)))
-  shows-said-body me s k from (NewView round high) sig m h = by-if MaySaid (keeps_news p me s from.0 round high) (first_high p k round) None (high-said k round h) tt
-  shows-said-body me s k from (Prepare view what just) sig m h = by-if MaySaid (is_usable p s from.0 view just) (Some just) None (came-said from.0 (signed (Prepare view what just) sig) m) tt
-  shows-said-body me s k from (PreCommit view shown) sig m h = tt
-  shows-said-body me s k from (Commit view shown) sig m h = tt
-  shows-said-body me s k from (Decide view shown) sig m h = tt
-  shows-said-body me s k from (Vote phase view d) sig m h = by-if MaySaid (keeps_vote p s from.0 phase view d && is_reached p k view d) (Some (certificate p k view d)) None (certificate-said k view d h.votes) tt
+  shows-said-heard : (me : ℕ) (s k : State) (from : NodeId) (body : Body) (sig : List ℕ) → ComesIn (Receive from (signed body sig)) → IsSaid k → MaySaid (shows p me s k (Receive from (signed body sig)))
+  shows-said-heard me s k from (NewView round high) sig m h = by-if MaySaid (keeps_news p me s from.0 round high) (first_high p k round) None (high-said k round h) tt
+  shows-said-heard me s k from (Prepare view what just) sig m h = by-if MaySaid (is_usable p s from.0 view just) (Some just) None (came-said from.0 (signed (Prepare view what just) sig) m) tt
+  shows-said-heard me s k from (Vote phase view d) sig m h = by-if MaySaid (keeps_vote p s from.0 phase view d && is_reached p k view d) (Some (certificate p k view d)) None (certificate-said k view d h.votes) tt
+  shows-said-heard me s k from other sig m h = tt
 
   shows-said : (me : ℕ) (s k : State) (i : Input Message) → ComesIn i → IsSaid k → MaySaid (shows p me s k i)
   shows-said me s k (Cast slot batch) m h = tt
-  shows-said me s k (Receive from msg) m h = shows-said-body me s k from msg.body msg.sig m h
+  shows-said me s k (Receive from msg) m h = shows-said-heard me s k from msg.body msg.sig m h
   shows-said me s k Timeout m h = tt
 
   higher-said : (c d : Certificate) → Said c → Said d → Said (higher c d)
@@ -257,33 +250,23 @@ module _ (p : Params) (G : Claim → Type 0) where
   proposal-said None h = tt
   proposal-said (Some t) h = (h, tt)
 
-  answer-said-body : (s : State) (from : ℕ) (body : Body) (sig : List ℕ) → SendsSaid (answers_heard p s from body)
-  answer-said-body s from (NewView round high) sig = tt
-  answer-said-body s from (Prepare view what just) sig = by-if SendsSaid (may_prepare p s from view what just) (voted p view (node_digest p view what just)) [] (tt, tt) tt
-  answer-said-body s from (PreCommit view shown) sig = tt
-  answer-said-body s from (Commit view shown) sig = tt
-  answer-said-body s from (Decide view shown) sig = tt
-  answer-said-body s from (Vote phase view d) sig = tt
-
-  answer-said : (s : State) (from : ℕ) (msg : Message) → SendsSaid (answers_heard p s from msg.body)
-  answer-said s from msg = answer-said-body s from msg.body msg.sig
+  answer-said : (s : State) (from : ℕ) (body : Body) (sig : List ℕ) → SendsSaid (answers_heard p s from body)
+  answer-said s from (Prepare view what just) sig = by-if SendsSaid (may_prepare p s from view what just) (voted p view (node_digest p view what just)) [] (tt, tt) tt
+  answer-said s from other sig = tt
 
   answers-said : (s : State) (i : Input Message) → IsSaid s → SendsSaid (answers p s i)
   answers-said s (Cast slot batch) h = tt
-  answers-said s (Receive from msg) h = answer-said s from.0 msg
+  answers-said s (Receive from msg) h = answer-said s from.0 msg.body msg.sig
   answers-said s Timeout h = by-if SendsSaid (may_end s) _ [] (h.high, tt) tt
 
-  proposed-said-body : (me : ℕ) (s k : State) (from : NodeId) (body : Body) (sig : List ℕ) → IsSaid k → TurnSaid (proposed p me s k (Receive from (signed body sig)))
-  proposed-said-body me s k from (NewView round high) sig h = by-if TurnSaid (keeps_news p me s from.0 round high) (turn_on p k round (first_high p k round)) None (first-said k round h) tt
-  proposed-said-body me s k from (Prepare view what just) sig h = tt
-  proposed-said-body me s k from (PreCommit view shown) sig h = tt
-  proposed-said-body me s k from (Commit view shown) sig h = tt
-  proposed-said-body me s k from (Decide view shown) sig h = tt
-  proposed-said-body me s k from (Vote phase view d) sig h = by-if TurnSaid _ (next_turn p k k.turns) None (next-said k k.turns h) tt
+  proposed-said-heard : (me : ℕ) (s k : State) (from : NodeId) (body : Body) (sig : List ℕ) → IsSaid k → TurnSaid (proposed p me s k (Receive from (signed body sig)))
+  proposed-said-heard me s k from (NewView round high) sig h = by-if TurnSaid (keeps_news p me s from.0 round high) (turn_on p k round (first_high p k round)) None (first-said k round h) tt
+  proposed-said-heard me s k from (Vote phase view d) sig h = by-if TurnSaid _ (next_turn p k k.turns) None (next-said k k.turns h) tt
+  proposed-said-heard me s k from other sig h = tt
 
   proposed-said : (me : ℕ) (s k : State) (i : Input Message) → IsSaid k → TurnSaid (proposed p me s k i)
   proposed-said me s k (Cast slot batch) h = by-if TurnSaid (may_cast p me s slot.0) (next_turn p k k.turns) None (next-said k k.turns h) tt
-  proposed-said me s k (Receive from msg) h = proposed-said-body me s k from msg.body msg.sig h
+  proposed-said me s k (Receive from msg) h = proposed-said-heard me s k from msg.body msg.sig h
   proposed-said me s k Timeout h = tt
 
   drafts-said : (me : ℕ) (s : State) (i : Input Message) → ComesIn i → IsSaid s → SendsSaid (drafts p me s i)

@@ -21,23 +21,20 @@ abbrev pub Same : State → State → Type 0
 Same s t = (t.turns ≡ s.turns) × (t.casts ≡ s.casts)
 
 module _ (p : Params) (me : ℕ) where
-  heard-same-body : (s : State) (from : ℕ) (body : Body) (sig : List ℕ) → Same s (heard p me s from body sig)
-  heard-same-body s from (NewView round high) sig = by-if (Same s) (keeps_news p me s from round high) (with_news s from round high) s (refl, refl) (refl, refl)
-  heard-same-body s from (Prepare view what just) sig = by-if (Same s) (may_prepare p s from view what just) (with_node p s view what just) s (refl, refl) (refl, refl)
-  heard-same-body s from (PreCommit view shown) sig = by-if (Same s) (may_second p s view shown) (record s { high = shown; second = true }) s (refl, refl) (refl, refl)
-  heard-same-body s from (Commit view shown) sig = by-if (Same s) (may_third p s view shown) (record s { lock = shown; third = true }) s (refl, refl) (refl, refl)
-  heard-same-body s from (Decide view shown) sig = (refl, refl)
-  heard-same-body s from (Vote phase view d) sig = by-if (Same s) (keeps_vote p s from phase view d) (with_vote s from phase view d sig) s (refl, refl) (refl, refl)
-
-  pub heard-same : (s : State) (from : ℕ) (msg : Message) → Same s (heard p me s from msg.body msg.sig)
-  heard-same s from msg = heard-same-body s from msg.body msg.sig
+  pub heard-same : (s : State) (from : ℕ) (body : Body) (sig : List ℕ) → Same s (heard p me s from body sig)
+  heard-same s from (NewView round high) sig = by-if (Same s) (keeps_news p me s from round high) (with_news s from round high) s (refl, refl) (refl, refl)
+  heard-same s from (Prepare view what just) sig = by-if (Same s) (may_prepare p s from view what just) (with_node p s view what just) s (refl, refl) (refl, refl)
+  heard-same s from (PreCommit view shown) sig = by-if (Same s) (may_second p s view shown) (record s { high = shown; second = true }) s (refl, refl) (refl, refl)
+  heard-same s from (Commit view shown) sig = by-if (Same s) (may_third p s view shown) (record s { lock = shown; third = true }) s (refl, refl) (refl, refl)
+  heard-same s from (Decide view shown) sig = (refl, refl)
+  heard-same s from (Vote phase view d) sig = by-if (Same s) (keeps_vote p s from phase view d) (with_vote s from phase view d sig) s (refl, refl) (refl, refl)
 
   abbrev pub IsAt : State → ℕ → Batch → Type 0
   IsAt s k b = nth s.casts k ≡ Some b
 
   kept-more : (s : State) (i : Input Message) (k : ℕ) (b : Batch) → IsAt s k b → IsAt (kept p me s i) k b
   kept-more s (Cast slot batch) k b e = by-if (λ (z : State). IsAt z k b) (may_cast p me s slot.0) (with_cast s batch) s (nth-first s.casts batch b k e) e
-  kept-more s (Receive from msg) k b e = ap (λ (cs : List Batch). nth cs k) (heard-same s from.0 msg).1 ∙ e
+  kept-more s (Receive from msg) k b e = ap (λ (cs : List Batch). nth cs k) (heard-same s from.0 msg.body msg.sig).1 ∙ e
   kept-more s Timeout k b e = by-if (λ (z : State). IsAt z k b) (may_end s) (with_round s) s e e
 
   -- a turn changes no cast

@@ -70,13 +70,8 @@ module _ (p : Params) (w : World Message) (good : IsGoodParams hotstuff p) (reac
       let own = proposed-cast p w good reached sep l v just c (digest_of just) (branch st.tree (digest_of just)) correct signed refl has leads in
       record { place = slots_below st just; slot = o.slot; cast = own.cast ∙ ap (λ (z : Batch). Some z) o.batch }
 
-  asked-at-body : (x : Item Message) (older : List (Item Message)) → Front (x ∷ older) (w l) → (from : NodeId) (body : Body) (sig : List ℕ) (s : Slot) (b : Batch) → x.input ≡ (Receive from (signed body sig)) → asks p l older (Receive from (signed body sig)) ≡ Some (s, b) → IsCastAt s b
-  asked-at-body x older f from (NewView round high) sig s b e h = absurd cc
-  asked-at-body x older f from (PreCommit view shown) sig s b e h = absurd cc
-  asked-at-body x older f from (Commit view shown) sig s b e h = absurd cc
-  asked-at-body x older f from (Decide view shown) sig s b e h = absurd cc
-  asked-at-body x older f from (Vote phase view d) sig s b e h = absurd cc
-  asked-at-body x older f from (Prepare v what just) sig s b e h =
+  asked-at-heard : (x : Item Message) (older : List (Item Message)) → Front (x ∷ older) (w l) → (from : NodeId) (body : Body) (sig : List ℕ) (s : Slot) (b : Batch) → x.input ≡ (Receive from (signed body sig)) → asks p l older (Receive from (signed body sig)) ≡ Some (s, b) → IsCastAt s b
+  asked-at-heard x older f from (Prepare v what just) sig s b e h =
       let st = state p l older in
       let t = if-in (may_prepare p st from.0 v what just) (offered p st (accepts older) what just) (s, b) h in
       go what e t.passed t.is
@@ -85,13 +80,14 @@ module _ (p : Params) (w : World Message) (good : IsGoodParams hotstuff p) (reac
       go Nil is q o = absurd cc
       go (Holds c) is q o = by-proposal x older f from v c just sig s b is q (unless-is (accepts older) c (nth p.slots (slots_below (state p l older) just)) s b o)
       go Mark is q o = absurd cc
+  asked-at-heard x older f from other sig s b e h = absurd cc
 
   asked-at : (x : Item Message) (older : List (Item Message)) → Front (x ∷ older) (w l) → (i : Input Message) (s : Slot) (b : Batch) → x.input ≡ i → asks p l older i ≡ Some (s, b) → IsCastAt s b
   asked-at x older f (Cast slot batch) s b e h =
       let t = if-some (may_cast p l (state p l older) slot.0) (slot, batch) (s, b) h in
       subst (λ (z : Slot × Batch). IsCastAt z.0 z.1) t.is (by-cast x older f slot batch e t.passed)
   asked-at x older f Timeout s b e h = absurd cc
-  asked-at x older f (Receive from msg) s b e h = asked-at-body x older f from msg.body msg.sig s b e h
+  asked-at x older f (Receive from msg) s b e h = asked-at-heard x older f from msg.body msg.sig s b e h
 
   accepted-at : (xs : List (Item Message)) → Front xs (w l) → (s : Slot) (b : Batch) → In {A = Slot × Batch} (s, b) (accepts xs) → IsCastAt s b
   accepted-at [] f s b h = absurd h

@@ -85,17 +85,16 @@ module _ (p : Params) (to : To) (view : ℕ) (what : Content) (just : Certificat
       go false true e = cc
       go false false e = cc
 
-  none-answered-body : (s k : State) (from : NodeId) (body : Body) (sig : List ℕ) → Sent (answers p s k (Receive from (signed body sig))) → ⊥
-  none-answered-body s k from (NewView round high) x h = h
-  none-answered-body s k from (Prepare v c j) x h = none-if (may_prepare p s from.0 v c j) (voted p 1 v (node_digest p v c j)) (none-voted 1 v (node_digest p v c j)) h
-  none-answered-body s k from (PreCommit v shown) x h = none-if (may_second p s v shown) (voted p 2 v (digest_of shown)) (none-voted 2 v (digest_of shown)) h
-  none-answered-body s k from (Commit v shown) x h = none-if (may_third p s v shown) (voted p 3 v (digest_of shown)) (none-voted 3 v (digest_of shown)) h
-  none-answered-body s k from (Decide v shown) x h = h
-  none-answered-body s k from (Vote q v e) x h = none-if (keeps_vote p s from.0 q v e && is_reached p k q v e) ((To_all, shows q v (certificate p k q v e)) ∷ []) (λ z. none-shown q v (certificate p k q v e) (one-is To_all (shows q v (certificate p k q v e)) z)) h
+  none-answered-heard : (s k : State) (from : NodeId) (body : Body) (sig : List ℕ) → Sent (answers p s k (Receive from (signed body sig))) → ⊥
+  none-answered-heard s k from (Prepare v c j) x h = none-if (may_prepare p s from.0 v c j) (voted p 1 v (node_digest p v c j)) (none-voted 1 v (node_digest p v c j)) h
+  none-answered-heard s k from (PreCommit v shown) x h = none-if (may_second p s v shown) (voted p 2 v (digest_of shown)) (none-voted 2 v (digest_of shown)) h
+  none-answered-heard s k from (Commit v shown) x h = none-if (may_third p s v shown) (voted p 3 v (digest_of shown)) (none-voted 3 v (digest_of shown)) h
+  none-answered-heard s k from (Vote q v e) x h = none-if (keeps_vote p s from.0 q v e && is_reached p k q v e) ((To_all, shows q v (certificate p k q v e)) ∷ []) (λ z. none-shown q v (certificate p k q v e) (one-is To_all (shows q v (certificate p k q v e)) z)) h
+  none-answered-heard s k from other x h = h
 
   none-answered : (s k : State) (i : Input Message) → Sent (answers p s k i) → ⊥
   none-answered s k (Cast slot batch) h = h
-  none-answered s k (Receive from msg) h = none-answered-body s k from msg.body msg.sig h
+  none-answered s k (Receive from msg) h = none-answered-heard s k from msg.body msg.sig h
   none-answered s k Timeout h = none-if (may_end s) _ (λ z. let m = one-is _ (signed (NewView (suc (round_of s.view)) s.high) []) z in cc) h
 
   of-turn : (o : Option Turn) → Sent (proposals o) → IsTurn o view what just
@@ -222,19 +221,16 @@ module _ (p : Params) (w : World Message) (good : IsGoodParams hotstuff p) (lega
       late : (r : ℕ) → 1 ≤ r → (r * 65536 + 1) / 65536 ≡ 0 → ⊥
       late r l e = omega (arith, l, e)
 
-  proposed-ok-body : (s k : State) (from : NodeId) (body : Body) (sig : List ℕ) → LeaderOk k → MayOk (proposed p me s k (Receive from (signed body sig)))
-  proposed-ok-body s k from (NewView round high) sig h = by-test MayOk (keeps_news p me s from.0 round high) (first_turn p k round) None (λ q.
+  proposed-ok-heard : (s k : State) (from : NodeId) (body : Body) (sig : List ℕ) → LeaderOk k → MayOk (proposed p me s k (Receive from (signed body sig)))
+  proposed-ok-heard s k from (NewView round high) sig h = by-test MayOk (keeps_news p me s from.0 round high) (first_turn p k round) None (λ q.
       let a = and-true _ _ (and-true _ _ (and-true _ _ q).0).0 in
       first-ok k round (leb-true 1 round a.0)) tt
-  proposed-ok-body s k from (Prepare view what just) sig h = tt
-  proposed-ok-body s k from (PreCommit view shown) sig h = tt
-  proposed-ok-body s k from (Commit view shown) sig h = tt
-  proposed-ok-body s k from (Decide view shown) sig h = tt
-  proposed-ok-body s k from (Vote phase view d) sig h = by-if MayOk _ (next_turn p k k.turns) None (next-ok k k.turns h h.turns) tt
+  proposed-ok-heard s k from (Vote phase view d) sig h = by-if MayOk _ (next_turn p k k.turns) None (next-ok k k.turns h h.turns) tt
+  proposed-ok-heard s k from other sig h = tt
 
   proposed-ok : (s k : State) (i : Input Message) → LeaderOk k → MayOk (proposed p me s k i)
   proposed-ok s k (Cast slot batch) h = by-if MayOk (may_cast p me s slot.0) (next_turn p k k.turns) None (next-ok k k.turns h h.turns) tt
-  proposed-ok s k (Receive from msg) h = proposed-ok-body s k from msg.body msg.sig h
+  proposed-ok s k (Receive from msg) h = proposed-ok-heard s k from msg.body msg.sig h
   proposed-ok s k Timeout h = tt
 
   -- ---- Proposed nodes were hashed

@@ -268,21 +268,18 @@ module _ (p : Params) (good : IsGoodParams hotstuff p) where
   vote-parts : (phase view : ℕ) (d sig : List ℕ) → SpelledAs (signed (Vote phase view d) sig) → is_signature sig ≡ true
   vote-parts phase view d sig h = h.1.signed
 
-  heard-fits-body : (me : ℕ) (s : State) (from : ℕ) (body : Body) (sig : List ℕ) → SpelledAs (signed body sig) → Fits s → Fits (heard p me s from body sig)
-  heard-fits-body me s from (NewView round high) sig m h = by-if Fits (keeps_news p me s from round high) (with_news s from round high) s
+  heard-fits : (me : ℕ) (s : State) (from : ℕ) (body : Body) (sig : List ℕ) → SpelledAs (signed body sig) → Fits s → Fits (heard p me s from body sig)
+  heard-fits me s from (NewView round high) sig m h = by-if Fits (keeps_news p me s from round high) (with_news s from round high) s
       (record { high = h.high; votes = h.votes; news = ((m.1.certificate, m.1.spelled), h.news); turns = h.turns; casts = h.casts; few = h.few }) h
-  heard-fits-body me s from (Prepare view what just) sig m h = by-if Fits (may_prepare p s from view what just) (with_node p s view what just) s
+  heard-fits me s from (Prepare view what just) sig m h = by-if Fits (may_prepare p s from view what just) (with_node p s view what just) s
       (record { high = h.high; votes = h.votes; news = h.news; turns = h.turns; casts = h.casts; few = h.few }) h
-  heard-fits-body me s from (PreCommit view shown) sig m h = by-if Fits (may_second p s view shown) (record s { high = shown; second = true }) s
+  heard-fits me s from (PreCommit view shown) sig m h = by-if Fits (may_second p s view shown) (record s { high = shown; second = true }) s
       (record { high = (m.1.certificate, m.1.spelled); votes = h.votes; news = h.news; turns = h.turns; casts = h.casts; few = h.few }) h
-  heard-fits-body me s from (Commit view shown) sig m h = by-if Fits (may_third p s view shown) (record s { lock = shown; third = true }) s
+  heard-fits me s from (Commit view shown) sig m h = by-if Fits (may_third p s view shown) (record s { lock = shown; third = true }) s
       (record { high = h.high; votes = h.votes; news = h.news; turns = h.turns; casts = h.casts; few = h.few }) h
-  heard-fits-body me s from (Decide view shown) sig m h = h
-  heard-fits-body me s from (Vote phase view d) sig m h = by-if Fits (keeps_vote p s from phase view d) (with_vote s from phase view d sig) s
+  heard-fits me s from (Decide view shown) sig m h = h
+  heard-fits me s from (Vote phase view d) sig m h = by-if Fits (keeps_vote p s from phase view d) (with_vote s from phase view d sig) s
       (record { high = h.high; votes = (m.1.signed, h.votes); news = h.news; turns = h.turns; casts = h.casts; few = h.few }) h
-
-  heard-fits : (me : ℕ) (s : State) (from : ℕ) (msg : Message) → SpelledAs msg → Fits s → Fits (heard p me s from msg.body msg.sig)
-  heard-fits me s from msg m h = heard-fits-body me s from msg.body msg.sig m h
 
   cast-fits : (s : State) (b : Batch) → length s.casts < length p.slots → IsReadBatch p b → Fits s → Fits (with_cast s b)
   cast-fits s b l r h =
@@ -312,20 +309,17 @@ module _ (p : Params) (good : IsGoodParams hotstuff p) where
   pub kept-fits : (me : ℕ) (s : State) (i : Input Message) → Heard i → Fits s → Fits (kept p me s i)
   kept-fits me s (Cast slot batch) m h = by-test Fits (may_cast p me s slot.0) (with_cast s batch) s
       (λ q. cast-fits s batch (place-below slot.0 p.slots (length s.casts) (and-true _ (is_slot slot.0 (nth p.slots (length s.casts))) q).1) m h) h
-  kept-fits me s (Receive from msg) m h = heard-fits me s from.0 msg m h
+  kept-fits me s (Receive from msg) m h = heard-fits me s from.0 msg.body msg.sig m h
   kept-fits me s Timeout m h = by-if Fits (may_end s) (with_round s) s (record { high = h.high; votes = h.votes; news = h.news; turns = h.turns; casts = h.casts; few = h.few }) h
 
-  proposed-new-body : (me : ℕ) (s k : State) (from : NodeId) (body : Body) (sig : List ℕ) → Heard (Receive from (signed body sig)) → Fits k → MayTurn (proposed p me s k (Receive from (signed body sig)))
-  proposed-new-body me s k from (NewView round high) sig m h = by-if MayTurn (keeps_news p me s from.0 round high) (first_turn p k round) None (let l = m.1.round_fits in first-new k round (omega (arith, l)) h) tt
-  proposed-new-body me s k from (Prepare view what just) sig m h = tt
-  proposed-new-body me s k from (PreCommit view shown) sig m h = tt
-  proposed-new-body me s k from (Commit view shown) sig m h = tt
-  proposed-new-body me s k from (Decide view shown) sig m h = tt
-  proposed-new-body me s k from (Vote phase view d) sig m h = by-if MayTurn _ (next_turn p k k.turns) None (next-new k k.turns h h.turns) tt
+  proposed-new-heard : (me : ℕ) (s k : State) (from : NodeId) (body : Body) (sig : List ℕ) → Heard (Receive from (signed body sig)) → Fits k → MayTurn (proposed p me s k (Receive from (signed body sig)))
+  proposed-new-heard me s k from (NewView round high) sig m h = by-if MayTurn (keeps_news p me s from.0 round high) (first_turn p k round) None (let l = m.1.round_fits in first-new k round (omega (arith, l)) h) tt
+  proposed-new-heard me s k from (Vote phase view d) sig m h = by-if MayTurn _ (next_turn p k k.turns) None (next-new k k.turns h h.turns) tt
+  proposed-new-heard me s k from other sig m h = tt
 
   pub proposed-new : (me : ℕ) (s k : State) (i : Input Message) → Heard i → Fits k → MayTurn (proposed p me s k i)
   proposed-new me s k (Cast slot batch) m h = by-if MayTurn (may_cast p me s slot.0) (next_turn p k k.turns) None (next-new k k.turns h h.turns) tt
-  proposed-new me s k (Receive from msg) m h = proposed-new-body me s k from msg.body msg.sig m h
+  proposed-new me s k (Receive from msg) m h = proposed-new-heard me s k from msg.body msg.sig m h
   proposed-new me s k Timeout m h = tt
 
   turn-fits : (s : State) (o : Option Turn) → Fits s → MayTurn o → Fits (with_turn s o)
@@ -374,24 +368,20 @@ module _ (p : Params) (good : IsGoodParams hotstuff p) where
       go true q e more = let k = is-same t.view view (and-true (t.view == view) (same t) q).0 in let l = h.0.some in omega (arith, k, l)
       go false q e more = more e
 
-  answer-signs-body : (s k : State) (from : ℕ) (body : Body) (sig : List ℕ) → SpelledAs (signed body sig) → Fits s → Fits k → SignsAll (answers_heard p s k from body)
-  answer-signs-body s k from (NewView round high) sig m h g = tt
-  answer-signs-body s k from (Prepare view what just) sig m h g = by-if SignsAll (may_prepare p s from view what just) (voted p 1 view (node_digest p view what just)) [] (vote-signs 1 view (node_digest p view what just) (omega arith) (omega arith) m.1.view_fits (digest-long basic p view what just)) tt
-  answer-signs-body s k from (PreCommit view shown) sig m h g = by-if SignsAll (may_second p s view shown) (voted p 2 view (digest_of shown)) [] (vote-signs 2 view (digest_of shown) (omega arith) (omega arith) m.1.view_fits (digest-length shown (m.1.certificate, m.1.spelled))) tt
-  answer-signs-body s k from (Commit view shown) sig m h g = by-if SignsAll (may_third p s view shown) (voted p 3 view (digest_of shown)) [] (vote-signs 3 view (digest_of shown) (omega arith) (omega arith) m.1.view_fits (digest-length shown (m.1.certificate, m.1.spelled))) tt
-  answer-signs-body s k from (Decide view shown) sig m h g = tt
-  answer-signs-body s k from (Vote phase view d) sig m h g = by-test SignsAll (keeps_vote p s from phase view d && is_reached p k phase view d) _ [] (λ q.
+  answer-signs : (s k : State) (from : ℕ) (body : Body) (sig : List ℕ) → SpelledAs (signed body sig) → Fits s → Fits k → SignsAll (answers_heard p s k from body)
+  answer-signs s k from (Prepare view what just) sig m h g = by-if SignsAll (may_prepare p s from view what just) (voted p 1 view (node_digest p view what just)) [] (vote-signs 1 view (node_digest p view what just) (omega arith) (omega arith) m.1.view_fits (digest-long basic p view what just)) tt
+  answer-signs s k from (PreCommit view shown) sig m h g = by-if SignsAll (may_second p s view shown) (voted p 2 view (digest_of shown)) [] (vote-signs 2 view (digest_of shown) (omega arith) (omega arith) m.1.view_fits (digest-length shown (m.1.certificate, m.1.spelled))) tt
+  answer-signs s k from (Commit view shown) sig m h g = by-if SignsAll (may_third p s view shown) (voted p 3 view (digest_of shown)) [] (vote-signs 3 view (digest_of shown) (omega arith) (omega arith) m.1.view_fits (digest-length shown (m.1.certificate, m.1.spelled))) tt
+  answer-signs s k from (Vote phase view d) sig m h g = by-test SignsAll (keeps_vote p s from phase view d && is_reached p k phase view d) _ [] (λ q.
       let a = and-true (keeps_vote p s from phase view d) (is_reached p k phase view d) q in
       let b = and-true _ _ (and-true _ _ a.0).0 in
       let c = certificate-spelled k phase view d m.1.phase_low m.1.phase_fits (own-some s.turns view d h.turns b.1) m.1.view_fits m.1.digest_fits g.votes in
       (shows-sign phase view (certificate p k phase view d) m.1.view_fits c, tt)) tt
-
-  answer-signs : (s k : State) (from : ℕ) (msg : Message) → SpelledAs msg → Fits s → Fits k → SignsAll (answers_heard p s k from msg.body)
-  answer-signs s k from msg m h g = answer-signs-body s k from msg.body msg.sig m h g
+  answer-signs s k from other sig m h g = tt
 
   answers-sign : (s k : State) (i : Input Message) → Heard i → Fits s → Fits k → SignsAll (answers p s k i)
   answers-sign s k (Cast slot batch) m h g = tt
-  answers-sign s k (Receive from msg) m h g = answer-signs s k from.0 msg m h g
+  answers-sign s k (Receive from msg) m h g = answer-signs s k from.0 msg.body msg.sig m h g
   answers-sign s k Timeout m h g = by-test SignsAll (may_end s) _ [] (λ q. let l = ltb-true (round_of s.view) 65535 q in ((λ sig shape. (_, record { round_fits = omega (arith, l); certificate = h.high.0; spelled = h.high.1; signed = shape; row = refl })), tt)) tt
 
   drafts-sign : (me : ℕ) (s : State) (i : Input Message) → Heard i → Fits s → SignsAll (drafts p me s i)

@@ -55,13 +55,13 @@ module _ (p : Params) (w : World Message) (good : IsGoodParams hotstuff p) (lega
   stays : (s : State) → LockOk s → LockStep s s
   stays s h = same-lock s s refl (same s.view) h
 
-  lock-kept-body : (me : ℕ) (x : Item Message) (s : State) (from : NodeId) (body : Body) (sig : List ℕ) → In x (w me) → x.input ≡ (Receive from (signed body sig)) → LockOk s → LockStep s (kept p me s (Receive from (signed body sig)))
-  lock-kept-body me x s from (NewView round high) sig k e h = by-test (LockStep s) (keeps_news p me s from.0 round high) (with_news s from.0 round high) s (λ q. same-lock s (with_news s from.0 round high) refl (same s.view) h) (stays s h)
-  lock-kept-body me x s from (Prepare view what just) sig k e h = by-test (LockStep s) (may_prepare p s from.0 view what just) (with_node p s view what just) s (λ q.
+  lock-kept-heard : (me : ℕ) (x : Item Message) (s : State) (from : NodeId) (body : Body) (sig : List ℕ) → In x (w me) → x.input ≡ (Receive from (signed body sig)) → LockOk s → LockStep s (kept p me s (Receive from (signed body sig)))
+  lock-kept-heard me x s from (NewView round high) sig k e h = by-test (LockStep s) (keeps_news p me s from.0 round high) (with_news s from.0 round high) s (λ q. same-lock s (with_news s from.0 round high) refl (same s.view) h) (stays s h)
+  lock-kept-heard me x s from (Prepare view what just) sig k e h = by-test (LockStep s) (may_prepare p s from.0 view what just) (with_node p s view what just) s (λ q.
       let a = prepare-above p s from.0 view what just q in
       same-lock s (with_node p s view what just) refl (omega (arith, a)) h) (stays s h)
-  lock-kept-body me x s from (PreCommit view shown) sig k e h = by-test (LockStep s) (may_second p s view shown) (record s { high = shown; second = true }) s (λ q. same-lock s (record s { high = shown; second = true }) refl (same s.view) h) (stays s h)
-  lock-kept-body me x s from (Commit view shown) sig k e h = by-test (LockStep s) (may_third p s view shown) (record s { lock = shown; third = true }) s (λ q.
+  lock-kept-heard me x s from (PreCommit view shown) sig k e h = by-test (LockStep s) (may_second p s view shown) (record s { high = shown; second = true }) s (λ q. same-lock s (record s { high = shown; second = true }) refl (same s.view) h) (stays s h)
+  lock-kept-heard me x s from (Commit view shown) sig k e h = by-test (LockStep s) (may_third p s view shown) (record s { lock = shown; third = true }) s (λ q.
       let g = third-is p s view shown q in
       let v = good-is p 2 view shown g.good in
       let m = came p w good legal voted me x from (signed (Commit view shown) sig) k e in
@@ -70,12 +70,12 @@ module _ (p : Params) (w : World Message) (good : IsGoodParams hotstuff p) (lega
       let b = g.own in
       let l = h.low in
       record { ok = record { low = omega (arith, a, b); cert = λ z. subst (λ (y : ℕ). IsCertified p w 2 y (digest_of shown)) (sym a) c }; rises = omega (arith, a, b, l) }) (stays s h)
-  lock-kept-body me x s from (Decide view shown) sig k e h = stays s h
-  lock-kept-body me x s from (Vote phase view d) sig k e h = by-test (LockStep s) (keeps_vote p s from.0 phase view d) (with_vote s from.0 phase view d sig) s (λ q. same-lock s (with_vote s from.0 phase view d sig) refl (same s.view) h) (stays s h)
+  lock-kept-heard me x s from (Decide view shown) sig k e h = stays s h
+  lock-kept-heard me x s from (Vote phase view d) sig k e h = by-test (LockStep s) (keeps_vote p s from.0 phase view d) (with_vote s from.0 phase view d sig) s (λ q. same-lock s (with_vote s from.0 phase view d sig) refl (same s.view) h) (stays s h)
 
   lock-kept : (me : ℕ) (x : Item Message) (s : State) (i : Input Message) → In x (w me) → x.input ≡ i → LockOk s → LockStep s (kept p me s i)
   lock-kept me x s (Cast slot batch) k e h = by-test (LockStep s) (may_cast p me s slot.0) (with_cast s batch) s (λ q. same-lock s (with_cast s batch) refl (same s.view) h) (stays s h)
-  lock-kept me x s (Receive from msg) k e h = lock-kept-body me x s from msg.body msg.sig k e h
+  lock-kept me x s (Receive from msg) k e h = lock-kept-heard me x s from msg.body msg.sig k e h
   lock-kept me x s Timeout k e h = by-test (LockStep s) (may_end s) (with_round s) s (λ q. same-lock s (with_round s) refl (above s.view) h) (stays s h)
     where
       above : (v : ℕ) → v ≤ suc (v / 65536) * 65536
@@ -200,12 +200,8 @@ module _ (p : Params) (w : World Message) (good : IsGoodParams hotstuff p) (lega
     pub is_branch : Leads p w node root whats
     pub value : value_at_slot whats 0 p.slots n ≡ Some x
 
-  decides-shown-body : (me : ℕ) (x : Item Message) (older : List (Item Message)) (from : NodeId) (body : Body) (sig : List ℕ) (n : ℕ) (v : Value) → In x (w me) → x.input ≡ (Receive from (signed body sig)) → AreMade hotstuff p me older → Here me older → decides p (state p me older) (Receive from (signed body sig)) n ≡ Some v → Shown n v
-  decides-shown-body me x older from (NewView round high) sig n v k e made here h = absurd cc
-  decides-shown-body me x older from (Prepare view what just) sig n v k e made here h = absurd cc
-  decides-shown-body me x older from (PreCommit view shown) sig n v k e made here h = absurd cc
-  decides-shown-body me x older from (Commit view shown) sig n v k e made here h = absurd cc
-  decides-shown-body me x older from (Decide view shown) sig n v k e made here h =
+  decides-shown-heard : (me : ℕ) (x : Item Message) (older : List (Item Message)) (from : NodeId) (body : Body) (sig : List ℕ) (n : ℕ) (v : Value) → In x (w me) → x.input ≡ (Receive from (signed body sig)) → AreMade hotstuff p me older → Here me older → decides p (state p me older) (Receive from (signed body sig)) n ≡ Some v → Shown n v
+  decides-shown-heard me x older from (Decide view shown) sig n v k e made here h =
       let s = state p me older in
       let t = if-in (is_good p 3 view shown && is_known s.tree (digest_of shown)) (value_at_slot (branch s.tree (digest_of shown)) 0 p.slots n) v h in
       let a = and-true (is_good p 3 view shown) (is_known s.tree (digest_of shown)) t.passed in
@@ -218,11 +214,11 @@ module _ (p : Params) (w : World Message) (good : IsGoodParams hotstuff p) (lega
         is_branch = branch-is p.setup.version (IsString w) s.tree (digest_of shown) (state-tree p w good legal voted me older made here) a.1;
         value = t.is;
       }
-  decides-shown-body me x older from (Vote phase view d) sig n v k e made here h = absurd cc
+  decides-shown-heard me x older from other sig n v k e made here h = absurd cc
 
   decides-shown : (me : ℕ) (x : Item Message) (older : List (Item Message)) (i : Input Message) (n : ℕ) (v : Value) → In x (w me) → x.input ≡ i → AreMade hotstuff p me older → Here me older → decides p (state p me older) i n ≡ Some v → Shown n v
   decides-shown me x older (Cast slot batch) n v k e made here h = absurd cc
-  decides-shown me x older (Receive from msg) n v k e made here h = decides-shown-body me x older from msg.body msg.sig n v k e made here h
+  decides-shown me x older (Receive from msg) n v k e made here h = decides-shown-heard me x older from msg.body msg.sig n v k e made here h
   decides-shown me x older Timeout n v k e made here h = absurd cc
 
   decided-shown : (me : ℕ) (xs : List (Item Message)) (n : ℕ) (v : Value) → AreMade hotstuff p me xs → Here me xs → decided p me xs n ≡ Some v → Shown n v

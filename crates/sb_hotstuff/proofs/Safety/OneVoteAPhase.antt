@@ -104,9 +104,8 @@ module _ (p : Params) (to : To) (phase view : ℕ) (d sig : List ℕ) where
   abbrev Why : State → Input Message → Type 0
   Why s i = Cause p s i view d phase
 
-  why-heard-body : (s k : State) (from : NodeId) (body : Body) (sig : List ℕ) → Sent (answers_heard p s k from.0 body) → Why s (Receive from (signed body sig))
-  why-heard-body s k from (NewView round high) x h = absurd h
-  why-heard-body s k from (Prepare v what just) x h = by-true (may_prepare p s from.0 v what just) (voted p 1 v (node_digest p v what just)) (Why s (Receive from (signed (Prepare v what just) x))) (λ t z. go t (one-is to _ (signed (Vote phase view d) sig) (signed (Vote 1 v (node_digest p v what just)) []) z)) h
+  why-heard : (s k : State) (from : NodeId) (body : Body) (sig : List ℕ) → Sent (answers_heard p s k from.0 body) → Why s (Receive from (signed body sig))
+  why-heard s k from (Prepare v what just) x h = by-true (may_prepare p s from.0 v what just) (voted p 1 v (node_digest p v what just)) (Why s (Receive from (signed (Prepare v what just) x))) (λ t z. go t (one-is to _ (signed (Vote phase view d) sig) (signed (Vote 1 v (node_digest p v what just)) []) z)) h
     where
       go : may_prepare p s from.0 v what just ≡ true → Vote phase view d ≡ Vote 1 v (node_digest p v what just) → Why s (Receive from (signed (Prepare v what just) x))
       go t e =
@@ -116,7 +115,7 @@ module _ (p : Params) (to : To) (phase view : ℕ) (d sig : List ℕ) where
           subst (λ (z : ℕ). Cause p s (Receive from (signed (Prepare v what just) x)) view d z) (sym a)
           (subst (λ (z : ℕ). Cause p s (Receive from (signed (Prepare v what just) x)) z d 1) (sym b)
           (by_first (record { from = from; what = what; just = just; sig = x; is = refl; may = t; digest_is = c })))
-  why-heard-body s k from (PreCommit v shown) x h = by-true (may_second p s v shown) (voted p 2 v (digest_of shown)) (Why s (Receive from (signed (PreCommit v shown) x))) (λ t z. go t (one-is to _ (signed (Vote phase view d) sig) (signed (Vote 2 v (digest_of shown)) []) z)) h
+  why-heard s k from (PreCommit v shown) x h = by-true (may_second p s v shown) (voted p 2 v (digest_of shown)) (Why s (Receive from (signed (PreCommit v shown) x))) (λ t z. go t (one-is to _ (signed (Vote phase view d) sig) (signed (Vote 2 v (digest_of shown)) []) z)) h
     where
       go : may_second p s v shown ≡ true → Vote phase view d ≡ Vote 2 v (digest_of shown) → Why s (Receive from (signed (PreCommit v shown) x))
       go t e =
@@ -126,7 +125,7 @@ module _ (p : Params) (to : To) (phase view : ℕ) (d sig : List ℕ) where
           subst (λ (z : ℕ). Cause p s (Receive from (signed (PreCommit v shown) x)) view d z) (sym a)
           (subst (λ (z : ℕ). Cause p s (Receive from (signed (PreCommit v shown) x)) z d 2) (sym b)
           (by_second (record { from = from; shown = shown; sig = x; is = refl; may = t; digest_is = c })))
-  why-heard-body s k from (Commit v shown) x h = by-true (may_third p s v shown) (voted p 3 v (digest_of shown)) (Why s (Receive from (signed (Commit v shown) x))) (λ t z. go t (one-is to _ (signed (Vote phase view d) sig) (signed (Vote 3 v (digest_of shown)) []) z)) h
+  why-heard s k from (Commit v shown) x h = by-true (may_third p s v shown) (voted p 3 v (digest_of shown)) (Why s (Receive from (signed (Commit v shown) x))) (λ t z. go t (one-is to _ (signed (Vote phase view d) sig) (signed (Vote 3 v (digest_of shown)) []) z)) h
     where
       go : may_third p s v shown ≡ true → Vote phase view d ≡ Vote 3 v (digest_of shown) → Why s (Receive from (signed (Commit v shown) x))
       go t e =
@@ -136,15 +135,12 @@ module _ (p : Params) (to : To) (phase view : ℕ) (d sig : List ℕ) where
           subst (λ (z : ℕ). Cause p s (Receive from (signed (Commit v shown) x)) view d z) (sym a)
           (subst (λ (z : ℕ). Cause p s (Receive from (signed (Commit v shown) x)) z d 3) (sym b)
           (by_third (record { from = from; shown = shown; sig = x; is = refl; may = t; digest_is = c })))
-  why-heard-body s k from (Decide v shown) x h = absurd h
-  why-heard-body s k from (Vote q v e) x h = absurd (by-true (keeps_vote p s from.0 q v e && is_reached p k q v e) ((To_all, shows q v (certificate p k q v e)) ∷ []) ⊥ (λ t z. none-shown q v (certificate p k q v e) (one-is to To_all (signed (Vote phase view d) sig) (shows q v (certificate p k q v e)) z)) h)
-
-  why-heard : (s k : State) (from : NodeId) (msg : Message) → Sent (answers_heard p s k from.0 msg.body) → Why s (Receive from msg)
-  why-heard s k from msg h = why-heard-body s k from msg.body msg.sig h
+  why-heard s k from (Vote q v e) x h = absurd (by-true (keeps_vote p s from.0 q v e && is_reached p k q v e) ((To_all, shows q v (certificate p k q v e)) ∷ []) ⊥ (λ t z. none-shown q v (certificate p k q v e) (one-is to To_all (signed (Vote phase view d) sig) (shows q v (certificate p k q v e)) z)) h)
+  why-heard s k from other x h = absurd h
 
   why-answer : (s k : State) (i : Input Message) → Sent (answers p s k i) → Why s i
   why-answer s k (Cast slot batch) h = absurd h
-  why-answer s k (Receive from msg) h = why-heard s k from msg h
+  why-answer s k (Receive from msg) h = why-heard s k from msg.body msg.sig h
   why-answer s k Timeout h = absurd (by-true (may_end s) _ ⊥ (λ t z. let e = one-is to _ (signed (Vote phase view d) sig) _ z in cc) h)
 
   why : (me : ℕ) (s : State) (i : Input Message) → Sent (drafts p me s i) → Why s i
@@ -179,20 +175,17 @@ prepare-above p s from view what just h =
 round-above : (v : ℕ) → v ≤ suc (v / 65536) * 65536
 round-above v = omega arith
 
-heard-view-body : (p : Params) (me : ℕ) (s : State) (from : ℕ) (body : Body) (sig : List ℕ) → Rises s.view (heard p me s from body sig)
-heard-view-body p me s from (NewView round high) sig = by-test (Rises s.view) (keeps_news p me s from round high) (with_news s from round high) s (λ t. same s.view) (same s.view)
-heard-view-body p me s from (Prepare view what just) sig = by-test (Rises s.view) (may_prepare p s from view what just) (with_node p s view what just) s (λ t. let a = prepare-above p s from view what just t in omega (arith, a)) (same s.view)
-heard-view-body p me s from (PreCommit view shown) sig = by-test (Rises s.view) (may_second p s view shown) (record s { high = shown; second = true }) s (λ t. same s.view) (same s.view)
-heard-view-body p me s from (Commit view shown) sig = by-test (Rises s.view) (may_third p s view shown) (record s { lock = shown; third = true }) s (λ t. same s.view) (same s.view)
-heard-view-body p me s from (Decide view shown) sig = same s.view
-heard-view-body p me s from (Vote phase view d) sig = by-test (Rises s.view) (keeps_vote p s from phase view d) (with_vote s from phase view d sig) s (λ t. same s.view) (same s.view)
-
-heard-view : (p : Params) (me : ℕ) (s : State) (from : ℕ) (msg : Message) → Rises s.view (heard p me s from msg.body msg.sig)
-heard-view p me s from msg = heard-view-body p me s from msg.body msg.sig
+heard-view : (p : Params) (me : ℕ) (s : State) (from : ℕ) (body : Body) (sig : List ℕ) → Rises s.view (heard p me s from body sig)
+heard-view p me s from (NewView round high) sig = by-test (Rises s.view) (keeps_news p me s from round high) (with_news s from round high) s (λ t. same s.view) (same s.view)
+heard-view p me s from (Prepare view what just) sig = by-test (Rises s.view) (may_prepare p s from view what just) (with_node p s view what just) s (λ t. let a = prepare-above p s from view what just t in omega (arith, a)) (same s.view)
+heard-view p me s from (PreCommit view shown) sig = by-test (Rises s.view) (may_second p s view shown) (record s { high = shown; second = true }) s (λ t. same s.view) (same s.view)
+heard-view p me s from (Commit view shown) sig = by-test (Rises s.view) (may_third p s view shown) (record s { lock = shown; third = true }) s (λ t. same s.view) (same s.view)
+heard-view p me s from (Decide view shown) sig = same s.view
+heard-view p me s from (Vote phase view d) sig = by-test (Rises s.view) (keeps_vote p s from phase view d) (with_vote s from phase view d sig) s (λ t. same s.view) (same s.view)
 
 kept-view : (p : Params) (me : ℕ) (s : State) (i : Input Message) → Rises s.view (kept p me s i)
 kept-view p me s (Cast slot batch) = by-test (Rises s.view) (may_cast p me s slot.0) (with_cast s batch) s (λ q. same s.view) (same s.view)
-kept-view p me s (Receive from msg) = heard-view p me s from.0 msg
+kept-view p me s (Receive from msg) = heard-view p me s from.0 msg.body msg.sig
 kept-view p me s Timeout = by-test (Rises s.view) (may_end s) (with_round s) s (λ t. round-above s.view) (same s.view)
 
 pub after-view : (p : Params) (me : ℕ) (s : State) (i : Input Message) → Rises s.view (after p me s i)
@@ -266,20 +259,17 @@ Remembers s t = (s.view < t.view) ⊎ ((s.view ≡ t.view) × (s.second ≡ true
 all-same : (s t : State) → s.view ≡ t.view → s.second ≡ t.second → s.third ≡ t.third → Remembers s t
 all-same s t a b c = inr (a, (λ h. sym b ∙ h), (λ h. sym c ∙ h))
 
-heard-keeps-body : (p : Params) (me : ℕ) (s : State) (from : ℕ) (body : Body) (sig : List ℕ) → Remembers s (heard p me s from body sig)
-heard-keeps-body p me s from (NewView round high) sig = by-test (Remembers s) (keeps_news p me s from round high) (with_news s from round high) s (λ t. all-same s (with_news s from round high) refl refl refl) (all-same s s refl refl refl)
-heard-keeps-body p me s from (Prepare view what just) sig = by-test (Remembers s) (may_prepare p s from view what just) (with_node p s view what just) s (λ t. inl (prepare-above p s from view what just t)) (all-same s s refl refl refl)
-heard-keeps-body p me s from (PreCommit view shown) sig = by-test (Remembers s) (may_second p s view shown) (record s { high = shown; second = true }) s (λ t. inr (refl, (λ h. refl), (λ h. h))) (all-same s s refl refl refl)
-heard-keeps-body p me s from (Commit view shown) sig = by-test (Remembers s) (may_third p s view shown) (record s { lock = shown; third = true }) s (λ t. inr (refl, (λ h. h), (λ h. refl))) (all-same s s refl refl refl)
-heard-keeps-body p me s from (Decide view shown) sig = all-same s s refl refl refl
-heard-keeps-body p me s from (Vote phase view d) sig = by-test (Remembers s) (keeps_vote p s from phase view d) (with_vote s from phase view d sig) s (λ t. all-same s (with_vote s from phase view d sig) refl refl refl) (all-same s s refl refl refl)
-
-heard-keeps : (p : Params) (me : ℕ) (s : State) (from : ℕ) (msg : Message) → Remembers s (heard p me s from msg.body msg.sig)
-heard-keeps p me s from msg = heard-keeps-body p me s from msg.body msg.sig
+heard-keeps : (p : Params) (me : ℕ) (s : State) (from : ℕ) (body : Body) (sig : List ℕ) → Remembers s (heard p me s from body sig)
+heard-keeps p me s from (NewView round high) sig = by-test (Remembers s) (keeps_news p me s from round high) (with_news s from round high) s (λ t. all-same s (with_news s from round high) refl refl refl) (all-same s s refl refl refl)
+heard-keeps p me s from (Prepare view what just) sig = by-test (Remembers s) (may_prepare p s from view what just) (with_node p s view what just) s (λ t. inl (prepare-above p s from view what just t)) (all-same s s refl refl refl)
+heard-keeps p me s from (PreCommit view shown) sig = by-test (Remembers s) (may_second p s view shown) (record s { high = shown; second = true }) s (λ t. inr (refl, (λ h. refl), (λ h. h))) (all-same s s refl refl refl)
+heard-keeps p me s from (Commit view shown) sig = by-test (Remembers s) (may_third p s view shown) (record s { lock = shown; third = true }) s (λ t. inr (refl, (λ h. h), (λ h. refl))) (all-same s s refl refl refl)
+heard-keeps p me s from (Decide view shown) sig = all-same s s refl refl refl
+heard-keeps p me s from (Vote phase view d) sig = by-test (Remembers s) (keeps_vote p s from phase view d) (with_vote s from phase view d sig) s (λ t. all-same s (with_vote s from phase view d sig) refl refl refl) (all-same s s refl refl refl)
 
 kept-keeps : (p : Params) (me : ℕ) (s : State) (i : Input Message) → Remembers s (kept p me s i)
 kept-keeps p me s (Cast slot batch) = by-test (Remembers s) (may_cast p me s slot.0) (with_cast s batch) s (λ q. all-same s (with_cast s batch) refl refl refl) (all-same s s refl refl refl)
-kept-keeps p me s (Receive from msg) = heard-keeps p me s from.0 msg
+kept-keeps p me s (Receive from msg) = heard-keeps p me s from.0 msg.body msg.sig
 kept-keeps p me s Timeout = by-test (Remembers s) (may_end s) (with_round s) s (λ t. inl (higher s.view)) (all-same s s refl refl refl)
   where
     higher : (v : ℕ) → v < suc (v / 65536) * 65536

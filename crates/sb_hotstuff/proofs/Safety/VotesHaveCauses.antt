@@ -237,21 +237,21 @@ module _ (p : Params) (w : World Message) (good : IsGoodParams hotstuff p) (lega
   tree-turn s None h = h
   tree-turn s (Some t) h = h
 
-  tree-kept-body : (me : ℕ) (x : Item Message) (older : List (Item Message)) (from : NodeId) (body : Body) (sig : List ℕ) → In x (w me) → AreMade hotstuff p me (x ∷ older) → x.input ≡ (Receive from (signed body sig)) → Tree (state p me older) → Tree (kept p me (state p me older) (Receive from (signed body sig)))
-  tree-kept-body me x older from (NewView round high) sig k made e h = let s = state p me older in by-test Tree (keeps_news p me s from.0 round high) (with_news s from.0 round high) s (λ q. h) h
-  tree-kept-body me x older from (Prepare view what just) sig k made e h =
+  tree-kept-heard : (me : ℕ) (x : Item Message) (older : List (Item Message)) (from : NodeId) (body : Body) (sig : List ℕ) → In x (w me) → AreMade hotstuff p me (x ∷ older) → x.input ≡ (Receive from (signed body sig)) → Tree (state p me older) → Tree (kept p me (state p me older) (Receive from (signed body sig)))
+  tree-kept-heard me x older from (NewView round high) sig k made e h = let s = state p me older in by-test Tree (keeps_news p me s from.0 round high) (with_news s from.0 round high) s (λ q. h) h
+  tree-kept-heard me x older from (Prepare view what just) sig k made e h =
       let s = state p me older in
       by-test Tree (may_prepare p s from.0 view what just) (with_node p s view what just) s (λ q.
       let t = is-taken me x older from view what just sig k made e q in
       (taken-has me x view what just k t, refl, (parts s from.0 view what just q).known, h)) h
-  tree-kept-body me x older from (PreCommit view shown) sig k made e h = let s = state p me older in by-test Tree (may_second p s view shown) (record s { high = shown; second = true }) s (λ q. h) h
-  tree-kept-body me x older from (Commit view shown) sig k made e h = let s = state p me older in by-test Tree (may_third p s view shown) (record s { lock = shown; third = true }) s (λ q. h) h
-  tree-kept-body me x older from (Decide view shown) sig k made e h = h
-  tree-kept-body me x older from (Vote phase view d) sig k made e h = let s = state p me older in by-test Tree (keeps_vote p s from.0 phase view d) (with_vote s from.0 phase view d sig) s (λ q. h) h
+  tree-kept-heard me x older from (PreCommit view shown) sig k made e h = let s = state p me older in by-test Tree (may_second p s view shown) (record s { high = shown; second = true }) s (λ q. h) h
+  tree-kept-heard me x older from (Commit view shown) sig k made e h = let s = state p me older in by-test Tree (may_third p s view shown) (record s { lock = shown; third = true }) s (λ q. h) h
+  tree-kept-heard me x older from (Decide view shown) sig k made e h = h
+  tree-kept-heard me x older from (Vote phase view d) sig k made e h = let s = state p me older in by-test Tree (keeps_vote p s from.0 phase view d) (with_vote s from.0 phase view d sig) s (λ q. h) h
 
   tree-kept : (me : ℕ) (x : Item Message) (older : List (Item Message)) (i : Input Message) → In x (w me) → AreMade hotstuff p me (x ∷ older) → x.input ≡ i → Tree (state p me older) → Tree (kept p me (state p me older) i)
   tree-kept me x older (Cast slot batch) k made e h = let s = state p me older in by-test Tree (may_cast p me s slot.0) (with_cast s batch) s (λ q. h) h
-  tree-kept me x older (Receive from msg) k made e h = tree-kept-body me x older from msg.body msg.sig k made e h
+  tree-kept me x older (Receive from msg) k made e h = tree-kept-heard me x older from msg.body msg.sig k made e h
   tree-kept me x older Timeout k made e h = let s = state p me older in by-test Tree (may_end s) (with_round s) s (λ q. h) h
 
   pub state-tree : (me : ℕ) (xs : List (Item Message)) → AreMade hotstuff p me xs → AllHere me xs → Tree (state p me xs)

@@ -166,19 +166,16 @@ module _ (p : Params) (G : Claim → Type 0) where
 
   -- ---- The state
 
-  heard-said-body : (me : ℕ) (s : State) (from : ℕ) (body : Body) (sig : List ℕ) → Comes from (signed body sig) → IsSaid s → IsSaid (heard p me s from body sig)
-  heard-said-body me s from (NewView round high) sig m h = by-if IsSaid (keeps_news p me s from round high) (with_news s from round high) s
+  heard-said : (me : ℕ) (s : State) (from : ℕ) (body : Body) (sig : List ℕ) → Comes from (signed body sig) → IsSaid s → IsSaid (heard p me s from body sig)
+  heard-said me s from (NewView round high) sig m h = by-if IsSaid (keeps_news p me s from round high) (with_news s from round high) s
       (record { high = h.high; votes = h.votes; news = (came-said from (signed (NewView round high) sig) m, h.news) }) h
-  heard-said-body me s from (Prepare view what just) sig m h = by-if IsSaid (may_prepare p s from view what just) (with_node p s view what just) s (record { high = h.high; votes = h.votes; news = h.news }) h
-  heard-said-body me s from (PreCommit view shown) sig m h = by-if IsSaid (may_second p s view shown) (record s { high = shown; second = true }) s
+  heard-said me s from (Prepare view what just) sig m h = by-if IsSaid (may_prepare p s from view what just) (with_node p s view what just) s (record { high = h.high; votes = h.votes; news = h.news }) h
+  heard-said me s from (PreCommit view shown) sig m h = by-if IsSaid (may_second p s view shown) (record s { high = shown; second = true }) s
       (record { high = came-said from (signed (PreCommit view shown) sig) m; votes = h.votes; news = h.news }) h
-  heard-said-body me s from (Commit view shown) sig m h = by-if IsSaid (may_third p s view shown) (record s { lock = shown; third = true }) s (record { high = h.high; votes = h.votes; news = h.news }) h
-  heard-said-body me s from (Decide view shown) sig m h = h
-  heard-said-body me s from (Vote phase view d) sig m h = by-if IsSaid (keeps_vote p s from phase view d) (with_vote s from phase view d sig) s
+  heard-said me s from (Commit view shown) sig m h = by-if IsSaid (may_third p s view shown) (record s { lock = shown; third = true }) s (record { high = h.high; votes = h.votes; news = h.news }) h
+  heard-said me s from (Decide view shown) sig m h = h
+  heard-said me s from (Vote phase view d) sig m h = by-if IsSaid (keeps_vote p s from phase view d) (with_vote s from phase view d sig) s
       (record { high = h.high; votes = (came-own from (signed (Vote phase view d) sig) m, h.votes); news = h.news }) h
-
-  heard-said : (me : ℕ) (s : State) (from : ℕ) (msg : Message) → Comes from msg → IsSaid s → IsSaid (heard p me s from msg.body msg.sig)
-  heard-said me s from msg m h = heard-said-body me s from msg.body msg.sig m h
 
   abbrev ComesIn : Input Message → Type 0
   ComesIn (Cast slot batch) = Unit {0}
@@ -187,7 +184,7 @@ module _ (p : Params) (G : Claim → Type 0) where
 
   kept-said : (me : ℕ) (s : State) (i : Input Message) → ComesIn i → IsSaid s → IsSaid (kept p me s i)
   kept-said me s (Cast slot batch) m h = by-if IsSaid (may_cast p me s slot.0) (with_cast s batch) s (record { high = h.high; votes = h.votes; news = h.news }) h
-  kept-said me s (Receive from msg) m h = heard-said me s from.0 msg m h
+  kept-said me s (Receive from msg) m h = heard-said me s from.0 msg.body msg.sig m h
   kept-said me s Timeout m h = by-if IsSaid (may_end s) (with_round s) s (record { high = h.high; votes = h.votes; news = h.news }) h
 
   turn-said : (s : State) (o : Option Turn) → IsSaid s → IsSaid (with_turn s o)
@@ -217,33 +214,26 @@ module _ (p : Params) (G : Claim → Type 0) where
   shows-said : (phase view : ℕ) (c : Certificate) → Said c → Said (inside (shows phase view c).body)
   shows-said phase view c h = by-if (λ (m : Message). Said (inside m.body)) (phase == 1) _ _ h (by-if (λ (m : Message). Said (inside m.body)) (phase == 2) _ _ h h)
 
-  answer-said-body : (s k : State) (from : ℕ) (body : Body) (sig : List ℕ) → IsSaid k → SendsSaid (answers_heard p s k from body)
-  answer-said-body s k from (NewView round high) sig h = tt
-  answer-said-body s k from (Prepare view what just) sig h = by-if SendsSaid (may_prepare p s from view what just) (voted p 1 view (node_digest p view what just)) [] (tt, tt) tt
-  answer-said-body s k from (PreCommit view shown) sig h = by-if SendsSaid (may_second p s view shown) (voted p 2 view (digest_of shown)) [] (tt, tt) tt
-  answer-said-body s k from (Commit view shown) sig h = by-if SendsSaid (may_third p s view shown) (voted p 3 view (digest_of shown)) [] (tt, tt) tt
-  answer-said-body s k from (Decide view shown) sig h = tt
-  answer-said-body s k from (Vote phase view d) sig h = by-if SendsSaid (keeps_vote p s from phase view d && is_reached p k phase view d) _ [] (shows-said phase view (certificate p k phase view d) (certificate-said k phase view d h.votes), tt) tt
-
-  answer-said : (s k : State) (from : ℕ) (msg : Message) → IsSaid k → SendsSaid (answers_heard p s k from msg.body)
-  answer-said s k from msg h = answer-said-body s k from msg.body msg.sig h
+  answer-said : (s k : State) (from : ℕ) (body : Body) (sig : List ℕ) → IsSaid k → SendsSaid (answers_heard p s k from body)
+  answer-said s k from (Prepare view what just) sig h = by-if SendsSaid (may_prepare p s from view what just) (voted p 1 view (node_digest p view what just)) [] (tt, tt) tt
+  answer-said s k from (PreCommit view shown) sig h = by-if SendsSaid (may_second p s view shown) (voted p 2 view (digest_of shown)) [] (tt, tt) tt
+  answer-said s k from (Commit view shown) sig h = by-if SendsSaid (may_third p s view shown) (voted p 3 view (digest_of shown)) [] (tt, tt) tt
+  answer-said s k from (Vote phase view d) sig h = by-if SendsSaid (keeps_vote p s from phase view d && is_reached p k phase view d) _ [] (shows-said phase view (certificate p k phase view d) (certificate-said k phase view d h.votes), tt) tt
+  answer-said s k from other sig h = tt
 
   answers-said : (s k : State) (i : Input Message) → IsSaid s → IsSaid k → SendsSaid (answers p s k i)
   answers-said s k (Cast slot batch) h g = tt
-  answers-said s k (Receive from msg) h g = answer-said s k from.0 msg g
+  answers-said s k (Receive from msg) h g = answer-said s k from.0 msg.body msg.sig g
   answers-said s k Timeout h g = by-if SendsSaid (may_end s) _ [] (h.high, tt) tt
 
-  proposed-said-body : (me : ℕ) (s k : State) (from : NodeId) (body : Body) (sig : List ℕ) → IsSaid k → TurnSaid (proposed p me s k (Receive from (signed body sig)))
-  proposed-said-body me s k from (NewView round high) sig h = by-if TurnSaid (keeps_news p me s from.0 round high) (first_turn p k round) None (first-said k round h) tt
-  proposed-said-body me s k from (Prepare view what just) sig h = tt
-  proposed-said-body me s k from (PreCommit view shown) sig h = tt
-  proposed-said-body me s k from (Commit view shown) sig h = tt
-  proposed-said-body me s k from (Decide view shown) sig h = tt
-  proposed-said-body me s k from (Vote phase view d) sig h = by-if TurnSaid _ (next_turn p k k.turns) None (next-said k k.turns h) tt
+  proposed-said-heard : (me : ℕ) (s k : State) (from : NodeId) (body : Body) (sig : List ℕ) → IsSaid k → TurnSaid (proposed p me s k (Receive from (signed body sig)))
+  proposed-said-heard me s k from (NewView round high) sig h = by-if TurnSaid (keeps_news p me s from.0 round high) (first_turn p k round) None (first-said k round h) tt
+  proposed-said-heard me s k from (Vote phase view d) sig h = by-if TurnSaid _ (next_turn p k k.turns) None (next-said k k.turns h) tt
+  proposed-said-heard me s k from other sig h = tt
 
   proposed-said : (me : ℕ) (s k : State) (i : Input Message) → IsSaid k → TurnSaid (proposed p me s k i)
   proposed-said me s k (Cast slot batch) h = by-if TurnSaid (may_cast p me s slot.0) (next_turn p k k.turns) None (next-said k k.turns h) tt
-  proposed-said me s k (Receive from msg) h = proposed-said-body me s k from msg.body msg.sig h
+  proposed-said me s k (Receive from msg) h = proposed-said-heard me s k from msg.body msg.sig h
   proposed-said me s k Timeout h = tt
 
   drafts-said : (me : ℕ) (s : State) (i : Input Message) → ComesIn i → IsSaid s → SendsSaid (drafts p me s i)
