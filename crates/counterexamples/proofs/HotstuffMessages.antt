@@ -130,17 +130,17 @@ shown-spelled r phase is low high =
 
 -- on the root
 pub prepare-read : (view : ℕ) (what : Content) (held : List ℕ) → view < 2 ^ 32 → IsSpelledContent 1 what held → IsReadMessage loose q (by (signed (Prepare view what Root) []))
-prepare-read view what held fits h = spelled-read 3 1 (by (signed (Prepare view what Root) [])) _ (record { view_fits = fits; behind = held; what_is = h; certificate = root_row; spelled = refl; signed = signature-shape loose q good 3 0 _; row = refl })
+prepare-read view what held fits h = spelled-read 3 1 (by (signed (Prepare view what Root) [])) _ (record { view_fits = fits; behind = held; what_is = h; certificate = root_row; spelled = refl; row = refl }) (signature-shape loose q good 3 0 _)
 
 module _ (r : Poll) (is : IsPoll r) where
   pre-commit-read : IsReadMessage loose q (pre_commit r)
-  pre-commit-read = spelled-read 3 1 (pre_commit r) _ (record { three = refl; view_fits = is.high; certificate = _; spelled = shown-spelled r 1 is (omega arith) (omega arith); signed = signature-shape loose q good 3 0 _; row = refl })
+  pre-commit-read = spelled-read 3 1 (pre_commit r) _ (record { three = refl; view_fits = is.high; certificate = _; spelled = shown-spelled r 1 is (omega arith) (omega arith); row = refl }) (signature-shape loose q good 3 0 _)
 
   commit-read : IsReadMessage loose q (commit r)
-  commit-read = spelled-read 3 1 (commit r) _ (record { three = refl; view_fits = is.high; certificate = _; spelled = shown-spelled r 2 is (omega arith) (omega arith); signed = signature-shape loose q good 3 0 _; row = refl })
+  commit-read = spelled-read 3 1 (commit r) _ (record { three = refl; view_fits = is.high; certificate = _; spelled = shown-spelled r 2 is (omega arith) (omega arith); row = refl }) (signature-shape loose q good 3 0 _)
 
   decide-read : IsReadMessage loose q (decide r)
-  decide-read = spelled-read 3 1 (decide r) _ (record { three = refl; view_fits = is.high; certificate = _; spelled = shown-spelled r 3 is (omega arith) (omega arith); signed = signature-shape loose q good 3 0 _; row = refl })
+  decide-read = spelled-read 3 1 (decide r) _ (record { three = refl; view_fits = is.high; certificate = _; spelled = shown-spelled r 3 is (omega arith) (omega arith); row = refl }) (signature-shape loose q good 3 0 _)
 
 -- ---- Messages that may arrive
 

@@ -64,19 +64,19 @@ abbrev IsRead : Message → Type 0
 IsRead msg = IsReadMessage chained q msg
 
 against-read : IsRead against
-against-read = spelled-read 1 1 against _ (record { view_fits = omega arith; behind = _; what_is = refl; certificate = root_row; spelled = refl; signed = signature-shape chained q good-q 3 0 _; row = refl })
+against-read = spelled-read 1 1 against _ (record { view_fits = omega arith; behind = _; what_is = refl; certificate = root_row; spelled = refl; row = refl }) (signature-shape chained q good-q 3 0 _)
 
 ended0-read : IsRead ended0
-ended0-read = spelled-read 1 1 ended0 _ (record { round_fits = omega arith; certificate = _; spelled = shown-spelled 3 d3 0 3 1 3 (omega arith) (omega arith) (length-sha256 _) (omega arith) (omega arith); signed = signature-shape chained q good-q 0 5 _; row = refl })
+ended0-read = spelled-read 1 1 ended0 _ (record { round_fits = omega arith; certificate = _; spelled = shown-spelled 3 d3 0 3 1 3 (omega arith) (omega arith) (length-sha256 _) (omega arith) (omega arith); row = refl }) (signature-shape chained q good-q 0 5 _)
 
 ended1-read : IsRead ended1
-ended1-read = spelled-read 1 1 ended1 _ (record { round_fits = omega arith; certificate = _; spelled = shown-spelled 2 d2 0 2 1 2 (omega arith) (omega arith) (length-sha256 _) (omega arith) (omega arith); signed = signature-shape chained q good-q 1 4 _; row = refl })
+ended1-read = spelled-read 1 1 ended1 _ (record { round_fits = omega arith; certificate = _; spelled = shown-spelled 2 d2 0 2 1 2 (omega arith) (omega arith) (length-sha256 _) (omega arith) (omega arith); row = refl }) (signature-shape chained q good-q 1 4 _)
 
 blank-read : IsRead blank
-blank-read = spelled-read 1 1 blank _ (record { round_fits = omega arith; certificate = root_row; spelled = refl; signed = signature-shape chained q good-q 3 0 _; row = refl })
+blank-read = spelled-read 1 1 blank _ (record { round_fits = omega arith; certificate = root_row; spelled = refl; row = refl }) (signature-shape chained q good-q 3 0 _)
 
 again-read : IsRead again
-again-read = spelled-read 1 1 again _ (record { view_fits = omega arith; behind = _; what_is = refl; certificate = _; spelled = shown-spelled 3 d3 0 3 1 3 (omega arith) (omega arith) (length-sha256 _) (omega arith) (omega arith); signed = signature-shape chained q good-q 0 6 _; row = refl })
+again-read = spelled-read 1 1 again _ (record { view_fits = omega arith; behind = _; what_is = refl; certificate = _; spelled = shown-spelled 3 d3 0 3 1 3 (omega arith) (omega arith) (length-sha256 _) (omega arith) (omega arith); row = refl }) (signature-shape chained q good-q 0 6 _)
 
 -- ---- What the replicas take and send
 

@@ -103,16 +103,16 @@ abbrev IsRead : Message → Type 0
 IsRead msg = IsReadMessage chained q msg
 
 read1 : IsRead m1
-read1 = spelled-read 1 1 m1 _ (record { view_fits = omega arith; behind = batch_held.0; what_is = batch_held.1; certificate = root_row; spelled = refl; signed = signature-shape chained q good-q 3 0 _; row = refl })
+read1 = spelled-read 1 1 m1 _ (record { view_fits = omega arith; behind = batch_held.0; what_is = batch_held.1; certificate = root_row; spelled = refl; row = refl }) (signature-shape chained q good-q 3 0 _)
 
 read2 : IsRead m2
-read2 = spelled-read 1 1 m2 _ (record { view_fits = omega arith; behind = batch_held.0; what_is = batch_held.1; certificate = _; spelled = shown-spelled 1 d1 0 1 1 1 (omega arith) (omega arith) (length-sha256 _) (omega arith) (omega arith); signed = signature-shape chained q good-q 3 0 _; row = refl })
+read2 = spelled-read 1 1 m2 _ (record { view_fits = omega arith; behind = batch_held.0; what_is = batch_held.1; certificate = _; spelled = shown-spelled 1 d1 0 1 1 1 (omega arith) (omega arith) (length-sha256 _) (omega arith) (omega arith); row = refl }) (signature-shape chained q good-q 3 0 _)
 
 read3 : IsRead m3
-read3 = spelled-read 1 1 m3 _ (record { view_fits = omega arith; behind = _; what_is = refl; certificate = _; spelled = shown-spelled 2 d2 0 2 1 2 (omega arith) (omega arith) (length-sha256 _) (omega arith) (omega arith); signed = signature-shape chained q good-q 3 0 _; row = refl })
+read3 = spelled-read 1 1 m3 _ (record { view_fits = omega arith; behind = _; what_is = refl; certificate = _; spelled = shown-spelled 2 d2 0 2 1 2 (omega arith) (omega arith) (length-sha256 _) (omega arith) (omega arith); row = refl }) (signature-shape chained q good-q 3 0 _)
 
 read4 : IsRead m4
-read4 = spelled-read 1 1 m4 _ (record { view_fits = omega arith; behind = _; what_is = refl; certificate = _; spelled = shown-spelled 3 d3 0 3 1 3 (omega arith) (omega arith) (length-sha256 _) (omega arith) (omega arith); signed = signature-shape chained q good-q 3 0 _; row = refl })
+read4 = spelled-read 1 1 m4 _ (record { view_fits = omega arith; behind = _; what_is = refl; certificate = _; spelled = shown-spelled 3 d3 0 3 1 3 (omega arith) (omega arith) (length-sha256 _) (omega arith) (omega arith); row = refl }) (signature-shape chained q good-q 3 0 _)
 
 -- ---- The run
 

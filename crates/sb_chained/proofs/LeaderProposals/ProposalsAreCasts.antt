@@ -40,16 +40,7 @@ use Rattle.sb_chained.proofs.Safety.KnownNodesStand.{MayAt, proposed-at}
 use Rattle.sb_chained.proofs.Safety.VotesHaveCauses.{Part, acc, front-older, part-made}
 use Rattle.hs_views.proofs.Tests.{by-if, by-test, is-same}
 
--- ---- Unsigned messages
-
-unsigned : (p : Params) (me leaf : ℕ) (ds : List (To × Message)) (to : To) (view : ℕ) (what : Content) (just : Certificate) (sig : List ℕ) → In {A = To × Message} (to, signed (Prepare view what just) sig) (sign_all p me leaf ds) →
-    (old : List ℕ) × In {A = To × Message} (to, signed (Prepare view what just) old) ds
-unsigned p me leaf [] to view what just sig h = absurd h
-unsigned p me leaf (x ∷ ds) to view what just sig (inl e) =
-    let r = prepare-unsigned sig (signature p me leaf (stated form p x.1.body)) x.1 view what just (ap (λ (z : To × Message). z.1) e) in
-    let goes : to ≡ x.0 = ap (λ (z : To × Message). z.0) e in
-    (r.0, inl (ap (λ (z : To). let y : To × Message = (z, signed (Prepare view what just) r.0) in y) goes ∙ ap (λ (z : Message). let y : To × Message = (x.0, z) in y) (sym r.1)))
-unsigned p me leaf (x ∷ ds) to view what just sig (inr k) = let r = unsigned p me (suc leaf) ds to view what just sig k in (r.0, inr r.1)
+-- ---- Drafts
 
 -- a proposal that is sent belongs to the turn that the input triggered
 pub record IsTurn (o : Option Turn) (view : ℕ) (what : Content) (just : Certificate) : Type 0 where
@@ -59,20 +50,20 @@ pub record IsTurn (o : Option Turn) (view : ℕ) (what : Content) (just : Certif
   pub what_is : turn.what ≡ what
   pub just_is : turn.just ≡ just
 
-module _ (p : Params) (to : To) (view : ℕ) (what : Content) (just : Certificate) (sig : List ℕ) where
-  abbrev Sent : List (To × Message) → Type 0
-  Sent ds = In {A = To × Message} (to, signed (Prepare view what just) sig) ds
+module _ (p : Params) (to : To) (view : ℕ) (what : Content) (just : Certificate) where
+  abbrev Sent : List (To × Body) → Type 0
+  Sent ds = In {A = To × Body} (to, Prepare view what just) ds
 
-  one-is : (a : To) (n : Message) → Sent ((a, n) ∷ []) → Prepare view what just ≡ n.body
-  one-is a n (inl e) = ap (λ (z : To × Message). z.1.body) e
+  one-is : (a : To) (n : Body) → Sent ((a, n) ∷ []) → Prepare view what just ≡ n
+  one-is a n (inl e) = ap (λ (z : To × Body). z.1) e
   one-is a n (inr h) = absurd h
 
-  none-if : (t : Bool) (ds : List (To × Message)) → (Sent ds → ⊥) → Sent (if t then ds else []) → ⊥
+  none-if : (t : Bool) (ds : List (To × Body)) → (Sent ds → ⊥) → Sent (if t then ds else []) → ⊥
   none-if true ds h k = h k
   none-if false ds h k = k
 
   none-voted : (v : ℕ) (e : List ℕ) → Sent (voted p v e) → ⊥
-  none-voted v e h = let m = one-is _ (signed (Vote 1 v e) []) h in cc
+  none-voted v e h = let m = one-is _ (Vote 1 v e) h in cc
 
   none-answered-heard : (s : State) (from : NodeId) (body : Body) (sig : List ℕ) → Sent (answers p s (Receive from (signed body sig))) → ⊥
   none-answered-heard s from (Prepare v c j) x h = none-if (may_prepare p s from.0 v c j) (voted p v (node_digest p v c j)) (none-voted v (node_digest p v c j)) h
@@ -81,25 +72,25 @@ module _ (p : Params) (to : To) (view : ℕ) (what : Content) (just : Certificat
   none-answered : (s : State) (i : Input Message) → Sent (answers p s i) → ⊥
   none-answered s (Cast slot batch) h = h
   none-answered s (Receive from msg) h = none-answered-heard s from msg.body msg.sig h
-  none-answered s Timeout h = none-if (may_end s) _ (λ z. let m = one-is _ (signed (NewView (suc (round_of s.view)) s.high) []) z in cc) h
+  none-answered s Timeout h = none-if (may_end s) _ (λ z. let m = one-is _ (NewView (suc (round_of s.view)) s.high) z in cc) h
 
   of-turn : (o : Option Turn) → Sent (proposals o) → IsTurn o view what just
   of-turn None h = absurd h
   of-turn (Some t) h =
-      let m = one-is To_all (signed (Prepare t.view t.what t.just) []) h in
+      let m = one-is To_all (Prepare t.view t.what t.just) h in
       let a : t.view ≡ view = cc in
       let b : t.what ≡ what = cc in
       let c : t.just ≡ just = cc in
       record { turn = t; is = refl; view_is = a; what_is = b; just_is = c }
 
--- a proposal among the unsigned messages is that of the step's turn
-pub proposal-turn : (p : Params) (me : ℕ) (s : State) (i : Input Message) (to : To) (view : ℕ) (what : Content) (just : Certificate) (sig : List ℕ) → In {A = To × Message} (to, signed (Prepare view what just) sig) (drafts p me s i) →
+-- a proposal among the drafts is that of the step's turn
+pub proposal-turn : (p : Params) (me : ℕ) (s : State) (i : Input Message) (to : To) (view : ℕ) (what : Content) (just : Certificate) → In {A = To × Body} (to, Prepare view what just) (drafts p me s i) →
     IsTurn (proposed p me s (kept p me s i) i) view what just
-proposal-turn p me s i to view what just sig h =
+proposal-turn p me s i to view what just h =
     let k = kept p me s i in
-    elim (in_append {A = To × Message} (to, signed (Prepare view what just) sig) (answers p s i) (proposals (proposed p me s k i)) h) [
-      | inl a ↦ absurd (none-answered p to view what just sig s i a)
-      | inr a ↦ of-turn p to view what just sig (proposed p me s k i) a
+    elim (in_append {A = To × Body} (to, Prepare view what just) (answers p s i) (proposals (proposed p me s k i)) h) [
+      | inl a ↦ absurd (none-answered p to view what just s i a)
+      | inr a ↦ of-turn p to view what just (proposed p me s k i) a
     ]
 
 -- ---- the turns of a list
@@ -288,8 +279,7 @@ module _ (p : Params) (w : World Message) (good : IsGoodParams chained p) (reach
         let s = state p me xs in
         let k = kept p me s x.input in
         let made = subst (λ (z : Made Message). In {A = To × Message} (to, signed (Prepare view what just) sig) z.sends) (part-made p w good reached me (x ∷ xs) f).0 sent in
-        let r = unsigned p me x.leaf (drafts p me s x.input) to view what just sig made in
-        let t = proposal-turn p me s x.input to view what just r.0 r.1 in
+        let t = proposal-turn p me s x.input to view what just (sent-drafted form p me x.leaf (drafts p me s x.input) to (signed (Prepare view what just) sig) made) in
         let ok = subst MayOk t.is (proposed-ok s k x.input (step-ok x xs f (leader-ok xs (front-older x xs (w me) f)))) in
         let at = subst (λ (o : Option Turn). MayAt p w good reached me o) t.is (proposed-at p w good reached me sep x xs f) in
         record { turn = t.turn; view_is = t.view_is; what_is = t.what_is; just_is = t.just_is; ok = ok; at = at }

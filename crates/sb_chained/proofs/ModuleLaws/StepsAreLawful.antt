@@ -72,7 +72,7 @@ decided-In p me (i ∷ xs) n x h = elim (first-cases (decided p me xs n.0) (deci
 
 -- ---- At most two messages, to existing replicas
 
-record IsFine (n most : ℕ) (ds : List (To × Message)) : Type 0 where
+record IsFine (n most : ℕ) (ds : List (To × Body)) : Type 0 where
   pub to : AreToNodes n ds
   pub few : length ds ≤ most
 
@@ -86,7 +86,7 @@ module _ (p : Params) (some : 0 < p.setup.n) where
       go : (n : ℕ) → 0 < n → k % n < n
       go n h = omega arith
 
-  abbrev Fine : List (To × Message) → Type 0
+  abbrev Fine : List (To × Body) → Type 0
   Fine ds = IsFine p.setup.n 1 ds
 
   proposal_fine : (o : Option Turn) → Fine (proposals o)
@@ -116,7 +116,7 @@ module _ (p : Params) (some : 0 < p.setup.n) where
       record { to = to-append p.setup.n (answers p s i) (proposals (proposed p me s k i)) a.to b.to; few = omega (arith, long, few_a, few_b) }
 
 -- signing changes neither the recipients nor the number of messages
-signed-to : (p : Params) (me leaf n : ℕ) (ds : List (To × Message)) → AreToNodes n ds → (k : NodeId) (msg : Message) → In {A = To × Message} (To_one k, msg) (sign_all p me leaf ds) → k.0 < n
+signed-to : (p : Params) (me leaf n : ℕ) (ds : List (To × Body)) → AreToNodes n ds → (k : NodeId) (msg : Message) → In {A = To × Message} (To_one k, msg) (sign_all p me leaf ds) → k.0 < n
 signed-to p me leaf n [] h k msg q = absurd q
 signed-to p me leaf n (x ∷ ds) h k msg (inl e) = subst (λ (z : To). IsToNode n z) (ap (λ (z : To × Message). z.0) (sym e)) h.0
 signed-to p me leaf n (x ∷ ds) h k msg (inr q) = signed-to p me (suc leaf) n ds h.1 k msg q

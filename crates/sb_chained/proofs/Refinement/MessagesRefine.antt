@@ -78,7 +78,7 @@ module _ (p : Params) (m : Chained) (t : Taken) (o : Outcome) (alone : IsAlone o
   idle-does s i h a b c e = record {
     node = refl;
     state = subst (λ (z : State). RefinesState p m.node z) (sym a) h;
-    draft = subst (λ (z : List (To × Message)). AreDrafts p t.outcome.draft z) (sym b) (quiet-draft p t o alone quiet);
+    draft = subst (λ (z : List (To × Body)). AreDrafts p t.outcome.draft z) (sym b) (quiet-draft p t o alone quiet);
     hashed = quiet-hashed t o alone quiet ∙ sym c;
     delivers = inl (record { decides = e; delivers = alone.delivers; same = refl });
   }
@@ -121,7 +121,7 @@ module _ (p : Params) (from : NodeId) (view : ℕ) (what : Content) (just : Cert
       record {
         node = g.node;
         state = g.state;
-        draft = subst (λ (z : List (To × Message)). AreDrafts p tk.outcome.draft z) (sym (append-nil (if may_prepare p s from.0 view what just then voted p view (node_digest p view what just) else []))) g.draft;
+        draft = subst (λ (z : List (To × Body)). AreDrafts p tk.outcome.draft z) (sym (append-nil (if may_prepare p s from.0 view what just then voted p view (node_digest p view what just) else []))) g.draft;
         hashed = g.hashed ∙ sym (append-nil (if may_prepare p s from.0 view what just then strings_at p view what just else []));
         delivers = g.delivers;
       }
@@ -372,5 +372,5 @@ timeout-takes p m node o t alone makes =
 
 -- ---- a message, by its body
 
-pub by-heard : (p : Params) (m n : Chained) (from : NodeId) (msg : Message) (body : Body) (t : Taken) → msg.body ≡ body → Takes p m n (Receive from (signed body msg.sig)) t → Takes p m n (Receive from msg) t
-by-heard p m n from msg body t is d = subst (λ (z : Body). Takes p m n (Receive from (signed z msg.sig)) t) (sym is) d
+pub by-body : (p : Params) (m n : Chained) (from : NodeId) (msg : Message) (body : Body) (t : Taken) → msg.body ≡ body → Takes p m n (Receive from (signed body msg.sig)) t → Takes p m n (Receive from msg) t
+by-body p m n from msg body t is d = subst (λ (z : Body). Takes p m n (Receive from (signed z msg.sig)) t) (sym is) d

@@ -36,45 +36,29 @@ pub record IsFirst (p : Params) (s : State) (i : Input Message) (view : ℕ) (d 
   pub may : may_prepare p s from.0 view what just ≡ true
   pub digest_is : d ≡ node_digest p view what just
 
--- ---- what is not yet signed
+-- ---- Drafts
 
-record IsUnsigned (ds : List (To × Message)) (to : To) (view : ℕ) (d : List ℕ) : Type 0 where
-  pub sig : List ℕ
-  pub sent : In {A = To × Message} (to, signed (Vote 1 view d) sig) ds
+module _ (p : Params) (to : To) (view : ℕ) (d : List ℕ) where
+  abbrev Sent : List (To × Body) → Type 0
+  Sent ds = In {A = To × Body} (to, Vote 1 view d) ds
 
-vote-unsigned : (s t : List ℕ) (msg : Message) (view : ℕ) (d : List ℕ) → signed (Vote 1 view d) s ≡ with_signature t msg → (sig : List ℕ) × (msg ≡ signed (Vote 1 view d) sig)
-vote-unsigned s t msg view d h = (msg.sig, ap (λ (z : Message). signed z.body msg.sig) (sym h))
+  one-is : (a : To) (n : Body) → Sent ((a, n) ∷ []) → Vote 1 view d ≡ n
+  one-is a n (inl e) = ap (λ (z : To × Body). z.1) e
+  one-is a n (inr h) = absurd h
 
-unsigned : (p : Params) (me leaf : ℕ) (ds : List (To × Message)) (to : To) (view : ℕ) (d sig : List ℕ) → In {A = To × Message} (to, signed (Vote 1 view d) sig) (sign_all p me leaf ds) → IsUnsigned ds to view d
-unsigned p me leaf [] to view d sig h = absurd h
-unsigned p me leaf (x ∷ ds) to view d sig (inl e) =
-    let r = vote-unsigned sig (signature p me leaf (stated form p x.1.body)) x.1 view d (ap (λ (z : To × Message). z.1) e) in
-    let goes : to ≡ x.0 = ap (λ (z : To × Message). z.0) e in
-    record { sig = r.0; sent = inl (ap (λ (z : To). let y : To × Message = (z, signed (Vote 1 view d) r.0) in y) goes ∙ ap (λ (z : Message). let y : To × Message = (x.0, z) in y) (sym r.1)) }
-unsigned p me leaf (x ∷ ds) to view d sig (inr k) = let r = unsigned p me (suc leaf) ds to view d sig k in record { sig = r.sig; sent = inr r.sent }
-
-module _ (p : Params) (to : To) (view : ℕ) (d sig : List ℕ) where
-  abbrev Sent : List (To × Message) → Type 0
-  Sent ds = In {A = To × Message} (to, signed (Vote 1 view d) sig) ds
-
-  one-is : (a b : To) (m n : Message) → In {A = To × Message} (a, m) ((b, n) ∷ []) → m.body ≡ n.body
-  one-is a b m n (inl e) = ap (λ (z : To × Message). z.1.body) e
-  one-is a b m n (inr h) = absurd h
-
-  by-true : (t : Bool) (ds : List (To × Message)) (C : Type 0) → (t ≡ true → Sent ds → C) → Sent (if t then ds else []) → C
+  by-true : (t : Bool) (ds : List (To × Body)) (C : Type 0) → (t ≡ true → Sent ds → C) → Sent (if t then ds else []) → C
   by-true true ds C h k = h refl k
   by-true false ds C h k = absurd k
 
   none-proposed : (o : Option Turn) → Sent (proposals o) → ⊥
   none-proposed None h = h
-  none-proposed (Some t) (inl e) = let m : Vote 1 view d ≡ Prepare t.view t.what t.just = ap (λ (z : To × Message). z.1.body) e in cc
-  none-proposed (Some t) (inr h) = h
+  none-proposed (Some t) h = let m = one-is To_all (Prepare t.view t.what t.just) h in cc
 
   abbrev Why : State → Input Message → Type 0
   Why s i = IsFirst p s i view d
 
   why-heard : (s : State) (from : NodeId) (body : Body) (sig : List ℕ) → Sent (answers_heard p s from.0 body) → Why s (Receive from (signed body sig))
-  why-heard s from (Prepare v what just) x h = by-true (may_prepare p s from.0 v what just) (voted p v (node_digest p v what just)) (Why s (Receive from (signed (Prepare v what just) x))) (λ t z. go t (one-is to _ (signed (Vote 1 view d) sig) (signed (Vote 1 v (node_digest p v what just)) []) z)) h
+  why-heard s from (Prepare v what just) x h = by-true (may_prepare p s from.0 v what just) (voted p v (node_digest p v what just)) (Why s (Receive from (signed (Prepare v what just) x))) (λ t z. go t (one-is _ (Vote 1 v (node_digest p v what just)) z)) h
     where
       go : may_prepare p s from.0 v what just ≡ true → Vote 1 view d ≡ Vote 1 v (node_digest p v what just) → Why s (Receive from (signed (Prepare v what just) x))
       go t e =
@@ -87,20 +71,19 @@ module _ (p : Params) (to : To) (view : ℕ) (d sig : List ℕ) where
   why-answer : (s : State) (i : Input Message) → Sent (answers p s i) → Why s i
   why-answer s (Cast slot batch) h = absurd h
   why-answer s (Receive from msg) h = why-heard s from msg.body msg.sig h
-  why-answer s Timeout h = absurd (by-true (may_end s) _ ⊥ (λ t z. let e = one-is to _ (signed (Vote 1 view d) sig) _ z in cc) h)
+  why-answer s Timeout h = absurd (by-true (may_end s) _ ⊥ (λ t z. let e = one-is _ _ z in cc) h)
 
   why : (me : ℕ) (s : State) (i : Input Message) → Sent (drafts p me s i) → Why s i
   why me s i h =
       let o = proposed p me s (kept p me s i) i in
-      elim (in_append {A = To × Message} (to, signed (Vote 1 view d) sig) (answers p s i) (proposals o) h) [
+      elim (in_append {A = To × Body} (to, Vote 1 view d) (answers p s i) (proposals o) h) [
         | inl a ↦ why-answer s i a
         | inr a ↦ absurd (none-proposed o a)
       ]
 
 pub cause : (p : Params) (me leaf : ℕ) (xs : List (Item Message)) (i : Input Message) (to : To) (view : ℕ) (d sig : List ℕ) → In {A = To × Message} (to, signed (Vote 1 view d) sig) (makes p me xs i leaf).sends → IsFirst p (state p me xs) i view d
 cause p me leaf xs i to view d sig h =
-    let r = unsigned p me leaf (drafts p me (state p me xs) i) to view d sig h in
-    why p to view d r.sig me (state p me xs) i r.sent
+    why p to view d me (state p me xs) i (sent-drafted form p me leaf (drafts p me (state p me xs) i) to (signed (Vote 1 view d) sig) h)
 
 -- ---- Views never decrease
 

@@ -214,7 +214,7 @@ module _ (p : Params) (w : World Message) (good : IsGoodParams chained p) (reach
       let s = state p me older in
       let k = part-here me x older f in
       let m = came me x from (signed (Prepare view what just) sig) k e in
-      let row = read-spelled 1 p.setup.version (signed (Prepare view what just) sig) m.read in
+      let row = (read-spelled 1 p.setup.version (signed (Prepare view what just) sig) m.read).body in
       let made-is : x.made.strings ≡ strings p me s x.input = ap (λ (z : Made Message). z.strings) (part-made me (x ∷ older) f).0 in
       let at : strings p me s (Receive from (signed (Prepare view what just) sig)) ≡ strings_at p view what just ++ [] = rw may refl in
       let all : x.made.strings ≡ strings_at p view what just ++ [] = made-is ∙ ap (λ (z : Input Message). strings p me s z) e ∙ at in

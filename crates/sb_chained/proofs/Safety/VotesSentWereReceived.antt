@@ -238,11 +238,11 @@ module _ (p : Params) (G : Claim → Type 0) where
 
   -- ---- Sent messages
 
-  abbrev SendsSaid : List (To × Message) → Type 0
+  abbrev SendsSaid : List (To × Body) → Type 0
   SendsSaid [] = Unit {0}
-  SendsSaid (x ∷ xs) = Said (inside x.1.body) × SendsSaid xs
+  SendsSaid (x ∷ xs) = Said (inside x.1) × SendsSaid xs
 
-  sends-append : (xs ys : List (To × Message)) → SendsSaid xs → SendsSaid ys → SendsSaid (xs ++ ys)
+  sends-append : (xs ys : List (To × Body)) → SendsSaid xs → SendsSaid ys → SendsSaid (xs ++ ys)
   sends-append [] ys h g = g
   sends-append (x ∷ xs) ys h g = (h.0, sends-append xs ys h.1 g)
 
@@ -275,15 +275,10 @@ module _ (p : Params) (G : Claim → Type 0) where
       let g = kept-said me s i m h in
       sends-append (answers p s i) (proposals (proposed p me s k i)) (answers-said s i h) (proposal-said (proposed p me s k i) (proposed-said me s k i g))
 
-  inside-same : (sig : List ℕ) (msg : Message) → inside (with_signature sig msg).body ≡ inside msg.body
-  inside-same sig msg = refl
-
-  sent-said : (me leaf : ℕ) (ds : List (To × Message)) → SendsSaid ds → (to : To) (msg : Message) → In {A = To × Message} (to, msg) (sign_all p me leaf ds) → Said (inside msg.body)
-  sent-said me leaf [] h to msg k = absurd k
-  sent-said me leaf (x ∷ ds) h to msg (inl e) =
-      let same : inside msg.body ≡ inside x.1.body = ap (λ (z : To × Message). inside z.1.body) e ∙ inside-same (signature p me leaf (stated form p x.1.body)) x.1 in
-      subst Said (sym same) h.0
-  sent-said me leaf (x ∷ ds) h to msg (inr k) = sent-said me (suc leaf) ds h.1 to msg k
+  draft-said : (ds : List (To × Body)) → SendsSaid ds → (to : To) (body : Body) → In {A = To × Body} (to, body) ds → Said (inside body)
+  draft-said [] h to body k = absurd k
+  draft-said (x ∷ ds) h to body (inl e) = subst (λ (z : To × Body). Said (inside z.1)) (sym e) h.0
+  draft-said (x ∷ ds) h to body (inr k) = draft-said ds h.1 to body k
 
 -- ---- The statement of a message's sender
 
@@ -317,7 +312,7 @@ module _ (p : Params) where
       let G : Claim → Type 0 = Seen me xs input in
       let s = state p me xs in
       let ds = drafts-said p G me s input (comes-now me xs input) (state-said p G me xs (λ x q. comes-before me xs input x q)) in
-      said-claims p G (inside msg.body) (sent-said p G me leaf (drafts p me s input) ds to msg sent)
+      said-claims p G (inside msg.body) (draft-said p G (drafts p me s input) ds to msg.body (sent-drafted form p me leaf (drafts p me s input) to msg sent))
 
   says-it : (from : ℕ) (msg : Message) (c : Claim) (k : ℕ) (t : List ℕ) → In c (claims form p from msg) → c.by.0 ≡ k → c.statement ≡ t → Says chained p from msg k t
   says-it from msg c k t h by is = record { claim = c; stands = h; named = by; is = is }
@@ -354,41 +349,33 @@ module _ (p : Params) where
 -- ---- The statements that the leaves of a step sign
 
 module _ (p : Params) (me : ℕ) where
-  abbrev stated : List (To × Message) → List (List ℕ)
-  stated [] = []
-  stated (x ∷ xs) = stated form p x.1.body ∷ stated xs
+  abbrev statements : List (To × Body) → List (List ℕ)
+  statements [] = []
+  statements (x ∷ xs) = stated form p x.1 ∷ statements xs
 
-  as-many : (ds : List (To × Message)) → length (stated ds) ≡ length ds
+  as-many : (ds : List (To × Body)) → length (statements ds) ≡ length ds
   as-many [] = refl
   as-many (x ∷ ds) = ap suc (as-many ds)
 
-  statement-same : (sig : List ℕ) (msg : Message) → stated form p (with_signature sig msg).body ≡ stated form p msg.body
-  statement-same sig msg = refl
-
-  signature-same : (sig : List ℕ) (msg : Message) → (with_signature sig msg).sig ≡ sig
-  signature-same sig msg = refl
-
-  first-signed : (leaf : ℕ) (x : To × Message) (ds : List (To × Message)) (msg : Message) (c : Claim) →
-      msg ≡ with_signature (signature p me leaf (stated form p x.1.body)) x.1 → c ≡ claim me (stated form p msg.body) msg.sig → IsSignedBy p me leaf (stated (x ∷ ds)) c
+  first-signed : (leaf : ℕ) (x : To × Body) (ds : List (To × Body)) (msg : Message) (c : Claim) →
+      msg ≡ signed x.1 (signature p me leaf (stated form p x.1)) → c ≡ claim me (stated form p msg.body) msg.sig → IsSignedBy p me leaf (statements (x ∷ ds)) c
   first-signed leaf x ds msg c is e =
-      let st = stated form p x.1.body in
-      let sig = signature p me leaf st in
-      let same : st ≡ c.statement = sym (ap (λ (z : Claim). z.statement) e ∙ ap (own_statement form p) is ∙ statement-same sig x.1) in
-      by-first p me leaf st (stated ds) c same (ap (λ (z : Claim). z.sig) e ∙ ap (λ (z : Message). z.sig) is ∙ signature-same sig x.1)
+      let same : stated form p x.1 ≡ c.statement = sym (ap (λ (z : Claim). z.statement) e ∙ ap (λ (z : Message). stated form p z.body) is) in
+      by-first p me leaf (stated form p x.1) (statements ds) c same (ap (λ (z : Claim). z.sig) e ∙ ap (λ (z : Message). z.sig) is)
 
-  signed-at : (leaf : ℕ) (ds : List (To × Message)) (to : To) (msg : Message) (c : Claim) → In {A = To × Message} (to, msg) (sign_all p me leaf ds) →
-      In c (claim me (stated form p msg.body) msg.sig ∷ []) → IsSignedBy p me leaf (stated ds) c
+  signed-at : (leaf : ℕ) (ds : List (To × Body)) (to : To) (msg : Message) (c : Claim) → In {A = To × Message} (to, msg) (sign_all p me leaf ds) →
+      In c (claim me (stated form p msg.body) msg.sig ∷ []) → IsSignedBy p me leaf (statements ds) c
   signed-at leaf ds to msg c h (inr none) = absurd none
   signed-at leaf [] to msg c h (inl e) = absurd h
   signed-at leaf (x ∷ ds) to msg c (inl q) (inl e) = first-signed leaf x ds msg c (ap (λ (z : To × Message). z.1) q) e
   signed-at leaf (x ∷ ds) to msg c (inr k) (inl e) =
-      by-next p me leaf (stated form p x.1.body) (stated ds) c (signed-at (suc leaf) ds to msg c k (inl e))
+      by-next p me leaf (stated form p x.1) (statements ds) c (signed-at (suc leaf) ds to msg c k (inl e))
 
 pub chained-signs-once : SignsOnce chained
 chained-signs-once p me xs i leaf good made =
     let ds = drafts p me (state p me xs) i in
     record {
-      statements = stated p me ds;
+      statements = statements p me ds;
       each = as-many p me ds;
       own = λ c by g. elim (in_append c (certificate_claims form p (inside g.msg.body)) (claim me (stated form p g.msg.body) g.msg.sig ∷ []) g.holds) [
         | inl a ↦ inr (inside-seen p me xs i leaf g.to g.msg g.sent c a)

@@ -51,8 +51,8 @@ abbrev pub signs : Params → ℕ → ℕ → List ℕ → Claim
 signs p k leaf statement = claim k statement (signature p k leaf statement)
 
 -- the message, signed by replica k with this leaf
-abbrev pub by : Params → ℕ → ℕ → Message → Message
-by p k leaf msg = with_signature (signature p k leaf (stated basic p msg.body)) msg
+abbrev pub by : Params → ℕ → ℕ → Body → Message
+by p k leaf body = signed body (signature p k leaf (stated basic p body))
 
 -- what votes for a node in a view sign, by phase
 abbrev pub states : Params → ℕ → List ℕ → ℕ → List ℕ
@@ -81,13 +81,13 @@ shown p r phase = Votes r.view phase r.digest (votes p r phase)
 
 -- replica 3 shows the certificates of the three phases
 abbrev pub pre_commit : Params → Poll → Message
-pre_commit p r = by p 3 0 (signed (PreCommit r.view (shown p r 1)) [])
+pre_commit p r = by p 3 0 (PreCommit r.view (shown p r 1))
 
 abbrev pub commit : Params → Poll → Message
-commit p r = by p 3 0 (signed (Commit r.view (shown p r 2)) [])
+commit p r = by p 3 0 (Commit r.view (shown p r 2))
 
 abbrev pub decide : Params → Poll → Message
-decide p r = by p 3 0 (signed (Decide r.view (shown p r 3)) [])
+decide p r = by p 3 0 (Decide r.view (shown p r 3))
 
 -- replica k sends its vote to a leader
 abbrev pub sent : Params → Poll → ℕ → ℕ → ℕ → ℕ → List (To × Message)
@@ -143,19 +143,19 @@ module _ (l : ℕ) (below : l < 4) where
       }
 
   pub pre-commit-read : (r : Poll) → IsPoll r → IsReadMessage hotstuff p (pre_commit p r)
-  pre-commit-read r is = spelled-read 3 1 (pre_commit p r) _ (record { three = refl; view_fits = is.high; certificate = _; spelled = shown-spelled r 1 is (omega arith) (omega arith); signed = signature-shape hotstuff p good 3 0 _; row = refl })
+  pre-commit-read r is = spelled-read 3 1 (pre_commit p r) _ (record { three = refl; view_fits = is.high; certificate = _; spelled = shown-spelled r 1 is (omega arith) (omega arith); row = refl }) (signature-shape hotstuff p good 3 0 _)
 
   pub commit-read : (r : Poll) → IsPoll r → IsReadMessage hotstuff p (commit p r)
-  commit-read r is = spelled-read 3 1 (commit p r) _ (record { three = refl; view_fits = is.high; certificate = _; spelled = shown-spelled r 2 is (omega arith) (omega arith); signed = signature-shape hotstuff p good 3 0 _; row = refl })
+  commit-read r is = spelled-read 3 1 (commit p r) _ (record { three = refl; view_fits = is.high; certificate = _; spelled = shown-spelled r 2 is (omega arith) (omega arith); row = refl }) (signature-shape hotstuff p good 3 0 _)
 
   pub decide-read : (r : Poll) → IsPoll r → IsReadMessage hotstuff p (decide p r)
-  decide-read r is = spelled-read 3 1 (decide p r) _ (record { three = refl; view_fits = is.high; certificate = _; spelled = shown-spelled r 3 is (omega arith) (omega arith); signed = signature-shape hotstuff p good 3 0 _; row = refl })
+  decide-read r is = spelled-read 3 1 (decide p r) _ (record { three = refl; view_fits = is.high; certificate = _; spelled = shown-spelled r 3 is (omega arith) (omega arith); row = refl }) (signature-shape hotstuff p good 3 0 _)
 
-  pub prepare-read : (k leaf view : ℕ) (what : Content) (just : Certificate) (held cited : List ℕ) → view < 2 ^ 32 → IsSpelledContent 1 what held → IsSpelledCertificate 3 just cited → IsReadMessage hotstuff p (by p k leaf (signed (Prepare view what just) []))
-  prepare-read k leaf view what just held cited fits h c = spelled-read 3 1 (by p k leaf (signed (Prepare view what just) [])) _ (record { view_fits = fits; behind = held; what_is = h; certificate = cited; spelled = c; signed = signature-shape hotstuff p good k leaf _; row = refl })
+  pub prepare-read : (k leaf view : ℕ) (what : Content) (just : Certificate) (held cited : List ℕ) → view < 2 ^ 32 → IsSpelledContent 1 what held → IsSpelledCertificate 3 just cited → IsReadMessage hotstuff p (by p k leaf (Prepare view what just))
+  prepare-read k leaf view what just held cited fits h c = spelled-read 3 1 (by p k leaf (Prepare view what just)) _ (record { view_fits = fits; behind = held; what_is = h; certificate = cited; spelled = c; row = refl }) (signature-shape hotstuff p good k leaf _)
 
-  pub new-view-read : (k leaf round : ℕ) (high : Certificate) (cited : List ℕ) → round < 2 ^ 16 → IsSpelledCertificate 3 high cited → IsReadMessage hotstuff p (by p k leaf (signed (NewView round high) []))
-  new-view-read k leaf round high cited fits c = spelled-read 3 1 (by p k leaf (signed (NewView round high) [])) _ (record { round_fits = fits; certificate = cited; spelled = c; signed = signature-shape hotstuff p good k leaf _; row = refl })
+  pub new-view-read : (k leaf round : ℕ) (high : Certificate) (cited : List ℕ) → round < 2 ^ 16 → IsSpelledCertificate 3 high cited → IsReadMessage hotstuff p (by p k leaf (NewView round high))
+  new-view-read k leaf round high cited fits c = spelled-read 3 1 (by p k leaf (NewView round high)) _ (record { round_fits = fits; certificate = cited; spelled = c; row = refl }) (signature-shape hotstuff p good k leaf _)
 
 -- ---- Messages that may arrive at replicas of a module with these messages
 

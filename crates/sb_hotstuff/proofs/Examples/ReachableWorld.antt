@@ -42,7 +42,7 @@ pub first-is : IsPoll first
 first-is = record { low = omega arith; high = omega arith; long = length-sha256 _; ascending = omega arith; few = omega arith; one_left = omega arith; other_left = omega arith }
 
 abbrev pub proposal : Message
-proposal = by q 3 0 (signed (Prepare 1 (Holds b) Root) [])
+proposal = by q 3 0 (Prepare 1 (Holds b) Root)
 
 pub proposal-read : IsReadMessage hotstuff q proposal
 proposal-read = prepare-read 3 (omega arith) 3 0 1 (Holds b) Root batch_held.0 root_row (omega arith) batch_held.1 refl

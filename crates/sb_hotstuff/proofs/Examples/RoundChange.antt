@@ -56,19 +56,19 @@ pub second-is : IsPoll second
 second-is = record { low = omega arith; high = omega arith; long = length-sha256 _; ascending = omega arith; few = omega arith; one_left = omega arith; other_left = omega arith }
 
 abbrev pub proposal : Message
-proposal = by q 0 0 (signed (Prepare 1 (Holds b) Root) [])
+proposal = by q 0 0 (Prepare 1 (Holds b) Root)
 
 abbrev pub against : Message
-against = by q 3 0 (signed (Prepare 196609 Nil Root) [])
+against = by q 3 0 (Prepare 196609 Nil Root)
 
 abbrev pub ended : Message
-ended = by q 1 4 (signed (NewView 1 (shown q first 1)) [])
+ended = by q 1 4 (NewView 1 (shown q first 1))
 
 abbrev pub blank : ℕ → Message
-blank k = by q k 0 (signed (NewView 1 Root) [])
+blank k = by q k 0 (NewView 1 Root)
 
 abbrev pub again : Message
-again = by q 1 5 (signed (Prepare 65537 Nil (shown q first 1)) [])
+again = by q 1 5 (Prepare 65537 Nil (shown q first 1))
 
 proposal-read : IsReadMessage hotstuff q proposal
 proposal-read = prepare-read 0 (omega arith) 0 0 1 (Holds b) Root batch_held.0 root_row (omega arith) batch_held.1 refl

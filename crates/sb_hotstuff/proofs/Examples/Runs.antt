@@ -67,8 +67,8 @@ abbrev d : List ℕ
 d = node_digest p 1 (Holds b) Root
 
 -- a message signed by replica k with this leaf
-abbrev by : ℕ → ℕ → Message → Message
-by k leaf msg = with_signature (signature p k leaf (stated basic p msg.body)) msg
+abbrev by : ℕ → ℕ → Body → Message
+by k leaf body = signed body (signature p k leaf (stated basic p body))
 
 abbrev vote : ℕ → Signed
 vote k = record { by = node k; sig = k ∷ [] }
@@ -94,7 +94,7 @@ told from msg = Receive (node from) msg
 abbrev cast : List (Item Message)
 cast = take_in 0 [] (Cast (slot 0) b) 5
 
-casts : makes p 0 [] (Cast (slot 0) b) 5 ≡ record { sends = (To_all, by 0 5 (signed (Prepare 1 (Holds b) Root) [])) ∷ []; accepted = Some (slot 0, b); strings = value_string 1 (Value_batch b) ∷ plain_string 1 1 root (Holds b) ∷ []; used = 1 }
+casts : makes p 0 [] (Cast (slot 0) b) 5 ≡ record { sends = (To_all, by 0 5 (Prepare 1 (Holds b) Root)) ∷ []; accepted = Some (slot 0, b); strings = value_string 1 (Value_batch b) ∷ plain_string 1 1 root (Holds b) ∷ []; used = 1 }
 casts = refl
 
 casts_in_order : asks p 0 cast (Cast (slot 0) b) ≡ None
@@ -122,7 +122,7 @@ two_of phase xs = hears 0 1 (signed (Vote phase 1 d) (1 ∷ [])) (hears 0 0 (sig
 abbrev three_of : ℕ → List (Item Message) → List (Item Message)
 three_of phase xs = hears 0 2 (signed (Vote phase 1 d) (2 ∷ [])) (two_of phase xs)
 
-shows_first : sends 0 (two_of 1 proposed) (told 2 (signed (Vote 1 1 d) (2 ∷ []))) ≡ (To_all, by 0 9 (signed (PreCommit 1 (shown 1)) [])) ∷ []
+shows_first : sends 0 (two_of 1 proposed) (told 2 (signed (Vote 1 1 d) (2 ∷ []))) ≡ (To_all, by 0 9 (PreCommit 1 (shown 1))) ∷ []
 unfolding sha256 digest_bytes hash_after compress rounds schedule first_words spell_batch spell_count spell_value
 shows_first = refl
 
@@ -135,12 +135,12 @@ no_fourth : sends 0 (three_of 1 proposed) (told 3 (signed (Vote 1 1 d) (3 ∷ []
 unfolding sha256 digest_bytes hash_after compress rounds schedule first_words spell_batch spell_count spell_value
 no_fourth = refl
 
-shows_second : sends 0 (two_of 2 (three_of 1 proposed)) (told 2 (signed (Vote 2 1 d) (2 ∷ []))) ≡ (To_all, by 0 9 (signed (Commit 1 (shown 2)) [])) ∷ []
+shows_second : sends 0 (two_of 2 (three_of 1 proposed)) (told 2 (signed (Vote 2 1 d) (2 ∷ []))) ≡ (To_all, by 0 9 (Commit 1 (shown 2))) ∷ []
 unfolding sha256 digest_bytes hash_after compress rounds schedule first_words spell_batch spell_count spell_value
 shows_second = refl
 
 -- commit votes may be counted before the prepareQC is complete; the next turn needs both
-shows_third_first : sends 0 (two_of 3 proposed) (told 2 (signed (Vote 3 1 d) (2 ∷ []))) ≡ (To_all, by 0 9 (signed (Decide 1 (shown 3)) [])) ∷ []
+shows_third_first : sends 0 (two_of 3 proposed) (told 2 (signed (Vote 3 1 d) (2 ∷ []))) ≡ (To_all, by 0 9 (Decide 1 (shown 3))) ∷ []
 unfolding sha256 digest_bytes hash_after compress rounds schedule first_words spell_batch spell_count spell_value
 shows_third_first = refl
 
@@ -149,7 +149,7 @@ abbrev waiting : List (Item Message)
 waiting = take_in 0 proposed (Cast (slot 4) b) 6
 
 shows_third : makes p 0 (two_of 3 (three_of 2 (three_of 1 waiting))) (told 2 (signed (Vote 3 1 d) (2 ∷ []))) 9 ≡
-    record { sends = (To_all, by 0 9 (signed (Decide 1 (shown 3)) [])) ∷ (To_all, by 0 10 (signed (Prepare 2 (Holds b) (shown 1)) [])) ∷ []; accepted = None; strings = value_string 1 (Value_batch b) ∷ plain_string 1 2 d (Holds b) ∷ []; used = 2 }
+    record { sends = (To_all, by 0 9 (Decide 1 (shown 3))) ∷ (To_all, by 0 10 (Prepare 2 (Holds b) (shown 1))) ∷ []; accepted = None; strings = value_string 1 (Value_batch b) ∷ plain_string 1 2 d (Holds b) ∷ []; used = 2 }
 unfolding sha256 digest_bytes hash_after compress rounds schedule first_words spell_batch spell_count spell_value
 shows_third = refl
 
@@ -159,7 +159,7 @@ abbrev first : List (Item Message)
 first = hears 1 0 (signed (Prepare 1 (Holds b) Root) []) []
 
 votes_first : makes p 1 [] (told 0 (signed (Prepare 1 (Holds b) Root) [])) 9 ≡
-    record { sends = (To_one (node 0), by 1 9 (signed (Vote 1 1 d) [])) ∷ []; accepted = Some (slot 0, b); strings = value_string 1 (Value_batch b) ∷ plain_string 1 1 root (Holds b) ∷ []; used = 1 }
+    record { sends = (To_one (node 0), by 1 9 (Vote 1 1 d)) ∷ []; accepted = Some (slot 0, b); strings = value_string 1 (Value_batch b) ∷ plain_string 1 1 root (Holds b) ∷ []; used = 1 }
 unfolding sha256 digest_bytes hash_after compress rounds schedule first_words spell_batch spell_count spell_value
 votes_first = refl
 
@@ -182,7 +182,7 @@ no_turn = refl
 abbrev second : List (Item Message)
 second = hears 1 0 (signed (PreCommit 1 (shown 1)) []) first
 
-votes_second : sends 1 first (told 0 (signed (PreCommit 1 (shown 1)) [])) ≡ (To_one (node 0), by 1 9 (signed (Vote 2 1 d) [])) ∷ []
+votes_second : sends 1 first (told 0 (signed (PreCommit 1 (shown 1)) [])) ≡ (To_one (node 0), by 1 9 (Vote 2 1 d)) ∷ []
 unfolding sha256 digest_bytes hash_after compress rounds schedule first_words spell_batch spell_count spell_value
 votes_second = refl
 
@@ -199,7 +199,7 @@ no_more_than_a_quorum : sends 1 first (told 0 (signed (PreCommit 1 (Votes 1 1 d 
 unfolding sha256 digest_bytes hash_after compress rounds schedule first_words spell_batch spell_count spell_value
 no_more_than_a_quorum = refl
 
-votes_third : sends 1 second (told 0 (signed (Commit 1 (shown 2)) [])) ≡ (To_one (node 0), by 1 9 (signed (Vote 3 1 d) [])) ∷ []
+votes_third : sends 1 second (told 0 (signed (Commit 1 (shown 2)) [])) ≡ (To_one (node 0), by 1 9 (Vote 3 1 d)) ∷ []
 unfolding sha256 digest_bytes hash_after compress rounds schedule first_words spell_batch spell_count spell_value
 votes_third = refl
 
@@ -241,7 +241,7 @@ delivers_the_branch = (refl, refl)
 abbrev ended : List (Item Message)
 ended = take_in 1 second Timeout 9
 
-ends : sends 1 second Timeout ≡ (To_one (node 1), by 1 9 (signed (NewView 1 (shown 1)) [])) ∷ []
+ends : sends 1 second Timeout ≡ (To_one (node 1), by 1 9 (NewView 1 (shown 1))) ∷ []
 unfolding sha256 digest_bytes hash_after compress rounds schedule first_words spell_batch spell_count spell_value
 ends = refl
 
@@ -249,7 +249,7 @@ abbrev two_news : List (Item Message)
 two_news = hears 1 1 (signed (NewView 1 (shown 1)) []) (hears 1 0 (signed (NewView 1 Root) []) ended)
 
 proposes_nil : makes p 1 two_news (told 2 (signed (NewView 1 Root) [])) 9 ≡
-    record { sends = (To_all, by 1 9 (signed (Prepare 65537 Nil (shown 1)) [])) ∷ []; accepted = None; strings = value_string 1 Value_nil ∷ plain_string 1 65537 d Nil ∷ []; used = 1 }
+    record { sends = (To_all, by 1 9 (Prepare 65537 Nil (shown 1))) ∷ []; accepted = None; strings = value_string 1 Value_nil ∷ plain_string 1 65537 d Nil ∷ []; used = 1 }
 unfolding sha256 digest_bytes hash_after compress rounds schedule first_words spell_batch spell_count spell_value
 proposes_nil = refl
 
@@ -274,7 +274,7 @@ not_safe : sends 1 locked (told 1 (signed (Prepare 65537 Nil Root) [])) ≡ []
 unfolding sha256 digest_bytes hash_after compress rounds schedule first_words spell_batch spell_count spell_value
 not_safe = refl
 
-safe : sends 1 locked (told 1 (signed (Prepare 65537 Nil (shown 1)) [])) ≡ (To_one (node 1), by 1 9 (signed (Vote 1 65537 (node_digest p 65537 Nil (shown 1))) [])) ∷ []
+safe : sends 1 locked (told 1 (signed (Prepare 65537 Nil (shown 1)) [])) ≡ (To_one (node 1), by 1 9 (Vote 1 65537 (node_digest p 65537 Nil (shown 1)))) ∷ []
 unfolding sha256 digest_bytes hash_after compress rounds schedule first_words spell_batch spell_count spell_value
 safe = refl
 
@@ -288,7 +288,7 @@ abbrev full_news : List (Item Message)
 full_news = hears 1 1 (signed (NewView 1 (shown2 1)) []) (hears 1 0 (signed (NewView 1 (shown2 1)) []) full)
 
 proposes_a_mark : makes p 1 full_news (told 2 (signed (NewView 1 Root) [])) 9 ≡
-    record { sends = (To_all, by 1 9 (signed (Prepare 65537 Mark (shown2 1)) [])) ∷ []; accepted = None; strings = plain_string 1 65537 d2 Mark ∷ []; used = 1 }
+    record { sends = (To_all, by 1 9 (Prepare 65537 Mark (shown2 1))) ∷ []; accepted = None; strings = plain_string 1 65537 d2 Mark ∷ []; used = 1 }
 unfolding sha256 digest_bytes hash_after compress rounds schedule first_words spell_batch spell_count spell_value
 proposes_a_mark = refl
 
@@ -301,7 +301,7 @@ no_early_mark : sends 1 ended (told 1 (signed (Prepare 65537 Mark (shown 1)) [])
 unfolding sha256 digest_bytes hash_after compress rounds schedule first_words spell_batch spell_count spell_value
 no_early_mark = refl
 
-takes_a_mark : sends 1 full (told 1 (signed (Prepare 65537 Mark (shown2 1)) [])) ≡ (To_one (node 1), by 1 9 (signed (Vote 1 65537 (node_digest p 65537 Mark (shown2 1))) [])) ∷ []
+takes_a_mark : sends 1 full (told 1 (signed (Prepare 65537 Mark (shown2 1)) [])) ≡ (To_one (node 1), by 1 9 (Vote 1 65537 (node_digest p 65537 Mark (shown2 1)))) ∷ []
 unfolding sha256 digest_bytes hash_after compress rounds schedule first_words spell_batch spell_count spell_value
 takes_a_mark = refl
 

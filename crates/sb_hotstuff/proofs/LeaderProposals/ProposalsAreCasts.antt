@@ -43,16 +43,7 @@ use Rattle.sb_hotstuff.proofs.ModuleLaws.SentMessagesDecode.{MayTurn, digest-len
 use Rattle.sb_hotstuff.proofs.Safety.VotesHaveCauses.{AreVoted, acc, hashed-has}
 use Rattle.hs_views.proofs.Tests.{by-if, by-test, is-same}
 
--- ---- Unsigned messages
-
-unsigned : (p : Params) (me leaf : ℕ) (ds : List (To × Message)) (to : To) (view : ℕ) (what : Content) (just : Certificate) (sig : List ℕ) → In {A = To × Message} (to, signed (Prepare view what just) sig) (sign_all p me leaf ds) →
-    (old : List ℕ) × In {A = To × Message} (to, signed (Prepare view what just) old) ds
-unsigned p me leaf [] to view what just sig h = absurd h
-unsigned p me leaf (x ∷ ds) to view what just sig (inl e) =
-    let r = prepare-unsigned sig (signature p me leaf (stated basic p x.1.body)) x.1 view what just (ap (λ (z : To × Message). z.1) e) in
-    let goes : to ≡ x.0 = ap (λ (z : To × Message). z.0) e in
-    (r.0, inl (ap (λ (z : To). let y : To × Message = (z, signed (Prepare view what just) r.0) in y) goes ∙ ap (λ (z : Message). let y : To × Message = (x.0, z) in y) (sym r.1)))
-unsigned p me leaf (x ∷ ds) to view what just sig (inr k) = let r = unsigned p me (suc leaf) ds to view what just sig k in (r.0, inr r.1)
+-- ---- Drafts
 
 -- a proposal that is sent belongs to the turn that the input triggered
 pub record IsTurn (o : Option Turn) (view : ℕ) (what : Content) (just : Certificate) : Type 0 where
@@ -62,25 +53,25 @@ pub record IsTurn (o : Option Turn) (view : ℕ) (what : Content) (just : Certif
   pub what_is : turn.what ≡ what
   pub just_is : turn.just ≡ just
 
-module _ (p : Params) (to : To) (view : ℕ) (what : Content) (just : Certificate) (sig : List ℕ) where
-  abbrev Sent : List (To × Message) → Type 0
-  Sent ds = In {A = To × Message} (to, signed (Prepare view what just) sig) ds
+module _ (p : Params) (to : To) (view : ℕ) (what : Content) (just : Certificate) where
+  abbrev Sent : List (To × Body) → Type 0
+  Sent ds = In {A = To × Body} (to, Prepare view what just) ds
 
-  one-is : (a : To) (n : Message) → Sent ((a, n) ∷ []) → Prepare view what just ≡ n.body
-  one-is a n (inl e) = ap (λ (z : To × Message). z.1.body) e
+  one-is : (a : To) (n : Body) → Sent ((a, n) ∷ []) → Prepare view what just ≡ n
+  one-is a n (inl e) = ap (λ (z : To × Body). z.1) e
   one-is a n (inr h) = absurd h
 
-  none-if : (t : Bool) (ds : List (To × Message)) → (Sent ds → ⊥) → Sent (if t then ds else []) → ⊥
+  none-if : (t : Bool) (ds : List (To × Body)) → (Sent ds → ⊥) → Sent (if t then ds else []) → ⊥
   none-if true ds h k = h k
   none-if false ds h k = k
 
   none-voted : (q v : ℕ) (e : List ℕ) → Sent (voted p q v e) → ⊥
-  none-voted q v e h = let m = one-is _ (signed (Vote q v e) []) h in cc
+  none-voted q v e h = let m = one-is _ (Vote q v e) h in cc
 
-  none-shown : (q v : ℕ) (c : Certificate) → Prepare view what just ≡ (shows q v c).body → ⊥
+  none-shown : (q v : ℕ) (c : Certificate) → Prepare view what just ≡ shows q v c → ⊥
   none-shown q v c h = go (q == 1) (q == 2) h
     where
-      go : (a b : Bool) → Prepare view what just ≡ (let m : Message = if a then signed (PreCommit v c) [] else (if b then signed (Commit v c) [] else signed (Decide v c) []) in m).body → ⊥
+      go : (a b : Bool) → Prepare view what just ≡ (if a then PreCommit v c else (if b then Commit v c else Decide v c)) → ⊥
       go true b e = cc
       go false true e = cc
       go false false e = cc
@@ -95,12 +86,12 @@ module _ (p : Params) (to : To) (view : ℕ) (what : Content) (just : Certificat
   none-answered : (s k : State) (i : Input Message) → Sent (answers p s k i) → ⊥
   none-answered s k (Cast slot batch) h = h
   none-answered s k (Receive from msg) h = none-answered-heard s k from msg.body msg.sig h
-  none-answered s k Timeout h = none-if (may_end s) _ (λ z. let m = one-is _ (signed (NewView (suc (round_of s.view)) s.high) []) z in cc) h
+  none-answered s k Timeout h = none-if (may_end s) _ (λ z. let m = one-is _ (NewView (suc (round_of s.view)) s.high) z in cc) h
 
   of-turn : (o : Option Turn) → Sent (proposals o) → IsTurn o view what just
   of-turn None h = absurd h
   of-turn (Some t) h =
-      let m = one-is To_all (signed (Prepare t.view t.what t.just) []) h in
+      let m = one-is To_all (Prepare t.view t.what t.just) h in
       let a : t.view ≡ view = cc in
       let b : t.what ≡ what = cc in
       let c : t.just ≡ just = cc in
@@ -111,10 +102,10 @@ pub proposal-turn : (p : Params) (me leaf : ℕ) (xs : List (Item Message)) (i :
 proposal-turn p me leaf xs i to view what just sig h =
     let s = state p me xs in
     let k = kept p me s i in
-    let r = unsigned p me leaf (drafts p me s i) to view what just sig h in
-    elim (in_append {A = To × Message} (to, signed (Prepare view what just) r.0) (answers p s k i) (proposals (proposed p me s k i)) r.1) [
-      | inl a ↦ absurd (none-answered p to view what just r.0 s k i a)
-      | inr a ↦ of-turn p to view what just r.0 (proposed p me s k i) a
+    let drafted = sent-drafted basic p me leaf (drafts p me s i) to (signed (Prepare view what just) sig) h in
+    elim (in_append {A = To × Body} (to, Prepare view what just) (answers p s k i) (proposals (proposed p me s k i)) drafted) [
+      | inl a ↦ absurd (none-answered p to view what just s k i a)
+      | inr a ↦ of-turn p to view what just (proposed p me s k i) a
     ]
 
 -- ---- The turns of a legal history

@@ -29,7 +29,7 @@ use Rattle.hs_tree.specs.declared.messages.Body.{Body}
 use Rattle.hs_tree.specs.declared.messages.Body.TheVariants.{NewView, Prepare, PreCommit, Commit, Decide, Vote}
 use Rattle.iss_sb.specs.Signers.{AreSigners}
 use Rattle.hs_tree.specs.Certificates.{IsSpelledCertificate, digest_of, root_row, view_of, votes_row}
-use Rattle.hs_tree.specs.Messages.{IsSpelledMessage, signed, spell}
+use Rattle.hs_tree.specs.Messages.{IsSpelledBody, signed}
 use Rattle.hs_tree.specs.Statements.{stated}
 use Rattle.hs_tree.specs.Tree.{basic, is_known}
 use Rattle.iss_sb.proofs.Contents.{batch-table}
@@ -50,7 +50,7 @@ module _ (p : Params) (good : IsGoodParams hotstuff p) where
   SpelledWhat what = (bytes : List ℕ) × IsSpelledContent p.setup.version what bytes
 
   abbrev SpelledAs : Message → Type 0
-  SpelledAs msg = (bytes : List ℕ) × IsSpelledMessage 3 p.setup.version msg bytes
+  SpelledAs msg = (front : List ℕ) × IsSpelledBody 3 p.setup.version msg.body front × (is_signature msg.sig ≡ true)
 
   root-spelled : Spelled Root
   root-spelled = (root_row, refl)
@@ -265,9 +265,6 @@ module _ (p : Params) (good : IsGoodParams hotstuff p) where
 
   -- ---- The state
 
-  vote-parts : (phase view : ℕ) (d sig : List ℕ) → SpelledAs (signed (Vote phase view d) sig) → is_signature sig ≡ true
-  vote-parts phase view d sig h = h.1.signed
-
   heard-fits : (me : ℕ) (s : State) (from : ℕ) (body : Body) (sig : List ℕ) → SpelledAs (signed body sig) → Fits s → Fits (heard p me s from body sig)
   heard-fits me s from (NewView round high) sig m h = by-if Fits (keeps_news p me s from round high) (with_news s from round high) s
       (record { high = h.high; votes = h.votes; news = ((m.1.certificate, m.1.spelled), h.news); turns = h.turns; casts = h.casts; few = h.few }) h
@@ -279,7 +276,7 @@ module _ (p : Params) (good : IsGoodParams hotstuff p) where
       (record { high = h.high; votes = h.votes; news = h.news; turns = h.turns; casts = h.casts; few = h.few }) h
   heard-fits me s from (Decide view shown) sig m h = h
   heard-fits me s from (Vote phase view d) sig m h = by-if Fits (keeps_vote p s from phase view d) (with_vote s from phase view d sig) s
-      (record { high = h.high; votes = (m.1.signed, h.votes); news = h.news; turns = h.turns; casts = h.casts; few = h.few }) h
+      (record { high = h.high; votes = (m.2, h.votes); news = h.news; turns = h.turns; casts = h.casts; few = h.few }) h
 
   cast-fits : (s : State) (b : Batch) → length s.casts < length p.slots → IsReadBatch p b → Fits s → Fits (with_cast s b)
   cast-fits s b l r h =
@@ -303,7 +300,7 @@ module _ (p : Params) (good : IsGoodParams hotstuff p) where
 
   pub heard-is : (i : Input Message) → IsHeard hotstuff p i → Heard i
   heard-is (Cast slot batch) h = h
-  heard-is (Receive from msg) h = (spell 3 p.setup.version msg, read-spelled 3 p.setup.version msg h.1)
+  heard-is (Receive from msg) h = let r = read-spelled 3 p.setup.version msg h.1 in (r.front, r.body, r.shape)
   heard-is Timeout h = tt
 
   pub kept-fits : (me : ℕ) (s : State) (i : Input Message) → Heard i → Fits s → Fits (kept p me s i)
@@ -333,29 +330,29 @@ module _ (p : Params) (good : IsGoodParams hotstuff p) where
   state-fits me [] h = record { high = root-spelled; votes = tt; news = tt; turns = tt; casts = λ b k. absurd k; few = omega arith }
   state-fits me (x ∷ xs) h = after-fits me (state p me xs) x.input (heard-is x.input h.0) (state-fits me xs h.2)
 
-  -- ---- Sent messages, with their signatures
+  -- ---- Sent messages
 
-  abbrev Signs : Message → Type 0
-  Signs msg = (sig : List ℕ) → is_signature sig ≡ true → SpelledAs (with_signature sig msg)
+  abbrev Signs : Body → Type 0
+  Signs body = (front : List ℕ) × IsSpelledBody 3 p.setup.version body front
 
-  abbrev SignsAll : List (To × Message) → Type 0
+  abbrev SignsAll : List (To × Body) → Type 0
   SignsAll [] = Unit {0}
   SignsAll (x ∷ xs) = Signs x.1 × SignsAll xs
 
-  signs-append : (xs ys : List (To × Message)) → SignsAll xs → SignsAll ys → SignsAll (xs ++ ys)
+  signs-append : (xs ys : List (To × Body)) → SignsAll xs → SignsAll ys → SignsAll (xs ++ ys)
   signs-append [] ys h g = g
   signs-append (x ∷ xs) ys h g = (h.0, signs-append xs ys h.1 g)
 
   proposal-signs : (o : Option Turn) → MayTurn o → SignsAll (proposals o)
   proposal-signs None h = tt
-  proposal-signs (Some t) h = ((λ sig shape. (_, record { view_fits = low-view t.view h.fits.round_fits; behind = h.what.0; what_is = h.what.1; certificate = h.just.0; spelled = h.just.1; signed = shape; row = refl })), tt)
+  proposal-signs (Some t) h = ((_, record { view_fits = low-view t.view h.fits.round_fits; behind = h.what.0; what_is = h.what.1; certificate = h.just.0; spelled = h.just.1; row = refl }), tt)
 
   vote-signs : (phase view : ℕ) (d : List ℕ) → 1 ≤ phase → phase ≤ 3 → view < 2 ^ 32 → length d ≡ 32 → SignsAll (voted p phase view d)
-  vote-signs phase view d a b l long = ((λ sig shape. (_, record { phase_low = a; phase_fits = b; view_fits = l; digest_fits = long; signed = shape; row = refl })), tt)
+  vote-signs phase view d a b l long = ((_, record { phase_low = a; phase_fits = b; view_fits = l; digest_fits = long; row = refl }), tt)
 
   shows-sign : (phase view : ℕ) (c : Certificate) → view < 2 ^ 32 → Spelled c → Signs (shows phase view c)
-  shows-sign phase view c l h = by-if Signs (phase == 1) (signed (PreCommit view c) []) _ (λ sig shape. (_, record { three = refl; view_fits = l; certificate = h.0; spelled = h.1; signed = shape; row = refl }))
-      (by-if Signs (phase == 2) (signed (Commit view c) []) (signed (Decide view c) []) (λ sig shape. (_, record { three = refl; view_fits = l; certificate = h.0; spelled = h.1; signed = shape; row = refl })) (λ sig shape. (_, record { three = refl; view_fits = l; certificate = h.0; spelled = h.1; signed = shape; row = refl })))
+  shows-sign phase view c l h = by-if Signs (phase == 1) (PreCommit view c) _ (_, record { three = refl; view_fits = l; certificate = h.0; spelled = h.1; row = refl })
+      (by-if Signs (phase == 2) (Commit view c) (Decide view c) (_, record { three = refl; view_fits = l; certificate = h.0; spelled = h.1; row = refl }) (_, record { three = refl; view_fits = l; certificate = h.0; spelled = h.1; row = refl }))
 
   own-some : (ts : List Turn) (view : ℕ) (d : List ℕ) → TurnsFit ts → is_own_turn ts view d ≡ true → 1 ≤ view
   own-some [] view d h g = absurd (true≢false (sym g))
@@ -382,7 +379,7 @@ module _ (p : Params) (good : IsGoodParams hotstuff p) where
   answers-sign : (s k : State) (i : Input Message) → Heard i → Fits s → Fits k → SignsAll (answers p s k i)
   answers-sign s k (Cast slot batch) m h g = tt
   answers-sign s k (Receive from msg) m h g = answer-signs s k from.0 msg.body msg.sig m h g
-  answers-sign s k Timeout m h g = by-test SignsAll (may_end s) _ [] (λ q. let l = ltb-true (round_of s.view) 65535 q in ((λ sig shape. (_, record { round_fits = omega (arith, l); certificate = h.high.0; spelled = h.high.1; signed = shape; row = refl })), tt)) tt
+  answers-sign s k Timeout m h g = by-test SignsAll (may_end s) _ [] (λ q. let l = ltb-true (round_of s.view) 65535 q in ((_, record { round_fits = omega (arith, l); certificate = h.high.0; spelled = h.high.1; row = refl }), tt)) tt
 
   drafts-sign : (me : ℕ) (s : State) (i : Input Message) → Heard i → Fits s → SignsAll (drafts p me s i)
   drafts-sign me s i m h =
@@ -390,11 +387,11 @@ module _ (p : Params) (good : IsGoodParams hotstuff p) where
       let g = kept-fits me s i m h in
       signs-append (answers p s k i) (proposals (proposed p me s k i)) (answers-sign s k i m h g) (proposal-signs (proposed p me s k i) (proposed-new me s k i m g))
 
-  signed-read : (me leaf : ℕ) (ds : List (To × Message)) → SignsAll ds → (to : To) (msg : Message) → In {A = To × Message} (to, msg) (sign_all p me leaf ds) → IsReadMessage hotstuff p msg
+  signed-read : (me leaf : ℕ) (ds : List (To × Body)) → SignsAll ds → (to : To) (msg : Message) → In {A = To × Message} (to, msg) (sign_all p me leaf ds) → IsReadMessage hotstuff p msg
   signed-read me leaf [] h to msg k = absurd k
   signed-read me leaf (x ∷ ds) h to msg (inl e) =
-      let s = h.0 (signature p me leaf (stated basic p x.1.body)) (signature-shape hotstuff p good me leaf (stated basic p x.1.body)) in
-      subst (λ (z : To × Message). IsReadMessage hotstuff p z.1) (sym e) (spelled-read 3 p.setup.version (with_signature (signature p me leaf (stated basic p x.1.body)) x.1) s.0 s.1)
+      let sig = signature p me leaf (stated basic p x.1) in
+      subst (λ (z : To × Message). IsReadMessage hotstuff p z.1) (sym e) (spelled-read 3 p.setup.version (signed x.1 sig) h.0.0 h.0.1 (signature-shape hotstuff p good me leaf (stated basic p x.1)))
   signed-read me leaf (x ∷ ds) h to msg (inr k) = signed-read me (suc leaf) ds h.1 to msg k
 
 pub sent-again : (p : Params) (me : ℕ) (xs : List (Item Message)) (i : Input Message) (leaf : ℕ) (to : To) (msg : Message) → IsGoodParams hotstuff p → me < p.setup.n →

@@ -1,4 +1,4 @@
--- The draft that broadcasts a quorum certificate is the model's message.
+-- The draft that broadcasts a quorum certificate is the body of the model.
 use Rattle.std.proofs.Common.{◌≡◌, ℕ, ◌==◌, ◌++◌, Bool, true, false, if◌then◌else◌, List, [], ◌∷◌, refl, sym, ap, ◌∙◌}
 use Rattle.iss_sb.specs.declared.effects.Params.{Params}
 use Rattle.iss_sb.specs.declared.effects.To.TheVariants.{All as To_all}
@@ -7,33 +7,23 @@ use Rattle.hs_tree.specs.declared.certificates.Certificate.{Certificate}
 use Rattle.hs_tree.specs.declared.messages.Message.{Message}
 use Rattle.hs_tree.specs.declared.messages.Body.{Body}
 use Rattle.hs_tree.specs.declared.messages.Body.TheVariants.{PreCommit, Commit, Decide}
-use Rattle.hs_tree.specs.Messages.{signed}
 use Rattle.hs_tree.specs.Certificates.{digest_of}
 use Rattle.hs_tree.specs.Statements.{stated, statement}
 use Rattle.hs_tree.specs.Tree.{basic}
 use Rattle.hs_views.specs.declared.drafts.Recipient.TheVariants.{All as Recipient_all}
-use Rattle.hs_views.proofs.DraftsAgree.{one-message}
 use Rattle.sb_hotstuff.specs.Drafts.{IsDraft}
 use Rattle.sb_hotstuff.specs.HotStuff.{shows}
 
 abbrev kind_of : ℕ → ℕ
 kind_of phase = if phase == 1 then 3 else (if phase == 2 then 4 else 5)
 
-abbrev body_of : ℕ → ℕ → Certificate → Body
-body_of phase view c = if phase == 1 then PreCommit view c else (if phase == 2 then Commit view c else Decide view c)
-
-pub shown-drafted : (p : Params) (phase view kind : ℕ) (c : Certificate) (body : Body) (d said : List ℕ) → body ≡ body_of phase view c → d ≡ digest_of c → kind ≡ kind_of phase → said ≡ statement basic p kind (four_bytes view ++ d) →
+pub shown-drafted : (p : Params) (phase view kind : ℕ) (c : Certificate) (body : Body) (d said : List ℕ) → body ≡ shows phase view c → d ≡ digest_of c → kind ≡ kind_of phase → said ≡ statement basic p kind (four_bytes view ++ d) →
     IsDraft p (record { to = Recipient_all; body = body; statement = said }) ((To_all, shows phase view c) ∷ [])
 shown-drafted p phase view kind c body d said hb hd hk h = record {
-  message = one-message _ _ _ (shown (phase == 1) (phase == 2) ∙ ap (λ (z : Body). signed z []) (sym hb));
+  message = λ i. (To_all, sym hb i) ∷ [];
   statement = h ∙ (λ i. statement basic p (hk i) (four_bytes view ++ hd i)) ∙ sym (states (phase == 1) (phase == 2)) ∙ ap (λ (z : Body). stated basic p z) (sym hb);
 }
   where
-    shown : (a b : Bool) → (if a then signed (PreCommit view c) [] else (if b then signed (Commit view c) [] else signed (Decide view c) [])) ≡ signed (if a then PreCommit view c else (if b then Commit view c else Decide view c)) []
-    shown true b = refl
-    shown false true = refl
-    shown false false = refl
-
     states : (a b : Bool) → stated basic p (if a then PreCommit view c else (if b then Commit view c else Decide view c)) ≡ statement basic p (if a then 3 else (if b then 4 else 5)) (four_bytes view ++ digest_of c)
     states true b = refl
     states false true = refl

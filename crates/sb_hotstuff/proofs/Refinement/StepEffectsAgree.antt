@@ -161,8 +161,8 @@ module _ (p : Params) (m : HotStuff) (node : Node) (accepted : Accepted) (slot :
   }
 
 -- a message, by its body
-pub by-heard : (p : Params) (m n : HotStuff) (from : NodeId) (msg : Message) (body : Body) (t : Taken) → msg.body ≡ body → Takes p m n (Receive from (signed body msg.sig)) t → Takes p m n (Receive from msg) t
-by-heard p m n from msg body t is d = subst (λ (z : Body). Takes p m n (Receive from (signed z msg.sig)) t) (sym is) d
+pub by-body : (p : Params) (m n : HotStuff) (from : NodeId) (msg : Message) (body : Body) (t : Taken) → msg.body ≡ body → Takes p m n (Receive from (signed body msg.sig)) t → Takes p m n (Receive from msg) t
+by-body p m n from msg body t is d = subst (λ (z : Body). Takes p m n (Receive from (signed z msg.sig)) t) (sym is) d
 
 -- a proposal that does not pass its test
 pub unprepared-takes : (p : Params) (m : HotStuff) (o : Outcome) (t : Taken) → IsQuiet o → IsAlone o t → (from : NodeId) (view : ℕ) (what : Content) (just : Certificate) (sig : List ℕ) →

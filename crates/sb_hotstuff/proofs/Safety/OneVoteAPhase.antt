@@ -59,44 +59,28 @@ pub data Cause (p : Params) (s : State) (i : Input Message) (view : ℕ) (d : Li
   by_second : IsSecond p s i view d → Cause p s i view d 2
   by_third : IsThird p s i view d → Cause p s i view d 3
 
--- ---- Unsigned messages
+-- ---- Drafts
 
-record IsUnsigned (ds : List (To × Message)) (to : To) (phase view : ℕ) (d : List ℕ) : Type 0 where
-  pub sig : List ℕ
-  pub sent : In {A = To × Message} (to, signed (Vote phase view d) sig) ds
+module _ (p : Params) (to : To) (phase view : ℕ) (d : List ℕ) where
+  abbrev Sent : List (To × Body) → Type 0
+  Sent ds = In {A = To × Body} (to, Vote phase view d) ds
 
-vote-unsigned : (s t : List ℕ) (msg : Message) (phase view : ℕ) (d : List ℕ) → signed (Vote phase view d) s ≡ with_signature t msg → (sig : List ℕ) × (msg ≡ signed (Vote phase view d) sig)
-vote-unsigned s t msg phase view d h = (msg.sig, ap (λ (z : Message). signed z.body msg.sig) (sym h))
+  one-is : (a : To) (n : Body) → Sent ((a, n) ∷ []) → Vote phase view d ≡ n
+  one-is a n (inl e) = ap (λ (z : To × Body). z.1) e
+  one-is a n (inr h) = absurd h
 
-unsigned : (p : Params) (me leaf : ℕ) (ds : List (To × Message)) (to : To) (phase view : ℕ) (d sig : List ℕ) → In {A = To × Message} (to, signed (Vote phase view d) sig) (sign_all p me leaf ds) → IsUnsigned ds to phase view d
-unsigned p me leaf [] to phase view d sig h = absurd h
-unsigned p me leaf (x ∷ ds) to phase view d sig (inl e) =
-    let r = vote-unsigned sig (signature p me leaf (stated basic p x.1.body)) x.1 phase view d (ap (λ (z : To × Message). z.1) e) in
-    let goes : to ≡ x.0 = ap (λ (z : To × Message). z.0) e in
-    record { sig = r.0; sent = inl (ap (λ (z : To). let y : To × Message = (z, signed (Vote phase view d) r.0) in y) goes ∙ ap (λ (z : Message). let y : To × Message = (x.0, z) in y) (sym r.1)) }
-unsigned p me leaf (x ∷ ds) to phase view d sig (inr k) = let r = unsigned p me (suc leaf) ds to phase view d sig k in record { sig = r.sig; sent = inr r.sent }
-
-module _ (p : Params) (to : To) (phase view : ℕ) (d sig : List ℕ) where
-  abbrev Sent : List (To × Message) → Type 0
-  Sent ds = In {A = To × Message} (to, signed (Vote phase view d) sig) ds
-
-  one-is : (a b : To) (m n : Message) → In {A = To × Message} (a, m) ((b, n) ∷ []) → m.body ≡ n.body
-  one-is a b m n (inl e) = ap (λ (z : To × Message). z.1.body) e
-  one-is a b m n (inr h) = absurd h
-
-  by-true : (t : Bool) (ds : List (To × Message)) (C : Type 0) → (t ≡ true → Sent ds → C) → Sent (if t then ds else []) → C
+  by-true : (t : Bool) (ds : List (To × Body)) (C : Type 0) → (t ≡ true → Sent ds → C) → Sent (if t then ds else []) → C
   by-true true ds C h k = h refl k
   by-true false ds C h k = absurd k
 
   none-proposed : (o : Option Turn) → Sent (proposals o) → ⊥
   none-proposed None h = h
-  none-proposed (Some t) (inl e) = let m : Vote phase view d ≡ Prepare t.view t.what t.just = ap (λ (z : To × Message). z.1.body) e in cc
-  none-proposed (Some t) (inr h) = h
+  none-proposed (Some t) h = let m = one-is To_all (Prepare t.view t.what t.just) h in cc
 
-  none-shown : (q v : ℕ) (c : Certificate) → Vote phase view d ≡ (shows q v c).body → ⊥
+  none-shown : (q v : ℕ) (c : Certificate) → Vote phase view d ≡ shows q v c → ⊥
   none-shown q v c h = go (q == 1) (q == 2) h
     where
-      go : (a b : Bool) → Vote phase view d ≡ (let m : Message = if a then signed (PreCommit v c) [] else (if b then signed (Commit v c) [] else signed (Decide v c) []) in m).body → ⊥
+      go : (a b : Bool) → Vote phase view d ≡ (if a then PreCommit v c else (if b then Commit v c else Decide v c)) → ⊥
       go true b e = cc
       go false true e = cc
       go false false e = cc
@@ -105,7 +89,7 @@ module _ (p : Params) (to : To) (phase view : ℕ) (d sig : List ℕ) where
   Why s i = Cause p s i view d phase
 
   why-heard : (s k : State) (from : NodeId) (body : Body) (sig : List ℕ) → Sent (answers_heard p s k from.0 body) → Why s (Receive from (signed body sig))
-  why-heard s k from (Prepare v what just) x h = by-true (may_prepare p s from.0 v what just) (voted p 1 v (node_digest p v what just)) (Why s (Receive from (signed (Prepare v what just) x))) (λ t z. go t (one-is to _ (signed (Vote phase view d) sig) (signed (Vote 1 v (node_digest p v what just)) []) z)) h
+  why-heard s k from (Prepare v what just) x h = by-true (may_prepare p s from.0 v what just) (voted p 1 v (node_digest p v what just)) (Why s (Receive from (signed (Prepare v what just) x))) (λ t z. go t (one-is _ (Vote 1 v (node_digest p v what just)) z)) h
     where
       go : may_prepare p s from.0 v what just ≡ true → Vote phase view d ≡ Vote 1 v (node_digest p v what just) → Why s (Receive from (signed (Prepare v what just) x))
       go t e =
@@ -115,7 +99,7 @@ module _ (p : Params) (to : To) (phase view : ℕ) (d sig : List ℕ) where
           subst (λ (z : ℕ). Cause p s (Receive from (signed (Prepare v what just) x)) view d z) (sym a)
           (subst (λ (z : ℕ). Cause p s (Receive from (signed (Prepare v what just) x)) z d 1) (sym b)
           (by_first (record { from = from; what = what; just = just; sig = x; is = refl; may = t; digest_is = c })))
-  why-heard s k from (PreCommit v shown) x h = by-true (may_second p s v shown) (voted p 2 v (digest_of shown)) (Why s (Receive from (signed (PreCommit v shown) x))) (λ t z. go t (one-is to _ (signed (Vote phase view d) sig) (signed (Vote 2 v (digest_of shown)) []) z)) h
+  why-heard s k from (PreCommit v shown) x h = by-true (may_second p s v shown) (voted p 2 v (digest_of shown)) (Why s (Receive from (signed (PreCommit v shown) x))) (λ t z. go t (one-is _ (Vote 2 v (digest_of shown)) z)) h
     where
       go : may_second p s v shown ≡ true → Vote phase view d ≡ Vote 2 v (digest_of shown) → Why s (Receive from (signed (PreCommit v shown) x))
       go t e =
@@ -125,7 +109,7 @@ module _ (p : Params) (to : To) (phase view : ℕ) (d sig : List ℕ) where
           subst (λ (z : ℕ). Cause p s (Receive from (signed (PreCommit v shown) x)) view d z) (sym a)
           (subst (λ (z : ℕ). Cause p s (Receive from (signed (PreCommit v shown) x)) z d 2) (sym b)
           (by_second (record { from = from; shown = shown; sig = x; is = refl; may = t; digest_is = c })))
-  why-heard s k from (Commit v shown) x h = by-true (may_third p s v shown) (voted p 3 v (digest_of shown)) (Why s (Receive from (signed (Commit v shown) x))) (λ t z. go t (one-is to _ (signed (Vote phase view d) sig) (signed (Vote 3 v (digest_of shown)) []) z)) h
+  why-heard s k from (Commit v shown) x h = by-true (may_third p s v shown) (voted p 3 v (digest_of shown)) (Why s (Receive from (signed (Commit v shown) x))) (λ t z. go t (one-is _ (Vote 3 v (digest_of shown)) z)) h
     where
       go : may_third p s v shown ≡ true → Vote phase view d ≡ Vote 3 v (digest_of shown) → Why s (Receive from (signed (Commit v shown) x))
       go t e =
@@ -135,26 +119,25 @@ module _ (p : Params) (to : To) (phase view : ℕ) (d sig : List ℕ) where
           subst (λ (z : ℕ). Cause p s (Receive from (signed (Commit v shown) x)) view d z) (sym a)
           (subst (λ (z : ℕ). Cause p s (Receive from (signed (Commit v shown) x)) z d 3) (sym b)
           (by_third (record { from = from; shown = shown; sig = x; is = refl; may = t; digest_is = c })))
-  why-heard s k from (Vote q v e) x h = absurd (by-true (keeps_vote p s from.0 q v e && is_reached p k q v e) ((To_all, shows q v (certificate p k q v e)) ∷ []) ⊥ (λ t z. none-shown q v (certificate p k q v e) (one-is to To_all (signed (Vote phase view d) sig) (shows q v (certificate p k q v e)) z)) h)
+  why-heard s k from (Vote q v e) x h = absurd (by-true (keeps_vote p s from.0 q v e && is_reached p k q v e) ((To_all, shows q v (certificate p k q v e)) ∷ []) ⊥ (λ t z. none-shown q v (certificate p k q v e) (one-is To_all (shows q v (certificate p k q v e)) z)) h)
   why-heard s k from other x h = absurd h
 
   why-answer : (s k : State) (i : Input Message) → Sent (answers p s k i) → Why s i
   why-answer s k (Cast slot batch) h = absurd h
   why-answer s k (Receive from msg) h = why-heard s k from msg.body msg.sig h
-  why-answer s k Timeout h = absurd (by-true (may_end s) _ ⊥ (λ t z. let e = one-is to _ (signed (Vote phase view d) sig) _ z in cc) h)
+  why-answer s k Timeout h = absurd (by-true (may_end s) _ ⊥ (λ t z. let e = one-is _ _ z in cc) h)
 
   why : (me : ℕ) (s : State) (i : Input Message) → Sent (drafts p me s i) → Why s i
   why me s i h =
       let k = kept p me s i in
-      elim (in_append {A = To × Message} (to, signed (Vote phase view d) sig) (answers p s k i) (proposals (proposed p me s k i)) h) [
+      elim (in_append {A = To × Body} (to, Vote phase view d) (answers p s k i) (proposals (proposed p me s k i)) h) [
         | inl a ↦ why-answer s k i a
         | inr a ↦ absurd (none-proposed (proposed p me s k i) a)
       ]
 
 pub cause : (p : Params) (me leaf : ℕ) (xs : List (Item Message)) (i : Input Message) (to : To) (phase view : ℕ) (d sig : List ℕ) → In {A = To × Message} (to, signed (Vote phase view d) sig) (makes p me xs i leaf).sends → Cause p (state p me xs) i view d phase
 cause p me leaf xs i to phase view d sig h =
-    let r = unsigned p me leaf (drafts p me (state p me xs) i) to phase view d sig h in
-    why p to phase view d r.sig me (state p me xs) i r.sent
+    why p to phase view d me (state p me xs) i (sent-drafted basic p me leaf (drafts p me (state p me xs) i) to (signed (Vote phase view d) sig) h)
 
 -- ---- Views never decrease
 
