@@ -61,8 +61,8 @@ abbrev signs : ℕ → ℕ → List ℕ → Claim
 signs k leaf statement = claim k statement (signature q k leaf statement)
 
 -- the message, signed by replica 3
-abbrev pub by : Message → Message
-by msg = with_signature (signature q 3 0 (stated basic q msg.body)) msg
+abbrev pub by : Body → Message
+by body = signed body (signature q 3 0 (stated basic q body))
 
 -- The votes for a node in a view: by replica 3, with leaf 0, and by two correct replicas. In phase k each of these uses
 -- the k-th leaf behind a given one.
@@ -89,13 +89,13 @@ abbrev shown : Poll → ℕ → Certificate
 shown r phase = Votes r.view phase r.digest (votes r phase)
 
 abbrev pub pre_commit : Poll → Message
-pre_commit r = by (signed (PreCommit r.view (shown r 1)) [])
+pre_commit r = by (PreCommit r.view (shown r 1))
 
 abbrev pub commit : Poll → Message
-commit r = by (signed (Commit r.view (shown r 2)) [])
+commit r = by (Commit r.view (shown r 2))
 
 abbrev pub decide : Poll → Message
-decide r = by (signed (Decide r.view (shown r 3)) [])
+decide r = by (Decide r.view (shown r 3))
 
 -- replica k sends its vote
 abbrev pub sent : Poll → ℕ → ℕ → ℕ → List (To × Message)
@@ -129,8 +129,8 @@ shown-spelled r phase is low high =
     }
 
 -- on the root
-pub prepare-read : (view : ℕ) (what : Content) (held : List ℕ) → view < 2 ^ 32 → IsSpelledContent 1 what held → IsReadMessage loose q (by (signed (Prepare view what Root) []))
-prepare-read view what held fits h = spelled-read 3 1 (by (signed (Prepare view what Root) [])) _ (record { view_fits = fits; behind = held; what_is = h; certificate = root_row; spelled = refl; row = refl }) (signature-shape loose q good 3 0 _)
+pub prepare-read : (view : ℕ) (what : Content) (held : List ℕ) → view < 2 ^ 32 → IsSpelledContent 1 what held → IsReadMessage loose q (by (Prepare view what Root))
+prepare-read view what held fits h = spelled-read 3 1 (by (Prepare view what Root)) _ (record { view_fits = fits; behind = held; what_is = h; certificate = root_row; spelled = refl; row = refl }) (signature-shape loose q good 3 0 _)
 
 module _ (r : Poll) (is : IsPoll r) where
   pre-commit-read : IsReadMessage loose q (pre_commit r)

@@ -121,11 +121,11 @@ unfolding digests_of_height
 shows_spelled = (refl, refl, refl)
 
 -- with one phase there are no Decide and no pre-commit votes
-no_decide : (spell 1 1 (signed (Decide 1 Root) blank) ≡ 0 ∷ []) × (parse 1 1 (5 ∷ 0 ∷ 0 ∷ 0 ∷ 1 ∷ 0 ∷ 0 ∷ 0 ∷ 0 ∷ blank) ≡ Bad 0)
+no_decide : (spell 1 1 (signed (Decide 1 Root) blank) ≡ 0 ∷ blank) × (parse 1 1 (5 ∷ 0 ∷ 0 ∷ 0 ∷ 1 ∷ 0 ∷ 0 ∷ 0 ∷ 0 ∷ blank) ≡ Bad 0)
 unfolding parse parse_body such_that byte ◌>>=◌ digests_of_height
 no_decide = (refl, refl)
 
-no_second_vote : (spell 1 1 (signed (Vote 2 258 d) blank) ≡ 0 ∷ []) × (parse 1 1 (6 ∷ 2 ∷ []) ≡ Bad 1)
+no_second_vote : (spell 1 1 (signed (Vote 2 258 d) blank) ≡ 0 ∷ blank) × (parse 1 1 (6 ∷ 2 ∷ []) ≡ Bad 1)
 unfolding parse parse_body parse_vote such_that byte ◌>>=◌ digests_of_height
 no_second_vote = (refl, refl)
 

@@ -82,7 +82,7 @@ last-again p make a x h rest = then_good p (λ z. done (make z)) (a ++ rest) res
 
 pub last-fate : {A B : Type 0} (read : Bool) (p : Parser A) (make : A → B) (a : List ℕ) (x : A) → Fate read a p x → Fate read a (p >>= λ z. done (make z)) (make x)
 last-fate true p make a x h = last-again p make a x h
-last-fate false p make a x h rest = let k = h rest in (k.0, first_bad p (λ z. done (make z)) (a ++ rest) k.0 k.1)
+last-fate false p make a x h = λ rest. let k = h rest in (k.0, first_bad p (λ z. done (make z)) (a ++ rest) k.0 k.1)
 
 -- ---- Single fields
 

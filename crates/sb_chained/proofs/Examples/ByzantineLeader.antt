@@ -91,8 +91,8 @@ batch_held = batch-table 1 b (batch-read 1 b (omega arith) (λ r h. absurd h))
 -- ---- Messages that may arrive
 
 -- the message, signed by replica k with this leaf
-abbrev pub by : ℕ → ℕ → Message → Message
-by k leaf msg = with_signature (signature q k leaf (stated form q msg.body)) msg
+abbrev pub by : ℕ → ℕ → Body → Message
+by k leaf body = signed body (signature q k leaf (stated form q body))
 
 abbrev pub signs : ℕ → ℕ → List ℕ → Claim
 signs k leaf statement = claim k statement (signature q k leaf statement)

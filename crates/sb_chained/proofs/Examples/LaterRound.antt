@@ -46,19 +46,19 @@ abbrev d5 : List ℕ
 d5 = node_digest q 65537 Mark c3
 
 abbrev against : Message
-against = by 3 0 (signed (Prepare 262145 Nil Root) [])
+against = by 3 0 (Prepare 262145 Nil Root)
 
 abbrev ended0 : Message
-ended0 = by 0 5 (signed (NewView 1 c3) [])
+ended0 = by 0 5 (NewView 1 c3)
 
 abbrev ended1 : Message
-ended1 = by 1 4 (signed (NewView 1 c2) [])
+ended1 = by 1 4 (NewView 1 c2)
 
 abbrev blank : Message
-blank = by 3 0 (signed (NewView 1 Root) [])
+blank = by 3 0 (NewView 1 Root)
 
 abbrev again : Message
-again = by 0 6 (signed (Prepare 65537 Mark c3) [])
+again = by 0 6 (Prepare 65537 Mark c3)
 
 abbrev IsRead : Message → Type 0
 IsRead msg = IsReadMessage chained q msg
@@ -152,8 +152,8 @@ module _ (w : World Message) where
   blank-comes = alone chained w 3 blank (signs 3 0 (stated form q blank.body)) (omega arith) blank-read refl (liar chained w _)
 
   -- a message of replica k with its own signature as the last claim
-  signed : (k leaf : ℕ) (to : To) (msg : Message) (x : Item Message) → In x (w k) → x.made.sends ≡ (to, msg) ∷ [] → In (signs k leaf (stated form q msg.body)) (chained.claims q k msg) → IsSigned chained q w k (stated form q msg.body)
-  signed k leaf to msg x h is c = sent-alone chained q w k x to msg (signs k leaf (stated form q msg.body)) h is c refl
+  sole-signed : (k leaf : ℕ) (to : To) (msg : Message) (x : Item Message) → In x (w k) → x.made.sends ≡ (to, msg) ∷ [] → In (signs k leaf (stated form q msg.body)) (chained.claims q k msg) → IsSigned chained q w k (stated form q msg.body)
+  sole-signed k leaf to msg x h is c = sent-alone chained q w k x to msg (signs k leaf (stated form q msg.body)) h is c refl
 
   ended0-comes : IsSigned chained q w 0 (states 3 d3) → IsSigned chained q w 1 (states 3 d3) → IsSigned chained q w 0 (stated form q ended0.body) → Arrives chained w 0 ended0
   ended0-comes i j h = cites chained w 3 d3 0 3 1 3 (omega arith) (omega arith) (omega arith) (omega arith) i j 0 ended0 (signs 0 5 (stated form q ended0.body)) (omega arith) ended0-read refl (honest chained w 0 5 _ (omega arith) (omega arith) h)
@@ -181,7 +181,7 @@ r11 =
     let w : World Message = world zero5 one5 [] in
     let zero_did = vote-of w 0 3 d3 _ (inr (inr (inl refl))) (third-vote 0) in
     let one_did = vote-of w 1 3 d3 _ (inr (inr (inl refl))) (third-vote 1) in
-    let own = signed w 0 5 (To_one (node 0)) ended0 _ (inl refl) zero-5 (inr (inr (inr (inl refl)))) in
+    let own = sole-signed w 0 5 (To_one (node 0)) ended0 _ (inl refl) zero-5 (inr (inr (inr (inl refl)))) in
     zero-takes chained q zero5 one5 [] r10 (Receive (node 0) ended0) 6 refl (ended0-comes w zero_did one_did own)
 
 r12 : Reaches zero7 one5
@@ -189,7 +189,7 @@ r12 =
     let w : World Message = world zero6 one5 [] in
     let zero_did = vote-of w 0 2 d2 _ (inr (inr (inr (inr (inl refl))))) (second-vote 0) in
     let one_did = vote-of w 1 2 d2 _ (inr (inr (inr (inl refl)))) (second-vote 1) in
-    let own = signed w 1 4 (To_one (node 0)) ended1 _ (inl refl) one-5 (inr (inr (inr (inl refl)))) in
+    let own = sole-signed w 1 4 (To_one (node 0)) ended1 _ (inl refl) one-5 (inr (inr (inr (inl refl)))) in
     zero-takes chained q zero6 one5 [] r11 (Receive (node 1) ended1) 6 refl (ended1-comes w zero_did one_did own)
 
 r13 : Reaches zero8 one5
@@ -200,7 +200,7 @@ r14 =
     let w : World Message = world zero8 one5 [] in
     let zero_did = vote-of w 0 3 d3 _ (inr (inr (inr (inr (inr (inl refl)))))) (third-vote 0) in
     let one_did = vote-of w 1 3 d3 _ (inr (inr (inl refl))) (third-vote 1) in
-    let own = signed w 0 6 To_all again _ (inl refl) zero-8 (inr (inr (inr (inl refl)))) in
+    let own = sole-signed w 0 6 To_all again _ (inl refl) zero-8 (inr (inr (inr (inl refl)))) in
     zero-takes chained q zero8 one5 [] r13 (Receive (node 0) again) 7 refl (again-comes w zero_did one_did own)
 
 abbrev last : World Message
@@ -211,7 +211,7 @@ reached =
     let w : World Message = world zero9 one5 [] in
     let zero_did = vote-of w 0 3 d3 _ (inr (inr (inr (inr (inr (inr (inl refl))))))) (third-vote 0) in
     let one_did = vote-of w 1 3 d3 _ (inr (inr (inl refl))) (third-vote 1) in
-    let own = signed w 0 6 To_all again _ (inr (inl refl)) zero-8 (inr (inr (inr (inl refl)))) in
+    let own = sole-signed w 0 6 To_all again _ (inr (inl refl)) zero-8 (inr (inr (inr (inl refl)))) in
     one-takes chained q zero9 one5 [] r14 (Receive (node 0) again) 5 refl (again-comes w zero_did one_did own)
 
 -- ---- SHA-256 does not collide on its strings

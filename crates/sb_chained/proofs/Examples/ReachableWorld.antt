@@ -18,7 +18,6 @@ use Rattle.hs_tree.specs.declared.certificates.Certificate.{Certificate}
 use Rattle.hs_tree.specs.declared.certificates.Certificate.TheVariants.{Root}
 use Rattle.hs_tree.specs.declared.messages.Message.{Message}
 use Rattle.hs_tree.specs.declared.messages.Body.TheVariants.{Prepare}
-use Rattle.hs_tree.specs.Messages.{signed}
 use Rattle.hs_tree.specs.Certificates.{root_row}
 use Rattle.hs_tree.specs.Statements.{stated}
 use Rattle.hs_tree.specs.Tree.{chained as form, root, viewed_string}
@@ -56,16 +55,16 @@ abbrev pub c3 : Certificate
 c3 = joint 3 d3
 
 abbrev m1 : Message
-m1 = by 3 0 (signed (Prepare 1 (Holds b) Root) [])
+m1 = by 3 0 (Prepare 1 (Holds b) Root)
 
 abbrev m2 : Message
-m2 = by 3 0 (signed (Prepare 2 (Holds b) c1) [])
+m2 = by 3 0 (Prepare 2 (Holds b) c1)
 
 abbrev m3 : Message
-m3 = by 3 0 (signed (Prepare 3 Mark c2) [])
+m3 = by 3 0 (Prepare 3 Mark c2)
 
 abbrev m4 : Message
-m4 = by 3 0 (signed (Prepare 4 Mark c3) [])
+m4 = by 3 0 (Prepare 4 Mark c3)
 
 -- ---- What a replica takes, and its votes
 

@@ -64,8 +64,8 @@ abbrev pub b : Batch
 b = []
 
 -- a message with the signature of node k by a leaf
-abbrev by : ℕ → ℕ → Message → Message
-by k leaf msg = with_signature (signature p k leaf (stated form p msg.body)) msg
+abbrev by : ℕ → ℕ → Body → Message
+by k leaf body = signed body (signature p k leaf (stated form p body))
 
 abbrev vote : ℕ → Signed
 vote k = record { by = node k; sig = k ∷ [] }
@@ -115,14 +115,14 @@ told from msg = Receive (node from) msg
 abbrev cast : List (Item Message)
 cast = take_in 0 (take_in 0 [] (Cast (slot 0) b) 5) (Cast (slot 4) b) 6
 
-casts : makes p 0 [] (Cast (slot 0) b) 5 ≡ record { sends = (To_all, by 0 5 (signed (Prepare 1 (Holds b) Root) [])) ∷ []; accepted = Some (slot 0, b); strings = value_string 1 (Value_batch b) ∷ viewed_string 1 1 root (Holds b) ∷ []; used = 1 }
+casts : makes p 0 [] (Cast (slot 0) b) 5 ≡ record { sends = (To_all, by 0 5 (Prepare 1 (Holds b) Root)) ∷ []; accepted = Some (slot 0, b); strings = value_string 1 (Value_batch b) ∷ viewed_string 1 1 root (Holds b) ∷ []; used = 1 }
 casts = refl
 
 casts_in_order : asks p 0 (take_in 0 [] (Cast (slot 0) b) 5) (Cast (slot 0) b) ≡ None
 casts_in_order = refl
 
 -- it votes for its own proposal
-votes_for_itself : makes p 0 cast (told 0 (signed (Prepare 1 (Holds b) Root) [])) 9 ≡ record { sends = (To_one (node 0), by 0 9 (signed (Vote 1 1 d1) [])) ∷ []; accepted = None; strings = value_string 1 (Value_batch b) ∷ viewed_string 1 1 root (Holds b) ∷ []; used = 1 }
+votes_for_itself : makes p 0 cast (told 0 (signed (Prepare 1 (Holds b) Root) [])) 9 ≡ record { sends = (To_one (node 0), by 0 9 (Vote 1 1 d1)) ∷ []; accepted = None; strings = value_string 1 (Value_batch b) ∷ viewed_string 1 1 root (Holds b) ∷ []; used = 1 }
 unfolding sha256 digest_bytes hash_after compress rounds schedule first_words spell_batch spell_count spell_value wide_bytes
 votes_for_itself = refl
 
@@ -130,7 +130,7 @@ abbrev votes_of : ℕ → List ℕ → List (Item Message) → List (Item Messag
 votes_of view d xs = hears 0 1 (signed (Vote 1 view d) (1 ∷ [])) (hears 0 0 (signed (Vote 1 view d) (0 ∷ [])) xs)
 
 proposes_next : makes p 0 (votes_of 1 d1 cast) (told 2 (signed (Vote 1 1 d1) (2 ∷ []))) 9 ≡
-    record { sends = (To_all, by 0 9 (signed (Prepare 2 (Holds b) c1) [])) ∷ []; accepted = None; strings = value_string 1 (Value_batch b) ∷ viewed_string 1 2 d1 (Holds b) ∷ []; used = 1 }
+    record { sends = (To_all, by 0 9 (Prepare 2 (Holds b) c1)) ∷ []; accepted = None; strings = value_string 1 (Value_batch b) ∷ viewed_string 1 2 d1 (Holds b) ∷ []; used = 1 }
 unfolding sha256 digest_bytes hash_after compress rounds schedule first_words spell_batch spell_count spell_value wide_bytes
 proposes_next = refl
 
@@ -144,7 +144,7 @@ second = hears 0 2 (signed (Vote 1 1 d1) (2 ∷ [])) (votes_of 1 d1 cast)
 
 -- both slots are filled: marks follow
 proposes_a_mark : makes p 0 (votes_of 2 d2 second) (told 2 (signed (Vote 1 2 d2) (2 ∷ []))) 9 ≡
-    record { sends = (To_all, by 0 9 (signed (Prepare 3 Mark c2) [])) ∷ []; accepted = None; strings = viewed_string 1 3 d2 Mark ∷ []; used = 1 }
+    record { sends = (To_all, by 0 9 (Prepare 3 Mark c2)) ∷ []; accepted = None; strings = viewed_string 1 3 d2 Mark ∷ []; used = 1 }
 unfolding sha256 digest_bytes hash_after compress rounds schedule first_words spell_batch spell_count spell_value wide_bytes
 proposes_a_mark = refl
 
@@ -163,7 +163,7 @@ abbrev last : List (Item Message)
 last = hears 1 0 (signed (Prepare 4 Mark c3) []) full
 
 votes_first : makes p 1 [] (told 0 (signed (Prepare 1 (Holds b) Root) [])) 9 ≡
-    record { sends = (To_one (node 0), by 1 9 (signed (Vote 1 1 d1) [])) ∷ []; accepted = Some (slot 0, b); strings = value_string 1 (Value_batch b) ∷ viewed_string 1 1 root (Holds b) ∷ []; used = 1 }
+    record { sends = (To_one (node 0), by 1 9 (Vote 1 1 d1)) ∷ []; accepted = Some (slot 0, b); strings = value_string 1 (Value_batch b) ∷ viewed_string 1 1 root (Holds b) ∷ []; used = 1 }
 unfolding sha256 digest_bytes hash_after compress rounds schedule first_words spell_batch spell_count spell_value wide_bytes
 votes_first = refl
 
@@ -204,7 +204,7 @@ delivers_the_branch = refl
 abbrev ended : List (Item Message)
 ended = take_in 1 full Timeout 9
 
-ends : sends 1 full Timeout ≡ (To_one (node 1), by 1 9 (signed (NewView 1 c2) [])) ∷ []
+ends : sends 1 full Timeout ≡ (To_one (node 1), by 1 9 (NewView 1 c2)) ∷ []
 unfolding sha256 digest_bytes hash_after compress rounds schedule first_words spell_batch spell_count spell_value wide_bytes
 ends = refl
 
@@ -233,7 +233,7 @@ m2 = three 65538 n2
 abbrev gap : List (Item Message)
 gap = hears 1 1 (signed (Prepare 65538 Mark m1) []) (hears 1 1 (signed (Prepare 65537 Mark c2) []) ended)
 
-takes_a_mark : sends 1 ended (told 1 (signed (Prepare 65537 Mark c2) [])) ≡ (To_one (node 1), by 1 9 (signed (Vote 1 65537 n1) [])) ∷ []
+takes_a_mark : sends 1 ended (told 1 (signed (Prepare 65537 Mark c2) [])) ≡ (To_one (node 1), by 1 9 (Vote 1 65537 n1)) ∷ []
 unfolding sha256 digest_bytes hash_after compress rounds schedule first_words spell_batch spell_count spell_value wide_bytes
 takes_a_mark = refl
 
@@ -246,7 +246,7 @@ not_safe : sends 1 ended (told 1 (signed (Prepare 65537 Nil Root) [])) ≡ []
 unfolding sha256 digest_bytes hash_after compress rounds schedule first_words spell_batch spell_count spell_value wide_bytes
 not_safe = refl
 
-safe_on_the_lock : sends 1 ended (told 1 (signed (Prepare 65537 Nil c1) [])) ≡ (To_one (node 1), by 1 9 (signed (Vote 1 65537 (node_digest p 65537 Nil c1)) [])) ∷ []
+safe_on_the_lock : sends 1 ended (told 1 (signed (Prepare 65537 Nil c1) [])) ≡ (To_one (node 1), by 1 9 (Vote 1 65537 (node_digest p 65537 Nil c1))) ∷ []
 unfolding sha256 digest_bytes hash_after compress rounds schedule first_words spell_batch spell_count spell_value wide_bytes
 safe_on_the_lock = refl
 
@@ -256,6 +256,6 @@ abbrev two_news : List (Item Message)
 two_news = hears 1 1 (signed (NewView 1 c2) []) (hears 1 0 (signed (NewView 1 Root) []) (take_in 1 full Timeout 9))
 
 proposes_on_the_best : makes p 1 two_news (told 2 (signed (NewView 1 c1) [])) 9 ≡
-    record { sends = (To_all, by 1 9 (signed (Prepare 65537 Mark c2) [])) ∷ []; accepted = None; strings = viewed_string 1 65537 d2 Mark ∷ []; used = 1 }
+    record { sends = (To_all, by 1 9 (Prepare 65537 Mark c2)) ∷ []; accepted = None; strings = viewed_string 1 65537 d2 Mark ∷ []; used = 1 }
 unfolding sha256 digest_bytes hash_after compress rounds schedule first_words spell_batch spell_count spell_value wide_bytes
 proposes_on_the_best = refl

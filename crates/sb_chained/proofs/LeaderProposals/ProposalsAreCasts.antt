@@ -14,7 +14,6 @@ use Rattle.iss_sb.specs.declared.effects.To.{To}
 use Rattle.iss_sb.specs.declared.effects.To.TheVariants.{All as To_all}
 use Rattle.iss_sb.specs.Calls.{IsGoodParams, is_slot}
 use Rattle.iss_sb.specs.Evidence.{IsReached, IsString, Item, Made, Separate, World, accepts}
-use Rattle.iss_sb.specs.Statements.{signature}
 use Rattle.iss_sb.proofs.Legal.{accepts-front}
 use Rattle.iss_sb.proofs.Slots.{slot-some}
 use Rattle.iss_sb.proofs.Worlds.{accepts-new}
@@ -25,13 +24,12 @@ use Rattle.hs_tree.specs.declared.certificates.Certificate.{Certificate}
 use Rattle.hs_tree.specs.declared.certificates.Certificate.TheVariants.{Root}
 use Rattle.hs_tree.specs.declared.messages.Message.{Message}
 use Rattle.hs_tree.specs.declared.messages.Body.{Body}
-use Rattle.hs_tree.specs.declared.messages.Body.TheVariants.{NewView, Prepare, PreCommit, Commit, Decide, Vote}
+use Rattle.hs_tree.specs.declared.messages.Body.TheVariants.{NewView, Prepare, Vote}
 use Rattle.hs_tree.specs.Messages.{signed}
 use Rattle.hs_tree.specs.Certificates.{digest_of}
-use Rattle.hs_tree.specs.Statements.{stated}
-use Rattle.hs_tree.proofs.Claimed.{prepare-unsigned}
+use Rattle.hs_views.proofs.DraftsAgree.{sent-drafted}
 use Rattle.hs_tree.specs.Tree.{chained as form, filled, root, weight}
-use Rattle.sb_chained.specs.Chained.{answers, asks, chained, drafts, proposals, sign_all, state, voted}
+use Rattle.sb_chained.specs.Chained.{answers, asks, chained, drafts, proposals, state, voted}
 use Rattle.sb_chained.specs.Facts.{IsAt, Leads}
 use Rattle.sb_chained.specs.Rules.{State, cast_turn, certificate, first_high, full_turn, is_marked, is_ready, keeps_news, kept, may_cast, may_end, may_prepare, next_turn, nil_or_mark, node_digest, proposed, slots_below, turn, turn_after, turn_on, with_cast, with_round, with_turn}
 use Rattle.hs_views.specs.Views.{Turn, round_of}

@@ -26,7 +26,7 @@ use Rattle.hs_tree.specs.declared.certificates.Certificate.TheVariants.{Root, Vo
 use Rattle.iss_sb.specs.declared.signers.Signed.{Signed}
 use Rattle.hs_tree.specs.declared.messages.Message.{Message}
 use Rattle.hs_tree.specs.declared.messages.Body.{Body}
-use Rattle.hs_tree.specs.declared.messages.Body.TheVariants.{NewView, Prepare, PreCommit, Commit, Decide, Vote}
+use Rattle.hs_tree.specs.declared.messages.Body.TheVariants.{NewView, Prepare, Vote}
 use Rattle.iss_sb.specs.Signers.{AreSigners}
 use Rattle.hs_tree.specs.Certificates.{IsSpelledCertificate, digest_of, root_row, view_of, votes_row}
 use Rattle.hs_tree.specs.Messages.{IsSpelledBody, signed}

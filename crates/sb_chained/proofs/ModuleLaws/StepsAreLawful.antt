@@ -18,7 +18,7 @@ use Rattle.iss_sb.specs.Laws.{IsLawful}
 use Rattle.iss_sb.proofs.Slots.{place-In}
 use Rattle.hs_tree.specs.declared.messages.Message.{Message}
 use Rattle.hs_tree.specs.declared.messages.Body.{Body}
-use Rattle.hs_tree.specs.declared.messages.Body.TheVariants.{NewView, Prepare, PreCommit, Commit, Decide, Vote}
+use Rattle.hs_tree.specs.declared.messages.Body.TheVariants.{Prepare}
 use Rattle.hs_tree.specs.Messages.{signed}
 use Rattle.hs_tree.specs.Tree.{Node, branch, chained as form}
 use Rattle.sb_chained.specs.Chained.{answers, answers_heard, asks, chained, decided, decides, drafts, offered, proposals, sign_all, state, value_on, voted}

@@ -11,20 +11,19 @@ use Rattle.iss_sb.specs.declared.effects.Params.{Params}
 use Rattle.iss_sb.specs.declared.effects.To.{To}
 use Rattle.iss_sb.specs.Evidence.{Item, Made}
 use Rattle.iss_sb.specs.Legal.{AreMade}
-use Rattle.iss_sb.specs.Statements.{signature}
 use Rattle.iss_sb.specs.declared.content.Content.{Content}
 use Rattle.hs_tree.specs.declared.certificates.Certificate.{Certificate}
 use Rattle.hs_tree.specs.declared.messages.Message.{Message}
 use Rattle.hs_tree.specs.declared.messages.Body.{Body}
-use Rattle.hs_tree.specs.declared.messages.Body.TheVariants.{NewView, Prepare, PreCommit, Commit, Decide, Vote}
+use Rattle.hs_tree.specs.declared.messages.Body.TheVariants.{NewView, Prepare, Vote}
 use Rattle.hs_tree.specs.Messages.{signed}
-use Rattle.hs_tree.specs.Statements.{stated}
 use Rattle.hs_tree.specs.Tree.{chained as form}
 use Rattle.sb_chained.specs.Facts.{VotedIn}
-use Rattle.sb_chained.specs.Chained.{answers, answers_heard, drafts, chained, makes, proposals, sign_all, state, voted}
+use Rattle.sb_chained.specs.Chained.{answers, answers_heard, drafts, chained, makes, proposals, state, voted}
 use Rattle.sb_chained.specs.Rules.{State, after, heard, is_allowed, is_safe, is_usable, keeps_news, keeps_vote, kept, may_cast, may_end, may_prepare, node_digest, proposed, shows, slots_below, taken, with_cast, with_news, with_node, with_round, with_turn, with_vote}
 use Rattle.hs_views.specs.Views.{Turn, round_of}
 use Rattle.sb_chained.proofs.Safety.CertificatesShown.{shown-like}
+use Rattle.hs_views.proofs.DraftsAgree.{sent-drafted}
 use Rattle.hs_views.proofs.Tests.{by-test, each-option, same-body}
 
 pub record IsFirst (p : Params) (s : State) (i : Input Message) (view : ℕ) (d : List ℕ) : Type 0 where

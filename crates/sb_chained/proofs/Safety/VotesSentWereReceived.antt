@@ -21,7 +21,7 @@ use Rattle.hs_tree.specs.declared.certificates.Certificate.TheVariants.{Root, Vo
 use Rattle.iss_sb.specs.declared.signers.Signed.{Signed}
 use Rattle.hs_tree.specs.declared.messages.Message.{Message}
 use Rattle.hs_tree.specs.declared.messages.Body.{Body}
-use Rattle.hs_tree.specs.declared.messages.Body.TheVariants.{NewView, Prepare, PreCommit, Commit, Decide, Vote}
+use Rattle.hs_tree.specs.declared.messages.Body.TheVariants.{NewView, Prepare, Vote}
 use Rattle.hs_tree.specs.Messages.{signed}
 use Rattle.iss_sb.specs.declared.content.Content.TheVariants.{Mark}
 use Rattle.hs_tree.specs.Certificates.{digest_of, view_of}
@@ -30,6 +30,7 @@ use Rattle.hs_tree.specs.Tree.{Node, chained as form, is_known}
 use Rattle.sb_chained.specs.Chained.{answers, answers_heard, drafts, chained, proposals, sign_all, state, voted}
 use Rattle.sb_chained.specs.Rules.{State, cast_turn, certificate, find, first_high, full_turn, heard, higher, is_marked, is_ready, keeps_news, keeps_vote, kept, known_high, may_cast, may_end, may_prepare, next_turn, node_digest, noted, proposed, shows, taken, turn, turn_after, turn_on, with_cast, with_news, with_node, with_round, with_shown, with_turn, with_vote, is_usable, is_reached}
 use Rattle.hs_views.specs.Views.{Kept, News, Turn, all_news, best, is_for, news_of, round_of, vote_of, votes_of}
+use Rattle.hs_views.proofs.DraftsAgree.{sent-drafted}
 use Rattle.hs_views.proofs.Tests.{by-if, by-test, is-same}
 
 -- G c: the claim c was received

@@ -23,6 +23,7 @@ use Rattle.iss_sb.specs.declared.content.Content.{Content}
 use Rattle.iss_sb.specs.declared.content.Content.TheVariants.{Holds}
 use Rattle.hs_tree.specs.declared.certificates.Certificate.{Certificate}
 use Rattle.hs_tree.specs.declared.messages.Message.{Message}
+use Rattle.hs_tree.specs.declared.messages.Body.{Body}
 use Rattle.hs_tree.specs.declared.messages.Body.TheVariants.{Prepare}
 use Rattle.hs_tree.specs.Messages.{signed}
 use Rattle.hs_tree.specs.Certificates.{digest_of}
@@ -210,12 +211,12 @@ module _ (p : Params) (w : World Message) (good : IsGoodParams chained p) (reach
     -- what a correct leader signed as a proposal is its cast at the place behind the node's branch
     pub proposed-cast : (l v : ℕ) (just : Certificate) (b : Batch) (parent : List ℕ) (below : List Content) → is_correct p.setup l ≡ true → IsSigned chained p w l (stated form p (Prepare v (Holds b) just)) →
         digest_of just ≡ parent → IsAt p w (node_digest p v (Holds b) just) v parent (Holds b) → Leads p w parent root below → IsCast p w good reached l (filled below) b
-    proposed-cast l v just b parent below correct signed e at leads =
-        let s = signed-stated chained p (States p) refl (passes-on p) w reached l (stated form p (Prepare v (Holds b) just)) correct signed in
-        let mine = own-proposal p s.msg v (node_digest p v (Holds b) just) s.states in
+    proposed-cast l v just b parent below correct own e at leads =
+        let s = signed-stated chained p (States p) refl (passes-on p) w reached l (stated form p (Prepare v (Holds b) just)) correct own in
+        let mine = own-proposal p s.msg.body v (node_digest p v (Holds b) just) s.states in
         let m = made-at chained p l s.item (w l) ((legal p w good reached).made l) s.taken in
-        let sent = subst (λ (z : Message). In {A = To × Message} (s.to, z) s.item.made.sends) mine.is s.sent in
-        let t = proposal-why p w good reached l sep s.item m.before s.to v mine.what mine.just mine.sig m.front sent in
+        let sent = subst (λ (z : Body). In {A = To × Message} (s.to, signed z s.msg.sig) s.item.made.sends) mine.is s.sent in
+        let t = proposal-why p w good reached l sep s.item m.before s.to v mine.what mine.just s.msg.sig m.front sent in
         let digests = same-digest p t.turn.view v t.turn.what mine.what t.turn.just mine.just (node_digest p v (Holds b) just) t.view_is t.what_is t.just_is mine.digest_is in
         let same = same-node p w good standing sep (node_digest p v (Holds b) just) t.turn.view v (digest_of t.turn.just) parent t.turn.what (Holds b) (subst (λ (z : List ℕ). IsAt p w z t.turn.view (digest_of t.turn.just) t.turn.what) digests t.at) at in
         let c = t.ok.batch b same.contents in

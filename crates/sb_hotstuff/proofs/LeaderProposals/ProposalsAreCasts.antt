@@ -16,7 +16,6 @@ use Rattle.iss_sb.specs.Calls.{IsGoodParams, is_slot}
 use Rattle.iss_sb.specs.Evidence.{Item, IsString, Made, World, accepts}
 use Rattle.iss_sb.specs.Laws.{AreHeard}
 use Rattle.iss_sb.specs.Legal.{IsLegal}
-use Rattle.iss_sb.specs.Statements.{signature}
 use Rattle.iss_sb.proofs.Slots.{slot-some}
 use Rattle.iss_sb.proofs.Worlds.{accepts-new, accepts-old}
 use Rattle.iss_sb.specs.declared.content.Content.{Content}
@@ -29,12 +28,11 @@ use Rattle.hs_tree.specs.declared.messages.Body.TheVariants.{NewView, Prepare, P
 use Rattle.hs_tree.specs.Messages.{signed}
 use Rattle.hs_tree.specs.Certificates.{digest_of}
 use Rattle.hs_tree.specs.Paths.{Has, hash}
-use Rattle.hs_tree.specs.Statements.{stated}
-use Rattle.hs_tree.proofs.Claimed.{prepare-unsigned}
+use Rattle.hs_views.proofs.DraftsAgree.{sent-drafted}
 use Rattle.hs_tree.specs.Tree.{basic, filled, is_known, root, weight}
 use Rattle.iss_sb.proofs.Contents.{content-table}
 use Rattle.sb_hotstuff.specs.Facts.{Leads}
-use Rattle.sb_hotstuff.specs.HotStuff.{answers, asks, drafts, hotstuff, makes, proposals, shows, sign_all, state, strings_at, taken_of, turn_strings, voted}
+use Rattle.sb_hotstuff.specs.HotStuff.{answers, asks, drafts, hotstuff, makes, proposals, shows, state, strings_at, taken_of, turn_strings, voted}
 use Rattle.sb_hotstuff.specs.Rules.{State, cast_turn, certificate, first_turn, heard, is_reached, is_ready, keeps_news, keeps_vote, kept, may_cast, may_end, may_prepare, may_second, may_third, next_turn, nil_or_mark, node_digest, proposed, slots_below, turn, turn_after, turn_on, with_cast, with_round, with_turn}
 use Rattle.hs_views.specs.Views.{Turn, all_news, best, round_of}
 use Rattle.iss_sb.proofs.Cases.{by-both}
@@ -261,7 +259,7 @@ module _ (p : Params) (w : World Message) (good : IsGoodParams hotstuff p) (lega
 
   kept-ok : (s : State) (i : Input Message) → ((slot : Slot) (b : Batch) → i ≡ Cast slot b → may_cast p me s slot.0 ≡ true → In {A = Slot × Batch} (slot, b) (accepts (w me))) → Later (kept p me s i).casts → LeaderOk s → LeaderOk (kept p me s i)
   kept-ok s (Cast slot batch) a l h = by-test (λ (z : State). Later z.casts → LeaderOk z) (may_cast p me s slot.0) (with_cast s batch) s (λ q m. cast-kept s slot batch q (a slot batch refl q) m h) (λ m. h) l
-  kept-ok s (Receive from msg) a l h = same-ok s (heard p me s from.0 msg.body msg.sig) (heard-same p me s from.0 msg) h
+  kept-ok s (Receive from msg) a l h = same-ok s (heard p me s from.0 msg.body msg.sig) (heard-same p me s from.0 msg.body msg.sig) h
   kept-ok s Timeout a l h = by-if LeaderOk (may_end s) (with_round s) s (record { turns = h.turns; casts = h.casts }) h
 
   turn-ok : (s : State) (o : Option Turn) → LeaderOk s → MayOk o → MayHold o → LeaderOk (with_turn s o)

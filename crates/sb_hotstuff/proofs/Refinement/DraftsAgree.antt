@@ -4,7 +4,6 @@ use Rattle.iss_sb.specs.declared.effects.Params.{Params}
 use Rattle.iss_sb.specs.declared.effects.To.TheVariants.{All as To_all}
 use Rattle.iss_sb.specs.Statements.{four_bytes}
 use Rattle.hs_tree.specs.declared.certificates.Certificate.{Certificate}
-use Rattle.hs_tree.specs.declared.messages.Message.{Message}
 use Rattle.hs_tree.specs.declared.messages.Body.{Body}
 use Rattle.hs_tree.specs.declared.messages.Body.TheVariants.{PreCommit, Commit, Decide}
 use Rattle.hs_tree.specs.Certificates.{digest_of}

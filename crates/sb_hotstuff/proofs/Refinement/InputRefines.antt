@@ -12,6 +12,7 @@ use Rattle.iss_sb.specs.declared.effects.To.TheVariants.{All as To_all}
 use Rattle.iss_sb.specs.declared.content.Content.{Content}
 use Rattle.hs_tree.specs.declared.certificates.Certificate.{Certificate}
 use Rattle.hs_tree.specs.declared.messages.Message.{Message}
+use Rattle.hs_tree.specs.declared.messages.Body.{Body}
 use Rattle.hs_tree.specs.declared.messages.Body.TheVariants.{NewView, Prepare, Vote}
 use Rattle.hs_tree.specs.Messages.{signed}
 use Rattle.sb_hotstuff.specs.declared.outcomes.Outcome.{Outcome}
@@ -36,7 +37,7 @@ use Rattle.sb_hotstuff.proofs.Refinement.TurnRefines.{node-is, strings-are}
 
 -- the parts of a step, composed
 module _ (p : Params) (old new : Node) (s : State) (i : Input Message) (o : Outcome) where
-  pub does : (k : State) (t : Option Turn) (xs : List (To × Message)) (ss : List (List ℕ)) → kept p old.me.0 s i ≡ k → proposed p old.me.0 s k i ≡ t → answers p s k i ≡ xs → taken_of p s i ≡ ss → new.me ≡ old.me → RefinesState new (with_turn k t) →
+  pub does : (k : State) (t : Option Turn) (xs : List (To × Body)) (ss : List (List ℕ)) → kept p old.me.0 s i ≡ k → proposed p old.me.0 s k i ≡ t → answers p s k i ≡ xs → taken_of p s i ≡ ss → new.me ≡ old.me → RefinesState new (with_turn k t) →
       AreDrafts p o.answer xs → AreDrafts p o.proposal (proposals t) → o.hashed ≡ ss ++ turn_strings p t → Does p old new s i o
   does k t xs ss ek et ea es me state answer proposal hashed =
       let prop : proposed p old.me.0 s (kept p old.me.0 s i) i ≡ t = ap (λ (z : State). proposed p old.me.0 s z i) ek ∙ et in
@@ -44,7 +45,7 @@ module _ (p : Params) (old new : Node) (s : State) (i : Input Message) (o : Outc
       record {
         node = me;
         state = subst (λ (z : State). RefinesState new z) (λ j. with_turn (sym ek j) (sym prop j)) state;
-        answer = subst (λ (z : List (To × Message)). AreDrafts p o.answer z) (sym ans) answer;
+        answer = subst (λ (z : List (To × Body)). AreDrafts p o.answer z) (sym ans) answer;
         proposal = subst (λ (z : Option Turn). AreDrafts p o.proposal (proposals z)) (sym prop) proposal;
         hashed = hashed ∙ (λ j. sym es j ++ turn_strings p (sym prop j));
       }
@@ -161,7 +162,7 @@ module _ (p : Params) (m : Node) (s : State) (h : RefinesState m s) where
       news = h.news;
     }
 
-    abbrev X : List (To × Message)
+    abbrev X : List (To × Body)
     X = (To_all, shows phase view (certificate p k phase view d)) ∷ []
 
     abbrev next_is : Bool → Bool → Bool → Option Turn
@@ -172,7 +173,7 @@ module _ (p : Params) (m : Node) (s : State) (h : RefinesState m s) where
       vote-kept o low quiet =
           let u : is_reached p k phase view d ≡ false = sym hr ∙ low in
           does p m mid s (Receive from (signed (Vote phase view d) sig)) o k None [] [] (when (keeps_vote p s from.0 phase view d) k s t) (λ j. next_is (t j) (u j) (phase == 2))
-          (λ j. let a : List (To × Message) = if t j && u j then X else [] in a) refl refl voted-for (none p m mid s (Receive from (signed (Vote phase view d) sig)) o o.answer quiet.answer)
+          (λ j. let a : List (To × Body) = if t j && u j then X else [] in a) refl refl voted-for (none p m mid s (Receive from (signed (Vote phase view d) sig)) o o.answer quiet.answer)
           (none p m mid s (Receive from (signed (Vote phase view d) sig)) o o.proposal quiet.proposal) quiet.hashed
 
       module _ (full : r ≡ true) (draft : Draft) (shown : Certificate) (cert : shown ≡ certificate p k phase view d) (drafted : AreDrafts p (Some draft) ((To_all, shows phase view shown) ∷ [])) where
@@ -185,11 +186,11 @@ module _ (p : Params) (m : Node) (s : State) (h : RefinesState m s) where
         pub vote-shown : (o : Outcome) → (phase == 2) ≡ true → IsAnswer draft o → Does p m mid s (Receive from (signed (Vote phase view d) sig)) o
         vote-shown o two a =
             does p m mid s (Receive from (signed (Vote phase view d) sig)) o k None X [] (when (keeps_vote p s from.0 phase view d) k s t) (λ j. next_is (t j) (u j) (two j))
-            (λ j. let a : List (To × Message) = if t j && u j then X else [] in a) refl refl voted-for (subst (λ (z : Option Draft). AreDrafts p z X) (sym a.answer) drafted-so)
+            (λ j. let a : List (To × Body) = if t j && u j then X else [] in a) refl refl voted-for (subst (λ (z : Option Draft). AreDrafts p z X) (sym a.answer) drafted-so)
             (none p m mid s (Receive from (signed (Vote phase view d) sig)) o o.proposal a.proposal) a.hashed
 
         pub vote-led : (n : Node) (o : Outcome) → (phase == 2) ≡ false → Proposes p mid n k (next_turn p k k.turns) o →
             Does p m n s (Receive from (signed (Vote phase view d) sig)) (record { answer = Some draft; proposal = o.proposal; hashed = o.hashed })
         vote-led n o other d2 =
             does p m n s (Receive from (signed (Vote phase view d) sig)) (record { answer = Some draft; proposal = o.proposal; hashed = o.hashed }) k (next_turn p k k.turns) X [] (when (keeps_vote p s from.0 phase view d) k s t)
-            (λ j. next_is (t j) (u j) (other j)) (λ j. let a : List (To × Message) = if t j && u j then X else [] in a) refl d2.node d2.state drafted-so d2.proposal d2.hashed
+            (λ j. next_is (t j) (u j) (other j)) (λ j. let a : List (To × Body) = if t j && u j then X else [] in a) refl d2.node d2.state drafted-so d2.proposal d2.hashed

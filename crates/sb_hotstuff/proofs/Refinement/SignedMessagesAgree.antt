@@ -7,6 +7,8 @@ use Rattle.iss_sb.specs.declared.effects.To.{To}
 use Rattle.iss_sb.specs.Calls.{AreToNodes}
 use Rattle.iss_sb.specs.Statements.{signature}
 use Rattle.hs_tree.specs.declared.messages.Message.{Message}
+use Rattle.hs_tree.specs.declared.messages.Body.{Body}
+use Rattle.hs_tree.specs.Messages.{signed}
 use Rattle.hs_tree.specs.Statements.{stated}
 use Rattle.hs_tree.specs.Tree.{basic}
 use Rattle.sb_hotstuff.specs.declared.outcomes.Taken.{Taken}

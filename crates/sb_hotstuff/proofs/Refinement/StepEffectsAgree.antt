@@ -170,7 +170,7 @@ pub unprepared-takes : (p : Params) (m : HotStuff) (o : Outcome) (t : Taken) →
 unprepared-takes p m o t quiet alone from view what just sig nope =
     rule-takes p m m.node (Receive from (signed (Prepare view what just) sig)) o t alone
     (λ s h. idle p m.node s (Receive from (signed (Prepare view what just) sig)) o (ap (λ (z : Bool). if z then with_node p s view what just else s) (nope s h)) refl
-    (ap (λ (z : Bool). let l : List (To × Message) = if z then voted p 1 view (node_digest p view what just) else [] in l) (nope s h)) (ap (λ (z : Bool). let l : List (List ℕ) = if z then strings_at p view what just else [] in l) (nope s h)) h quiet)
+    (ap (λ (z : Bool). let l : List (To × Body) = if z then voted p 1 view (node_digest p view what just) else [] in l) (nope s h)) (ap (λ (z : Bool). let l : List (List ℕ) = if z then strings_at p view what just else [] in l) (nope s h)) h quiet)
     (λ s old h. ap (λ (z : Bool). let r : Option (Slot × Batch) = if z then offered p s old what just else None in r) (nope s h)) (λ s k. refl)
 
 -- a commitQC

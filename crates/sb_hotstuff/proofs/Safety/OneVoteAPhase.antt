@@ -12,7 +12,6 @@ use Rattle.iss_sb.specs.declared.effects.To.{To}
 use Rattle.iss_sb.specs.declared.effects.To.TheVariants.{All as To_all}
 use Rattle.iss_sb.specs.Evidence.{Item, Made}
 use Rattle.iss_sb.specs.Legal.{AreMade}
-use Rattle.iss_sb.specs.Statements.{signature}
 use Rattle.iss_sb.specs.declared.content.Content.{Content}
 use Rattle.hs_tree.specs.declared.certificates.Certificate.{Certificate}
 use Rattle.hs_tree.specs.declared.messages.Message.{Message}
@@ -20,13 +19,13 @@ use Rattle.hs_tree.specs.declared.messages.Body.{Body}
 use Rattle.hs_tree.specs.declared.messages.Body.TheVariants.{NewView, Prepare, PreCommit, Commit, Decide, Vote}
 use Rattle.hs_tree.specs.Messages.{signed}
 use Rattle.hs_tree.specs.Certificates.{digest_of}
-use Rattle.hs_tree.specs.Statements.{stated}
 use Rattle.hs_tree.specs.Tree.{basic}
 use Rattle.sb_hotstuff.specs.Facts.{VotedIn}
-use Rattle.sb_hotstuff.specs.HotStuff.{answers, answers_heard, drafts, hotstuff, makes, proposals, shows, sign_all, state, voted}
+use Rattle.sb_hotstuff.specs.HotStuff.{answers, answers_heard, drafts, hotstuff, makes, proposals, shows, state, voted}
 use Rattle.sb_hotstuff.specs.Rules.{State, after, certificate, heard, is_reached, keeps_news, keeps_vote, kept, may_cast, may_end, may_prepare, may_second, may_third, node_digest, proposed, with_cast, with_news, with_node, with_round, with_turn, with_vote}
 use Rattle.hs_views.specs.Views.{Turn}
 use Rattle.sb_hotstuff.proofs.Basics.{second-is, third-is}
+use Rattle.hs_views.proofs.DraftsAgree.{sent-drafted}
 use Rattle.hs_views.proofs.Tests.{by-test, each-option, same-body}
 
 pub record IsFirst (p : Params) (s : State) (i : Input Message) (view : ℕ) (d : List ℕ) : Type 0 where

@@ -31,6 +31,7 @@ use Rattle.hs_tree.specs.Tree.{basic, is_known}
 use Rattle.sb_hotstuff.specs.HotStuff.{answers, answers_heard, drafts, hotstuff, proposals, shows, sign_all, state, voted}
 use Rattle.sb_hotstuff.specs.Rules.{State, cast_turn, certificate, first_turn, heard, is_reached, is_ready, keeps_news, keeps_vote, kept, may_cast, may_end, may_prepare, may_second, may_third, next_turn, nil_or_mark, node_digest, proposed, slots_below, turn, turn_after, turn_on, with_cast, with_news, with_node, with_round, with_turn, with_vote}
 use Rattle.hs_views.specs.Views.{Kept, News, Turn, all_news, best, is_for, news_of, round_of, vote_of, votes_of}
+use Rattle.hs_views.proofs.DraftsAgree.{sent-drafted}
 use Rattle.hs_views.proofs.Tests.{by-if, is-same}
 
 -- G c: the claim c was received

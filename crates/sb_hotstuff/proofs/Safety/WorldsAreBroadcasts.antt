@@ -23,6 +23,7 @@ use Rattle.iss_sb.specs.declared.content.Content.{Content}
 use Rattle.iss_sb.specs.declared.content.Content.TheVariants.{Holds}
 use Rattle.hs_tree.specs.declared.certificates.Certificate.{Certificate}
 use Rattle.hs_tree.specs.declared.messages.Message.{Message}
+use Rattle.hs_tree.specs.declared.messages.Body.{Body}
 use Rattle.hs_tree.specs.declared.messages.Body.TheVariants.{Prepare}
 use Rattle.hs_tree.specs.Messages.{signed}
 use Rattle.hs_tree.specs.Certificates.{digest_of}
@@ -54,10 +55,10 @@ plus-none n = omega arith
 -- ---- What was signed was sent
 
 pub voted-reached : (p : Params) (w : World Message) → IsReached hotstuff p w → AreVoted p w
-voted-reached p w reached i phase view d correct signed =
-    let s = signed-stated hotstuff p (States p) refl (passes-on p) w reached i (vote_statement basic p phase view d) correct signed in
-    let v = own-vote p s.msg phase view d s.states in
-    record { item = s.item; taken = s.taken; vote = record { to = s.to; sig = v.sig; sent = subst (λ (z : Message). In {A = To × Message} (s.to, z) s.item.made.sends) v.is s.sent } }
+voted-reached p w reached i phase view d correct own =
+    let s = signed-stated hotstuff p (States p) refl (passes-on p) w reached i (vote_statement basic p phase view d) correct own in
+    let is = own-vote p s.msg.body phase view d s.states in
+    record { item = s.item; taken = s.taken; vote = record { to = s.to; sig = s.msg.sig; sent = subst (λ (z : Body). In {A = To × Message} (s.to, signed z s.msg.sig) s.item.made.sends) is s.sent } }
 
 module _ (p : Params) (w : World Message) (good : IsGoodParams hotstuff p) (reached : IsReached hotstuff p w) where
   pub legal : IsLegal hotstuff p w
@@ -204,12 +205,12 @@ module _ (p : Params) (w : World Message) (good : IsGoodParams hotstuff p) (reac
     -- a proposal that a correct leader signed holds its cast at the place after the parent's branch
     pub proposed-cast : (l v : ℕ) (just : Certificate) (b : Batch) (parent : List ℕ) (below : List Content) → is_correct p.setup l ≡ true → IsSigned hotstuff p w l (stated basic p (Prepare v (Holds b) just)) →
         digest_of just ≡ parent → Has p.setup.version (IsString w) parent (Holds b) → Leads p w parent root below → IsCast p w good legal voted l (filled below) b
-    proposed-cast l v just b parent below correct signed e has leads =
-        let s = signed-stated hotstuff p (States p) refl (passes-on p) w reached l (stated basic p (Prepare v (Holds b) just)) correct signed in
-        let mine = own-proposal p s.msg v (node_digest p v (Holds b) just) s.states in
+    proposed-cast l v just b parent below correct own e has leads =
+        let s = signed-stated hotstuff p (States p) refl (passes-on p) w reached l (stated basic p (Prepare v (Holds b) just)) correct own in
+        let mine = own-proposal p s.msg.body v (node_digest p v (Holds b) just) s.states in
         let at = made-at hotstuff p l s.item (w l) (legal.made l) s.taken in
-        let sent = subst (λ (z : Message). In {A = To × Message} (s.to, z) s.item.made.sends) mine.is s.sent in
-        let t = proposal-why p w good legal voted l s.item at.before s.to v mine.what mine.just mine.sig (part l s.item at.before at.front) sent in
+        let sent = subst (λ (z : Body). In {A = To × Message} (s.to, signed z s.msg.sig) s.item.made.sends) mine.is s.sent in
+        let t = proposal-why p w good legal voted l s.item at.before s.to v mine.what mine.just s.msg.sig (part l s.item at.before at.front) sent in
         let one : hash p.setup.version (digest_of t.turn.just) t.turn.what ≡ hash p.setup.version parent (Holds b) =
         ap (λ (c : Certificate). hash p.setup.version (digest_of c) t.turn.what) t.just_is ∙ ap (λ (c : Content). hash p.setup.version (digest_of mine.just) c) t.what_is ∙ mine.digest_is ∙ ap (λ (z : List ℕ). hash p.setup.version z (Holds b)) e in
         let same = same-node p w (acc p w) good facts sep (digest_of t.turn.just) parent t.turn.what (Holds b) t.has has one in
