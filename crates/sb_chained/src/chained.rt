@@ -270,7 +270,9 @@ impl Chained {
     ) -> Result<Taken, NoMemory>
         ensures { IfOk result (λ t. Takes context.now.p.now self.old self.new (Input.Receive from msg) t) }
     {
-        match msg.body {
+        let sig = msg.sig;
+        let body = msg.body;
+        match body {
             Body::NewView { round, high } => self.new_view(context, from, round, high),
             Body::Prepare { view, what, just } => self.prepare(
                 context,
@@ -287,7 +289,7 @@ impl Chained {
                     view,
                     digest,
                 };
-                let vote = SignedVote { poll, sig: msg.sig };
+                let vote = SignedVote { poll, sig };
                 self.vote(context, from, vote)
             }
             Body::PreCommit { .. } => Ok(Taken::of(context.alloc, Outcome::nothing(context.alloc))),

@@ -167,7 +167,9 @@ impl HotStuff {
     ) -> Result<Taken, NoMemory>
         ensures { IfOk result (λ t. Takes context.now.p.now self.old self.new (Input.Receive from msg) t) }
     {
-        match msg.body {
+        let sig = msg.sig;
+        let body = msg.body;
+        match body {
             Body::NewView { round, high } => {
                 let outcome = self.node.count_new_view(context, from, round, high)?;
                 Ok(Taken::of(context.alloc, outcome))
@@ -196,7 +198,7 @@ impl HotStuff {
                     view,
                     digest,
                 };
-                let vote = SignedVote { poll, sig: msg.sig };
+                let vote = SignedVote { poll, sig };
                 let outcome = self.node.count_vote(context, from, vote)?;
                 Ok(Taken::of(context.alloc, outcome))
             }
