@@ -23,6 +23,7 @@ use Rattle.iss_sb.proofs.Signatures.{signature-shape, signature-verifies}
 use Rattle.hs_tree.specs.declared.certificates.Certificate.{Certificate}
 use Rattle.hs_tree.specs.declared.certificates.Certificate.TheVariants.{Votes}
 use Rattle.hs_tree.specs.declared.messages.Message.{Message}
+use Rattle.hs_tree.specs.declared.messages.Body.{Body}
 use Rattle.hs_tree.specs.declared.messages.Body.TheVariants.{Vote}
 use Rattle.hs_tree.specs.Messages.{signed}
 use Rattle.hs_tree.specs.Certificates.{IsSpelledCertificate, votes_row}
