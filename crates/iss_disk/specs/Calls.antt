@@ -1,9 +1,11 @@
 -- The calls of a disk. A call that passes adds the one state that its function gives. A call that fails adds any
 -- number of states on the way: what was synced stays, and each crash image is one of the state before or after. How
 -- many calls pass is unknown, a number, or a list. `Failed` is answered only where the count of faults rose.
-use Rattle.std.specs.Prelude.{◌≡◌, ◌≢◌, ◌⊎◌, ℕ, zero, suc, ◌+◌, ◌≤◌, Bool, true, false, Option, None, Some, List, [], ◌∷◌, ◌++◌}
+use Rattle.std.specs.Prelude.{◌≡◌, ◌≢◌, ◌⊎◌, ℕ, zero, suc, ◌+◌, ◌-◌, ◌≤◌, min, Bool, true, false, Option, None, Some, List, [], ◌∷◌, ◌++◌, length, take, drop, Result, is_ok, OnOk, OnErr, IsErr, IsErrOf}
 pub use Rattle.iss_base.specs.Counts.{Rose}
 use Rattle.iss_disk.specs.File.{File, Image, restarted}
+use Rattle.iss_disk.specs.declared.errors.EndError.{EndError}
+use Rattle.iss_disk.specs.declared.errors.EndError.TheVariants.{Failed, NoMemory}
 
 -- P holds for each of these states
 abbrev pub EachState : (File → Type 0) → List File → Type 0
@@ -108,3 +110,85 @@ pub record Room : Type 0 where
 pub record Takes (calls bytes : ℕ) (before now : Room) : Type 0 where
   pub calls_left : before.calls ≤ now.calls + calls
   pub bytes_left : before.bytes ≤ now.bytes + bytes
+
+-- there is room for some calls, which write these many bytes
+pub record Allows (some more : ℕ) (room : Room) : Type 0 where
+  pub calls : some ≤ room.calls
+  pub bytes : more ≤ room.bytes
+
+-- What is known of a disk: its files so far, and which later calls succeed.
+pub record Device : Type 0 where
+  -- the states of the current file, newest first
+  pub history : List File
+  -- the states of each file, by its name
+  pub files : List ℕ → List File
+  -- the name of the current file, and which disk it is
+  pub current : Place
+  -- how many calls have failed
+  pub faults : ℕ
+  -- what is known about which later calls succeed
+  pub passes : Passes
+  -- the room that was made for later calls
+  pub room : Room
+
+-- the same device, of a disk that is borrowed once more
+abbrev pub lent_device : ℕ → Device → Device
+lent_device borrow device = record device { current = lent borrow device.current }
+
+-- the file of this name became the current one; without memory the device was not called
+pub record Attaches {T : Type 0} (name : List ℕ) (result : Result T EndError) (before now : Device) : Type 0 where
+  pub current : OnOk result (now.current ≡ named name before.current)
+  pub err : OnErr result (now.current ≡ before.current)
+  pub files : (n : List ℕ) → now.files n ≡ before.files n
+  pub cause : HasCause before.faults now.faults (IsErrOf result Failed)
+  pub device : (IsErrOf result NoMemory → ⊥) → Runs 1 before.passes now.passes (is_ok result)
+  pub no_memory : IsErrOf result NoMemory → now.passes ≡ before.passes
+
+-- nothing has changed but the room, and that is no less
+pub record OnlyMakesRoom (before now : Device) : Type 0 where
+  pub more : Takes 0 0 before.room now.room
+  pub same : Stays before.current now.current before.files now.files
+  pub faults : now.faults ≡ before.faults
+  pub passes : now.passes ≡ before.passes
+
+-- one call that reads: no file changes, and it takes no room
+pub record OnlyReads {T E : Type 0} (result : Result T E) (before now : Device) : Type 0 where
+  pub same : Stays before.current now.current before.files now.files
+  pub room : Takes 0 0 before.room now.room
+  pub cause : HasCause before.faults now.faults (IsErr result)
+  pub device : Runs 1 before.passes now.passes (is_ok result)
+
+-- `n` bytes were read at an offset: they fill the slice as far as the file reaches
+pub record IsReadAt (at : ℕ) (history : List File) (old new : List ℕ) (n : ℕ) : Type 0 where
+  pub bound : n ≤ length old
+  pub count : IfTold history (λ file. n ≡ min (length old) (length file.content - at))
+  pub bytes : IfTold history (λ file. new ≡ take n (drop at file.content) ++ drop n old)
+
+-- there is room for a call that writes so many bytes, at an offset that is at most the file's length
+pub record MayChange (at more : ℕ) (device : Device) : Type 0 where
+  pub call : 1 ≤ device.room.calls
+  pub bytes : more ≤ device.room.bytes
+  pub within : IfTold device.history (λ file. at ≤ length file.content)
+
+-- one call that changes the current file so, and writes so many bytes
+pub record Changes {T E : Type 0} (change : File → File) (bytes : ℕ) (result : Result T E) (before now : Device) :
+    Type 0 where
+  pub file : Moves change (is_ok result) before.history now.history
+  pub others : StaysHere before.current now.current before.files now.files
+  pub room : Takes 1 bytes before.room now.room
+  pub cause : HasCause before.faults now.faults (IsErr result)
+  pub device : Runs 1 before.passes now.passes (is_ok result)
+
+-- the next calls succeed, so many of them, and all later ones fail
+pub record IsFused (calls : ℕ) (before now : Device) : Type 0 where
+  pub passes : now.passes ≡ up_to calls
+  pub same : Stays before.current now.current before.files now.files
+  pub faults : now.faults ≡ before.faults
+  pub room : Takes 0 0 before.room now.room
+
+-- a crash and a restart: each file is what was synced of it, and all later calls succeed
+pub record IsRestarted (before now : Device) : Type 0 where
+  pub files : (name : List ℕ) → Restarts (before.files name) (now.files name)
+  pub current : now.current ≡ before.current
+  pub passes : now.passes ≡ script []
+  pub faults : now.faults ≡ before.faults

@@ -92,17 +92,14 @@ impl<R: Files<File = File>> Disk for FileDisk<R> {
     ghost use Rattle.iss_disk.specs.Calls.{untold};
     ghost use Rattle.iss_disk.specs.Internal.Untold.{nothing_told};
 
-    ghost history = { λ disk. [] };
-
-    ghost files = { λ disk name. [] };
-
-    ghost current = { λ disk. record { name = disk.name.items; borrows = [] } };
-
-    ghost faults = { λ disk. disk.faults };
-
-    ghost passes = { λ disk. untold };
-
-    ghost room = { λ disk. record { calls = 2 ^ 64; bytes = 2 ^ 64 } };
+    ghost state = { λ disk. record {
+        history = [];
+        files = λ name. [];
+        current = record { name = disk.name.items; borrows = [] };
+        faults = disk.faults;
+        passes = untold;
+        room = record { calls = 2 ^ 64; bytes = 2 ^ 64 };
+    } };
 
     fn attach(&mut self, name: &str) -> Result<(), EndError> {
         let kept = Vec::from_slice(self.alloc, name.as_bytes())?;

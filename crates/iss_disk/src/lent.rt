@@ -2,19 +2,9 @@
 use crate::{Disk, EndError, Failed, NoMemory};
 
 impl<D: Disk> Disk for &mut D {
-    ghost use Rattle.iss_disk.specs.Calls.{lent};
+    ghost use Rattle.iss_disk.specs.Calls.{lent_device};
 
-    ghost history = { λ disk. D.history disk.now };
-
-    ghost files = { λ disk. D.files disk.now };
-
-    ghost current = { λ disk. lent disk.ghost_name (D.current disk.now) };
-
-    ghost faults = { λ disk. D.faults disk.now };
-
-    ghost passes = { λ disk. D.passes disk.now };
-
-    ghost room = { λ disk. D.room disk.now };
+    ghost state = { λ disk. lent_device disk.ghost_name (D.state disk.now) };
 
     fn attach(&mut self, name: &str) -> Result<(), EndError> {
         (**self).attach(name)

@@ -1,7 +1,9 @@
 // A disk in memory.
-ghost use Rattle.std.specs.Prelude.{◌≡◌, ◌≢◌, ◌≤◌, ℕ, List, [], ◌∷◌, IfOk, ◌++◌, ◌-◌, min, take, drop, length, vec_len, vec_capacity};
+ghost use Rattle.std.specs.Prelude.{◌≡◌, ℕ, List, [], ◌∷◌, IfOk};
 ghost use Rattle.iss_disk.specs.File.{settled};
 ghost use Rattle.iss_disk.specs.Calls.{Restarts};
+ghost use Rattle.iss_disk.specs.Internal.Lists.{IsCopied};
+ghost use Rattle.iss_disk.specs.Internal.Taken.{IsTaken};
 ghost use Rattle.iss_disk.specs.StoredViews.{history_of};
 ghost use Rattle.iss_disk.specs.MemoryViews.{history_among};
 
@@ -22,18 +24,11 @@ pub struct MemoryDisk {
 }
 
 impl MemoryDisk {
-    ghost use Rattle.iss_disk.specs.File.{settled};
-    ghost use Rattle.iss_disk.specs.Calls.{script};
-    ghost use Rattle.iss_disk.specs.StoredViews.{history_of};
-    ghost use Rattle.iss_disk.specs.MemoryViews.{files_of, current_of, faults_of, calls_of};
+    ghost use Rattle.iss_disk.specs.MemoryViews.{HasOutcomes, IsNew, state_of};
 
     /// A disk whose calls all succeed. All its files are empty, and the file with the empty name is the current one.
     pub fn new(alloc: Global) -> Result<MemoryDisk, AllocError>
-        ensures files { IfOk result (λ disk. (name : List ℕ) → files_of disk name ≡ settled [] ∷ []) }
-        ensures history { IfOk result (λ disk. history_of disk.file ≡ settled [] ∷ []) }
-        ensures current { IfOk result (λ disk. (current_of disk).name ≡ []) }
-        ensures passes { IfOk result (λ disk. calls_of disk ≡ script []) }
-        ensures faults { IfOk result (λ disk. faults_of disk ≡ 0) }
+        ensures { IfOk result (λ disk. IsNew (state_of disk)) }
     {
         Ok(MemoryDisk {
             alloc,
@@ -46,11 +41,7 @@ impl MemoryDisk {
 
     /// The same disk, whose next calls succeed or fail as listed; all later calls succeed.
     pub fn with_outcomes(self, outcomes: Vec<bool>) -> MemoryDisk
-        ensures files { (name : List ℕ) → files_of result name ≡ files_of self name }
-        ensures history { history_of result.file ≡ history_of self.file }
-        ensures current { current_of result ≡ current_of self }
-        ensures passes { calls_of result ≡ script outcomes.items }
-        ensures faults { faults_of result ≡ faults_of self }
+        ensures { HasOutcomes outcomes.items (state_of self) (state_of result) }
     {
         let MemoryDisk {
             alloc,
@@ -72,12 +63,7 @@ impl MemoryDisk {
 // Removes the file with the new file's name and returns it, or returns the new file if there is none.
 fn take_named(others: &mut Vec<StoredFile>, fresh: StoredFile) -> StoredFile
     requires { history_of fresh ≡ settled [] ∷ [] }
-    ensures name { result.name.items ≡ fresh.name.items }
-    ensures history { history_of result ≡ history_among others.old.items fresh.name.items }
-    ensures others { (name : List ℕ) → name ≢ fresh.name.items →
-        history_among others.new.items name ≡ history_among others.old.items name }
-    ensures len { vec_len others.new ≤ vec_len others.old }
-    ensures capacity { vec_capacity others.new ≡ vec_capacity others.old }
+    ensures { IsTaken fresh.name.items others.old others.new result }
 {
     for i in 0..others.len() {
         if others[i].name == fresh.name {
@@ -98,22 +84,10 @@ fn restart_all(files: &mut [StoredFile])
 }
 
 impl Disk for MemoryDisk {
-    ghost use Rattle.std.specs.Prelude.{◌≡◌, List, ℕ};
-    ghost use Rattle.iss_disk.specs.StoredViews.{history_of, room_of};
-    ghost use Rattle.iss_disk.specs.MemoryViews.{files_of, current_of, faults_of, calls_of};
+    ghost use Rattle.iss_disk.specs.MemoryViews.{state_of};
     ghost use Rattle.iss_disk.specs.MemoryLaws.{memory_here, memory_read_is_image};
 
-    ghost history = { λ disk. history_of disk.file };
-
-    ghost files = { files_of };
-
-    ghost current = { current_of };
-
-    ghost faults = { faults_of };
-
-    ghost passes = { calls_of };
-
-    ghost room = { λ disk. room_of disk.file };
+    ghost state = { state_of };
 
     fn attach(&mut self, name: &str) -> Result<(), EndError> {
         let fresh = StoredFile::new(self.alloc, name)?;
@@ -168,8 +142,7 @@ impl Disk for MemoryDisk {
 
 // Copies bytes from offset `at` into the slice, as many as there are and fit. Returns how many.
 fn copy_from(content: &[u8], at: usize, into: &mut [u8]) -> usize
-    ensures count { result ≡ min (length into.old) (length content.now - at) }
-    ensures bytes { into.new ≡ take result (drop at content.now) ++ drop result into.old }
+    ensures { IsCopied at content.now into.old into.new result }
 {
     if at >= content.len() {
         return 0;

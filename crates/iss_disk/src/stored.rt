@@ -2,6 +2,7 @@
 ghost use Rattle.std.specs.Prelude.{◌≡◌, ◌+◌, ◌-◌, ◌<◌, ◌≤◌, ◌++◌, min, max, true, false, List, ℕ, length, take, drop, vec_len, vec_capacity, IfOk, OnOk, [], ◌∷◌};
 ghost use Rattle.iss_disk.specs.File.{settled, overwritten, wrote, shortened, synced, restarted};
 ghost use Rattle.iss_disk.specs.States.{states, after, newest, is_pending, calls_of, IsStored};
+ghost use Rattle.iss_disk.specs.Internal.Lists.{HasSpare, IsNow};
 ghost use Rattle.iss_disk.specs.NoteViews.{calls_in, room_in};
 ghost use Rattle.iss_disk.specs.declared.call.Call.{Call};
 ghost use Rattle.iss_disk.specs.declared.call.Recent.{Recent};
@@ -49,9 +50,8 @@ pub struct StoredFile {
 // Makes room for `more` bytes. Only the existing bytes are moved, not the spare room, as a list by itself would: the
 // two lists with room for a whole file are mostly empty.
 fn make_room(list: &mut Vec<u8>, more: usize) -> Result<(), NoMemory>
-    ensures items { list.new.items ≡ list.old.items }
-    ensures room { OnOk result (vec_len list.new + more ≤ vec_capacity list.new) }
-    ensures capacity { vec_capacity list.old ≤ vec_capacity list.new }
+    ensures same { IsNow list.old.items list.old list.new }
+    ensures room { OnOk result (HasSpare more list.new) }
 {
     if more <= list.capacity() - list.len() {
         return Ok(());
@@ -67,11 +67,10 @@ fn make_room(list: &mut Vec<u8>, more: usize) -> Result<(), NoMemory>
 // Writes bytes over the existing ones, from offset `at`.
 fn overwrite(content: &mut Vec<u8>, at: usize, bytes: &[u8])
     requires within { at ≤ vec_len content.old }
-    requires room { vec_len content.old + length bytes.now ≤ vec_capacity content.old }
-    ensures items { content.new.items ≡ overwritten at bytes.now content.old.items }
+    requires room { HasSpare (length bytes.now) content.old }
+    ensures now { IsNow (overwritten at bytes.now content.old.items) content.old content.new }
     ensures longer { vec_len content.old ≤ vec_len content.new }
     ensures len { vec_len content.new ≤ max (vec_len content.old) (at + length bytes.now) }
-    ensures capacity { vec_capacity content.old ≤ vec_capacity content.new }
 {
     if bytes.len() <= content.len() - at {
         content[at..at + bytes.len()].copy_from_slice(bytes);
@@ -85,9 +84,8 @@ fn overwrite(content: &mut Vec<u8>, at: usize, bytes: &[u8])
 #[cold]
 #[inline(never)]
 fn put_behind(behind: &mut Vec<u8>, tail: &[u8])
-    requires room { vec_len behind.old + length tail.now ≤ vec_capacity behind.old }
-    ensures items { behind.new.items ≡ behind.old.items ++ tail.now }
-    ensures capacity { vec_capacity behind.old ≤ vec_capacity behind.new }
+    requires room { HasSpare (length tail.now) behind.old }
+    ensures { IsNow (behind.old.items ++ tail.now) behind.old behind.new }
 {
     let _ = behind.extend_from_slice(tail);
 }
@@ -96,9 +94,8 @@ fn put_behind(behind: &mut Vec<u8>, tail: &[u8])
 #[cold]
 #[inline(never)]
 fn put_before_some(behind: &mut Vec<u8>, front: &[u8])
-    requires room { vec_len behind.old + length front.now ≤ vec_capacity behind.old }
-    ensures items { behind.new.items ≡ front.now ++ behind.old.items }
-    ensures capacity { vec_capacity behind.old ≤ vec_capacity behind.new }
+    requires room { HasSpare (length front.now) behind.old }
+    ensures { IsNow (front.now ++ behind.old.items) behind.old behind.new }
 {
     let count = behind.len();
     let _ = behind.extend_from_slice(front);
@@ -107,9 +104,8 @@ fn put_before_some(behind: &mut Vec<u8>, front: &[u8])
 
 // Puts bytes before the existing ones, of which there are mostly none.
 fn put_before(behind: &mut Vec<u8>, front: &[u8])
-    requires room { vec_len behind.old + length front.now ≤ vec_capacity behind.old }
-    ensures items { behind.new.items ≡ front.now ++ behind.old.items }
-    ensures capacity { vec_capacity behind.old ≤ vec_capacity behind.new }
+    requires room { HasSpare (length front.now) behind.old }
+    ensures { IsNow (front.now ++ behind.old.items) behind.old behind.new }
 {
     if behind.is_empty() {
         let _ = behind.extend_from_slice(front);
@@ -122,8 +118,7 @@ fn put_before(behind: &mut Vec<u8>, front: &[u8])
 fn put_back(content: &mut Vec<u8>, same: usize, behind: &[u8])
     requires within { same ≤ vec_len content.old }
     requires room { same + length behind.now ≤ vec_capacity content.old }
-    ensures items { content.new.items ≡ take same content.old.items ++ behind.now }
-    ensures capacity { vec_capacity content.old ≤ vec_capacity content.new }
+    ensures { IsNow (take same content.old.items ++ behind.now) content.old content.new }
 {
     content.truncate(same);
     let _ = content.extend_from_slice(behind);
@@ -177,9 +172,8 @@ fn note_sync(calls: &mut Notes, recent: Recent, end: usize) -> Recent
 // Appends bytes one by one.
 #[inline(always)]
 fn put_few(content: &mut Vec<u8>, bytes: &[u8])
-    requires room { vec_len content.old + length bytes.now ≤ vec_capacity content.old }
-    ensures items { content.new.items ≡ content.old.items ++ bytes.now }
-    ensures capacity { vec_capacity content.old ≤ vec_capacity content.new }
+    requires room { HasSpare (length bytes.now) content.old }
+    ensures { IsNow (content.old.items ++ bytes.now) content.old content.new }
 {
     for i in 0..bytes.len() {
         content.push_reserved(bytes[i]);
@@ -190,9 +184,8 @@ fn put_few(content: &mut Vec<u8>, bytes: &[u8])
 // reach the cache. So it is copied byte by byte too.
 #[inline(always)]
 fn put_all(content: &mut Vec<u8>, bytes: &[u8])
-    requires room { vec_len content.old + length bytes.now ≤ vec_capacity content.old }
-    ensures items { content.new.items ≡ content.old.items ++ bytes.now }
-    ensures capacity { vec_capacity content.old ≤ vec_capacity content.new }
+    requires room { HasSpare (length bytes.now) content.old }
+    ensures { IsNow (content.old.items ++ bytes.now) content.old content.new }
 {
     if bytes.len() <= FEW_BYTES {
         put_few(content, bytes);
@@ -204,9 +197,8 @@ fn put_all(content: &mut Vec<u8>, bytes: &[u8])
 // Records everything from offset `at` as removed.
 fn take_tail(content: &[u8], lost: &mut Vec<u8>, at: usize)
     requires within { at ≤ length content.now }
-    requires room { vec_len lost.old + (length content.now - at) ≤ vec_capacity lost.old }
-    ensures items { lost.new.items ≡ lost.old.items ++ drop at content.now }
-    ensures capacity { vec_capacity lost.old ≤ vec_capacity lost.new }
+    requires room { HasSpare (length content.now - at) lost.old }
+    ensures { IsNow (lost.old.items ++ drop at content.now) lost.old lost.new }
 {
     let _ = lost.extend_from_slice(&content[at..]);
 }
@@ -215,7 +207,7 @@ fn take_tail(content: &[u8], lost: &mut Vec<u8>, at: usize)
 // rule: Disk: Undoing a memory disk's calls gives each state that its file went through
 fn take_away(content: &[u8], lost: &mut Vec<u8>, at: usize, len: usize) -> Call
     requires within { at ≤ length content.now }
-    requires room { vec_len lost.old + min len (length content.now - at) ≤ vec_capacity lost.old }
+    requires room { HasSpare (min len (length content.now - at)) lost.old }
     ensures undoes { (calls : List Call) (bytes : List ℕ) → length bytes ≡ len →
         states (result ∷ calls) lost.new.items (overwritten at bytes content.now)
         ≡ after (wrote at bytes) (states calls lost.old.items content.now) }
@@ -237,9 +229,8 @@ fn take_away(content: &[u8], lost: &mut Vec<u8>, at: usize, len: usize) -> Call
 // Saves the synced bytes at the end of the content, of which there are mostly none.
 #[inline(always)]
 fn close(content: &[u8], behind: &mut Vec<u8>, resumes: usize)
-    requires room { vec_len behind.old + (length content.now - resumes) ≤ vec_capacity behind.old }
-    ensures items { behind.new.items ≡ behind.old.items ++ drop resumes content.now }
-    ensures capacity { vec_capacity behind.old ≤ vec_capacity behind.new }
+    requires room { HasSpare (length content.now - resumes) behind.old }
+    ensures { IsNow (behind.old.items ++ drop resumes content.now) behind.old behind.new }
 {
     if resumes < content.len() {
         put_behind(behind, &content[resumes..]);
@@ -268,11 +259,8 @@ fn part(content: &[u8], behind: &mut Vec<u8>, same: usize, resumes: usize, at: u
 }
 
 impl StoredFile {
-    ghost use Rattle.std.specs.Prelude.{◌≡◌, ◌⊎◌, ◌+◌, ◌<◌, ◌≤◌, [], ◌∷◌, length, IfOk, OnOk};
-    ghost use Rattle.iss_disk.specs.File.{settled, wrote, shortened, synced, restarted};
-    ghost use Rattle.iss_disk.specs.Calls.{Takes, Restarts};
-    ghost use Rattle.iss_disk.specs.States.{after};
-    ghost use Rattle.iss_disk.specs.StoredViews.{history_of, room_of};
+    ghost use Rattle.iss_disk.specs.Calls.{Allows, Takes, Restarts};
+    ghost use Rattle.iss_disk.specs.StoredViews.{Becomes, IsAtRest, IsGate, MayWrite, history_of, room_of};
 
     pub(crate) fn new(alloc: Global, name: &str) -> Result<StoredFile, AllocError>
         ensures name { IfOk result (λ file. file.name.items ≡ name.now) }
@@ -292,7 +280,7 @@ impl StoredFile {
     }
 
     pub(crate) fn reserve(&mut self, calls: u64, bytes: u64) -> Result<(), NoMemory>
-        ensures room { OnOk result ((calls ≤ (room_of self.new).calls) × (bytes ≤ (room_of self.new).bytes)) }
+        ensures room { OnOk result (Allows calls bytes (room_of self.new)) }
         ensures more { Takes 0 0 (room_of self.old) (room_of self.new) }
         ensures name { self.new.name.items ≡ self.old.name.items }
         ensures same { history_of self.new ≡ history_of self.old }
@@ -312,15 +300,9 @@ impl StoredFile {
     // rule: Disk: Synced bytes stay until the next sync, whatever is written over or cut off
     #[inline(always)]
     fn write_over(&mut self, at: usize, byte: u8)
-        requires call { 1 ≤ (room_of self.old).calls }
-        requires bytes { 1 ≤ (room_of self.old).bytes }
-        requires within { at < length self.old.content.items }
-        requires nothing_apart { self.old.behind.items ≡ [] }
-        requires all_synced { self.old.same ≡ length self.old.content.items }
-        requires just_kept { self.old.recent ≡ Recent.Kept (at + 1) }
-        ensures states { history_of self.new ≡ after (wrote at (byte ∷ [])) (history_of self.old) }
-        ensures room { Takes 1 1 (room_of self.old) (room_of self.new) }
-        ensures name { self.new.name.items ≡ self.old.name.items }
+        requires room { Allows 1 1 (room_of self.old) }
+        requires gate { IsGate at self.old }
+        ensures { Becomes (wrote at (byte ∷ [])) 1 self.old self.new }
     {
         let former = self.content[at];
         self.behind.push_reserved(former);
@@ -335,15 +317,9 @@ impl StoredFile {
     // Writes bytes at the end of a file that is all synced, as an append of a journal does.
     #[inline(always)]
     fn write_behind(&mut self, bytes: &[u8])
-        requires call { 1 ≤ (room_of self.old).calls }
-        requires bytes { length bytes.now ≤ (room_of self.old).bytes }
-        requires nothing_apart { self.old.behind.items ≡ [] }
-        requires all_synced { self.old.same ≡ length self.old.content.items }
-        requires all_noted { self.old.recent ≡ Recent.Nothing }
-        ensures states { history_of self.new ≡ after (wrote (length self.old.content.items) bytes.now)
-            (history_of self.old) }
-        ensures room { Takes 1 (length bytes.now) (room_of self.old) (room_of self.new) }
-        ensures name { self.new.name.items ≡ self.old.name.items }
+        requires room { Allows 1 (length bytes.now) (room_of self.old) }
+        requires rest { IsAtRest self.old }
+        ensures { Becomes (wrote (length self.old.content.items) bytes.now) (length bytes.now) self.old self.new }
     {
         let at = self.same;
         put_all(&mut self.content, bytes);
@@ -356,12 +332,8 @@ impl StoredFile {
     #[cold]
     #[inline(never)]
     fn write_all(&mut self, at: usize, bytes: &[u8])
-        requires call { 1 ≤ (room_of self.old).calls }
-        requires bytes { length bytes.now ≤ (room_of self.old).bytes }
-        requires within { at ≤ length self.old.content.items }
-        ensures states { history_of self.new ≡ after (wrote at bytes.now) (history_of self.old) }
-        ensures room { Takes 1 (length bytes.now) (room_of self.old) (room_of self.new) }
-        ensures name { self.new.name.items ≡ self.old.name.items }
+        requires { MayWrite at (length bytes.now) self.old }
+        ensures { Becomes (wrote at bytes.now) (length bytes.now) self.old self.new }
     {
         self.same = part(&self.content, &mut self.behind, self.same, self.resumes, at);
         note_all(&mut self.calls, self.recent);
@@ -375,12 +347,8 @@ impl StoredFile {
 
     #[inline(always)]
     pub(crate) fn write(&mut self, at: usize, bytes: &[u8])
-        requires call { 1 ≤ (room_of self.old).calls }
-        requires bytes { length bytes.now ≤ (room_of self.old).bytes }
-        requires within { at ≤ length self.old.content.items }
-        ensures states { history_of self.new ≡ after (wrote at bytes.now) (history_of self.old) }
-        ensures room { Takes 1 (length bytes.now) (room_of self.old) (room_of self.new) }
-        ensures name { self.new.name.items ≡ self.old.name.items }
+        requires { MayWrite at (length bytes.now) self.old }
+        ensures { Becomes (wrote at bytes.now) (length bytes.now) self.old self.new }
     {
         let at_rest = self.behind.is_empty() && self.same == self.content.len();
         match (self.recent, bytes) {
@@ -394,11 +362,8 @@ impl StoredFile {
     }
 
     pub(crate) fn cut(&mut self, len: usize)
-        requires call { 1 ≤ (room_of self.old).calls }
-        requires within { len ≤ length self.old.content.items }
-        ensures states { history_of self.new ≡ after (shortened len) (history_of self.old) }
-        ensures room { Takes 1 0 (room_of self.old) (room_of self.new) }
-        ensures name { self.new.name.items ≡ self.old.name.items }
+        requires { MayWrite len 0 self.old }
+        ensures { Becomes (shortened len) 0 self.old self.new }
     {
         self.same = part(
             &self.content,
@@ -420,9 +385,7 @@ impl StoredFile {
     #[inline(always)]
     pub(crate) fn sync(&mut self)
         requires { 1 ≤ (room_of self.old).calls }
-        ensures states { history_of self.new ≡ after synced (history_of self.old) }
-        ensures room { Takes 1 0 (room_of self.old) (room_of self.new) }
-        ensures name { self.new.name.items ≡ self.old.name.items }
+        ensures { Becomes synced 0 self.old self.new }
     {
         self.behind.clear();
         self.same = self.content.len();

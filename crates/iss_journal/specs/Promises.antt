@@ -4,8 +4,8 @@
 -- it synced.
 use Rattle.std.specs.Prelude.{◌≡◌, ◌≢◌, ◌⊎◌, ℕ, ◌+◌, ◌<◌, ◌≤◌, List, [], ◌∷◌, ◌++◌, length, take}
 use Rattle.iss_disk.specs.File.{File, Image, settled}
-use Rattle.iss_disk.specs.Calls.{EachState, Passes, script}
-use Rattle.iss_journal.specs.Frames.{ClosesAfter, Form, frames, AreShort, Reading, Reads, holds}
+use Rattle.iss_disk.specs.Calls.{Device, EachState, HasCause, IfTold, Passes, StaysHere, script}
+use Rattle.iss_journal.specs.Frames.{ClosesAfter, Form, frames, AreShort, Reading, Reads, damaged, holds}
 use Rattle.iss_journal.specs.Retained.{retained}
 
 -- P holds for every crash image
@@ -86,3 +86,16 @@ LeavesReading form (file ∷ past) new = (added : List File) × (new ≡ added +
 -- if all calls of the disk succeed, none fails here, and all later ones succeed too
 abbrev pub Works : Passes → Passes → Type 0 → Type 0
 Works before now failed = before ≡ script [] → (now ≡ script []) × (failed → ⊥)
+
+-- Attaching loses no entry at any moment, changes only the current file, and fails only if the device does.
+pub record LosesNone (form : Form) (failed : Type 0) (before now : Device) : Type 0 where
+  pub any_moment : LosesNothing form before.history now.history
+  pub others : StaysHere before.current now.current before.files now.files
+  pub cause : HasCause before.faults now.faults failed
+  pub works : Works before.passes now.passes failed
+
+-- The file was damaged at this offset, and stays byte for byte.
+-- rule: Journal: A damaged file stays byte for byte
+pub record StaysDamaged (form : Form) (at : ℕ) (before now : List File) : Type 0 where
+  pub damaged : IfTold before (λ file. Reads form file.content (damaged at))
+  pub damaged_stays : IfTold before (λ from. IfTold now (λ to. to ≡ settled from.content))

@@ -1,6 +1,6 @@
 -- What stays of all entries of a file: what a journal shows of them, and what small steps change in it.
-use Rattle.std.specs.Prelude.{◌≡◌, ℕ, ◌+◌, ◌≤◌, ◌<◌, ◌^◌, List, [], ◌∷◌, ◌++◌, cond, length, vec_len, vec_capacity}
-use Rattle.iss_journal.specs.Frames.{frame, frames}
+use Rattle.std.specs.Prelude.{◌≡◌, ℕ, ◌+◌, ◌≤◌, ◌<◌, ◌^◌, false, List, [], ◌∷◌, ◌++◌, cond, length, vec_len, vec_capacity}
+use Rattle.iss_journal.specs.Frames.{frame, frames, max_entry}
 use Rattle.iss_journal.specs.Retained.{behind, is_snapshot, retained}
 use Rattle.iss_journal.specs.SharedViews.{AreSame, HasSpace, IsLonger, shared_in}
 use Rattle.iss_journal.specs.declared.retained.Retained.{Retained}
@@ -52,3 +52,15 @@ pub record HasGrown (more : ℕ) (old new : Retained) : Type 0 where
   pub gates : vec_len new.gates ≤ vec_len old.gates + 1
   pub gates_room : vec_capacity old.gates ≤ vec_capacity new.gates
   pub last : new.end ≡ old.end + more
+
+-- there is room for this entry
+pub record TakesEntry (entry : List ℕ) (kept : Retained) : Type 0 where
+  pub short : length entry ≤ max_entry
+  pub room : TakesMore 1 (length entry) kept
+
+-- this entry was added, and of a file with one entry more this is what stays
+pub record Adds (entry : List ℕ) (old new : Retained) : Type 0 where
+  pub entries : shown_in new ≡ retained (shown_in old ++ entry ∷ [])
+  pub event : is_snapshot entry ≡ false → shown_in new ≡ shown_in old ++ entry ∷ []
+  pub retains : (all : List (List ℕ)) → Retains all old → Retains (all ++ entry ∷ []) new
+  pub grown : HasGrown (5 + length entry) old new

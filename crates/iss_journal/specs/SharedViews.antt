@@ -1,7 +1,7 @@
 -- What entries show whose ends are shared, and what small steps change in them.
 use Rattle.std.specs.Prelude.{◌≡◌, ℕ, ◌+◌, ◌≤◌, List, length, vec_len, vec_capacity}
 use Rattle.iss_journal.specs.EntryViews.{entries_in}
-use Rattle.iss_journal.specs.Frames.{frames}
+use Rattle.iss_journal.specs.Frames.{frames, max_entry}
 use Rattle.iss_journal.specs.Tails.{with_tails}
 use Rattle.iss_journal.specs.declared.shared.SharedEntries.{SharedEntries}
 
@@ -42,3 +42,8 @@ pub record AreFewer (old new : SharedEntries) : Type 0 where
   pub marks_room : vec_capacity old.own.marks ≤ vec_capacity new.own.marks
   pub tails : vec_len new.tails ≤ vec_len old.tails
   pub tails_room : vec_capacity old.tails ≤ vec_capacity new.tails
+
+-- there is room for this entry
+pub record HasSpaceFor (entry : List ℕ) (entries : SharedEntries) : Type 0 where
+  pub short : length entry ≤ max_entry
+  pub space : HasSpace 1 (length entry) entries

@@ -34,3 +34,8 @@ pub record AreMarks (marks : List ℕ) (entries : List (List ℕ)) : Type 0 wher
   pub lies : (i : ℕ) → i < length marks → get_or marks i 0 ≡ length (frames (take (8 * i) entries))
   pub enough : length entries ≤ 8 * length marks
   pub no_more : 8 * length marks ≤ length entries + 7
+
+-- so the parts of a book of entries lie
+pub record IsLaidOut (bytes : List ℕ) (count last : ℕ) (marks : List ℕ) : Type 0 where
+  pub book : IsBook bytes count last
+  pub marked : AreMarks marks (entries_at bytes count)

@@ -93,11 +93,10 @@ pub(crate) fn mark(marks: &mut Vec<u64>, count: usize, gate: usize)
 }
 
 impl Entries {
-    ghost use Rattle.std.specs.Prelude.{◌≡◌, ◌+◌, ◌<◌, ◌≤◌, ◌++◌, [], ◌∷◌, length, take, drop, slice_index_or, vec_len, vec_capacity, OnOk, IsTrue, ◌↔◌};
-    ghost use Rattle.std.specs.Int.{w32, to_be_bytes};
-    ghost use Rattle.iss_journal.specs.Frames.{frame, frames, max_entry};
-    ghost use Rattle.iss_journal.specs.Views.{AreMarks, IsBook, entries_at};
-    ghost use Rattle.iss_journal.specs.EntryViews.{entries_in};
+    ghost use Rattle.std.specs.Prelude.{◌≡◌, ◌+◌, ◌<◌, ◌≤◌, ◌++◌, [], length, take, slice_index_or, OnOk, IsTrue, ◌↔◌};
+    ghost use Rattle.iss_journal.specs.Frames.{frames};
+    ghost use Rattle.iss_journal.specs.Views.{IsLaidOut, entries_at};
+    ghost use Rattle.iss_journal.specs.EntryViews.{Commits, HasGate, HasPlace, HasRoomFor, IsFirst, IsReady, IsSameBook, Stages, behind_gate, entries_in};
 
     pub(crate) fn new(alloc: Global) -> Entries
         ensures entries { entries_in result ≡ [] }
@@ -113,8 +112,7 @@ impl Entries {
 
     // The `count` entries laid out in these bytes.
     pub(crate) fn from_parts(bytes: Vec<u8>, count: usize, marks: Vec<u64>, last: usize) -> Entries
-        requires book { IsBook bytes.items count last }
-        requires marked { AreMarks marks.items (entries_at bytes.items count) }
+        requires { IsLaidOut bytes.items count last marks.items }
         ensures entries { entries_in result ≡ entries_at bytes.items count }
         ensures bytes { result.bytes.items ≡ bytes.items }
     {
@@ -158,10 +156,7 @@ impl Entries {
     // Keeps the first `count` entries, and the bytes of no other.
     pub(crate) fn keep_first(&mut self, count: usize)
         requires { count ≤ length (entries_in self.old) }
-        ensures entries { entries_in self.new ≡ take count (entries_in self.old) }
-        ensures bytes { vec_capacity self.new.bytes ≡ vec_capacity self.old.bytes }
-        ensures marks { vec_len self.new.marks ≤ vec_len self.old.marks }
-        ensures marks_room { vec_capacity self.new.marks ≡ vec_capacity self.old.marks }
+        ensures { IsFirst count self.old self.new }
     {
         let gate = self.gate_before(count);
         self.bytes.truncate(gate);
@@ -198,12 +193,8 @@ impl Entries {
 
     // Makes room for `entries` entries, the first of which has `bytes` bytes.
     pub(crate) fn reserve(&mut self, entries: usize, bytes: usize) -> Result<(), AllocError>
-        ensures entries { entries_in self.new ≡ entries_in self.old }
-        ensures room { OnOk result (length (frames (entries_in self.old)) + bytes + 6 ≤ vec_capacity self.new.bytes) }
-        ensures marks { OnOk result (vec_len self.new.marks + entries ≤ vec_capacity self.new.marks) }
-        ensures no_less { vec_capacity self.old.bytes ≤ vec_capacity self.new.bytes }
-        ensures marks_same { vec_len self.new.marks ≡ vec_len self.old.marks }
-        ensures marks_no_less { vec_capacity self.old.marks ≤ vec_capacity self.new.marks }
+        ensures same { IsSameBook self.old self.new }
+        ensures room { OnOk result (HasRoomFor entries bytes self.old self.new) }
     {
         let wanted = bytes.checked_add(6).ok_or(AllocError)?;
         self.bytes.reserve(wanted)?;
@@ -213,15 +204,8 @@ impl Entries {
     // Puts an entry given in two parts after the last gate: its length, its bytes and a closed gate.
     #[inline(always)]
     pub(crate) fn stage(&mut self, head: &[u8], body: &[u8])
-        requires short { length (head.now ++ body.now) ≤ max_entry }
-        requires room { length (frames (entries_in self.old)) + length (head.now ++ body.now) + 6
-            ≤ vec_capacity self.old.bytes }
-        requires mark { vec_len self.old.marks < vec_capacity self.old.marks }
-        ensures entries { entries_in self.new ≡ entries_in self.old }
-        ensures bytes { self.new.bytes.items ≡ frames (entries_in self.old)
-            ++ (frame (head.now ++ body.now) ++ 0 ∷ []) }
-        ensures no_less { vec_capacity self.old.bytes ≤ vec_capacity self.new.bytes }
-        ensures marks { self.new.marks ≡ self.old.marks }
+        requires { HasPlace (head.now ++ body.now) self.old }
+        ensures { Stages (head.now ++ body.now) self.old self.new }
     {
         self.bytes.truncate(self.last);
         put_frame(&mut self.bytes, head, body);
@@ -229,8 +213,8 @@ impl Entries {
 
     // The staged bytes after the gate.
     pub(crate) fn staged(&self) -> &[u8]
-        requires { length (frames (entries_in self.now)) < length self.now.bytes.items }
-        ensures { result.now ≡ drop (length (frames (entries_in self.now)) + 1) self.now.bytes.items }
+        requires { HasGate self.now }
+        ensures { result.now ≡ behind_gate self.now }
     {
         &self.bytes[self.last + 1..]
     }
@@ -238,14 +222,8 @@ impl Entries {
     // The staged entry becomes the last entry.
     #[inline(always)]
     pub(crate) fn commit(&mut self, head: &[u8], body: &[u8])
-        requires short { length (head.now ++ body.now) ≤ max_entry }
-        requires bytes { self.old.bytes.items ≡ frames (entries_in self.old)
-            ++ (frame (head.now ++ body.now) ++ 0 ∷ []) }
-        requires mark { vec_len self.old.marks < vec_capacity self.old.marks }
-        ensures entries { entries_in self.new ≡ entries_in self.old ++ (head.now ++ body.now) ∷ [] }
-        ensures bytes { self.new.bytes ≡ self.old.bytes }
-        ensures mark { vec_len self.new.marks ≤ vec_len self.old.marks + 1 }
-        ensures no_less { vec_capacity self.old.marks ≤ vec_capacity self.new.marks }
+        requires { IsReady (head.now ++ body.now) self.old }
+        ensures { Commits (head.now ++ body.now) self.old self.new }
     {
         mark(&mut self.marks, self.count, self.last);
         self.count += 1;

@@ -1,5 +1,5 @@
 // A journal over a disk.
-ghost use Rattle.std.specs.Prelude.{◌≡◌, ◌≤◌, ◌<◌, ◌++◌, ℕ, [], ◌∷◌, true, false, Some, List, length, is_ok, OnOk, OnErr, IsErr, IsErrOf};
+ghost use Rattle.std.specs.Prelude.{◌≡◌, ◌≤◌, ◌<◌, ◌++◌, ℕ, [], true, false, length, is_ok, OnOk, OnErr, IsErrOf};
 
 use crate::errors::AttachError;
 use crate::keep::keep_entry;
@@ -10,6 +10,7 @@ use crate::shared::SharedEntries;
 use iss_disk::{Disk, EndError, Fused, NoMemory};
 use iss_request::Bytes;
 use std::alloc::Global;
+use std::marker::Model;
 
 // Room is made for this many entries at once, and for `SOME_BYTES` bytes more than requested.
 const SOME_ENTRIES: u64 = 64;
@@ -29,22 +30,28 @@ pub struct Journal<D: Disk> {
     reserved: Reserved,
 }
 
+impl<D: Disk> Model for Journal<D> {
+    ghost use Rattle.iss_journal.specs.Sound.{IsSound, JournalState, state_over};
+
+    ghost Value = { JournalState D };
+
+    ghost view = { λ v. state_over v.disk v.kept v.attached v.reserved };
+
+    ghost invariant = { λ v. IsSound (D.state v.disk) v.kept v.attached v.reserved };
+}
+
 impl<D: Disk> Journal<D> {
     ghost use Rattle.std.specs.Prelude.{get_or};
-    ghost use Rattle.iss_disk.specs.File.{settled};
-    ghost use Rattle.iss_disk.specs.Calls.{IfTold, Stays, StaysHere, HasCause, Runs};
-    ghost use Rattle.iss_journal.specs.Frames.{max_entry, Reads, damaged, version_1};
-    ghost use Rattle.iss_journal.specs.Retained.{is_snapshot, retained};
-    ghost use Rattle.iss_journal.specs.Promises.{OnlyLeaves, LeavesWithOrWithout, LosesNothing, ComesToRest, EndsClosed, Shows, Works};
+    ghost use Rattle.iss_journal.specs.Frames.{max_entry, version_1};
+    ghost use Rattle.iss_journal.specs.Promises.{LosesNone, StaysDamaged};
     ghost use Rattle.iss_journal.specs.SharedViews.{shared_in};
-    ghost use Rattle.iss_journal.specs.Sound.{disk_of, entries_of, gates_of, is_attached, reserved_of, IsRead, IsSound, NothingChanged};
+    ghost use Rattle.iss_journal.specs.Sound.{Appends, IsAppended, IsAttached, IsBroken, NothingChanged, OnlyMoreRoom};
 
     /// A journal over the current file of a disk. It is not attached yet.
     pub fn over(alloc: Global, disk: D) -> Self
-        ensures disk { disk_of result ≡ disk }
-        ensures entries { entries_of result ≡ [] }
-        ensures attached { is_attached result ≡ false }
-        ensures sound { IsSound D.history D.room result }
+        ensures disk { result.disk ≡ disk }
+        ensures entries { result.entries ≡ [] }
+        ensures attached { result.attached ≡ false }
     {
         Journal {
             alloc,
@@ -63,32 +70,16 @@ impl<D: Disk> Journal<D> {
     /// `NoMemory` if out of memory. After an error the entries are those from before the call. A damaged file stays as
     /// it is, byte for byte, so that it is damaged at each later call too.
     pub fn attach(&mut self) -> Result<(), AttachError>
-        requires sound { IsSound D.history D.room self.old }
-        ensures entries { OnOk result
-            (IsRead version_1 (entries_of self.new) (gates_of self.new) (D.history (disk_of self.old))) }
-        ensures damaged { (at : ℕ) → IsErrOf result (AttachError.Damaged at) → IfTold (D.history (disk_of self.old))
-            (λ file. Reads version_1 file.content (damaged at)) }
-        ensures damaged_stays { (at : ℕ) → IsErrOf result (AttachError.Damaged at) →
-            IfTold (D.history (disk_of self.old)) (λ before. IfTold (D.history (disk_of self.new))
-            (λ now. now ≡ settled before.content)) }
-        ensures err { OnErr result (entries_of self.new ≡ entries_of self.old) }
-        ensures attached { is_attached self.new ≡ is_ok result }
-        ensures file { OnOk result (IfTold (D.history (disk_of self.old)) (λ before.
-            IfTold (D.history (disk_of self.new)) (ComesToRest before.content))) }
+        ensures ok { OnOk result (IsAttached version_1 self.new.entries self.new.gates (D.state self.old.disk).history
+            (D.state self.new.disk).history) }
+        ensures damaged { (at : ℕ) → IsErrOf result (AttachError.Damaged at) →
+            StaysDamaged version_1 at (D.state self.old.disk).history (D.state self.new.disk).history }
+        ensures err { OnErr result (self.new.entries ≡ self.old.entries) }
+        ensures attached { self.new.attached ≡ is_ok result }
 
-        // From then on every crash image holds the entries that were read. A crash at any moment of the call loses no
-        // entry that every crash image held before it.
-        ensures durable { OnOk result
-            (IfTold (D.history (disk_of self.new)) (OnlyLeaves (Shows version_1 (entries_of self.new)))) }
-        ensures any_moment { LosesNothing version_1 (D.history (disk_of self.old)) (D.history (disk_of self.new)) }
-
-        ensures others { StaysHere (D.current (disk_of self.old)) (D.current (disk_of self.new))
-            (D.files (disk_of self.old)) (D.files (disk_of self.new)) }
-        ensures cause { HasCause (D.faults (disk_of self.old)) (D.faults (disk_of self.new))
-            (IsErrOf result AttachError.Failed) }
-        ensures works { Works (D.passes (disk_of self.old)) (D.passes (disk_of self.new))
-            (IsErrOf result AttachError.Failed) }
-        ensures sound { IsSound D.history D.room self.new }
+        // A crash at any moment of the call loses no entry that every crash image held before it.
+        ensures loses { LosesNone version_1 (IsErrOf result AttachError.Failed) (D.state self.old.disk)
+            (D.state self.new.disk) }
     {
         self.attached = false;
         self.reserved.limit = 0;
@@ -104,29 +95,29 @@ impl<D: Disk> Journal<D> {
 
     /// The disk.
     pub fn into_disk(self) -> D
-        ensures { result ≡ disk_of self }
+        ensures { result ≡ self.disk }
     {
         self.disk
     }
 
     /// Whether entries may be appended: from an `attach` that is Ok until a call of the device fails.
     pub fn attached(&self) -> bool
-        ensures { result ≡ is_attached self.now }
+        ensures { result ≡ self.now.attached }
     {
         self.attached
     }
 
     /// The entries.
     pub fn entries(&self) -> &SharedEntries
-        ensures { shared_in result.now ≡ entries_of self.now }
+        ensures { shared_in result.now ≡ self.now.entries }
     {
         self.kept.entries()
     }
 
     /// The offset in the file of the gate of entry `k`, counted from 0.
     pub fn gate_of(&self, k: usize) -> u64
-        requires { k < length (entries_of self.now) }
-        ensures { result ≡ get_or (gates_of self.now) k 0 }
+        requires { k < length self.now.entries }
+        ensures { result ≡ get_or self.now.gates k 0 }
     {
         self.kept.gate_of(k)
     }
@@ -135,37 +126,10 @@ impl<D: Disk> Journal<D> {
     /// Without memory the room is what it was.
     #[inline(always)]
     pub fn reserve(&mut self, bytes: u64) -> Result<(), NoMemory>
-        requires sound { IsSound D.history D.room self.old }
-        ensures reserved { OnOk result ((most : ℕ) × (reserved_of self.new ≡ Some most) × (bytes ≤ most)) }
-        ensures ready { (most : ℕ) → reserved_of self.old ≡ Some most → bytes ≤ most → is_ok result ≡ true }
-        ensures no_memory { OnErr result (reserved_of self.new ≡ reserved_of self.old) }
-        ensures entries { entries_of self.new ≡ entries_of self.old }
-        ensures attached { is_attached self.new ≡ is_attached self.old }
-        ensures history { D.history (disk_of self.new) ≡ D.history (disk_of self.old) }
-        ensures same { Stays (D.current (disk_of self.old)) (D.current (disk_of self.new)) (D.files (disk_of self.old))
-            (D.files (disk_of self.new)) }
-        ensures faults { D.faults (disk_of self.new) ≡ D.faults (disk_of self.old) }
-        ensures passes { D.passes (disk_of self.new) ≡ D.passes (disk_of self.old) }
-        ensures sound { IsSound D.history D.room self.new }
-    {
-        self.make_ready(bytes)
-    }
-
-    // The same as `reserve`.
-    #[inline(always)]
-    fn make_ready(&mut self, bytes: u64) -> Result<(), NoMemory>
-        requires sound { IsSound D.history D.room self.old }
-        ensures reserved { OnOk result (bytes < self.new.reserved.limit) }
+        ensures ok { OnOk result (bytes < self.new.reserved.limit) }
         ensures ready { bytes < self.old.reserved.limit → is_ok result ≡ true }
         ensures no_memory { OnErr result (self.new.reserved ≡ self.old.reserved) }
-        ensures entries { entries_of self.new ≡ entries_of self.old }
-        ensures attached { is_attached self.new ≡ is_attached self.old }
-        ensures history { D.history (disk_of self.new) ≡ D.history (disk_of self.old) }
-        ensures same { Stays (D.current (disk_of self.old)) (D.current (disk_of self.new)) (D.files (disk_of self.old))
-            (D.files (disk_of self.new)) }
-        ensures faults { D.faults (disk_of self.new) ≡ D.faults (disk_of self.old) }
-        ensures passes { D.passes (disk_of self.new) ≡ D.passes (disk_of self.old) }
-        ensures sound { IsSound D.history D.room self.new }
+        ensures only { OnlyMoreRoom self.old self.new (D.state self.old.disk) (D.state self.new.disk) }
     {
         if bytes < self.reserved.limit {
             return Ok(());
@@ -177,17 +141,9 @@ impl<D: Disk> Journal<D> {
     #[cold]
     #[inline(never)]
     fn make_room(&mut self, bytes: u64) -> Result<(), NoMemory>
-        requires sound { IsSound D.history D.room self.old }
-        ensures reserved { OnOk result (bytes < self.new.reserved.limit) }
+        ensures ok { OnOk result (bytes < self.new.reserved.limit) }
         ensures no_memory { OnErr result (self.new.reserved ≡ self.old.reserved) }
-        ensures entries { entries_of self.new ≡ entries_of self.old }
-        ensures attached { is_attached self.new ≡ is_attached self.old }
-        ensures history { D.history (disk_of self.new) ≡ D.history (disk_of self.old) }
-        ensures same { Stays (D.current (disk_of self.old)) (D.current (disk_of self.new)) (D.files (disk_of self.old))
-            (D.files (disk_of self.new)) }
-        ensures faults { D.faults (disk_of self.new) ≡ D.faults (disk_of self.old) }
-        ensures passes { D.passes (disk_of self.new) ≡ D.passes (disk_of self.old) }
-        ensures sound { IsSound D.history D.room self.new }
+        ensures only { OnlyMoreRoom self.old self.new (D.state self.old.disk) (D.state self.new.disk) }
     {
         let longest = bytes.checked_add(SOME_BYTES).ok_or(NoMemory)?;
         let frames = longest.checked_add(6).ok_or(NoMemory)?;
@@ -206,42 +162,23 @@ impl<D: Disk> Journal<D> {
     /// attached again; the entry is then in it or not.
     #[inline(always)]
     pub fn append(&mut self, head: &[u8], body: Bytes) -> Result<(), EndError>
-        requires sound { IsSound D.history D.room self.old }
-        requires attached { is_attached self.old ≡ true }
+        requires attached { self.old.attached ≡ true }
         requires short { length (head.now ++ body) ≤ max_entry }
-        ensures entries { OnOk result
-            (entries_of self.new ≡ retained (entries_of self.old ++ (head.now ++ body) ∷ [])) }
-        ensures event { is_snapshot (head.now ++ body) ≡ false →
-            OnOk result (entries_of self.new ≡ entries_of self.old ++ (head.now ++ body) ∷ []) }
-        ensures err { OnErr result (entries_of self.new ≡ entries_of self.old) }
-        ensures file { OnOk result (IfTold (D.history (disk_of self.new)) (EndsClosed (entries_of self.new))) }
-        ensures attached { OnOk result (is_attached self.new ≡ true) }
-        ensures failed { IsErrOf result EndError.Failed → is_attached self.new ≡ false }
+        ensures ok { OnOk result
+            (IsAppended version_1 (head.now ++ body) self.old self.new (D.state self.new.disk).history) }
+        ensures err { OnErr result (self.new.entries ≡ self.old.entries) }
+        ensures failed { IsErrOf result EndError.Failed →
+            IsBroken version_1 self.old self.new (D.state self.new.disk).history }
+        ensures no_memory { IsErrOf result EndError.NoMemory →
+            NothingChanged self.old self.new (D.state self.old.disk) (D.state self.new.disk) }
+        ensures ready { length (head.now ++ body) < self.old.reserved.limit → IsErrOf result EndError.NoMemory → ⊥ }
 
-        // A crash at any moment of the call leaves the entries with or without the new one; after Ok, with it.
-        ensures any_moment { LeavesWithOrWithout version_1 (entries_of self.old) (head.now ++ body)
-            (D.history (disk_of self.old)) (D.history (disk_of self.new)) }
-        ensures durable { OnOk result
-            (IfTold (D.history (disk_of self.new)) (OnlyLeaves (Shows version_1 (entries_of self.new)))) }
-
-        // If the device failed, what was synced holds the entries without the new one.
-        ensures kept { IsErrOf result EndError.Failed → IfTold (D.history (disk_of self.new))
-            (λ file. Shows version_1 (entries_of self.old) file.kept) }
-
-        // It takes four calls of the device.
-        ensures device { (IsErrOf result EndError.NoMemory → ⊥) →
-            Runs 4 (D.passes (disk_of self.old)) (D.passes (disk_of self.new)) (is_ok result) }
-        ensures no_memory { IsErrOf result EndError.NoMemory → NothingChanged D.history D.passes self.old self.new }
-        ensures ready { (most : ℕ) → reserved_of self.old ≡ Some most → length (head.now ++ body) ≤ most →
-            IsErrOf result EndError.NoMemory → ⊥ }
-        ensures others { StaysHere (D.current (disk_of self.old)) (D.current (disk_of self.new))
-            (D.files (disk_of self.old)) (D.files (disk_of self.new)) }
-        ensures cause { HasCause (D.faults (disk_of self.old)) (D.faults (disk_of self.new))
-            (IsErrOf result EndError.Failed) }
-        ensures sound { IsSound D.history D.room self.new }
+        // A crash at any moment of the call leaves the entries with or without the new one. It takes four calls.
+        ensures appends { Appends version_1 self.old.entries (head.now ++ body) result (D.state self.old.disk)
+            (D.state self.new.disk) }
     {
         let bytes = (head.len() + body.len()) as u64;
-        self.make_ready(bytes)?;
+        self.reserve(bytes)?;
         let left = left_behind(self.reserved, bytes);
         self.reserved.limit = 0;
         self.attached = false;
@@ -255,20 +192,14 @@ impl<D: Disk> Journal<D> {
 }
 
 impl<D: Fused> Journal<D> {
-    ghost use Rattle.iss_disk.specs.Calls.{Stays, Restarts, up_to, script};
-    ghost use Rattle.iss_journal.specs.Sound.{disk_of, entries_of, is_attached, reserved_of, IsSound};
+    ghost use Rattle.iss_disk.specs.Calls.{IsFused, IsRestarted};
 
     /// The next `calls` calls of the disk succeed, and all later ones fail.
     pub fn fuse(&mut self, calls: u64)
-        requires sound { IsSound D.history D.room self.old }
-        ensures passes { D.passes (disk_of self.new) ≡ up_to calls }
-        ensures entries { entries_of self.new ≡ entries_of self.old }
-        ensures attached { is_attached self.new ≡ is_attached self.old }
-        ensures reserved { reserved_of self.new ≡ reserved_of self.old }
-        ensures same { Stays (D.current (disk_of self.old)) (D.current (disk_of self.new)) (D.files (disk_of self.old))
-            (D.files (disk_of self.new)) }
-        ensures faults { D.faults (disk_of self.new) ≡ D.faults (disk_of self.old) }
-        ensures sound { IsSound D.history D.room self.new }
+        ensures disk { IsFused calls (D.state self.old.disk) (D.state self.new.disk) }
+        ensures entries { self.new.entries ≡ self.old.entries }
+        ensures attached { self.new.attached ≡ self.old.attached }
+        ensures reserved { self.new.reserved ≡ self.old.reserved }
     {
         self.disk.fuse(calls);
     }
@@ -276,13 +207,9 @@ impl<D: Fused> Journal<D> {
     /// A crash and a restart: the disk holds what was synced, and its calls succeed again. The journal must be attached
     /// again.
     pub fn restart(&mut self)
-        ensures files { (name : List ℕ) → Restarts (D.files (disk_of self.old) name) (D.files (disk_of self.new) name) }
-        ensures current { D.current (disk_of self.new) ≡ D.current (disk_of self.old) }
-        ensures passes { D.passes (disk_of self.new) ≡ script [] }
-        ensures entries { entries_of self.new ≡ entries_of self.old }
-        ensures attached { is_attached self.new ≡ false }
-        ensures faults { D.faults (disk_of self.new) ≡ D.faults (disk_of self.old) }
-        ensures sound { IsSound D.history D.room self.new }
+        ensures disk { IsRestarted (D.state self.old.disk) (D.state self.new.disk) }
+        ensures entries { self.new.entries ≡ self.old.entries }
+        ensures attached { self.new.attached ≡ false }
     {
         self.disk.restart();
         self.reserved.limit = 0;

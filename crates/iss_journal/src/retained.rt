@@ -44,11 +44,10 @@ fn begins_snapshot(head: &[u8], body: &[u8]) -> bool
 }
 
 impl Retained {
-    ghost use Rattle.std.specs.Prelude.{◌≡◌, ◌+◌, ◌<◌, ◌≤◌, ◌++◌, ℕ, List, [], ◌∷◌, true, false, length, drop, get_or, IfOk, OnOk};
-    ghost use Rattle.iss_journal.specs.Frames.{frame, frames, max_entry};
-    ghost use Rattle.iss_journal.specs.EntryViews.{entries_in};
-    ghost use Rattle.iss_journal.specs.Retained.{is_snapshot, retained};
-    ghost use Rattle.iss_journal.specs.RetainedViews.{HasGrown, IsSame, Retains, TakesMore, gates_over, shown_in};
+    ghost use Rattle.std.specs.Prelude.{◌≡◌, ◌<◌, ◌≤◌, ◌++◌, [], true, false, length, get_or, IfOk, OnOk};
+    ghost use Rattle.iss_journal.specs.EntryViews.{HasGate, IsStaged, behind_gate, entries_in};
+    ghost use Rattle.iss_journal.specs.Retained.{is_snapshot};
+    ghost use Rattle.iss_journal.specs.RetainedViews.{Adds, IsSame, Retains, TakesEntry, TakesMore, gates_over, shown_in};
     ghost use Rattle.iss_journal.specs.SharedViews.{shared_in};
 
     /// Of no entries.
@@ -130,20 +129,17 @@ impl Retained {
     // Puts an entry given in two parts after what is kept of the others: its length, its bytes and a closed gate.
     #[inline(always)]
     pub(crate) fn stage(&mut self, head: &[u8], body: &Bytes)
-        requires short { length (head.now ++ body.now) ≤ max_entry }
-        requires room { TakesMore 1 (length (head.now ++ body.now)) self.old }
+        requires { TakesEntry (head.now ++ body.now) self.old }
         ensures same { IsSame self.old self.new }
-        ensures bytes { self.new.entries.own.bytes.items ≡ frames (entries_in self.new.entries.own)
-            ++ (frame (head.now ++ body.now) ++ 0 ∷ []) }
+        ensures bytes { IsStaged (head.now ++ body.now) self.new.entries.own }
     {
         self.entries.stage(head, body);
     }
 
     // The staged bytes after the gate.
     pub(crate) fn staged(&self) -> &[u8]
-        requires { length (frames (entries_in self.now.entries.own)) < length self.now.entries.own.bytes.items }
-        ensures { result.now ≡ drop (length (frames (entries_in self.now.entries.own)) + 1)
-            self.now.entries.own.bytes.items }
+        requires { HasGate self.now.entries.own }
+        ensures { result.now ≡ behind_gate self.now.entries.own }
     {
         self.entries.staged()
     }
@@ -152,14 +148,8 @@ impl Retained {
     // rule: Journal: Of the entries stay the snapshots, and all that follows the last of them
     #[inline(always)]
     pub(crate) fn add(&mut self, head: &[u8], body: Bytes)
-        requires short { length (head.now ++ body) ≤ max_entry }
-        requires room { TakesMore 1 (length (head.now ++ body)) self.old }
-        ensures entries { shown_in self.new ≡ retained (shown_in self.old ++ (head.now ++ body) ∷ []) }
-        ensures event { is_snapshot (head.now ++ body) ≡ false →
-            shown_in self.new ≡ shown_in self.old ++ (head.now ++ body) ∷ [] }
-        ensures retains { (all : List (List ℕ)) → Retains all self.old →
-            Retains (all ++ (head.now ++ body) ∷ []) self.new }
-        ensures grown { HasGrown (5 + length (head.now ++ body)) self.old self.new }
+        requires { TakesEntry (head.now ++ body) self.old }
+        ensures { Adds (head.now ++ body) self.old self.new }
     {
         if begins_snapshot(head, body.as_slice()) {
             self.add_snapshot(head, body);
@@ -171,13 +161,8 @@ impl Retained {
     #[inline(always)]
     fn add_event(&mut self, head: &[u8], body: Bytes)
         requires event { is_snapshot (head.now ++ body) ≡ false }
-        requires short { length (head.now ++ body) ≤ max_entry }
-        requires room { TakesMore 1 (length (head.now ++ body)) self.old }
-        ensures entries { shown_in self.new ≡ retained (shown_in self.old ++ (head.now ++ body) ∷ []) }
-        ensures last { shown_in self.new ≡ shown_in self.old ++ (head.now ++ body) ∷ [] }
-        ensures retains { (all : List (List ℕ)) → Retains all self.old →
-            Retains (all ++ (head.now ++ body) ∷ []) self.new }
-        ensures grown { HasGrown (5 + length (head.now ++ body)) self.old self.new }
+        requires room { TakesEntry (head.now ++ body) self.old }
+        ensures { Adds (head.now ++ body) self.old self.new }
     {
         let next = self.end + (5 + (head.len() + body.len()));
         self.entries.add(head, body);
@@ -187,12 +172,8 @@ impl Retained {
     // It takes no memory: the bytes go where those lay that do not stay.
     fn add_snapshot(&mut self, head: &[u8], body: Bytes)
         requires snapshot { is_snapshot (head.now ++ body) ≡ true }
-        requires short { length (head.now ++ body) ≤ max_entry }
-        requires room { TakesMore 1 (length (head.now ++ body)) self.old }
-        ensures entries { shown_in self.new ≡ retained (shown_in self.old ++ (head.now ++ body) ∷ []) }
-        ensures retains { (all : List (List ℕ)) → Retains all self.old →
-            Retains (all ++ (head.now ++ body) ∷ []) self.new }
-        ensures grown { HasGrown (5 + length (head.now ++ body)) self.old self.new }
+        requires room { TakesEntry (head.now ++ body) self.old }
+        ensures { Adds (head.now ++ body) self.old self.new }
     {
         let gate = self.end;
         let next = gate + (5 + (head.len() + body.len()));

@@ -17,10 +17,9 @@ pub struct SharedEntries {
 }
 
 impl SharedEntries {
-    ghost use Rattle.std.specs.Prelude.{◌≡◌, ◌+◌, ◌<◌, ◌≤◌, ◌++◌, [], ◌∷◌, length, take, drop, slice_index_or, IfOk, OnOk};
-    ghost use Rattle.iss_journal.specs.Frames.{frame, frames, max_entry};
-    ghost use Rattle.iss_journal.specs.EntryViews.{entries_in};
-    ghost use Rattle.iss_journal.specs.SharedViews.{AreFewer, AreSame, HasSpace, IsLonger, shared_in};
+    ghost use Rattle.std.specs.Prelude.{◌≡◌, ◌+◌, ◌<◌, ◌≤◌, ◌++◌, [], ◌∷◌, length, take, slice_index_or, IfOk, OnOk};
+    ghost use Rattle.iss_journal.specs.EntryViews.{HasGate, IsStaged, behind_gate};
+    ghost use Rattle.iss_journal.specs.SharedViews.{AreFewer, AreSame, HasSpace, HasSpaceFor, IsLonger, shared_in};
 
     /// No entries.
     pub(crate) fn new(alloc: Global) -> SharedEntries
@@ -80,19 +79,17 @@ impl SharedEntries {
     // Puts an entry given in two parts after what is kept of the others: its length, its bytes and a closed gate.
     #[inline(always)]
     pub(crate) fn stage(&mut self, head: &[u8], body: &Bytes)
-        requires short { length (head.now ++ body.now) ≤ max_entry }
-        requires space { HasSpace 1 (length (head.now ++ body.now)) self.old }
+        requires { HasSpaceFor (head.now ++ body.now) self.old }
         ensures same { AreSame self.old self.new }
-        ensures bytes { self.new.own.bytes.items ≡ frames (entries_in self.new.own)
-            ++ (frame (head.now ++ body.now) ++ 0 ∷ []) }
+        ensures bytes { IsStaged (head.now ++ body.now) self.new.own }
     {
         self.own.stage(head, body.as_slice());
     }
 
     // The staged bytes after the gate.
     pub(crate) fn staged(&self) -> &[u8]
-        requires { length (frames (entries_in self.now.own)) < length self.now.own.bytes.items }
-        ensures { result.now ≡ drop (length (frames (entries_in self.now.own)) + 1) self.now.own.bytes.items }
+        requires { HasGate self.now.own }
+        ensures { result.now ≡ behind_gate self.now.own }
     {
         self.own.staged()
     }
@@ -100,8 +97,7 @@ impl SharedEntries {
     // Adds an entry. Its head is copied, its body is kept.
     #[inline(always)]
     pub(crate) fn add(&mut self, head: &[u8], body: Bytes)
-        requires short { length (head.now ++ body) ≤ max_entry }
-        requires space { HasSpace 1 (length (head.now ++ body)) self.old }
+        requires { HasSpaceFor (head.now ++ body) self.old }
         ensures entries { shared_in self.new ≡ shared_in self.old ++ (head.now ++ body) ∷ [] }
         ensures longer { IsLonger (5 + length (head.now ++ body)) self.old self.new }
     {
