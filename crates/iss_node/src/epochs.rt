@@ -4,7 +4,7 @@ ghost use Rattle.std.specs.List.{filter};
 ghost use Rattle.iss_layout.specs.Layout.{slots_from};
 ghost use Rattle.iss_model.specs.Node.{advance_epochs, is_nil_at, or_unchanged, takes_each, takes_early, then_turn, try_step};
 ghost use Rattle.iss_node.specs.Internal.Epochs.{HasClosed, HasOpened, appended, notes};
-ghost use Rattle.iss_node.specs.Internal.Ready.{IsOpen, IsReady, IsToComplete, MayVote};
+ghost use Rattle.iss_node.specs.Internal.Ready.{IsOpen, IsReadInput, IsReady, IsToComplete, MayVote};
 ghost use Rattle.iss_node.specs.Internal.Shape.{AreFrom};
 ghost use Rattle.iss_node.specs.State.{seen_early, seen_one};
 ghost use Rattle.iss_node.specs.Steps.{IsEnded, IsLater, IsNextEpoch, IsSettled, IsTurnBehind, IsTurnOf};
@@ -123,7 +123,7 @@ impl<M: Sequenced> NodeState<M> {
         ensures later { IsLater self.old self.new }
     {
         let claims = self.claims_in(alloc, message.leader, message.from, &message.msg)?;
-        let mut outcome = self.try_now(alloc, message)?;
+        let mut outcome = self.try_now(alloc, message, claims.as_slice())?;
         if self.is_complete() {
             let (vote, _gone) = self.end_epoch(alloc)?;
             append_outcome(&mut outcome, vote)?;
@@ -131,9 +131,15 @@ impl<M: Sequenced> NodeState<M> {
         Ok(with_early(outcome, claims))
     }
 
-    // Takes a message of the current epoch. The outcome is empty if it is refused.
-    fn try_now(&mut self, alloc: Global, message: Early<M::Msg>) -> Result<Outcome, NoMemory>
-        requires from { message.from.0 < self.old.setup.n }
+    // Takes a message of the current epoch, which claims these signatures. The outcome is empty if it is refused.
+    fn try_now(
+        &mut self,
+        alloc: Global,
+        message: Early<M::Msg>,
+        claims: &[Claim],
+    ) -> Result<Outcome, NoMemory>
+        requires read { IsReadInput M.spec M.refines self.old message.leader.0
+            (Input.Receive message.from message.msg) claims.now }
         requires lasts { IsOpen M.spec M.refines self.old }
         ensures turn { IfOk result (λ o. IsTurnOf M.spec M.refines self.old
             (λ F R me c. or_unchanged c
@@ -142,7 +148,7 @@ impl<M: Sequenced> NodeState<M> {
         ensures later { IsLater self.old self.new }
     {
         let Early { from, leader, msg } = message;
-        match self.try_step(alloc, leader, Input::Receive { from, msg })? {
+        match self.try_step(alloc, leader, Input::Receive { from, msg }, claims)? {
             StepResult::Taken(outcome) => Ok(outcome),
             StepResult::Dropped(_) => Ok(Outcome::nothing(alloc)),
         }

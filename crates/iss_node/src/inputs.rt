@@ -3,7 +3,7 @@ ghost use Rattle.std.specs.Prelude.{◌≡◌, ◌≢◌, ◌<◌, ◌≤◌, Ok
 ghost use Rattle.iss_keys.specs.KeyStates.{left_of};
 ghost use Rattle.iss_model.specs.Node.{step_unjudged, try_step};
 ghost use Rattle.iss_node.specs.Internal.Inputs.{HasAppliedDeliveries, HasAppliedEffects, IsChained, IsHandedOut, IsInputTaken, IsJudgedInput, and_accepted};
-ghost use Rattle.iss_node.specs.Internal.Ready.{HasLeaves, IsTried};
+ghost use Rattle.iss_node.specs.Internal.Ready.{HasLeaves, IsReadInput, IsTried};
 ghost use Rattle.iss_node.specs.Steps.{IsLater, IsNodeInput, IsStepOf, IsTurnOf};
 
 use crate::answers::{Accepted, Outcome, StepResult};
@@ -11,21 +11,22 @@ use crate::growth::{extend_log, join_all, retire_ordered};
 use crate::state::NodeState;
 use iss_request::{Batch, Bytes, NoMemory, NodeId, Seq, Slot, Value};
 use iss_rules::Why;
-use iss_sb::{Effects, Input, Sequenced, StepError};
+use iss_sb::{Claim, Effects, Input, Sequenced, StepError};
 use iss_segment::StepRefusal;
 use std::alloc::Global;
 
 impl<M: Sequenced> NodeState<M> {
-    /// Steps `leader`'s instance, unless (in this order) `leader` does not lead this epoch, a claimed signature is
-    /// invalid, too few one-time keys are left, or the batch is refused.
+    /// Steps `leader`'s instance, unless (in this order) `leader` does not lead this epoch, one of the signatures that
+    /// the input claims is invalid, too few one-time keys are left, or the batch is refused.
     // rule: Acceptance: An instance takes an input if it leads, its claims verify, leaves are left, no refusal
     pub(crate) fn try_step(
         &mut self,
         alloc: Global,
         leader: NodeId,
         input: Input<M::Msg>,
+        claims: &[Claim],
     ) -> Result<StepResult, NoMemory>
-        requires { IsNodeInput self.old.setup.n input }
+        requires { IsReadInput M.spec M.refines self.old leader.0 input claims.now }
         ensures answer { IfOk result
             (λ a. IsStepOf M.spec M.refines self.old (λ F R me c. try_step F R M.spec me c leader.0 input) self.new a) }
         ensures tried { IfOk result (IsTried self.old self.new) }
@@ -36,8 +37,7 @@ impl<M: Sequenced> NodeState<M> {
         if !self.leads(leader) {
             return Ok(StepResult::Dropped(Why::NotLeader));
         }
-        let credible = self.is_credible(alloc, leader, &input)?;
-        if !credible {
+        if !self.is_credible(claims) {
             return Ok(StepResult::Dropped(Why::BadClaim));
         }
         if !self.has_leaves(leader) {

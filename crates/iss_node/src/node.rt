@@ -359,7 +359,7 @@ impl<M: Sequenced> NodeState<M> {
             NodeEvent::Packet(bytes) => self.take_bytes(alloc, &bytes),
             NodeEvent::Propose => self.propose(alloc),
             NodeEvent::Timeout(leader) => {
-                let step = self.try_step(alloc, leader, Input::Timeout)?;
+                let step = self.try_step(alloc, leader, Input::Timeout, &[])?;
                 self.finish_step(alloc, step)
             }
             NodeEvent::AskFrom(peer) => self.ask_from(alloc, peer),

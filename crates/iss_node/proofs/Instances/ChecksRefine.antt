@@ -13,6 +13,7 @@ use Rattle.iss_rules.specs.Past.{Past, before_own, leads_in, params_of, taken_in
 use Rattle.iss_rules.specs.declared.events.Refusal.{Refusal}
 use Rattle.iss_rules.specs.declared.events.Why.TheVariants.{BadClaim, NotLeader, NoKeys, Refused}
 use Rattle.iss_node.specs.Internal.Inputs.{HasAppliedEffects, IsChained, IsHandedOut, IsInputTaken, IsVerdictAt}
+use Rattle.iss_node.specs.Internal.Ready.{IsReadInput}
 use Rattle.iss_node.specs.Internal.Shape.{IsNodeState}
 use Rattle.iss_node.specs.State.{RefinesBareCore, RefinesPast, StateView, core_of, led}
 use Rattle.iss_node.specs.Steps.{IsLater, IsStepDropped, IsStepTaken, IsTurnOf, IsTurned}
@@ -26,6 +27,7 @@ use Rattle.iss_request.specs.declared.errors.NoMemory.{NoMemory}
 use Rattle.iss_sb.specs.Calls.{AreToNodes}
 use Rattle.iss_sb.specs.Evidence.{Item, Module, accepts}
 use Rattle.iss_sb.specs.Laws.{IsLawful}
+use Rattle.iss_sb.specs.declared.effects.Claim.{Claim}
 use Rattle.iss_sb.specs.declared.effects.Effects.{Effects}
 use Rattle.iss_sb.specs.declared.effects.Input.{Input}
 use Rattle.iss_sb.specs.declared.effects.Params.{Params}
@@ -85,6 +87,13 @@ module _ {M Msg : Type 0} (m : Module Msg) (refines : M → Params → ℕ → L
         try_step F (rules_of v.setup) m v.me.0 (core_of v past) l input ≡
         cond (not a) (Dropped NotLeader) (cond (not d) (Dropped BadClaim) (cond (not b) (Dropped NoKeys) (by_verdict w (step_unjudged F (rules_of v.setup) m v.me.0 (core_of v past) l input))))
     instance-is a d b w ha hd hb hw = four _ a _ d _ b _ w (step_unjudged F (rules_of v.setup) m v.me.0 (core_of v past) l input) ha hd hb hw
+
+-- The verdict on the claims that were read is that on the input's.
+pub credible-is : {M Msg : Type 0} (m : Module Msg) (refines : M → Params → ℕ → List (Item Msg) → Type 0) (v : StateView M Msg) (l : ℕ) (input : Input Msg) (claims : List Claim) → true ≡ is_some (led v.segments l) →
+    IsReadInput m refines v l input claims → (b : Bool) → b ≡ all_verify (rules_of v.setup) claims → (past : Past Msg) → RefinesPast m refines v past →
+    b ≡ all_verify (rules_of v.setup) (claims_of_input m (params_of (rules_of v.setup) m v.me.0 past l) input)
+credible-is m refines v l input claims leading h b is past tied =
+    is ∙ ap (λ (cs : List Claim). all_verify (rules_of v.setup) cs) (h.read past tied (leads-is m refines v past tied l true leading))
 
 -- Nothing has changed.
 pub same-parts : {M Msg : Type 0} (m : Module Msg) (refines : M → Params → ℕ → List (Item Msg) → Type 0) (v : StateView M Msg) (past : Past Msg) → RefinesPast m refines v past → RefinesBareCore m refines v (core_of v past)

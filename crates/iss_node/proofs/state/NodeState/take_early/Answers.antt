@@ -1,6 +1,7 @@
 use Rattle.std.proofs.Common.{◌∙◌, ap, subst, sym}
 use Rattle.iss_node.proofs.Instances.ChecksRefine.{later-trans}
 use Rattle.iss_node.proofs.EpochEnd.NextEpochStarts.{early-goes, early-stays}
+use Rattle.iss_node.proofs.Wire.ClaimsAgree.{read-message}
 use Rattle.iss_node.specs.Internal.Ready.{IsOpen}
 use Rattle.iss_node.specs.State.{StateView}
 use Rattle.iss_node.specs.Steps.{IsLater}
@@ -25,6 +26,10 @@ returns-clause-later g c = elim c.if-is_complete.branch [
       (later-trans c.args.self.now c.try_now.new.self w.end_epoch.new.self c.in_ok-outcome.ensures.later w.in_ok-vote.ensures.later)
   | else-is_complete w ↦ subst (λ (z : StateView g.row.M.Denot g.row.M-Msg.Denot). IsLater c.args.self.now z) (sym w.self-is) c.in_ok-outcome.ensures.later
 ]
+
+pub try_now-requires-read : goal.try_now-requires-read
+try_now-requires-read g c =
+    read-message g.M.Sequenced.spec g.M.Sequenced.refines c.args.self.now c.args.message.from c.args.message.leader c.args.message.msg c.in_ok-claims.claims c.requires.from c.in_ok-claims.ensures
 
 pub end_epoch-requires : goal.end_epoch-requires
 end_epoch-requires g c = may-vote g.M.Sequenced.spec g.M.Sequenced.refines c.try_now.new.self c.in_ok-outcome.ensures.ready (sym c.is_complete.ensures ∙ c.if-is_complete.true)
