@@ -6,9 +6,9 @@ ghost use Rattle.iss_rules.specs.Concrete.{rules_of};
 ghost use Rattle.iss_rules.specs.Votes.{all_verify};
 ghost use Rattle.iss_model.specs.Node.{claims_in, only_by, own_claims};
 ghost use Rattle.iss_rules.specs.Past.{Past};
+ghost use Rattle.iss_node.specs.Internal.Epochs.{AreParamsAt};
 ghost use Rattle.iss_node.specs.Internal.Inputs.{IsHandedOut};
 ghost use Rattle.iss_node.specs.State.{RefinesPast, led};
-ghost use Rattle.iss_sb.specs.Calls.{IsGoodParams};
 ghost use Rattle.iss_sb.specs.declared.effects.Claim.{Claim as SaidToSign};
 ghost use Rattle.iss_segment.specs.Instance.{SegmentState};
 
@@ -102,8 +102,7 @@ fn own_claims<M: Sequenced>(
     me: NodeId,
     sends: &[(To, M::Msg)],
 ) -> Result<Seq<Claim>, NoMemory>
-    requires good { IsGoodParams M.spec p.now }
-    requires me { me.0 < p.now.setup.n }
+    requires { AreParamsAt M.spec p.now me.0 }
     ensures { IfOk result (λ own. own ≡ own_claims M.spec p.now me.0 sends.now) }
 {
     let mut own = Seq::new(alloc);

@@ -1,10 +1,10 @@
 //! The inputs of a node's instances, and their effects on the node.
-ghost use Rattle.std.specs.Prelude.{◌≡◌, ◌≢◌, ◌<◌, ◌≤◌, Ok, Err, IfOk, OnOk, drop, length};
+ghost use Rattle.std.specs.Prelude.{◌≡◌, ◌≢◌, ◌≤◌, Ok, Err, IfOk, OnOk, drop, length};
 ghost use Rattle.iss_keys.specs.KeyStates.{left_of};
 ghost use Rattle.iss_model.specs.Node.{step_unjudged, try_step};
 ghost use Rattle.iss_node.specs.Internal.Inputs.{HasAppliedDeliveries, HasAppliedEffects, IsChained, IsHandedOut, IsInputTaken, IsJudgedInput, and_accepted};
-ghost use Rattle.iss_node.specs.Internal.Ready.{HasLeaves, IsReadInput, IsTried};
-ghost use Rattle.iss_node.specs.Steps.{IsLater, IsNodeInput, IsStepOf, IsTurnOf};
+ghost use Rattle.iss_node.specs.Internal.Ready.{IsReadInput, IsTried, MayStep};
+ghost use Rattle.iss_node.specs.Steps.{IsLater, IsStepOf, IsTurnOf};
 
 use crate::answers::{Accepted, Outcome, StepResult};
 use crate::growth::{extend_log, join_all, retire_ordered};
@@ -58,9 +58,7 @@ impl<M: Sequenced> NodeState<M> {
         leader: NodeId,
         input: Input<M::Msg>,
     ) -> Result<Outcome, NoMemory>
-        requires leader { leader.0 < self.old.setup.n }
-        requires input { IsNodeInput self.old.setup.n input }
-        requires leaves { HasLeaves M.spec self.old leader.0 }
+        requires { MayStep M.spec self.old leader.0 input }
         ensures taken { IfOk result
             (λ outcome. IsTurnOf M.spec M.refines self.old
             (λ F R me c. step_unjudged F R M.spec me c leader.0 input) self.new outcome) }
@@ -80,9 +78,7 @@ impl<M: Sequenced> NodeState<M> {
         leader: NodeId,
         input: Input<M::Msg>,
     ) -> Result<Effects<M::Msg>, StepRefusal>
-        requires leader { leader.0 < self.old.setup.n }
-        requires input { IsNodeInput self.old.setup.n input }
-        requires leaves { HasLeaves M.spec self.old leader.0 }
+        requires { MayStep M.spec self.old leader.0 input }
         ensures step { IsJudgedInput M.spec M.refines self.old self.new leader.0 input result }
         ensures later { IsLater self.old self.new }
     {
@@ -99,9 +95,7 @@ impl<M: Sequenced> NodeState<M> {
         leader: NodeId,
         input: Input<M::Msg>,
     ) -> Result<Effects<M::Msg>, NoMemory>
-        requires leader { leader.0 < self.old.setup.n }
-        requires input { IsNodeInput self.old.setup.n input }
-        requires leaves { HasLeaves M.spec self.old leader.0 }
+        requires { MayStep M.spec self.old leader.0 input }
         ensures taken { IfOk result (λ e. IsInputTaken M.spec M.refines self.old self.new leader.0 input e) }
         ensures later { IsLater self.old self.new }
     {

@@ -5,7 +5,7 @@ ghost use Rattle.iss_model.specs.Node.{Core, finish_step, keeps_early, takes_byt
 ghost use Rattle.iss_model.specs.Views.{claims_of_bytes, claims_of_parcel};
 ghost use Rattle.iss_model.specs.Frames.{claims_of_bytes_in, frame_of};
 ghost use Rattle.iss_node.specs.Internal.Parcels.{IsFromNode, seen_body, seen_some};
-ghost use Rattle.iss_node.specs.Internal.Ready.{RefinesSome};
+ghost use Rattle.iss_node.specs.Internal.Ready.{MayTake, RefinesSome};
 ghost use Rattle.iss_node.specs.State.{RefinesPast, seen_one};
 ghost use Rattle.iss_node.specs.Steps.{IsHeldStepOf, IsLater, IsSameNode, IsStepOf};
 
@@ -111,8 +111,7 @@ impl<M: Sequenced> NodeState<M> {
         epoch: Epoch,
         message: Early<M::Msg>,
     ) -> Result<StepResult, NoMemory>
-        requires from { message.from.0 < self.old.setup.n }
-        requires refined { RefinesSome M.spec M.refines self.old }
+        requires { MayTake M.spec M.refines self.old message.from.0 }
         ensures answer { IfOk result (λ a. IsStepOf M.spec M.refines self.old
             (λ F R me c. takes_message F R M.spec me c message.from.0 epoch.0 message.leader.0 message.msg)
             self.new a) }
@@ -129,8 +128,7 @@ impl<M: Sequenced> NodeState<M> {
 
     // Takes a module's message of the current epoch.
     fn take_now(&mut self, alloc: Global, message: Early<M::Msg>) -> Result<StepResult, NoMemory>
-        requires from { message.from.0 < self.old.setup.n }
-        requires refined { RefinesSome M.spec M.refines self.old }
+        requires { MayTake M.spec M.refines self.old message.from.0 }
         ensures answer { IfOk result (λ a. IsStepOf M.spec M.refines self.old
             (λ F R me c. finish_step F R M.spec me
             (try_step F R M.spec me c message.leader.0 (Input.Receive message.from message.msg))) self.new a) }

@@ -39,10 +39,28 @@ pub record IsReadInput {M Msg : Type 0} (m : Module Msg) (refines : Relation M M
   pub read : (past : Past Msg) → RefinesPast m refines v past → leads_in (rules_of v.setup) m v.me.0 past l ≡ true →
       claims ≡ claims_of_input m (params_of (rules_of v.setup) m v.me.0 past l) input
 
+-- The instance of leader l may take the input: its sender exists, and leaves are left.
+pub record MayStep {M Msg : Type 0} (m : Module Msg) (v : StateView M Msg) (l : ℕ) (given : Input Msg) : Type 0 where
+  pub leader : l < v.setup.n
+  pub input : IsNodeInput v.setup.n given
+  pub leaves : HasLeaves m v l
+
+-- The state refines some history, and the message comes from an existing node.
+pub record MayTake {M Msg : Type 0} (m : Module Msg) (refines : Relation M Msg) (v : StateView M Msg) (k : ℕ) :
+    Type 0 where
+  pub from : k < v.setup.n
+  pub refined : RefinesSome m refines v
+
 -- The epoch lasts.
 pub record IsOpen {M Msg : Type 0} (m : Module Msg) (refines : Relation M Msg) (v : StateView M Msg) : Type 0 where
   pub refined : RefinesSome m refines v
   pub lasts : is_full v ≡ false
+
+-- The epoch lasts, and the message comes from an existing node.
+pub record MayTakeEarly {M Msg : Type 0} (m : Module Msg) (refines : Relation M Msg) (v : StateView M Msg) (k : ℕ) :
+    Type 0 where
+  pub from : k < v.setup.n
+  pub lasts : IsOpen m refines v
 
 -- If the log has all slots of the epoch, there is a leaf for the vote on it.
 pub record IsReady {M Msg : Type 0} (m : Module Msg) (refines : Relation M Msg) (v : StateView M Msg) : Type 0 where

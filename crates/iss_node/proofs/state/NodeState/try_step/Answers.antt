@@ -12,6 +12,9 @@ returns-then-not-is_credible-clause-answer g c = λ past tied.
     let v = c.args.self.now in
     drops-claims m g.M.Sequenced.refines (formats_of v.setup m) v c.args.leader.0 c.args.input c.if-not-leads.ensures.leads past tied (credible-is m g.M.Sequenced.refines v c.args.leader.0 c.args.input c.args.claims.now c.if-not-leads.ensures.leads c.requires _ c.if-not-is_credible.ensures past tied)
 
+pub judged_step-requires : goal.judged_step-requires
+judged_step-requires g c = record { leader = c.if-not-leads.ensures.below refl; input = c.requires.sender; leaves = c.if-not-has_leaves.ensures.enough refl }
+
 pub returns-then-not-has_leaves-clause-answer : goal.returns-then-not-has_leaves-clause-answer
 returns-then-not-has_leaves-clause-answer g c = λ past tied.
     let m = g.M.Sequenced.spec in
