@@ -25,7 +25,7 @@ returns-clause-turn g c =
     let v = c.args.self.now in
     let x = c.args.message in
     let went : IsTurnOf m g.M.Sequenced.refines v (λ F R me d. or_unchanged d (try_step F R m me d x.leader.0 (Receive x.from x.msg))) c.try_step.new.self c.or_nothing.result =
-        tried-so m g.M.Sequenced.refines v c.try_step.new.self (λ F R me d. try_step F R m me d x.leader.0 (Receive x.from x.msg)) c.in_ok-step.step c.or_nothing.result c.or_nothing.ensures c.in_ok-step.ensures.answer in
+    tried-so m g.M.Sequenced.refines v c.try_step.new.self (λ F R me d. try_step F R m me d x.leader.0 (Receive x.from x.msg)) c.in_ok-step.step c.or_nothing.result c.or_nothing.ensures c.in_ok-step.ensures.answer in
     elim c.if-is_complete.branch [
       | then-is_complete+in_ok-vote+in_ok-append_outcome w ↦ early-goes m g.M.Sequenced.refines v c.try_step.new.self c.in_ok-step.ensures.later x c.or_nothing.result c.is_complete.result c.is_complete.ensures went c.in_ok-claims.claims c.in_ok-claims.ensures c.with_early.result
           w.end_epoch.new.self c.if-is_complete.self w.self-is w.if-is_complete.true w.in_ok-vote.vote _ w.in_ok-vote.ensures.ended w.in_ok-vote.ensures.later
@@ -48,7 +48,7 @@ end_epoch-requires g c =
     let v = c.args.self.now in
     let x = c.args.message in
     let ready = ready-after m g.M.Sequenced.refines v c.try_step.new.self (λ past. try_step (formats_of v.setup m) (rules_of v.setup) m v.me.0 (core_of v past) x.leader.0 (Receive x.from x.msg))
-        c.in_ok-step.step c.requires.lasts c.in_ok-step.ensures.answer c.in_ok-step.ensures.tried in
+    c.in_ok-step.step c.requires.lasts c.in_ok-step.ensures.answer c.in_ok-step.ensures.tried in
     may-vote m g.M.Sequenced.refines c.try_step.new.self ready (sym c.is_complete.ensures ∙ c.if-is_complete.true)
 
 pub returns-clause-goes_on : goal.returns-clause-goes_on
@@ -57,7 +57,7 @@ returns-clause-goes_on g c =
     let v = c.args.self.now in
     let x = c.args.message in
     let ready : IsReady m g.M.Sequenced.refines c.try_step.new.self = ready-after m g.M.Sequenced.refines v c.try_step.new.self (λ past. try_step (formats_of v.setup m) (rules_of v.setup) m v.me.0 (core_of v past) x.leader.0 (Receive x.from x.msg))
-        c.in_ok-step.step c.requires.lasts c.in_ok-step.ensures.answer c.in_ok-step.ensures.tried in
+    c.in_ok-step.step c.requires.lasts c.in_ok-step.ensures.answer c.in_ok-step.ensures.tried in
     elim c.if-is_complete.branch [
       | then-is_complete+in_ok-vote+in_ok-append_outcome w ↦ subst (λ (z : StateView g.row.M.Denot g.row.M-Msg.Denot). IsOpen m g.M.Sequenced.refines z) (sym w.self-is) w.in_ok-vote.ensures.begun
       | else-is_complete w ↦ subst (λ (z : StateView g.row.M.Denot g.row.M-Msg.Denot). IsOpen m g.M.Sequenced.refines z) (sym w.self-is)
