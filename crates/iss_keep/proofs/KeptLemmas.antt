@@ -146,9 +146,9 @@ module _ {M Msg D : Type 0} (m : Module Msg) (refines : Relation M Msg) (history
           record {
             turn = a.turn;
             step_is = is;
-            at = record { fresh = refl; node = a.refined; cluster = setup ∙ kept.cluster; number = me ∙ kept.number };
-            made = a.made;
-            addressed = λ of. subst (λ (s : Setup). AreToNodes s.n outcome.sends) (setup ∙ kept.cluster) (a.addressed (own-peer of));
+            at = record { fresh = refl; node = a.turned.refined; cluster = setup ∙ kept.cluster; number = me ∙ kept.number };
+            made = a.turned.made;
+            addressed = λ of. subst (λ (s : Setup). AreToNodes s.n outcome.sends) (setup ∙ kept.cluster) (a.turned.addressed (own-peer of));
           }
 
     module _ (why : Why)
@@ -201,7 +201,7 @@ module _ {M Msg D : Type 0} (m : Module Msg) (refines : Relation M Msg) (history
           let more = stored-entry a.turn entry a.step_is h.1 in
           record {
             fresh = refl;
-            node = subst (λ (c : Core Msg). RefinesCore m refines node c) (sym (ap (λ (z : Stored Msg). z.core) is)) a.refined;
+            node = subst (λ (c : Core Msg). RefinesCore m refines node c) (sym (ap (λ (z : Stored Msg). z.core) is)) a.turned.refined;
             cluster = setup ∙ kept.cluster;
             number = me ∙ kept.number;
             entries = added ∙ shows-more st (stored_after old.setup m old.me.0 st event) old.entries entry for.entries more;

@@ -207,7 +207,7 @@ module _ {M Msg : Type 0} (s : Setup) (m : Module Msg) (refines : Relation M Msg
         IsTurn m refines of (step_of s m me found.core event) new outcome → new.state.saved ≡ old.state.saved → saved_of old.state.saved ≡ found.saved →
         GoesTo s m refines me found entry new true
     goes-taken of event outcome read a same saved =
-        (record { core = a.turn.core; saved = found.saved }, (a.refined, ap (λ (z : SavedState). saved_of z) same ∙ saved), replays-at event _ read a.step_is)
+        (record { core = a.turn.core; saved = found.saved }, (a.turned.refined, ap (λ (z : SavedState). saved_of z) same ∙ saved), replays-at event _ read a.step_is)
 
     pub goes-dropped : (event : NodeEvent) (why : Why) → Some event ≡ event_in s.n entry → IsDrop m refines found.core (step_of s m me found.core event) new why →
         GoesTo s m refines me found entry new false

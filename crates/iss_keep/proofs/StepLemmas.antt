@@ -95,7 +95,7 @@ module _ {M Msg : Type 0} (m : Module Msg) (refines : Relation M Msg) (event : N
   grown : GoesOn old.state.log.entries taken.state.log.entries
   grown =
       let a = answer core.0 core.1 in
-      taken-goes-on m refines old taken core.0 event a.turn good core.1 a.refined a.step_is setup me
+      taken-goes-on m refines old taken core.0 event a.turn good core.1 a.turned.refined a.step_is setup me
 
   -- The node can retreat to the log and epoch that it had before the step.
   pub longer : (slots : ℕ) → slots ≡ length old.state.log.entries → slots ≤ length taken.state.log.entries
@@ -105,7 +105,7 @@ module _ {M Msg : Type 0} (m : Module Msg) (refines : Relation M Msg) (event : N
   pub later : (epoch : ℕ) → epoch ≡ old.state.epoch → epoch ≤ taken.state.epoch
   later epoch is =
       let a = answer core.0 core.1 in
-      subst (λ (k : ℕ). k ≤ taken.state.epoch) (sym is) (taken-later m refines old taken core.0 event a.turn good core.1 a.refined a.step_is setup me)
+      subst (λ (k : ℕ). k ≤ taken.state.epoch) (sym is) (taken-later m refines old taken core.0 event a.turn good core.1 a.turned.refined a.step_is setup me)
 
   module _ (slots epoch : ℕ) (length-is : slots ≡ length old.state.log.entries) (epoch-is : epoch ≡ old.state.epoch) (new : NodeView M Msg) where
     gone-back : HasRetreated taken new slots epoch → ShowsSame old new
@@ -128,9 +128,12 @@ module _ {M Msg : Type 0} (m : Module Msg) (refines : Relation M Msg) (event : N
           record {
             turn = a.turn;
             step_is = a.step_is;
-            refined = a.refined;
-            made = record { sends = a.made.sends; own = a.made.own; early = a.made.early; hashed = a.made.hashed };
-            addressed = a.addressed;
+            turned = record {
+              refined = a.turned.refined;
+              made = record { sends = a.turned.made.sends; own = a.turned.made.own; early = a.turned.made.early; hashed = a.turned.made.hashed };
+              entered = tt;
+              addressed = a.turned.addressed;
+            };
           }
 
       entry-with : after ≡ outcome.entered → IsKeptAs m refines event old (entry_kept after own)

@@ -1,7 +1,6 @@
 //! A replica before it has a journal.
 ghost use Rattle.std.specs.Prelude.{◌≡◌, ◌<◌, IfOk};
-ghost use Rattle.iss_rules.specs.Concrete.{keys_of};
-ghost use Rattle.iss_rules.specs.Setups.{IsSetupOf};
+ghost use Rattle.iss_node.specs.State.{IsMember};
 
 use crate::reopening::start_fresh;
 use iss_keys::SharedDirectory;
@@ -40,9 +39,7 @@ impl<M: Sequenced> Fresh<M> {
         directory: &SharedDirectory,
         me: NodeId,
     ) -> Result<Fresh<M>, NoMemory>
-        requires good { IsSetupOf M.spec setup.now }
-        requires directory { directory.now ≡ keys_of setup.now }
-        requires me { me.0 < setup.now.n }
+        requires { IsMember M.spec setup.now directory.now me.0 }
         ensures { IfOk result (λ v. (v.setup ≡ setup.now) × (v.me ≡ me)) }
     {
         let node = start_fresh(alloc, setup, directory, me)?;

@@ -5,9 +5,9 @@ ghost use Rattle.iss_keep.specs.Cores.{core_of, step_of, stored_after};
 ghost use Rattle.iss_keep.specs.State.{KeptRefinesCore, RefinesStored, stored_as};
 ghost use Rattle.iss_keep.specs.Steps.{IsAnswer, IsAttached, IsDamaged, IsJournaled, IsLeft, IsSame, LosesNone, ShowsAsBefore};
 ghost use Rattle.iss_keep.specs.Steps.{makes_stale, sight};
-ghost use Rattle.iss_rules.specs.Concrete.{keys_of};
 ghost use Rattle.iss_model.specs.Node.{Core};
 ghost use Rattle.iss_rules.specs.Setups.{IsSetupOf};
+ghost use Rattle.iss_node.specs.State.{IsMember};
 ghost use Rattle.iss_node.specs.Steps.{IsOfNodes};
 ghost use Rattle.iss_rebuilt.specs.Reading.{Rebuilt};
 ghost use Rattle.iss_rebuilt.specs.Stored.{Stored};
@@ -60,9 +60,7 @@ impl<M: Sequenced, D: Disk + Drop> Kept<M, D> {
         me: NodeId,
         disk: D,
     ) -> Result<Kept<M, D>, NoMemory>
-        requires good { IsSetupOf M.spec setup.now }
-        requires directory { directory.now ≡ keys_of setup.now }
-        requires me { me.0 < setup.now.n }
+        requires { IsMember M.spec setup.now directory.now me.0 }
         ensures same { IfOk result (λ v. (v.setup ≡ setup.now) × (v.me ≡ me)) }
         ensures stale { IfOk result (λ v. v.stale ≡ true) }
         ensures journal { IfOk result (λ v. (v.disk ≡ disk) × (v.entries ≡ [])) }

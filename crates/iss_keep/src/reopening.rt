@@ -6,12 +6,10 @@ ghost use Rattle.iss_journal.specs.Sound.{IsSound, disk_of, entries_of, gates_of
 ghost use Rattle.iss_keep.specs.Cores.{StopsAt};
 ghost use Rattle.iss_keep.specs.Internal.Replays.{AreInFront, GoesTo, IsFound, IsOf, IsReplayed};
 ghost use Rattle.iss_keep.specs.Steps.{IsAttached, IsDamaged, IsLeft, LosesNone, sight};
-ghost use Rattle.iss_rules.specs.Concrete.{keys_of};
 ghost use Rattle.iss_model.specs.Node.{initial_core};
-ghost use Rattle.iss_rules.specs.Setups.{IsSetupOf};
 ghost use Rattle.iss_model.specs.Frames.{frame_of};
 ghost use Rattle.iss_node.specs.Rebuilding.{IsReadOn, RefinesRebuilt};
-ghost use Rattle.iss_node.specs.State.{RefinesCore};
+ghost use Rattle.iss_node.specs.State.{IsMember, RefinesCore};
 ghost use Rattle.iss_rebuilt.specs.Reading.{Rebuilt, reads_entry};
 
 use crate::entries::decode_entry;
@@ -31,9 +29,7 @@ pub(crate) fn start_fresh<M: Sequenced>(
     directory: &SharedDirectory,
     me: NodeId,
 ) -> Result<Node<M>, NoMemory>
-    requires good { IsSetupOf M.spec setup.now }
-    requires directory { directory.now ≡ keys_of setup.now }
-    requires me { me.0 < setup.now.n }
+    requires { IsMember M.spec setup.now directory.now me.0 }
     ensures refines { IfOk result (λ node. RefinesCore M.spec M.refines node initial_core) }
     ensures same { IfOk result (λ node. (node.state.setup ≡ setup.now) × (node.state.me ≡ me)) }
 {
@@ -102,9 +98,7 @@ fn rebuild<M: Sequenced, D: Disk>(
     journal: &Journal<D>,
     front: usize,
 ) -> Result<Node<M>, AttachError>
-    requires good { IsSetupOf M.spec setup.now }
-    requires directory { directory.now ≡ keys_of setup.now }
-    requires me { me.0 < setup.now.n }
+    requires member { IsMember M.spec setup.now directory.now me.0 }
     requires front { AreInFront (entries_of journal.now) front }
     ensures refines { IfOk result (IsReplayed setup.now M.spec M.refines me.0 (take front (entries_of journal.now))) }
     ensures same { IfOk result (IsOf setup.now me) }
@@ -219,9 +213,7 @@ fn recover<M: Sequenced, D: Disk>(
     me: NodeId,
     journal: &Journal<D>,
 ) -> Result<Node<M>, AttachError>
-    requires good { IsSetupOf M.spec setup.now }
-    requires directory { directory.now ≡ keys_of setup.now }
-    requires me { me.0 < setup.now.n }
+    requires member { IsMember M.spec setup.now directory.now me.0 }
     requires stay { retained (entries_of journal.now) ≡ entries_of journal.now }
     ensures refines { IfOk result (IsReplayed setup.now M.spec M.refines me.0 (entries_of journal.now)) }
     ensures same { IfOk result (IsOf setup.now me) }
@@ -246,9 +238,7 @@ pub(crate) fn open<M: Sequenced, D: Disk>(
     me: NodeId,
     journal: &mut Journal<D>,
 ) -> Result<Node<M>, AttachError>
-    requires good { IsSetupOf M.spec setup.now }
-    requires directory { directory.now ≡ keys_of setup.now }
-    requires me { me.0 < setup.now.n }
+    requires member { IsMember M.spec setup.now directory.now me.0 }
     requires sound { IsSound D.history D.room journal.old }
     ensures refines { IfOk result (IsReplayed setup.now M.spec M.refines me.0 (entries_of journal.new)) }
     ensures stay { OnOk result (retained (entries_of journal.new) ≡ entries_of journal.new) }

@@ -10,10 +10,11 @@ use Rattle.iss_log.specs.LogState.{LogState, value_at}
 use Rattle.iss_ballots.specs.Ballots.{AreKept, BallotsState}
 use Rattle.iss_checkpoint.specs.declared.votes.Cert.{Cert}
 use Rattle.iss_checkpoint.specs.declared.votes.Vote.{Vote}
-use Rattle.iss_rules.specs.Concrete.{rules_of}
+use Rattle.iss_rules.specs.Concrete.{keys_of, rules_of}
 use Rattle.iss_model.specs.Node.{Core, Early as Kept_early, flown, joined}
 use Rattle.iss_rules.specs.Past.{Past, before_own, log_of, taken_in}
 use Rattle.iss_rules.specs.Rules.{Rules}
+use Rattle.iss_rules.specs.Setups.{IsSetupOf}
 use Rattle.iss_model.specs.Sound.{IsSoundCore}
 use Rattle.iss_node.specs.Flights.{FlightState}
 use Rattle.iss_node.specs.Saved.{SavedState}
@@ -33,6 +34,12 @@ use Rattle.iss_sb.specs.Calls.{Relation}
 use Rattle.iss_segment.specs.Ground.{RestsOn}
 use Rattle.iss_segment.specs.Instance.{RefinesItems, SameIds, SegmentState}
 use Rattle.iss_window.specs.Kept.{Kept}
+
+-- The set-up is a good one, with this directory, and this is one of its nodes.
+pub record IsMember {Msg : Type 0} (m : Module Msg) (s : Setup) (keys : DirectoryView) (node : ℕ) : Type 0 where
+  pub good : IsSetupOf m s
+  pub directory : keys ≡ keys_of s
+  pub me : node < s.n
 
 -- The state of a node in its epoch.
 pub record StateView (M Msg : Type 0) : Type 0 where

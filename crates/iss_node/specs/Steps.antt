@@ -2,7 +2,7 @@
 -- and hands out what the model makes: packets in order, own claims, read claims, hashed strings. If the model drops
 -- it, nothing changes, for the same cause. Where memory runs out the node is stale, and shows the log and epoch that
 -- it had.
-use Rattle.std.specs.Prelude.{◌≡◌, ◌<◌, ◌+◌, ◌^◌, ℕ, true, List, [], None, take}
+use Rattle.std.specs.Prelude.{◌≡◌, ◌<◌, ◌+◌, ◌^◌, ℕ, true, List, [], Option, None, take}
 use Rattle.iss_log.specs.LogState.{GoesOn}
 use Rattle.iss_rules.specs.Concrete.{rules_of}
 use Rattle.iss_rules.specs.Formats.{formats_of}
@@ -27,6 +27,7 @@ use Rattle.iss_sb.specs.Calls.{AreToNodes, Relation}
 use Rattle.iss_sb.specs.Evidence.{Module}
 use Rattle.iss_sb.specs.declared.effects.Input.{Input}
 use Rattle.iss_sb.specs.declared.effects.Input.TheVariants.{Cast, Receive, Timeout}
+use Rattle.iss_sb.specs.declared.effects.To.{To}
 
 -- The outcome of a turn: its sends, the node's own signatures in them, the signatures claimed by early messages, and
 -- the hashed strings.
@@ -36,32 +37,52 @@ pub record IsMade {Msg : Type 0} (turn : Turn Msg) (outcome : Outcome) : Type 0 
   pub early : outcome.early ≡ turn.early
   pub hashed : outcome.hashed ≡ turn.strings
 
--- A turn was made: the state refines its core, its outcome is returned, and every send goes to an existing node.
-pub record IsTurned {M Msg : Type 0} (m : Module Msg) (refines : Relation M Msg)
-    (turn : Turn Msg) (new : StateView M Msg) (outcome : Outcome) : Type 0 where
-  pub refined : RefinesBareCore m refines new turn.core
-  pub made : IsMade turn outcome
-  pub entered : IsEntered m new turn.entered outcome.entered
-  pub addressed : AreToNodes new.setup.n outcome.sends
+-- ---- one family of answers
 
--- The model accepts the event too, with this turn.
-pub record IsStepTaken {M Msg : Type 0} (m : Module Msg) (refines : Relation M Msg)
-    (stepped : Stepped Msg) (new : StateView M Msg) (outcome : Outcome) : Type 0 where
+-- A turn was made, and its outcome is returned. The parameters say how the new state refines the turn's core, what is
+-- handed out for an epoch that was entered, and what is said of the sends.
+pub record IsTurnBy {Msg : Type 0} (Refined : Core Msg → Type 0)
+    (Entered : Option (Core Msg) → Option (List ℕ) → Type 0) (Addressed : List (To × List ℕ) → Type 0)
+    (turn : Turn Msg) (outcome : Outcome) : Type 0 where
+  pub refined : Refined turn.core
+  pub made : IsMade turn outcome
+  pub entered : Entered turn.entered outcome.entered
+  pub addressed : Addressed outcome.sends
+
+-- The model accepts the event too, with a turn of which this is said.
+pub record IsTakenBy {Msg : Type 0} (Turned : Turn Msg → Outcome → Type 0)
+    (stepped : Stepped Msg) (outcome : Outcome) : Type 0 where
   pub turn : Turn Msg
   pub step_is : stepped ≡ Step_taken turn
-  pub turned : IsTurned m refines turn new outcome
+  pub turned : Turned turn outcome
 
 -- The model drops the event too, and nothing has changed.
-pub record IsStepDropped {M Msg : Type 0} (m : Module Msg) (refines : Relation M Msg) (c : Core Msg)
-    (stepped : Stepped Msg) (new : StateView M Msg) (why : Why) : Type 0 where
+pub record IsDroppedBy {Msg : Type 0} (Refined : Core Msg → Type 0) (c : Core Msg)
+    (stepped : Stepped Msg) (why : Why) : Type 0 where
   pub step_is : stepped ≡ Step_dropped why
-  pub refined : RefinesBareCore m refines new c
+  pub refined : Refined c
 
 -- The result agrees with the model's step.
+abbrev pub IsStepBy : {Msg : Type 0} → (Turn Msg → Outcome → Type 0) → (Core Msg → Type 0) → Core Msg → Stepped Msg →
+    StepResult → Type 0
+IsStepBy Turned Refined c stepped (Result_taken outcome) = IsTakenBy Turned stepped outcome
+IsStepBy Turned Refined c stepped (Result_dropped why) = IsDroppedBy Refined c stepped why
+
+-- If the event names existing nodes, every send goes to one of these n.
+abbrev pub AreAddressed : Type 0 → ℕ → List (To × List ℕ) → Type 0
+AreAddressed asked n sends = asked → AreToNodes n sends
+
+-- ---- without votes and certificates
+
+-- The state refines the turn's core, and every send goes to an existing node.
+abbrev pub IsTurned : {M Msg : Type 0} → Module Msg → Relation M Msg → Turn Msg → StateView M Msg → Outcome → Type 0
+IsTurned m refines turn new outcome =
+    IsTurnBy (RefinesBareCore m refines new) (IsEntered m new) (AreToNodes new.setup.n) turn outcome
+
 abbrev pub IsStep : {M Msg : Type 0} → Module Msg → Relation M Msg → Core Msg → Stepped Msg → StateView M Msg →
     StepResult → Type 0
-IsStep m refines c stepped new (Result_taken outcome) = IsStepTaken m refines stepped new outcome
-IsStep m refines c stepped new (Result_dropped why) = IsStepDropped m refines c stepped new why
+IsStep m refines c stepped new answer =
+    IsStepBy (λ turn o. IsTurned m refines turn new o) (RefinesBareCore m refines new) c stepped answer
 
 -- The result agrees with the model's step (or turn), for every history that the state refines.
 abbrev pub IsStepOf : {M Msg : Type 0} → Module Msg → Relation M Msg → StateView M Msg →
@@ -131,30 +152,17 @@ IsNodeInput n Timeout = Unit {0}
 
 -- ---- with votes and certificates
 
--- A turn was made at a core with its votes and certificates. If the event names existing nodes, every send goes to an
--- existing node.
-pub record IsHeldTurn {M Msg : Type 0} (m : Module Msg) (refines : Relation M Msg) (asked : Type 0)
-    (turn : Turn Msg) (new : StateView M Msg) (outcome : Outcome) : Type 0 where
-  pub refined : StateRefinesCore m refines new turn.core
-  pub made : IsMade turn outcome
-  pub entered : IsHeldEntered m new turn.entered outcome.entered
-  pub addressed : asked → AreToNodes new.setup.n outcome.sends
-
-pub record IsHeldTaken {M Msg : Type 0} (m : Module Msg) (refines : Relation M Msg) (asked : Type 0)
-    (stepped : Stepped Msg) (new : StateView M Msg) (outcome : Outcome) : Type 0 where
-  pub turn : Turn Msg
-  pub step_is : stepped ≡ Step_taken turn
-  pub turned : IsHeldTurn m refines asked turn new outcome
-
-pub record IsHeldDropped {M Msg : Type 0} (m : Module Msg) (refines : Relation M Msg) (c : Core Msg)
-    (stepped : Stepped Msg) (new : StateView M Msg) (why : Why) : Type 0 where
-  pub step_is : stepped ≡ Step_dropped why
-  pub refined : StateRefinesCore m refines new c
+-- The state refines the turn's core with its votes and certificates. If the event names existing nodes, every send goes
+-- to an existing node.
+abbrev pub IsHeldTurn : {M Msg : Type 0} → Module Msg → Relation M Msg → Type 0 → Turn Msg → StateView M Msg →
+    Outcome → Type 0
+IsHeldTurn m refines asked turn new outcome =
+    IsTurnBy (StateRefinesCore m refines new) (IsHeldEntered m new) (AreAddressed asked new.setup.n) turn outcome
 
 abbrev pub IsHeldStep : {M Msg : Type 0} → Module Msg → Relation M Msg → Type 0 → Core Msg → Stepped Msg →
     StateView M Msg → StepResult → Type 0
-IsHeldStep m refines asked c stepped new (Result_taken outcome) = IsHeldTaken m refines asked stepped new outcome
-IsHeldStep m refines asked c stepped new (Result_dropped why) = IsHeldDropped m refines c stepped new why
+IsHeldStep m refines asked c stepped new answer =
+    IsStepBy (λ turn o. IsHeldTurn m refines asked turn new o) (StateRefinesCore m refines new) c stepped answer
 
 -- The result agrees with the model's step, for every core that the state refines.
 abbrev pub IsHeldStepOf : {M Msg : Type 0} → Module Msg → Relation M Msg → Type 0 → StateView M Msg →
@@ -162,27 +170,20 @@ abbrev pub IsHeldStepOf : {M Msg : Type 0} → Module Msg → Relation M Msg →
 IsHeldStepOf {Msg = Msg} m refines asked old step new answer = (c : Core Msg) → StateRefinesCore m refines old c →
     IsHeldStep m refines asked c (step (formats_of old.setup m) (rules_of old.setup) old.me.0 c) new answer
 
--- A step was taken as an event of its own: what is handed out takes the event's place in a journal, and is noted.
-pub record IsKeptTaken {M Msg : Type 0} (m : Module Msg) (refines : Relation M Msg) (asked : Type 0)
-    (stepped : Stepped Msg) (old new : StateView M Msg) (outcome : Outcome) : Type 0 where
-  pub turn : Turn Msg
-  pub step_is : stepped ≡ Step_taken turn
-  pub refined : StateRefinesCore m refines new turn.core
-  pub made : IsMade turn outcome
-  pub entered : IsKeptEntry m old turn.entered new.saved outcome.entered
-  pub addressed : asked → AreToNodes new.setup.n outcome.sends
+-- ---- as an event of its own
 
-pub record IsKeptDropped {M Msg : Type 0} (m : Module Msg) (refines : Relation M Msg) (c : Core Msg)
-    (stepped : Stepped Msg) (old new : StateView M Msg) (why : Why) : Type 0 where
-  pub step_is : stepped ≡ Step_dropped why
-  pub refined : StateRefinesCore m refines new c
-  pub saved : new.saved ≡ old.saved
+-- What is handed out takes the event's place in a journal, and is noted. A dropped event notes nothing.
+abbrev pub IsKeptTurn : {M Msg : Type 0} → Module Msg → Relation M Msg → Type 0 → StateView M Msg → Turn Msg →
+    StateView M Msg → Outcome → Type 0
+IsKeptTurn m refines asked old turn new outcome =
+    IsTurnBy (StateRefinesCore m refines new) (λ core bytes. IsKeptEntry m old core new.saved bytes)
+    (AreAddressed asked new.setup.n) turn outcome
 
 abbrev pub IsKeptStep : {M Msg : Type 0} → Module Msg → Relation M Msg → Type 0 → Core Msg → Stepped Msg →
     StateView M Msg → StateView M Msg → StepResult → Type 0
-IsKeptStep m refines asked c stepped old new (Result_taken outcome) =
-    IsKeptTaken m refines asked stepped old new outcome
-IsKeptStep m refines asked c stepped old new (Result_dropped why) = IsKeptDropped m refines c stepped old new why
+IsKeptStep m refines asked c stepped old new answer =
+    IsStepBy (λ turn o. IsKeptTurn m refines asked old turn new o)
+    (λ d. StateRefinesCore m refines new d × (new.saved ≡ old.saved)) c stepped answer
 
 abbrev pub IsKeptStepOf : {M Msg : Type 0} → Module Msg → Relation M Msg → Type 0 → StateView M Msg →
     (Formats Msg → Rules → ℕ → Core Msg → Stepped Msg) → StateView M Msg → StepResult → Type 0
@@ -204,21 +205,18 @@ IsOfNodes n (On_ask peer) = peer.0 < n
 
 -- ---- the node's answers
 
--- The event was accepted: the node refines the core after the step, and returns its outcome. If the event names
--- existing nodes, every send goes to an existing node.
-pub record IsTurn {M Msg : Type 0} (m : Module Msg) (refines : Relation M Msg) (asked : Type 0)
-    (stepped : Stepped Msg) (new : NodeView M Msg) (outcome : Outcome) : Type 0 where
-  pub turn : Turn Msg
-  pub step_is : stepped ≡ Step_taken turn
-  pub refined : RefinesCore m refines new turn.core
-  pub made : IsMade turn outcome
-  pub addressed : asked → AreToNodes new.state.setup.n outcome.sends
+-- The event was accepted: the node refines the core after the step. `IsEnteredAnswer` says what it hands out for an
+-- epoch that was entered.
+abbrev pub IsTurn : {M Msg : Type 0} → Module Msg → Relation M Msg → Type 0 → Stepped Msg → NodeView M Msg →
+    Outcome → Type 0
+IsTurn {Msg = Msg} m refines asked stepped new outcome =
+    IsTakenBy (λ (turn : Turn Msg) o. IsTurnBy (RefinesCore m refines new) (λ core bytes. Unit {0})
+    (AreAddressed asked new.state.setup.n) turn o) stepped outcome
 
 -- The event was dropped, and nothing has changed.
-pub record IsDrop {M Msg : Type 0} (m : Module Msg) (refines : Relation M Msg) (c : Core Msg)
-    (stepped : Stepped Msg) (new : NodeView M Msg) (why : Why) : Type 0 where
-  pub step_is : stepped ≡ Step_dropped why
-  pub refined : RefinesCore m refines new c
+abbrev pub IsDrop : {M Msg : Type 0} → Module Msg → Relation M Msg → Core Msg → Stepped Msg → NodeView M Msg → Why →
+    Type 0
+IsDrop m refines c stepped new why = IsDroppedBy (RefinesCore m refines new) c stepped why
 
 -- The answer to the step of a core that the node refines. Such a node is not stale.
 abbrev pub IsAnswer : {M Msg : Type 0} → Module Msg → Relation M Msg → Type 0 → Core Msg → Stepped Msg →

@@ -1,5 +1,5 @@
 //! How a node proposes batches (ISS: SB-cast).
-ghost use Rattle.std.specs.Prelude.{◌≡◌, ◌<◌, ◌≤◌, Some, List, IfOk, OnOk, is_some, true};
+ghost use Rattle.std.specs.Prelude.{◌≡◌, ◌≤◌, Some, List, IfOk, OnOk, is_some, true};
 ghost use Rattle.iss_keys.specs.KeyStates.{left_of};
 ghost use Rattle.iss_rules.specs.Concrete.{rules_of};
 ghost use Rattle.iss_model.specs.Node.{first_slot, next_slot, step};
@@ -67,8 +67,7 @@ impl<M: Sequenced> NodeState<M> {
 
     // Proposes for a slot; all checks have passed. The only error is out of memory.
     fn cast(&mut self, alloc: Global, slot: Slot) -> Result<Outcome, NoMemory>
-        requires me { self.old.me.0 < self.old.setup.n }
-        requires leaves { HasLeaves M.spec self.old self.old.me.0 }
+        requires { HasLeaves M.spec self.old self.old.me.0 }
         ensures taken { IfOk result
             (λ outcome. IsTurnOf M.spec M.refines self.old
             (λ F R me c. casting F R M.spec me c slot) self.new outcome) }

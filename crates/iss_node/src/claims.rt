@@ -1,15 +1,14 @@
 //! The signatures that messages claim.
-ghost use Rattle.std.specs.Prelude.{◌≡◌, ◌<◌, ◌++◌, Some, true, IfOk, OnOk};
+ghost use Rattle.std.specs.Prelude.{◌≡◌, ◌<◌, ◌++◌, Some, IfOk, OnOk};
 ghost use Rattle.std.specs.List.{list_all};
 ghost use Rattle.iss_keys.specs.VerifiedBy.{is_verified_by};
 ghost use Rattle.iss_rules.specs.Concrete.{rules_of};
 ghost use Rattle.iss_rules.specs.Votes.{all_verify};
-ghost use Rattle.iss_model.specs.Node.{claims_in, claims_of_input, only_by, own_claims};
-ghost use Rattle.iss_rules.specs.Past.{Past, leads_in, params_of};
+ghost use Rattle.iss_model.specs.Node.{claims_in, only_by, own_claims};
+ghost use Rattle.iss_rules.specs.Past.{Past};
+ghost use Rattle.iss_node.specs.Internal.Epochs.{AreParamsAt};
 ghost use Rattle.iss_node.specs.Internal.Inputs.{IsHandedOut};
 ghost use Rattle.iss_node.specs.State.{RefinesPast, led};
-ghost use Rattle.iss_node.specs.Steps.{IsNodeInput};
-ghost use Rattle.iss_sb.specs.Calls.{IsGoodParams};
 ghost use Rattle.iss_sb.specs.declared.effects.Claim.{Claim as SaidToSign};
 ghost use Rattle.iss_segment.specs.Instance.{SegmentState};
 
@@ -18,7 +17,7 @@ use crate::parcels::{Origin, pack};
 use crate::state::NodeState;
 use iss_keys::Directory;
 use iss_request::{Bytes, NoMemory, NodeId, Seq};
-use iss_sb::{Claim, Input, Params, Sequenced, To};
+use iss_sb::{Claim, Params, Sequenced, To};
 use std::alloc::Global;
 
 impl<M: Sequenced> NodeState<M> {
@@ -41,28 +40,12 @@ impl<M: Sequenced> NodeState<M> {
         }
     }
 
-    /// Whether every signature claimed by an input for `leader`'s instance is valid.
+    /// Whether every claimed signature is valid.
     // rule: Acceptance: A message with a claim that does not verify under its signer's key is dropped
-    pub(crate) fn is_credible(
-        &self,
-        alloc: Global,
-        leader: NodeId,
-        input: &Input<M::Msg>,
-    ) -> Result<bool, NoMemory>
-        requires { IsNodeInput self.now.setup.n input.now }
-        ensures { IfOk result (λ b. (past : Past M.Msg) → RefinesPast M.spec M.refines self.now past →
-            leads_in (rules_of self.now.setup) M.spec self.now.me.0 past leader.0 ≡ true →
-            b ≡ all_verify (rules_of self.now.setup)
-            (claims_of_input M.spec (params_of (rules_of self.now.setup) M.spec self.now.me.0 past leader.0)
-            input.now)) }
+    pub(crate) fn is_credible(&self, claims: &[Claim]) -> bool
+        ensures { result ≡ all_verify (rules_of self.now.setup) claims.now }
     {
-        match input {
-            Input::Receive { from, msg } => {
-                let claims = self.claims_in(alloc, leader, *from, msg)?;
-                Ok(all_verify(self.directory.directory(), claims.as_slice()))
-            }
-            Input::Cast { .. } | Input::Timeout => Ok(true),
-        }
+        all_verify(self.directory.directory(), claims)
     }
 
     /// The outcome of a step of `leader`'s instance: its messages as packets, the node's own signatures in them, and
@@ -119,8 +102,7 @@ fn own_claims<M: Sequenced>(
     me: NodeId,
     sends: &[(To, M::Msg)],
 ) -> Result<Seq<Claim>, NoMemory>
-    requires good { IsGoodParams M.spec p.now }
-    requires me { me.0 < p.now.setup.n }
+    requires { AreParamsAt M.spec p.now me.0 }
     ensures { IfOk result (λ own. own ≡ own_claims M.spec p.now me.0 sends.now) }
 {
     let mut own = Seq::new(alloc);

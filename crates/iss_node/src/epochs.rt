@@ -2,9 +2,9 @@
 ghost use Rattle.std.specs.Prelude.{◌≡◌, ◌<◌, ◌+◌, ◌^◌, ◌++◌, IfOk, OnOk, reverse};
 ghost use Rattle.std.specs.List.{filter};
 ghost use Rattle.iss_layout.specs.Layout.{slots_from};
-ghost use Rattle.iss_model.specs.Node.{advance_epochs, is_nil_at, or_unchanged, takes_each, takes_early, then_turn, try_step};
-ghost use Rattle.iss_node.specs.Internal.Epochs.{HasClosed, HasOpened, appended, notes};
-ghost use Rattle.iss_node.specs.Internal.Ready.{IsOpen, IsReady, IsToComplete, MayVote};
+ghost use Rattle.iss_model.specs.Node.{advance_epochs, is_nil_at, takes_each, takes_early, then_turn};
+ghost use Rattle.iss_node.specs.Internal.Epochs.{HasClosed, HasOpened, appended, notes, or_nothing};
+ghost use Rattle.iss_node.specs.Internal.Ready.{IsOpen, IsReady, IsToComplete, MayTakeEarly, MayVote};
 ghost use Rattle.iss_node.specs.Internal.Shape.{AreFrom};
 ghost use Rattle.iss_node.specs.State.{seen_early, seen_one};
 ghost use Rattle.iss_node.specs.Steps.{IsEnded, IsLater, IsNextEpoch, IsSettled, IsTurnBehind, IsTurnOf};
@@ -114,8 +114,7 @@ impl<M: Sequenced> NodeState<M> {
     // reported.
     // rule: Evidence: The claims of an early message are read even where the message is then refused
     fn take_early(&mut self, alloc: Global, message: Early<M::Msg>) -> Result<Outcome, NoMemory>
-        requires from { message.from.0 < self.old.setup.n }
-        requires lasts { IsOpen M.spec M.refines self.old }
+        requires { MayTakeEarly M.spec M.refines self.old message.from.0 }
         ensures turn { IfOk result
             (λ o. IsTurnOf M.spec M.refines self.old
             (λ F R me c. takes_early F R M.spec me c (seen_one message)) self.new o) }
@@ -123,29 +122,15 @@ impl<M: Sequenced> NodeState<M> {
         ensures later { IsLater self.old self.new }
     {
         let claims = self.claims_in(alloc, message.leader, message.from, &message.msg)?;
-        let mut outcome = self.try_now(alloc, message)?;
+        let Early { from, leader, msg } = message;
+        let input = Input::Receive { from, msg };
+        let step = self.try_step(alloc, leader, input, claims.as_slice())?;
+        let mut outcome = or_nothing(alloc, step);
         if self.is_complete() {
             let (vote, _gone) = self.end_epoch(alloc)?;
             append_outcome(&mut outcome, vote)?;
         }
         Ok(with_early(outcome, claims))
-    }
-
-    // Takes a message of the current epoch. The outcome is empty if it is refused.
-    fn try_now(&mut self, alloc: Global, message: Early<M::Msg>) -> Result<Outcome, NoMemory>
-        requires from { message.from.0 < self.old.setup.n }
-        requires lasts { IsOpen M.spec M.refines self.old }
-        ensures turn { IfOk result (λ o. IsTurnOf M.spec M.refines self.old
-            (λ F R me c. or_unchanged c
-            (try_step F R M.spec me c message.leader.0 (Input.Receive message.from message.msg))) self.new o) }
-        ensures ready { OnOk result (IsReady M.spec M.refines self.new) }
-        ensures later { IsLater self.old self.new }
-    {
-        let Early { from, leader, msg } = message;
-        match self.try_step(alloc, leader, Input::Receive { from, msg })? {
-            StepResult::Taken(outcome) => Ok(outcome),
-            StepResult::Dropped(_) => Ok(Outcome::nothing(alloc)),
-        }
     }
 
     /// Ends the epoch and starts the next one with fresh instances. Returns the messages that arrived early for it.
@@ -227,6 +212,16 @@ fn note_all(windows: &mut Windows, ids: &[ReqId]) -> Result<(), NoMemory>
         windows.note(*id)?;
     }
     Ok(())
+}
+
+// The outcome of a step, which is empty if the event was dropped.
+fn or_nothing(alloc: Global, step: StepResult) -> Outcome
+    ensures { result ≡ or_nothing step }
+{
+    match step {
+        StepResult::Taken(outcome) => outcome,
+        StepResult::Dropped(_) => Outcome::nothing(alloc),
+    }
 }
 
 // The outcome with these claims of early messages.

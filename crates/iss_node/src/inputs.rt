@@ -1,31 +1,32 @@
 //! The inputs of a node's instances, and their effects on the node.
-ghost use Rattle.std.specs.Prelude.{◌≡◌, ◌≢◌, ◌<◌, ◌≤◌, Ok, Err, IfOk, OnOk, drop, length};
+ghost use Rattle.std.specs.Prelude.{◌≡◌, ◌≢◌, ◌≤◌, Ok, Err, IfOk, OnOk, drop, length};
 ghost use Rattle.iss_keys.specs.KeyStates.{left_of};
 ghost use Rattle.iss_model.specs.Node.{step_unjudged, try_step};
 ghost use Rattle.iss_node.specs.Internal.Inputs.{HasAppliedDeliveries, HasAppliedEffects, IsChained, IsHandedOut, IsInputTaken, IsJudgedInput, and_accepted};
-ghost use Rattle.iss_node.specs.Internal.Ready.{HasLeaves, IsTried};
-ghost use Rattle.iss_node.specs.Steps.{IsLater, IsNodeInput, IsStepOf, IsTurnOf};
+ghost use Rattle.iss_node.specs.Internal.Ready.{IsReadInput, IsTried, MayStep};
+ghost use Rattle.iss_node.specs.Steps.{IsLater, IsStepOf, IsTurnOf};
 
 use crate::answers::{Accepted, Outcome, StepResult};
 use crate::growth::{extend_log, join_all, retire_ordered};
 use crate::state::NodeState;
 use iss_request::{Batch, Bytes, NoMemory, NodeId, Seq, Slot, Value};
 use iss_rules::Why;
-use iss_sb::{Effects, Input, Sequenced, StepError};
+use iss_sb::{Claim, Effects, Input, Sequenced, StepError};
 use iss_segment::StepRefusal;
 use std::alloc::Global;
 
 impl<M: Sequenced> NodeState<M> {
-    /// Steps `leader`'s instance, unless (in this order) `leader` does not lead this epoch, a claimed signature is
-    /// invalid, too few one-time keys are left, or the batch is refused.
+    /// Steps `leader`'s instance, unless (in this order) `leader` does not lead this epoch, one of the signatures that
+    /// the input claims is invalid, too few one-time keys are left, or the batch is refused.
     // rule: Acceptance: An instance takes an input if it leads, its claims verify, leaves are left, no refusal
     pub(crate) fn try_step(
         &mut self,
         alloc: Global,
         leader: NodeId,
         input: Input<M::Msg>,
+        claims: &[Claim],
     ) -> Result<StepResult, NoMemory>
-        requires { IsNodeInput self.old.setup.n input }
+        requires { IsReadInput M.spec M.refines self.old leader.0 input claims.now }
         ensures answer { IfOk result
             (λ a. IsStepOf M.spec M.refines self.old (λ F R me c. try_step F R M.spec me c leader.0 input) self.new a) }
         ensures tried { IfOk result (IsTried self.old self.new) }
@@ -36,8 +37,7 @@ impl<M: Sequenced> NodeState<M> {
         if !self.leads(leader) {
             return Ok(StepResult::Dropped(Why::NotLeader));
         }
-        let credible = self.is_credible(alloc, leader, &input)?;
-        if !credible {
+        if !self.is_credible(claims) {
             return Ok(StepResult::Dropped(Why::BadClaim));
         }
         if !self.has_leaves(leader) {
@@ -58,9 +58,7 @@ impl<M: Sequenced> NodeState<M> {
         leader: NodeId,
         input: Input<M::Msg>,
     ) -> Result<Outcome, NoMemory>
-        requires leader { leader.0 < self.old.setup.n }
-        requires input { IsNodeInput self.old.setup.n input }
-        requires leaves { HasLeaves M.spec self.old leader.0 }
+        requires { MayStep M.spec self.old leader.0 input }
         ensures taken { IfOk result
             (λ outcome. IsTurnOf M.spec M.refines self.old
             (λ F R me c. step_unjudged F R M.spec me c leader.0 input) self.new outcome) }
@@ -80,9 +78,7 @@ impl<M: Sequenced> NodeState<M> {
         leader: NodeId,
         input: Input<M::Msg>,
     ) -> Result<Effects<M::Msg>, StepRefusal>
-        requires leader { leader.0 < self.old.setup.n }
-        requires input { IsNodeInput self.old.setup.n input }
-        requires leaves { HasLeaves M.spec self.old leader.0 }
+        requires { MayStep M.spec self.old leader.0 input }
         ensures step { IsJudgedInput M.spec M.refines self.old self.new leader.0 input result }
         ensures later { IsLater self.old self.new }
     {
@@ -99,9 +95,7 @@ impl<M: Sequenced> NodeState<M> {
         leader: NodeId,
         input: Input<M::Msg>,
     ) -> Result<Effects<M::Msg>, NoMemory>
-        requires leader { leader.0 < self.old.setup.n }
-        requires input { IsNodeInput self.old.setup.n input }
-        requires leaves { HasLeaves M.spec self.old leader.0 }
+        requires { MayStep M.spec self.old leader.0 input }
         ensures taken { IfOk result (λ e. IsInputTaken M.spec M.refines self.old self.new leader.0 input e) }
         ensures later { IsLater self.old self.new }
     {

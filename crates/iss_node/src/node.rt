@@ -4,15 +4,14 @@ ghost use Rattle.std.specs.List.{list_any};
 ghost use Rattle.iss_ballots.specs.Ballots.{cert_at};
 ghost use Rattle.iss_keys.specs.Directories.{AreKeysOf};
 ghost use Rattle.iss_log.specs.LogState.{value_at};
-ghost use Rattle.iss_rules.specs.Concrete.{keys_of, rules_of};
+ghost use Rattle.iss_rules.specs.Concrete.{rules_of};
 ghost use Rattle.iss_rules.specs.Votes.{cert_on};
 ghost use Rattle.iss_model.specs.Node.{Core, initial_core, step};
 ghost use Rattle.iss_rules.specs.Past.{Past, log_of};
-ghost use Rattle.iss_rules.specs.Setups.{IsSetupOf};
 ghost use Rattle.iss_model.specs.Views.{accepted_by, is_castable_now, is_unfilled, unfilled};
 ghost use Rattle.iss_model.specs.Frames.{claims_of_bytes_in, frame_of, step_in};
 ghost use Rattle.iss_node.specs.Internal.Ready.{RefinesSome};
-ghost use Rattle.iss_node.specs.State.{RefinesCore, RefinesPast, StateRefinesCore, accepted_of};
+ghost use Rattle.iss_node.specs.State.{IsMember, RefinesCore, RefinesPast, StateRefinesCore, accepted_of};
 ghost use Rattle.iss_request.specs.Log.{ids};
 ghost use Rattle.iss_node.specs.Internal.Storing.{HasNoted, is_entry, storable};
 ghost use Rattle.iss_node.specs.Steps.{HasRetreated, IsAnswer, IsEnteredAnswer, IsHeldStepOf, IsKeptStepOf, IsLeft, IsOfNodes, IsReplayed, IsSameLog, IsSameNode};
@@ -70,9 +69,7 @@ impl<M: Sequenced> Node<M> {
         me: NodeId,
         keys: Keys,
     ) -> Result<Node<M>, NoMemory>
-        requires good { IsSetupOf M.spec setup.now }
-        requires directory { directory.now ≡ keys_of setup.now }
-        requires me { me.0 < setup.now.n }
+        requires member { IsMember M.spec setup.now directory.now me.0 }
         requires own { AreKeysOf me.0 setup.now.keys keys }
         ensures refines { IfOk result (λ v. RefinesCore M.spec M.refines v (record initial_core { leaf = keys.used })) }
         ensures same { IfOk result (λ v. (v.state.setup ≡ setup.now) × (v.state.me ≡ me)) }
@@ -359,7 +356,7 @@ impl<M: Sequenced> NodeState<M> {
             NodeEvent::Packet(bytes) => self.take_bytes(alloc, &bytes),
             NodeEvent::Propose => self.propose(alloc),
             NodeEvent::Timeout(leader) => {
-                let step = self.try_step(alloc, leader, Input::Timeout)?;
+                let step = self.try_step(alloc, leader, Input::Timeout, &[])?;
                 self.finish_step(alloc, step)
             }
             NodeEvent::AskFrom(peer) => self.ask_from(alloc, peer),

@@ -131,8 +131,8 @@ fn open_message<M: Sequenced>(
     }))
 }
 
-/// The message that these bytes encode, if they are exactly one message.
-pub fn read_message<M: Sequenced>(
+// The message that these bytes encode, if they are exactly one message.
+fn read_message<M: Sequenced>(
     alloc: Global,
     version: u8,
     bytes: &Bytes,

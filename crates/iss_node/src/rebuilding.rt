@@ -3,10 +3,9 @@ ghost use Rattle.std.specs.Prelude.{◌≡◌, ◌<◌, ℕ, [], IfOk, IfSome, I
 ghost use Rattle.iss_model.specs.Frames.{frame_of};
 ghost use Rattle.iss_model.specs.Node.{initial_core};
 ghost use Rattle.iss_node.specs.Rebuilding.{IsFirstBad, IsOf, IsReadOn, RefinesRebuilt};
+ghost use Rattle.iss_node.specs.State.{IsMember};
 ghost use Rattle.iss_rebuilt.specs.Reading.{Rebuilt, reads_entry, rebuilt, woken_of};
 ghost use Rattle.iss_rebuilt.specs.Stored.{nothing_saved};
-ghost use Rattle.iss_rules.specs.Concrete.{keys_of};
-ghost use Rattle.iss_rules.specs.Setups.{IsSetupOf};
 
 use crate::answers::{Early, Outcome};
 use crate::node::Node;
@@ -55,9 +54,7 @@ impl<M: Sequenced> Rebuilding<M> {
         directory: &SharedDirectory,
         me: NodeId,
     ) -> Result<Rebuilding<M>, NoMemory>
-        requires good { IsSetupOf M.spec setup.now }
-        requires directory { directory.now ≡ keys_of setup.now }
-        requires me { me.0 < setup.now.n }
+        requires { IsMember M.spec setup.now directory.now me.0 }
         ensures refines { IfOk result
             (λ v. RefinesRebuilt M.spec M.refines v (record { core = initial_core; saved = nothing_saved })) }
         ensures same { IfOk result (λ v. (v.state.setup ≡ setup.now) × (v.state.me ≡ me)) }
@@ -125,9 +122,7 @@ impl<M: Sequenced> Node<M> {
         me: NodeId,
         entries: &[Bytes],
     ) -> Result<Node<M>, RebuildError>
-        requires good { IsSetupOf M.spec setup.now }
-        requires directory { directory.now ≡ keys_of setup.now }
-        requires me { me.0 < setup.now.n }
+        requires { IsMember M.spec setup.now directory.now me.0 }
         ensures rebuilt { IfOk result (IsOf M.spec M.refines
             (woken_of (frame_of setup.now M.spec) me.0
             (rebuilt (frame_of setup.now M.spec) me.0 (reverse entries.now)))) }

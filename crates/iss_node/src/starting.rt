@@ -1,9 +1,8 @@
 //! Starting the instances of an epoch.
 ghost use Rattle.std.specs.Prelude.{◌≡◌, ◌<◌, [], IfOk, IfSome, is_some, length, option_map};
 ghost use Rattle.iss_layout.specs.Layout.{IsGoodPlan, leads};
-ghost use Rattle.iss_rules.specs.Concrete.{keys_of};
-ghost use Rattle.iss_rules.specs.Setups.{IsSetupOf};
-ghost use Rattle.iss_node.specs.Internal.Epochs.{AreStarted, params_by};
+ghost use Rattle.iss_node.specs.Internal.Epochs.{AreParamsAt, AreStarted, IsPlanOf, params_by};
+ghost use Rattle.iss_node.specs.State.{IsMember};
 ghost use Rattle.iss_sb.specs.Calls.{IsGoodParams};
 ghost use Rattle.iss_segment.specs.Instance.{RefinesItems};
 
@@ -24,11 +23,8 @@ pub fn start_segments<M: Sequenced>(
     layout: &Layout,
     me: NodeId,
 ) -> Result<Vec<Option<Segment<M>>>, NoMemory>
-    requires good { IsSetupOf M.spec setup.now }
-    requires directory { directory.now ≡ keys_of setup.now }
-    requires me { me.0 < setup.now.n }
-    requires plan { IsGoodPlan layout.now }
-    requires nodes { layout.now.nodes ≡ setup.now.n }
+    requires member { IsMember M.spec setup.now directory.now me.0 }
+    requires plan { IsPlanOf setup.now.n layout.now }
     ensures started { IfOk result (λ segments. AreStarted M.refines setup.now me epoch.0 layout.now segments.items) }
     ensures count { IfOk result (λ segments. length segments.items ≡ setup.now.n) }
 {
@@ -51,9 +47,7 @@ fn params_of<M: Sequenced>(
     layout: &Layout,
     leader: NodeId,
 ) -> Result<Option<Params>, NoMemory>
-    requires good { IsSetupOf M.spec setup.now }
-    requires directory { directory.now ≡ keys_of setup.now }
-    requires leader { leader.0 < setup.now.n }
+    requires member { IsMember M.spec setup.now directory.now leader.0 }
     requires plan { IsGoodPlan layout.now }
     ensures leads { IfOk result (λ o. is_some o ≡ leads layout.now leader.0) }
     ensures params { IfOk result (λ o. IfSome o (λ p. p ≡ params_by setup.now epoch.0 layout.now leader.0)) }
@@ -77,7 +71,7 @@ fn start_with<M: Sequenced>(
     params: Option<Params>,
     me: NodeId,
 ) -> Result<Option<Segment<M>>, NoMemory>
-    requires { IfSome params (λ p. IsGoodParams M.spec p × (me.0 < p.setup.n)) }
+    requires { IfSome params (λ p. AreParamsAt M.spec p me.0) }
     ensures started { IfOk result (λ o. is_some o ≡ is_some params) }
     ensures refines { IfOk result (λ o. IfSome o (λ g. RefinesItems M.refines g [])) }
     ensures node { IfOk result (λ o. IfSome o (λ g. g.me ≡ me)) }

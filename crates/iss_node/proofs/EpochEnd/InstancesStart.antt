@@ -18,7 +18,7 @@ use Rattle.iss_model.specs.Node.{initial_core, joined}
 use Rattle.iss_rules.specs.Past.{before_own, initial_history, log_of}
 use Rattle.iss_rules.specs.Setups.{IsSetupOf}
 use Rattle.iss_model.specs.Sound.{IsSoundCore}
-use Rattle.iss_node.specs.Internal.Epochs.{AreStarted, params_by}
+use Rattle.iss_node.specs.Internal.Epochs.{AreParamsAt, AreStarted, params_by}
 use Rattle.iss_node.specs.Internal.Shape.{IsNodeState}
 use Rattle.iss_node.specs.State.{RefinesCore, RefinesPastOver, StateView, led}
 use Rattle.iss_request.specs.Log.{has_id, log_ids}
@@ -79,9 +79,9 @@ carried-over f Q None p is h = tt
 carried-over f Q (Some x) p is h = subst (λ (z : Option _). IfSome z Q) (sym is) h
 
 pub member-of : {Msg : Type 0} (m : Module Msg) (s : Setup) (me : NodeId) (e : ℕ) (plan : Plan) (l : ℕ) (o : Option Params) → IfSome o (λ p. p ≡ params_by s e plan l) → IfSome o (λ p. IsGoodParams m p) → me.0 < s.n →
-    IfSome o (λ p. IsGoodParams m p × (me.0 < p.setup.n))
+    IfSome o (λ p. AreParamsAt m p me.0)
 member-of m s me e plan l None is good lt = tt
-member-of m s me e plan l (Some p) is good lt = (good, subst (λ (z : Params). me.0 < z.setup.n) (sym is) lt)
+member-of m s me e plan l (Some p) is good lt = record { good = good; me = subst (λ (z : Params). me.0 < z.setup.n) (sym is) lt }
 
 -- ---- lists of instances
 

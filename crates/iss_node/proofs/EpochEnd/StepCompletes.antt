@@ -13,11 +13,12 @@ use Rattle.iss_rules.specs.Rules.{Rules}
 use Rattle.iss_node.proofs.Steps.EntriesCompose.{both-entered, later-entered, nothing-entered}
 use Rattle.iss_node.specs.Entered.{IsEntered}
 use Rattle.iss_node.proofs.Steps.OutcomesCompose.{both-made, nothing, nothing-made, nothing-sent}
-use Rattle.iss_node.specs.Internal.Epochs.{appended}
+use Rattle.iss_node.specs.Internal.Epochs.{appended, or_nothing}
 use Rattle.iss_node.specs.State.{RefinesBareCore, RefinesPast, StateView, core_of, seen_early, seen_one}
-use Rattle.iss_node.specs.Steps.{IsEnded, IsLater, IsMade, IsStep, IsTurnBehind, IsTurnOf, IsTurned}
+use Rattle.iss_node.specs.Steps.{IsEnded, IsLater, IsMade, IsStep, IsStepOf, IsTurnBehind, IsTurnOf, IsTurned}
 use Rattle.iss_node.specs.declared.answers.Early.{Early}
 use Rattle.iss_node.specs.declared.answers.Outcome.{Outcome}
+use Rattle.iss_node.specs.declared.answers.StepResult.{StepResult}
 use Rattle.iss_node.specs.declared.answers.StepResult.TheVariants.{Dropped as Result_dropped, Taken as Result_taken}
 use Rattle.iss_request.specs.declared.setups.Setup.{Setup}
 use Rattle.iss_request.specs.declared.ids.NodeId.{NodeId}
@@ -47,6 +48,15 @@ module _ {M Msg : Type 0} (m : Module Msg) (refines : M → Params → ℕ → L
     entered = nothing-entered o none;
     addressed = nothing-sent w.setup.n o none;
   })
+
+  -- The outcome of an early message that was tried.
+  pub tried-so : (v w : StateView M Msg) (stepped : Formats Msg → Rules → ℕ → Core Msg → Stepped Msg) (a : StepResult) (o : Outcome) → o ≡ or_nothing a → IsStepOf m refines v stepped w a →
+      IsTurnOf m refines v (λ F R me c. or_unchanged c (stepped F R me c)) w o
+  tried-so v w stepped (Result_taken p) o is h = λ past tied.
+      subst (λ (z : Outcome). IsTurned m refines (or_unchanged (core_of v past) (stepped (formats_of v.setup m) (rules_of v.setup) v.me.0 (core_of v past))) w z) (sym is)
+      (tried-taken v w (core_of v past) (stepped (formats_of v.setup m) (rules_of v.setup) v.me.0 (core_of v past)) p (h past tied))
+  tried-so v w stepped (Result_dropped why) o is h = λ past tied.
+      tried-dropped v w (core_of v past) (stepped (formats_of v.setup m) (rules_of v.setup) v.me.0 (core_of v past)) why o (h past tied) is
 
   -- ---- a turn that does not fill the epoch, and one that does
 

@@ -13,9 +13,11 @@ use Rattle.iss_rules.specs.Past.{Past, before_own, leads_in, params_of, taken_in
 use Rattle.iss_rules.specs.declared.events.Refusal.{Refusal}
 use Rattle.iss_rules.specs.declared.events.Why.TheVariants.{BadClaim, NotLeader, NoKeys, Refused}
 use Rattle.iss_node.specs.Internal.Inputs.{HasAppliedEffects, IsChained, IsHandedOut, IsInputTaken, IsVerdictAt}
+use Rattle.iss_node.specs.Internal.Ready.{IsReadInput}
 use Rattle.iss_node.specs.Internal.Shape.{IsNodeState}
 use Rattle.iss_node.specs.State.{RefinesBareCore, RefinesPast, StateView, core_of, led}
-use Rattle.iss_node.specs.Steps.{IsLater, IsStepDropped, IsStepTaken, IsTurnOf, IsTurned}
+use Rattle.iss_node.specs.Steps.{IsLater, IsStep, IsTurnOf, IsTurned}
+use Rattle.iss_node.specs.declared.answers.StepResult.TheVariants.{Dropped as Result_dropped, Taken as Result_taken}
 use Rattle.iss_node.specs.declared.answers.Outcome.{Outcome}
 use Rattle.iss_node.proofs.Instances.InputRefines.{addressed-next, made-next, parts-next}
 use Rattle.iss_request.specs.declared.ids.NodeId.{NodeId}
@@ -26,6 +28,7 @@ use Rattle.iss_request.specs.declared.errors.NoMemory.{NoMemory}
 use Rattle.iss_sb.specs.Calls.{AreToNodes}
 use Rattle.iss_sb.specs.Evidence.{Item, Module, accepts}
 use Rattle.iss_sb.specs.Laws.{IsLawful}
+use Rattle.iss_sb.specs.declared.effects.Claim.{Claim}
 use Rattle.iss_sb.specs.declared.effects.Effects.{Effects}
 use Rattle.iss_sb.specs.declared.effects.Input.{Input}
 use Rattle.iss_sb.specs.declared.effects.Params.{Params}
@@ -86,6 +89,13 @@ module _ {M Msg : Type 0} (m : Module Msg) (refines : M → Params → ℕ → L
         cond (not a) (Dropped NotLeader) (cond (not d) (Dropped BadClaim) (cond (not b) (Dropped NoKeys) (by_verdict w (step_unjudged F (rules_of v.setup) m v.me.0 (core_of v past) l input))))
     instance-is a d b w ha hd hb hw = four _ a _ d _ b _ w (step_unjudged F (rules_of v.setup) m v.me.0 (core_of v past) l input) ha hd hb hw
 
+-- The verdict on the claims that were read is that on the input's.
+pub credible-is : {M Msg : Type 0} (m : Module Msg) (refines : M → Params → ℕ → List (Item Msg) → Type 0) (v : StateView M Msg) (l : ℕ) (input : Input Msg) (claims : List Claim) → true ≡ is_some (led v.segments l) →
+    IsReadInput m refines v l input claims → (b : Bool) → b ≡ all_verify (rules_of v.setup) claims → (past : Past Msg) → RefinesPast m refines v past →
+    b ≡ all_verify (rules_of v.setup) (claims_of_input m (params_of (rules_of v.setup) m v.me.0 past l) input)
+credible-is m refines v l input claims leading h b is past tied =
+    is ∙ ap (λ (cs : List Claim). all_verify (rules_of v.setup) cs) (h.read past tied (leads-is m refines v past tied l true leading))
+
 -- Nothing has changed.
 pub same-parts : {M Msg : Type 0} (m : Module Msg) (refines : M → Params → ℕ → List (Item Msg) → Type 0) (v : StateView M Msg) (past : Past Msg) → RefinesPast m refines v past → RefinesBareCore m refines v (core_of v past)
 same-parts m refines v past tied = record { core = refl; tied = tied }
@@ -130,7 +140,7 @@ some-there (Some x) h = (x, refl)
 module _ {M Msg : Type 0} (m : Module Msg) (refines : M → Params → ℕ → List (Item Msg) → Type 0) (F : Formats Msg)
     (v : StateView M Msg) (l : ℕ) (input : Input Msg) (leading : true ≡ is_some (led v.segments l)) (past : Past Msg) (tied : RefinesPast m refines v past) where
   pub drops-claims : false ≡ all_verify (rules_of v.setup) (claims_of_input m (params_of (rules_of v.setup) m v.me.0 past l) input) →
-      IsStepDropped m refines (core_of v past) (try_step F (rules_of v.setup) m v.me.0 (core_of v past) l input) v BadClaim
+      IsStep m refines (core_of v past) (try_step F (rules_of v.setup) m v.me.0 (core_of v past) l input) v (Result_dropped BadClaim)
   drops-claims claims = record {
     step_is = instance-is m refines v past tied l F input true false _ _ (leads-is m refines v past tied l true leading) (sym claims) refl refl;
     refined = same-parts m refines v past tied;
@@ -138,7 +148,7 @@ module _ {M Msg : Type 0} (m : Module Msg) (refines : M → Params → ℕ → L
 
   module _ (claims : true ≡ all_verify (rules_of v.setup) (claims_of_input m (params_of (rules_of v.setup) m v.me.0 past l) input)) where
     pub drops-keys : ((g : SegmentState M) → led v.segments l ≡ Some g → AreKeysOf v.me.0 v.setup.keys v.keys → false ≡ has_leaves m g.params v.keys.used) →
-        IsStepDropped m refines (core_of v past) (try_step F (rules_of v.setup) m v.me.0 (core_of v past) l input) v NoKeys
+        IsStep m refines (core_of v past) (try_step F (rules_of v.setup) m v.me.0 (core_of v past) l input) v (Result_dropped NoKeys)
     drops-keys leaves =
         let g = some-there (led v.segments l) leading in
         record {
@@ -148,7 +158,7 @@ module _ {M Msg : Type 0} (m : Module Msg) (refines : M → Params → ℕ → L
 
     module _ (leaves : (g : SegmentState M) → led v.segments l ≡ Some g → AreKeysOf v.me.0 v.setup.keys v.keys → true ≡ has_leaves m g.params v.keys.used) where
       pub drops-refused : (w : StateView M Msg) (why : Refusal) → (w ≡ v) × IsVerdictAt m refines v l input (Some why) →
-          IsStepDropped m refines (core_of v past) (try_step F (rules_of v.setup) m v.me.0 (core_of v past) l input) w (Refused why)
+          IsStep m refines (core_of v past) (try_step F (rules_of v.setup) m v.me.0 (core_of v past) l input) w (Result_dropped (Refused why))
       drops-refused w why h =
           let g = some-there (led v.segments l) leading in
           record {
@@ -157,7 +167,7 @@ module _ {M Msg : Type 0} (m : Module Msg) (refines : M → Params → ℕ → L
           }
 
       pub takes-input : (w : StateView M Msg) (o : Outcome) → IsVerdictAt m refines v l input None → IsTurned m refines (step_unjudged F (rules_of v.setup) m v.me.0 (core_of v past) l input) w o →
-          IsStepTaken m refines (try_step F (rules_of v.setup) m v.me.0 (core_of v past) l input) w o
+          IsStep m refines (core_of v past) (try_step F (rules_of v.setup) m v.me.0 (core_of v past) l input) w (Result_taken o)
       takes-input w o h turn =
           let g = some-there (led v.segments l) leading in
           record {

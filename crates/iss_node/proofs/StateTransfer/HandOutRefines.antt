@@ -16,7 +16,8 @@ use Rattle.iss_rules.specs.Rules.{Rules}
 use Rattle.iss_rules.specs.declared.events.Why.TheVariants.{NoCert}
 use Rattle.iss_node.proofs.Log.LogIsDelivered.{start-is}
 use Rattle.iss_node.specs.State.{StateRefinesCore, StateView}
-use Rattle.iss_node.specs.Steps.{IsHeldDropped, IsHeldTaken}
+use Rattle.iss_node.specs.Steps.{IsHeldStep}
+use Rattle.iss_node.specs.declared.answers.StepResult.TheVariants.{Dropped as Result_dropped, Taken as Result_taken}
 use Rattle.iss_node.specs.Internal.Transfers.{IsHandedPiece, held_values}
 use Rattle.iss_node.specs.declared.answers.Outcome.{Outcome}
 use Rattle.iss_packet.specs.Packets.{spell_packet}
@@ -97,11 +98,11 @@ module _ {M Msg : Type 0} (m : Module Msg) (refines : M → Params → ℕ → L
       ∙ ap (λ (k : ℕ). nat_lt k (suc e * v.setup.epoch)) (ap (λ (ys : List Value). length ys) log-is ∙ length-reverse v.log.entries)
       ∙ lt-of-le (suc e * v.setup.epoch) (length v.log.entries) t q
 
-  pub hands-short : (o : Option Cert) (cert : Cert) → o ≡ Some cert → None ≡ held_values v e → IsHeldDropped m refines c (hands_out F R m v.me.0 c to.0 e o) v NoCert
+  pub hands-short : (o : Option Cert) (cert : Cert) → o ≡ Some cert → None ≡ held_values v e → IsHeldStep m refines (Unit {0}) c (hands_out F R m v.me.0 c to.0 e o) v (Result_dropped NoCert)
   hands-short o cert is gone = let short = lacks false (none-held _ _ gone) in record { step_is = rw (is, short) refl; refined = h }
 
   pub hands-so : (o : Option Cert) (p : Piece) (out : Outcome) → o ≡ Some p.cert → Some p.values ≡ held_values v e → p.epoch.0 ≡ e → IsHandedPiece v to p out → to.0 < v.setup.n → (asked : Type 0) →
-      IsHeldTaken m refines asked (hands_out F R m v.me.0 c to.0 e o) v out
+      IsHeldStep m refines asked c (hands_out F R m v.me.0 c to.0 e o) v (Result_taken out)
   hands-so o p out is held epoch handed low asked =
       let both = some-held _ _ _ held in
       let full = lacks true both.0 in

@@ -25,7 +25,11 @@ module _ {M Msg : Type 0} (m : Module Msg) (refines : M → Params → ℕ → L
       IsAnswer m refines asked c (step (formats_of v.setup m) (rules_of v.setup) m v.me.0 c event) (record { state = w; stale = s }) (Node_taken o)
   answer-taken o h c st =
       let all = h c st.held in
-      record { turn = all.turn; step_is = all.step_is; refined = record { fresh = st.fresh; held = all.turned.refined }; made = all.turned.made; addressed = all.turned.addressed }
+      record {
+        turn = all.turn;
+        step_is = all.step_is;
+        turned = record { refined = record { fresh = st.fresh; held = all.turned.refined }; made = all.turned.made; entered = tt; addressed = all.turned.addressed };
+      }
 
   pub answer-dropped : (why : Why) → IsHeldStepOf m refines asked v (λ F R me c. step F R m me c event) w (Result_dropped why) → (c : Core Msg) → RefinesCore m refines (record { state = v; stale = s }) c →
       IsAnswer m refines asked c (step (formats_of v.setup m) (rules_of v.setup) m v.me.0 c event) (record { state = w; stale = s }) (Node_dropped why)
@@ -38,7 +42,7 @@ module _ {M Msg : Type 0} (m : Module Msg) (refines : M → Params → ℕ → L
   fresh-core q (inr h) = h
 
   pub node-taken : (o : Outcome) → IsHeldStepOf m refines asked v (λ F R me c. step F R m me c event) w (Result_taken o) → s ≡ false → IsNode m refines (record { state = v; stale = s }) → IsNode m refines (record { state = w; stale = s })
-  node-taken o h q n = let c = fresh-core q n in let a = answer-taken o h c.0 c.1 in inr (a.turn.core, a.refined)
+  node-taken o h q n = let c = fresh-core q n in let a = answer-taken o h c.0 c.1 in inr (a.turn.core, a.turned.refined)
 
   pub node-dropped : (why : Why) → IsHeldStepOf m refines asked v (λ F R me c. step F R m me c event) w (Result_dropped why) → s ≡ false → IsNode m refines (record { state = v; stale = s }) → IsNode m refines (record { state = w; stale = s })
   node-dropped why h q n = let c = fresh-core q n in let a = answer-dropped why h c.0 c.1 in inr (c.0, a.refined)
@@ -52,9 +56,12 @@ answer-replayed m refines asked c stepped new o p is a =
     (record {
       turn = a.turn;
       step_is = a.step_is;
-      refined = a.refined;
-      made = record { sends = a.made.sends; own = a.made.own; early = a.made.early; hashed = a.made.hashed };
-      addressed = a.addressed;
+      turned = record {
+        refined = a.turned.refined;
+        made = record { sends = a.turned.made.sends; own = a.turned.made.own; early = a.turned.made.early; hashed = a.turned.made.hashed };
+        entered = tt;
+        addressed = a.turned.addressed;
+      };
     })
 
 -- ---- an event that was taken as one of its own
@@ -70,27 +77,31 @@ module _ {M Msg : Type 0} (m : Module Msg) (refines : M → Params → ℕ → L
       IsAnswer m refines (IsOfNodes v.setup.n event) c (stepped c) (record { state = w; stale = s }) (Node_taken o)
   kept-answer o h c st =
       let all = h c st.held in
-      record { turn = all.turn; step_is = all.step_is; refined = record { fresh = st.fresh; held = all.refined }; made = all.made; addressed = all.addressed }
+      record {
+        turn = all.turn;
+        step_is = all.step_is;
+        turned = record { refined = record { fresh = st.fresh; held = all.turned.refined }; made = all.turned.made; entered = tt; addressed = all.turned.addressed };
+      }
 
   pub kept-drop : (why : Why) → IsKept (Result_dropped why) → (c : Core Msg) → RefinesCore m refines (record { state = v; stale = s }) c →
       IsAnswer m refines (IsOfNodes v.setup.n event) c (stepped c) (record { state = w; stale = s }) (Node_dropped why)
   kept-drop why h c st =
       let all = h c st.held in
-      record { step_is = all.step_is; refined = record { fresh = st.fresh; held = all.refined } }
+      record { step_is = all.step_is; refined = record { fresh = st.fresh; held = all.refined.0 } }
 
   -- what takes its place
   pub kept-entry : (o : Outcome) → IsKept (Result_taken o) → (c : Core Msg) → RefinesCore m refines (record { state = v; stale = s }) c → IsEnteredAnswer m v (stepped c) w (Node_taken o)
   kept-entry o h c st =
       let all = h c st.held in
-      subst (λ (x : Stepped Msg). IsEnteredAnswer m v x w (Node_taken o)) (sym all.step_is) all.entered
+      subst (λ (x : Stepped Msg). IsEnteredAnswer m v x w (Node_taken o)) (sym all.step_is) all.turned.entered
 
   pub kept-nothing : (why : Why) → IsKept (Result_dropped why) → (c : Core Msg) → RefinesCore m refines (record { state = v; stale = s }) c → IsEnteredAnswer m v (stepped c) w (Node_dropped why)
   kept-nothing why h c st =
       let all = h c st.held in
-      subst (λ (x : Stepped Msg). IsEnteredAnswer m v x w (Node_dropped why)) (sym all.step_is) all.saved
+      subst (λ (x : Stepped Msg). IsEnteredAnswer m v x w (Node_dropped why)) (sym all.step_is) all.refined.1
 
   pub node-kept : (o : Outcome) → IsKept (Result_taken o) → s ≡ false → IsNode m refines (record { state = v; stale = s }) → IsNode m refines (record { state = w; stale = s })
-  node-kept o h q n = let c = fresh-core m refines v v s event q n in let a = kept-answer o h c.0 c.1 in inr (a.turn.core, a.refined)
+  node-kept o h q n = let c = fresh-core m refines v v s event q n in let a = kept-answer o h c.0 c.1 in inr (a.turn.core, a.turned.refined)
 
   pub node-kept-dropped : (why : Why) → IsKept (Result_dropped why) → s ≡ false → IsNode m refines (record { state = v; stale = s }) → IsNode m refines (record { state = w; stale = s })
   node-kept-dropped why h q n = let c = fresh-core m refines v v s event q n in let a = kept-drop why h c.0 c.1 in inr (c.0, a.refined)

@@ -135,24 +135,26 @@ module _ {M Msg : Type 0} (m : Module Msg) (refines : M → Params → ℕ → L
       record {
         turn = k.turn;
         step_is = k.step_is;
-        refined = saved-held m refines w new k.turn.core is k.turned.refined;
-        made = record {
-          sends = ap (λ (z : Outcome). z.sends) out ∙ k.turned.made.sends;
-          own = ap (λ (z : Outcome). z.own) out ∙ k.turned.made.own;
-          early = ap (λ (z : Outcome). z.early) out ∙ k.turned.made.early;
-          hashed = ap (λ (z : Outcome). z.hashed) out ∙ k.turned.made.hashed;
+        turned = record {
+          refined = saved-held m refines w new k.turn.core is k.turned.refined;
+          made = record {
+            sends = ap (λ (z : Outcome). z.sends) out ∙ k.turned.made.sends;
+            own = ap (λ (z : Outcome). z.own) out ∙ k.turned.made.own;
+            early = ap (λ (z : Outcome). z.early) out ∙ k.turned.made.early;
+            hashed = ap (λ (z : Outcome). z.hashed) out ∙ k.turned.made.hashed;
+          };
+          entered = subst (λ (x : Option (List ℕ)). IsKeptEntry m v k.turn.entered new.saved x) (sym (ap (λ (z : Outcome). z.entered) out))
+              (entry-kept k.turn.core k.turn.entered o.entered k.turned.refined (step-last (formats_of v.setup m) (rules_of v.setup) m v.me.0 c event k.turn k.step_is) k.turned.entered has);
+          addressed = λ asked.
+              subst (λ (s : Setup). AreToNodes s.n p.sends) (sym setup)
+              (subst (λ (xs : List (To × List ℕ)). AreToNodes w.setup.n xs) (sym (ap (λ (z : Outcome). z.sends) out)) (k.turned.addressed asked));
         };
-        entered = subst (λ (x : Option (List ℕ)). IsKeptEntry m v k.turn.entered new.saved x) (sym (ap (λ (z : Outcome). z.entered) out))
-            (entry-kept k.turn.core k.turn.entered o.entered k.turned.refined (step-last (formats_of v.setup m) (rules_of v.setup) m v.me.0 c event k.turn k.step_is) k.turned.entered has);
-        addressed = λ asked.
-            subst (λ (s : Setup). AreToNodes s.n p.sends) (sym setup)
-            (subst (λ (xs : List (To × List ℕ)). AreToNodes w.setup.n xs) (sym (ap (λ (z : Outcome). z.sends) out)) (k.turned.addressed asked));
       }
 
   -- A step that was dropped notes nothing.
   pub kept-dropped : (event : NodeEvent) (why : Why) → IsHeldStepOf m refines (IsOfNodes v.setup.n event) v (λ F R me c. step F R m me c event) w (Result_dropped why) →
       IsKeptStepOf m refines (IsOfNodes v.setup.n event) v (λ F R me c. step F R m me c event) w (Result_dropped why)
-  kept-dropped event why all c h = let k = all c h in record { step_is = k.step_is; refined = k.refined; saved = same.saved }
+  kept-dropped event why all c h = let k = all c h in record { step_is = k.step_is; refined = (k.refined, same.saved) }
 
   -- The log was at most extended.
   pub kept-log : IsSameLog v new

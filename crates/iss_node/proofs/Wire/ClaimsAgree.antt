@@ -9,20 +9,22 @@ use Rattle.iss_keys.proofs.DirectoryLemmas.{verified-by}
 use Rattle.iss_keys.specs.Directories.{DirectoryView, VerifiesBy}
 use Rattle.iss_keys.specs.VerifiedBy.{is_verified_by}
 use Rattle.iss_rules.specs.Concrete.{rules_of}
-use Rattle.iss_rules.specs.Formats.{formats_of, message_in}
+use Rattle.iss_rules.specs.Formats.{formats_of}
+use Rattle.iss_rules.specs.Parcels.{OfModule}
 use Rattle.iss_model.specs.Node.{claims_in, only_by, own_claims, packed}
 use Rattle.iss_rules.specs.Past.{Past, leads_in, params_of}
-use Rattle.iss_model.specs.Views.{claims_of_parcel}
+use Rattle.iss_model.specs.Views.{claims_of_body}
 use Rattle.iss_node.proofs.Instances.ChecksRefine.{leads-is}
 use Rattle.iss_node.specs.Internal.Inputs.{IsHandedOut}
+use Rattle.iss_node.specs.Internal.Ready.{IsReadInput}
 use Rattle.iss_node.specs.Internal.Shape.{IsNodeState}
 use Rattle.iss_node.specs.State.{RefinesPast, StateView, core_of, led}
 use Rattle.iss_node.specs.declared.answers.Outcome.{Outcome}
-use Rattle.iss_packet.specs.declared.packets.Packet.{Packet}
 use Rattle.iss_request.specs.declared.ids.NodeId.{NodeId}
 use Rattle.iss_request.specs.declared.setups.Setup.{Setup}
 use Rattle.iss_sb.specs.Evidence.{Item, Module}
 use Rattle.iss_sb.specs.declared.effects.Claim.{Claim}
+use Rattle.iss_sb.specs.declared.effects.Input.TheVariants.{Receive}
 use Rattle.iss_sb.specs.declared.effects.Params.{Params}
 use Rattle.iss_sb.specs.declared.effects.To.{To}
 use Rattle.iss_segment.specs.Instance.{SegmentState}
@@ -50,19 +52,26 @@ module _ {M Msg : Type 0} (m : Module Msg) (refines : M → Params → ℕ → L
   claims-there lead = ap (λ (b : Bool). cond b (m.claims (params_of (rules_of v.setup) m v.me.0 past l) from msg) []) lead
 
 -- The claims of a message in a packet, by whether it belongs to the current epoch.
-pub packet-now : {M Msg : Type 0} (m : Module Msg) (refines : M → Params → ℕ → List (Item Msg) → Type 0) (v : StateView M Msg) (past : Past Msg) (tied : RefinesPast m refines v past) (p : Packet) (msg : Msg) → p.epoch.0 ≡ v.epoch →
-    (claims : List Claim) → claims ≡ claims_in (rules_of v.setup) m v.me.0 past p.from p.leader msg → claims ≡ claims_of_parcel (rules_of v.setup) m v.me.0 (core_of v past) (message_in p (Some msg))
-packet-now m refines v past tied p msg is claims same =
+pub message-now : {M Msg : Type 0} (m : Module Msg) (refines : M → Params → ℕ → List (Item Msg) → Type 0) (v : StateView M Msg) (past : Past Msg) (tied : RefinesPast m refines v past) (from e l : ℕ) (msg : Msg) → e ≡ v.epoch →
+    (claims : List Claim) → claims ≡ claims_in (rules_of v.setup) m v.me.0 past from l msg → claims ≡ claims_of_body (rules_of v.setup) m v.me.0 (core_of v past) from e (OfModule l msg)
+message-now m refines v past tied from e l msg is claims same =
     let q = tied.epoch in
-    let now : eqb p.epoch.0 past.epoch ≡ true = grind (arith, nat_tests, q, is) in
-    same ∙ sym (ap (λ (b : Bool). cond b (claims_in (rules_of v.setup) m v.me.0 past p.from p.leader msg) []) now)
+    let now : eqb e past.epoch ≡ true = grind (arith, nat_tests, q, is) in
+    same ∙ sym (ap (λ (b : Bool). cond b (claims_in (rules_of v.setup) m v.me.0 past from l msg) []) now)
 
-pub packet-other : {M Msg : Type 0} (m : Module Msg) (refines : M → Params → ℕ → List (Item Msg) → Type 0) (v : StateView M Msg) (past : Past Msg) (tied : RefinesPast m refines v past) (p : Packet) (o : Option Msg) → eqb p.epoch.0 v.epoch ≡ false →
-    (claims : List Claim) → claims ≡ [] → claims ≡ claims_of_parcel (rules_of v.setup) m v.me.0 (core_of v past) (message_in p o)
-packet-other m refines v past tied p None other claims none = none
-packet-other m refines v past tied p (Some msg) other claims none =
-    let over : eqb p.epoch.0 past.epoch ≡ false = ap (λ (k : ℕ). eqb p.epoch.0 k) (sym tied.epoch) ∙ other in
-    none ∙ sym (ap (λ (b : Bool). cond b (claims_in (rules_of v.setup) m v.me.0 past p.from p.leader msg) []) over)
+pub message-other : {M Msg : Type 0} (m : Module Msg) (refines : M → Params → ℕ → List (Item Msg) → Type 0) (v : StateView M Msg) (past : Past Msg) (tied : RefinesPast m refines v past) (from e l : ℕ) (msg : Msg) → eqb e v.epoch ≡ false →
+    (claims : List Claim) → claims ≡ [] → claims ≡ claims_of_body (rules_of v.setup) m v.me.0 (core_of v past) from e (OfModule l msg)
+message-other m refines v past tied from e l msg other claims none =
+    let over : eqb e past.epoch ≡ false = ap (λ (k : ℕ). eqb e k) (sym tied.epoch) ∙ other in
+    none ∙ sym (ap (λ (b : Bool). cond b (claims_in (rules_of v.setup) m v.me.0 past from l msg) []) over)
+
+-- A message was read: these are the claims of its input.
+pub read-message : {M Msg : Type 0} (m : Module Msg) (refines : M → Params → ℕ → List (Item Msg) → Type 0) (v : StateView M Msg) (from l : NodeId) (msg : Msg) (claims : List Claim) → from.0 < v.setup.n →
+    ((past : Past Msg) → RefinesPast m refines v past → claims ≡ claims_in (rules_of v.setup) m v.me.0 past from.0 l.0 msg) → IsReadInput m refines v l.0 (Receive from msg) claims
+read-message m refines v from l msg claims sender read = record {
+  sender = sender;
+  read = λ past tied lead. read past tied ∙ claims-there m refines v past tied from.0 l.0 msg lead;
+}
 
 -- ---- own claims
 

@@ -1,18 +1,21 @@
 -- How the end of an epoch changes a node: the policy and the windows learn what joined the log, and fresh instances
 -- start for the leaders of the next epoch.
-use Rattle.std.specs.Prelude.{◌≡◌, ℕ, [], ◌∷◌, ◌++◌, List, Some, is_some, reverse, Option}
+use Rattle.std.specs.Prelude.{◌≡◌, ◌<◌, ℕ, [], ◌∷◌, ◌++◌, List, None, Some, is_some, reverse, Option}
 use Rattle.std.specs.List.{filter}
 use Rattle.iss_base.specs.Lists.{first_of}
-use Rattle.iss_layout.specs.Layout.{Ended, IsStanding, Plan, conduct_of, leads, plan_by, segment, slots_from}
+use Rattle.iss_layout.specs.Layout.{Ended, IsGoodPlan, IsStanding, Plan, conduct_of, leads, plan_by, segment, slots_from}
 use Rattle.iss_rules.specs.Concrete.{keys_of}
 use Rattle.iss_model.specs.Node.{is_nil_at}
 use Rattle.iss_node.specs.State.{StateView, led}
 use Rattle.iss_node.specs.declared.answers.Outcome.{Outcome}
+use Rattle.iss_node.specs.declared.answers.StepResult.{StepResult}
+use Rattle.iss_node.specs.declared.answers.StepResult.TheVariants.{Dropped as Result_dropped, Taken as Result_taken}
 use Rattle.iss_request.specs.declared.ids.NodeId.{NodeId}
 use Rattle.iss_request.specs.declared.ids.ReqId.{ReqId}
 use Rattle.iss_request.specs.declared.setups.Setup.{Setup}
 use Rattle.iss_sb.specs.declared.effects.Params.{Params}
-use Rattle.iss_sb.specs.Calls.{Relation}
+use Rattle.iss_sb.specs.Calls.{IsGoodParams, Relation}
+use Rattle.iss_sb.specs.Evidence.{Module}
 use Rattle.iss_segment.specs.Instance.{RefinesItems, SegmentState}
 use Rattle.iss_window.specs.Kept.{RefinesNoted}
 use Rattle.iss_window.specs.Window.{Noted, and_closed, and_noted}
@@ -26,6 +29,11 @@ appended a b = record {
   hashed = a.hashed ++ b.hashed;
   entered = first_of b.entered a.entered;
 }
+
+-- The outcome of a step, which is empty if the event was dropped.
+abbrev pub or_nothing : StepResult → Outcome
+or_nothing (Result_taken outcome) = outcome
+or_nothing (Result_dropped why) = record { sends = []; own = []; early = []; hashed = []; entered = None }
 
 -- These identities were noted, in order.
 abbrev pub notes : Noted → List ReqId → Noted
@@ -56,6 +64,16 @@ params_by s e plan l =
       slots = segment plan l;
       directory = keys_of s;
     }
+
+-- A good plan of so many nodes.
+pub record IsPlanOf (n : ℕ) (plan : Plan) : Type 0 where
+  pub good : IsGoodPlan plan
+  pub nodes : plan.nodes ≡ n
+
+-- Good parameters of an instance at this node of their set-up.
+pub record AreParamsAt {Msg : Type 0} (m : Module Msg) (p : Params) (node : ℕ) : Type 0 where
+  pub good : IsGoodParams m p
+  pub me : node < p.setup.n
 
 -- Each leader has a fresh instance, and no other node has one.
 pub record AreStarted {M Msg : Type 0} (refines : Relation M Msg) (s : Setup) (me : NodeId) (e : ℕ) (plan : Plan)

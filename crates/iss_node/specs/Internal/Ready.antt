@@ -6,9 +6,14 @@ use Rattle.iss_keys.specs.KeyStates.{left_of}
 use Rattle.iss_node.specs.State.{RefinesPast, StateView, led}
 use Rattle.iss_node.specs.declared.answers.StepResult.{StepResult}
 use Rattle.iss_node.specs.declared.answers.StepResult.TheVariants.{Dropped as Result_dropped, Taken as Result_taken}
-use Rattle.iss_rules.specs.Past.{Past}
+use Rattle.iss_model.specs.Node.{claims_of_input}
+use Rattle.iss_node.specs.Steps.{IsNodeInput}
+use Rattle.iss_rules.specs.Concrete.{rules_of}
+use Rattle.iss_rules.specs.Past.{Past, leads_in, params_of}
 use Rattle.iss_sb.specs.Calls.{Relation}
 use Rattle.iss_sb.specs.Evidence.{Module}
+use Rattle.iss_sb.specs.declared.effects.Claim.{Claim}
+use Rattle.iss_sb.specs.declared.effects.Input.{Input}
 use Rattle.iss_segment.specs.Instance.{SegmentState}
 use Rattle.iss_transfer.specs.Adoption.{adoption}
 use Rattle.iss_transfer.specs.declared.adopting.Adoption.TheVariants.{Adopt}
@@ -27,10 +32,35 @@ pub record HasLeaves {M Msg : Type 0} (m : Module Msg) (v : StateView M Msg) (l 
   pub leads : is_some (led v.segments l) ≡ true
   pub enough : (g : SegmentState M) → led v.segments l ≡ Some g → m.signs g.params < left_of v.keys
 
+-- The sender of the input exists, and these are the signatures that it claims, if leader l leads the epoch.
+pub record IsReadInput {M Msg : Type 0} (m : Module Msg) (refines : Relation M Msg) (v : StateView M Msg) (l : ℕ)
+    (input : Input Msg) (claims : List Claim) : Type 0 where
+  pub sender : IsNodeInput v.setup.n input
+  pub read : (past : Past Msg) → RefinesPast m refines v past → leads_in (rules_of v.setup) m v.me.0 past l ≡ true →
+      claims ≡ claims_of_input m (params_of (rules_of v.setup) m v.me.0 past l) input
+
+-- The instance of leader l may take the input: its sender exists, and leaves are left.
+pub record MayStep {M Msg : Type 0} (m : Module Msg) (v : StateView M Msg) (l : ℕ) (given : Input Msg) : Type 0 where
+  pub leader : l < v.setup.n
+  pub input : IsNodeInput v.setup.n given
+  pub leaves : HasLeaves m v l
+
+-- The state refines some history, and the message comes from an existing node.
+pub record MayTake {M Msg : Type 0} (m : Module Msg) (refines : Relation M Msg) (v : StateView M Msg) (k : ℕ) :
+    Type 0 where
+  pub from : k < v.setup.n
+  pub refined : RefinesSome m refines v
+
 -- The epoch lasts.
 pub record IsOpen {M Msg : Type 0} (m : Module Msg) (refines : Relation M Msg) (v : StateView M Msg) : Type 0 where
   pub refined : RefinesSome m refines v
   pub lasts : is_full v ≡ false
+
+-- The epoch lasts, and the message comes from an existing node.
+pub record MayTakeEarly {M Msg : Type 0} (m : Module Msg) (refines : Relation M Msg) (v : StateView M Msg) (k : ℕ) :
+    Type 0 where
+  pub from : k < v.setup.n
+  pub lasts : IsOpen m refines v
 
 -- If the log has all slots of the epoch, there is a leaf for the vote on it.
 pub record IsReady {M Msg : Type 0} (m : Module Msg) (refines : Relation M Msg) (v : StateView M Msg) : Type 0 where

@@ -6,6 +6,9 @@ use Rattle.iss_request.specs.declared.ids.NodeId.{NodeId}
 use Rattle.iss_world.proofs.OverLemmas.{new-leads}
 use Rattle.iss_world.proofs.cores.start_core.Goals as goal
 
+pub over-requires : goal.over-requires
+over-requires g c = record { good = c.requires.good; directory = c.requires.directory; me = c.node_of.ensures.below }
+
 pub make_anew-requires-clause-whole : goal.make_anew-requires-clause-whole
 make_anew-requires-clause-whole g c = (
   [],

@@ -8,6 +8,9 @@ invariant_of-self g c =
     c.in-Ok.node c.in-Ok.ensures.stay c.in-Ok.ensures.refines c.in-Ok.ensures.same c.self.invariant.good c.self.invariant.member c.self.invariant.keys c.open.ensures.sound
     c.in-Ok.ensures.is_attached c.in-Ok.ensures.attached.durable
 
+pub open-requires-clause-member : goal.open-requires-clause-member
+open-requires-clause-member g c = record { good = c.self.invariant.good; directory = c.self.invariant.keys; me = c.self.invariant.member }
+
 pub returns-in-Ok-clause-loses : goal.returns-in-Ok-clause-loses
 returns-in-Ok-clause-loses g c = rw (← c.self.view_is) (loses-none _ _ _ _ (no-error _ _) c.in-Ok.ensures.loses)
 

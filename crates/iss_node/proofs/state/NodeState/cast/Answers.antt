@@ -1,4 +1,4 @@
-use Rattle.std.proofs.Common.{◌∙◌, ℕ, ap, subst, sym}
+use Rattle.std.proofs.Common.{◌∙◌, ◌<◌, ℕ, ap, subst, sym}
 use Rattle.std.proofs.lemmas.Result.{IfOk-weaker}
 use Rattle.iss_rules.specs.Formats.{formats_of}
 use Rattle.iss_model.specs.Node.{step_unjudged}
@@ -26,9 +26,13 @@ returns-clause-taken g c =
     (λ o h past tied. cast-turned m g.M.Sequenced.refines v shape past tied (formats_of v.setup m) c.cut.new.self c.args.slot c.in_ok-batch.batch cut c.step_unjudged-2.new.self o c.step_unjudged.inside.me.0 (ap (λ z. z.me.0) c.step_unjudged.view_is) h)
     c.step_unjudged-2.ensures.taken
 
-pub step_unjudged-requires-clause-leaves : goal.step_unjudged-requires-clause-leaves
-step_unjudged-requires-clause-leaves g c =
+pub step_unjudged-requires : goal.step_unjudged-requires
+step_unjudged-requires g c =
     let m = g.M.Sequenced.spec in
     let cut = c.in_ok-batch.ensures.cut in
-    subst (λ (k : ℕ). HasLeaves m c.cut.new.self k) (sym (ap (λ z. z.me.0) c.step_unjudged.view_is ∙ ap (λ z. z.me.0) cut.rest))
-    (leaves-cut m g.M.Sequenced.refines c.args.self.now c.cut.new.self c.args.self.now.me.0 c.args.slot c.in_ok-batch.batch cut c.requires.leaves)
+    record {
+      leader = subst (λ (z : StateView g.row.M.Denot g.row.M-Msg.Denot). c.step_unjudged.inside.me.0 < z.setup.n) c.step_unjudged.view_is c.step_unjudged.invariant.me;
+      input = tt;
+      leaves = subst (λ (k : ℕ). HasLeaves m c.cut.new.self k) (sym (ap (λ z. z.me.0) c.step_unjudged.view_is ∙ ap (λ z. z.me.0) cut.rest))
+          (leaves-cut m g.M.Sequenced.refines c.args.self.now c.cut.new.self c.args.self.now.me.0 c.args.slot c.in_ok-batch.batch cut c.requires);
+    }

@@ -10,6 +10,9 @@ invariant_of-self g c =
     opened-shape g.M.Sequenced.spec g.M.Sequenced.refines _ c.self.invariant c.args.epoch.0 c.args.start _ c.of-layout.result c.in_ok-segments.segments.items (rw (← c.self.view_is) at c.requires) c.of-layout.ensures.carried
     c.in_ok-segments.ensures.started c.in_ok-segments.ensures.count c.new.result.items c.new-2.result
 
+pub start_segments-requires-clause-member : goal.start_segments-requires-clause-member
+start_segments-requires-clause-member g c = record { good = c.self.invariant.good; directory = c.self.invariant.directory; me = c.self.invariant.me }
+
 pub returns-clause-opened : goal.returns-clause-opened
 returns-clause-opened g c = record {
   plan = subst (λ (z : StateView g.row.M.Denot g.row.M-Msg.Denot). (past : List Ended) → IsStanding z.setup past z.standing → c.of-layout.result ≡ plan_by z.setup c.args.epoch.0 c.args.start (conduct_of past)) c.self.view_is c.of-layout.ensures.past;

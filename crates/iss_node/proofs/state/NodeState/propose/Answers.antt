@@ -41,8 +41,8 @@ returns-clause-answer g c = λ past tied.
     (leaves-is m g.M.Sequenced.refines v past tied v.me.0 own.0 own.1 _ (sym c.if-not-has_leaves.false ∙ c.has_leaves.ensures.is own.0 (ap (λ z. led v.segments z.me.0) c.self.view_is ∙ own.1) tied.keys))
     c.cast.new.self c.advance_epochs.new.self c.in_ok-outcome.outcome c.in_ok-advance_epochs.field-0 c.in_ok-outcome.ensures.later (c.in_ok-outcome.ensures.taken past tied) c.in_ok-advance_epochs.ensures.turn
 
-pub cast-requires-clause-leaves : goal.cast-requires-clause-leaves
-cast-requires-clause-leaves g c =
+pub cast-requires : goal.cast-requires
+cast-requires g c =
     subst (λ (k : ℕ). HasLeaves g.M.Sequenced.spec c.args.self.now k) (ap (λ z. z.me.0) c.self.view_is) (c.has_leaves.ensures.enough c.if-not-has_leaves.false)
 
 pub advance_epochs-requires : goal.advance_epochs-requires

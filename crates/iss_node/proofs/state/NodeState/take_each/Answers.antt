@@ -20,11 +20,11 @@ loop-message-init g c =
       lasts = c.requires.lasts;
     }
 
-pub take_early-requires-clause-from : goal.take_early-requires-clause-from
-take_early-requires-clause-from g c =
+pub take_early-requires : goal.take_early-requires
+take_early-requires g c =
     let h = c.loop-message.invariant in
     let from = subst (λ (xs : List (Early g.row.M-Msg.Denot)). AreFrom c.args.self.now.setup.n xs) c.in-Some.ensures.steps.0 h.from in
-    subst (λ (s : Setup). c.in-Some.message.from.0 < s.n) (sym h.later.setup) from.0
+    record { from = subst (λ (s : Setup). c.in-Some.message.from.0 < s.n) (sym h.later.setup) from.0; lasts = h.lasts }
 
 pub returns-in_err-more-clause-later : goal.returns-in_err-more-clause-later
 returns-in_err-more-clause-later g c = later-trans c.args.self.now c.loop-message.self c.take_early.new.self c.loop-message.invariant.later c.take_early.ensures.later

@@ -1,10 +1,15 @@
 use Rattle.iss_model.specs.Node.{try_step}
 use Rattle.iss_node.proofs.EpochEnd.LeafIsKept.{to-complete}
+use Rattle.iss_node.proofs.Wire.ClaimsAgree.{read-message}
 use Rattle.iss_node.specs.State.{core_of}
 use Rattle.iss_rules.specs.Concrete.{rules_of}
 use Rattle.iss_rules.specs.Formats.{formats_of}
 use Rattle.iss_sb.specs.declared.effects.Input.TheVariants.{Receive}
 use Rattle.iss_node.proofs.state.NodeState.take_now.Goals as goal
+
+pub try_step-requires : goal.try_step-requires
+try_step-requires g c =
+    read-message g.M.Sequenced.spec g.M.Sequenced.refines c.args.self.now c.args.message.from c.args.message.leader c.args.message.msg c.in_ok-claims.claims c.requires.from c.in_ok-claims.ensures
 
 pub finish_step-requires : goal.finish_step-requires
 finish_step-requires g c =

@@ -1,3 +1,6 @@
+use Rattle.std.proofs.Common.{subst}
+use Rattle.iss_node.specs.Internal.Parcels.{IsBodyFrom}
+use Rattle.iss_node.specs.declared.parcels.Body.{Body}
 use Rattle.iss_model.specs.Node.{takes_message, takes_request}
 use Rattle.iss_node.proofs.Steps.VotesDoNotMatter.{message-held, request-held}
 use Rattle.iss_node.proofs.Steps.StepsCompose.{held-ok}
@@ -9,6 +12,12 @@ returns-in-Request-clause-answer g c =
     let q = c.in-Request.request in
     rw c.in-Request.is (held-ok m g.M.Sequenced.refines c.args.self.now c.take_request.new.self c.take_request.ensures.later (λ F R me d. takes_request R m me d q) (Unit {0}) c.take_request.result
     (λ F R me votes certs d. request-held F R m me votes certs q d) c.take_request.ensures.answer)
+
+pub take_message-requires : goal.take_message-requires
+take_message-requires g c = record {
+  from = subst (λ (b : Body g.row.M-Msg.Denot). IsBodyFrom c.args.self.now.setup.n c.args.parcel.from.0 b) c.in-Message.is c.requires.from;
+  refined = c.requires.refined;
+}
 
 pub returns-in-Message-clause-answer : goal.returns-in-Message-clause-answer
 returns-in-Message-clause-answer g c =
