@@ -10,6 +10,7 @@ ghost use Rattle.iss_lab.specs.Generated.{generated};
 
 use crate::audits::{audit, export_core};
 use crate::believing::{believe, reply};
+use crate::checked::CheckedSchedule;
 use crate::running::{run_cluster, run_node};
 use crate::status::Outcome;
 use crate::views::{View, show};
@@ -81,7 +82,7 @@ pub fn show_input(alloc: Global, view: View, input: &[u8]) -> Result<Answer, NoM
     ensures { IfOk result (IsOfSchedule (IsShown view) input.now) }
 {
     match read(alloc, input) {
-        Ok(schedule) => show(alloc, view, &schedule),
+        Ok(schedule) => show(alloc, view, &CheckedSchedule::of(schedule)),
         Err(ReadError::BadLine { line, why }) => refuse_line(alloc, line, why),
         Err(ReadError::NoMemory) => Err(NoMemory),
     }
@@ -92,7 +93,7 @@ fn show_generated(alloc: Global, number: u64, events: u32) -> Result<Answer, NoM
     ensures { IfOk result (IsShown Summary (generated number events)) }
 {
     let schedule = generate(alloc, number, events)?;
-    show(alloc, View::Summary, &schedule)
+    show(alloc, View::Summary, &CheckedSchedule::of(schedule))
 }
 
 /// The answer to words that ask for nothing. The only error is out of memory.

@@ -7,11 +7,10 @@ ghost use Rattle.iss_cli.specs.Auditing.{AreOfRuns, IsExportedUnder, IsOfCore, c
 ghost use Rattle.iss_cli.specs.Views.{Under, outcome_of};
 ghost use Rattle.iss_export.specs.Exporting.{IsExported};
 ghost use Rattle.iss_rules.specs.Setups.{IsSetupOf};
-ghost use Rattle.iss_schedule.specs.Events.{AreInRange};
-ghost use Rattle.iss_schedule.specs.Schedules.{IsKnown};
 ghost use Rattle.iss_theorems.specs.Headline.{IsWhole, course_after};
 
 use crate::answers::{Answer, refuse_line};
+use crate::checked::CheckedSchedule;
 use crate::running::refuse_configuration;
 use crate::status::Outcome;
 use crate::views::outcome_of;
@@ -22,7 +21,7 @@ use iss_replay::replay;
 use iss_replay::words::{put_number, put_text};
 use iss_request::{Bytes, NoMemory};
 use iss_sb::Sequenced;
-use iss_schedule::{ReadError, Schedule, read};
+use iss_schedule::{ReadError, read};
 use sb_chained::Chained;
 use sb_hotstuff::HotStuff;
 use sb_pbft::Pbft;
@@ -36,7 +35,7 @@ pub fn export_core(alloc: Global, core: u32, input: &[u8]) -> Result<Answer, NoM
     ensures { IfOk result (IsOfSchedule (IsOfCore core) input.now) }
 {
     match read(alloc, input) {
-        Ok(schedule) => export_of(alloc, core, &schedule),
+        Ok(schedule) => export_of(alloc, core, &CheckedSchedule::of(schedule)),
         Err(ReadError::BadLine { line, why }) => refuse_line(alloc, line, why),
         Err(ReadError::NoMemory) => Err(NoMemory),
     }
@@ -44,25 +43,21 @@ pub fn export_core(alloc: Global, core: u32, input: &[u8]) -> Result<Answer, NoM
 
 // What a core exports after the run of a schedule, if there is a node with its number.
 // rule: Program: What is no configuration, or has no such node, exits with 11
-fn export_of(alloc: Global, core: u32, schedule: &Schedule) -> Result<Answer, NoMemory>
-    requires known { IsKnown schedule.now.setup }
-    requires range { AreInRange schedule.now.setup schedule.now.events }
+fn export_of(alloc: Global, core: u32, schedule: &CheckedSchedule) -> Result<Answer, NoMemory>
     ensures { IfOk result (IsOfCore core schedule.now) }
 {
-    if core >= schedule.setup.n {
+    if core >= schedule.schedule().setup.n {
         return refuse_configuration(alloc);
     }
     export_by_module(alloc, core, schedule)
 }
 
 // What a core exports after the run of a schedule under the module that it names.
-fn export_by_module(alloc: Global, core: u32, schedule: &Schedule) -> Result<Answer, NoMemory>
-    requires known { IsKnown schedule.now.setup }
-    requires range { AreInRange schedule.now.setup schedule.now.events }
-    requires core { core < schedule.now.setup.n }
+fn export_by_module(alloc: Global, core: u32, schedule: &CheckedSchedule) -> Result<Answer, NoMemory>
+    requires { core < schedule.now.setup.n }
     ensures { IfOk result (λ a. Under schedule.now.setup.module (IsExportedUnder core schedule.now a)) }
 {
-    match schedule.setup.module {
+    match schedule.schedule().setup.module {
         1 => export_under::<Relay>(alloc, core, schedule),
         2 => export_under::<Raft>(alloc, core, schedule),
         3 => export_under::<Pbft>(alloc, core, schedule),
@@ -76,11 +71,9 @@ fn export_by_module(alloc: Global, core: u32, schedule: &Schedule) -> Result<Ans
 fn export_under<M: Sequenced>(
     alloc: Global,
     core: u32,
-    schedule: &Schedule,
+    schedule: &CheckedSchedule,
 ) -> Result<Answer, NoMemory>
     requires good { IsSetupOf M.spec schedule.now.setup }
-    requires known { IsKnown schedule.now.setup }
-    requires range { AreInRange schedule.now.setup schedule.now.events }
     requires core { core < schedule.now.setup.n }
     ensures printed { IfOk result
         (λ a. IsExported schedule.now.setup M.spec schedule.now.events core a.printed) }
@@ -88,6 +81,7 @@ fn export_under<M: Sequenced>(
         outcome_of (course_after schedule.now.setup M.spec schedule.now.events).ended) }
     ensures whole { IsWhole schedule.now.setup M.spec schedule.now.events }
 {
+    let schedule = schedule.schedule();
     let report = replay::<M>(alloc, schedule)?;
     Ok(Answer {
         printed: export(alloc, schedule, &report, core)?,

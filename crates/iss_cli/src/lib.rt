@@ -4,6 +4,7 @@
 pub mod answers;
 pub mod audits;
 pub mod believing;
+pub mod checked;
 pub mod ends;
 pub mod errors;
 pub mod failing;

@@ -2,7 +2,7 @@
 ghost use Rattle.std.specs.Prelude.{◌≡◌, ◌<◌, ◌≤◌, ◌++◌, ◌∷◌, codes, IfOk, IfSome, IsErrOf, None, Ok, OnOk};
 ghost use Rattle.iss_cli.specs.Running.{IsConfigOf, IsOfCluster, IsOfConfig, IsOfNode, IsOfNodeOrder, IsPrintedRun, IsStarted, damaged_answer, devices, log_answer, refused_configuration};
 ghost use Rattle.iss_cli.specs.Views.{Under, outcome_of};
-ghost use Rattle.iss_config.specs.Configs.{IsInRange, setup_of};
+ghost use Rattle.iss_config.specs.Configs.{setup_of};
 ghost use Rattle.iss_config.specs.declared.configs.Config.{Config as ModelConfig};
 ghost use Rattle.iss_disk.specs.Calls.{HasCause as HasDiskCause};
 ghost use Rattle.iss_links.specs.Calls.{HasCause};
@@ -14,6 +14,7 @@ ghost use Rattle.iss_schedule.specs.Schedules.{text_of};
 ghost use Rattle.iss_words.specs.declared.orders.Order.TheVariants.{Cluster as ModelCluster, Node as ModelNode};
 
 use crate::answers::Answer;
+use crate::checked::CheckedConfig;
 use crate::status::Outcome;
 use crate::views::outcome_of;
 use iss_cluster::{NodeFailure, RunningNode, Traced, cluster, node, start_node};
@@ -39,7 +40,7 @@ use std::alloc::Global;
 
 // The configuration that the input is, if it is one. The only error is out of memory.
 // rule: Program: What is no configuration, or has no such node, exits with 11
-fn read_config(alloc: Global, input: &[u8]) -> Result<Option<Config>, NoMemory>
+fn read_config(alloc: Global, input: &[u8]) -> Result<Option<CheckedConfig>, NoMemory>
     ensures some { IfOk result (λ found. IfSome found (IsConfigOf input.now)) }
     ensures none { result ≡ Ok None → (c : ModelConfig) → ¬ IsConfigOf input.now c }
 {
@@ -47,7 +48,7 @@ fn read_config(alloc: Global, input: &[u8]) -> Result<Option<Config>, NoMemory>
         return Ok(None);
     }
     match Config::read(alloc, input) {
-        Ok(config) => Ok(Some(config)),
+        Ok(config) => Ok(Some(CheckedConfig::of(config))),
         Err(ConfigError::BadConfig) => Ok(None),
         Err(ConfigError::NoMemory) => Err(NoMemory),
     }
@@ -67,12 +68,11 @@ pub fn refuse_configuration(alloc: Global) -> Result<Answer, NoMemory>
 }
 
 // How many nodes the cluster has. The only error is out of memory.
-fn nodes_of(alloc: Global, config: &Config) -> Result<u32, NoMemory>
-    requires { IsInRange config.now }
+fn nodes_of(alloc: Global, config: &CheckedConfig) -> Result<u32, NoMemory>
     ensures same { IfOk result (λ n. n ≡ (setup_of config.now).n) }
     ensures few { IfOk result (λ n. n ≤ 10) }
 {
-    Ok(config.setup(alloc)?.n)
+    Ok(config.config().setup(alloc)?.n)
 }
 
 // ---- all nodes of a cluster
@@ -102,11 +102,10 @@ pub fn run_cluster<L: Links>(
 fn run_nodes<L: Links>(
     alloc: Global,
     port: u16,
-    config: &Config,
+    config: &CheckedConfig,
     links: &mut L,
 ) -> Result<Answer, LoopError>
-    requires port { port ≤ 65000 }
-    requires range { IsInRange config.now }
+    requires { port ≤ 65000 }
     ensures ok { IfOk result (λ a. Under config.now.module
         (IsOfCluster config.now (L.ends links.old) (L.ends links.new) a)) }
     ensures cause { HasCause (L.faults links.old) (L.faults links.new) (IsErrOf result LoopError.LinksFault) }
@@ -119,15 +118,14 @@ fn run_nodes<L: Links>(
 // The same under the module that the configuration names, with attached links.
 fn run_nodes_by_module<L: Links>(
     alloc: Global,
-    config: &Config,
+    config: &CheckedConfig,
     links: &mut L,
 ) -> Result<Answer, LoopError>
-    requires { IsInRange config.now }
     ensures ok { IfOk result (λ a. Under config.now.module
         (IsOfCluster config.now (L.ends links.old) (L.ends links.new) a)) }
     ensures cause { HasCause (L.faults links.old) (L.faults links.new) (IsErrOf result LoopError.LinksFault) }
 {
-    match config.module {
+    match config.config().module {
         1 => run_nodes_under::<Relay, L>(alloc, config, links),
         2 => run_nodes_under::<Raft, L>(alloc, config, links),
         3 => run_nodes_under::<Pbft, L>(alloc, config, links),
@@ -140,15 +138,14 @@ fn run_nodes_by_module<L: Links>(
 // The same under this module.
 fn run_nodes_under<M: Sequenced, L: Links>(
     alloc: Global,
-    config: &Config,
+    config: &CheckedConfig,
     links: &mut L,
 ) -> Result<Answer, LoopError>
-    requires range { IsInRange config.now }
-    requires good { IsSetupOf M.spec (setup_of config.now) }
+    requires { IsSetupOf M.spec (setup_of config.now) }
     ensures ok { IfOk result (λ a. IsOfCluster config.now (L.ends links.old) (L.ends links.new) a M.Msg M.spec) }
     ensures cause { HasCause (L.faults links.old) (L.faults links.new) (IsErrOf result LoopError.LinksFault) }
 {
-    let traced = cluster::<M, L>(alloc, config, links)?;
+    let traced = cluster::<M, L>(alloc, config.config(), links)?;
     Ok(print_traced(alloc, &traced)?)
 }
 
@@ -213,12 +210,11 @@ pub fn run_node<L: Links, D: Disk>(
 fn run_one<L: Links, D: Disk>(
     alloc: Global,
     order: NodeOrder<'_>,
-    config: &Config,
+    config: &CheckedConfig,
     links: &mut L,
     disk: &mut D,
 ) -> Result<Answer, NodeError>
-    requires port { order.port ≤ 65000 }
-    requires range { IsInRange config.now }
+    requires { order.port ≤ 65000 }
     ensures ok { IfOk result
         (IsOfNodeOrder order.entry (devices (L.ends links.old) (D.files disk.old) (D.history disk.old))
         (devices (L.ends links.new) (D.files disk.new) (D.history disk.new)) config.now) }
@@ -239,12 +235,11 @@ fn run_one<L: Links, D: Disk>(
 fn run_existing<L: Links, D: Disk>(
     alloc: Global,
     order: NodeOrder<'_>,
-    config: &Config,
+    config: &CheckedConfig,
     links: &mut L,
     disk: &mut D,
 ) -> Result<Answer, NodeError>
     requires port { order.port ≤ 65000 }
-    requires range { IsInRange config.now }
     requires node { order.node < (setup_of config.now).n }
     ensures ok { IfOk result (λ a. Under config.now.module (IsOfNode config.now order.entry.node (L.ends links.old)
         (L.ends links.new) (D.files disk.old order.entry.file.now) (D.history disk.new) a)) }
@@ -280,19 +275,18 @@ fn attach<L: Links, D: Disk>(
 // The log of a node of the cluster, whose end and journal are attached, under the module that the configuration names.
 fn run_by_module<L: Links, D: Disk>(
     alloc: Global,
-    config: &Config,
+    config: &CheckedConfig,
     me: NodeId,
     links: &mut L,
     disk: &mut D,
 ) -> Result<Answer, NodeError>
-    requires range { IsInRange config.now }
-    requires me { me.0 < (setup_of config.now).n }
+    requires { me.0 < (setup_of config.now).n }
     ensures ok { IfOk result (λ a. Under config.now.module (IsOfNode config.now me.0 (L.ends links.old)
         (L.ends links.new) (D.history disk.old) (D.history disk.new) a)) }
     ensures links { HasCause (L.faults links.old) (L.faults links.new) (IsErrOf result NodeError.LinksFault) }
     ensures disk { HasDiskCause (D.faults disk.old) (D.faults disk.new) (IsErrOf result NodeError.DiskFault) }
 {
-    match config.module {
+    match config.config().module {
         1 => run_node_under::<Relay, L, D>(alloc, config, me, links, disk),
         2 => run_node_under::<Raft, L, D>(alloc, config, me, links, disk),
         3 => run_node_under::<Pbft, L, D>(alloc, config, me, links, disk),
@@ -305,12 +299,11 @@ fn run_by_module<L: Links, D: Disk>(
 // The same under this module.
 fn run_node_under<M: Sequenced, L: Links, D: Disk>(
     alloc: Global,
-    config: &Config,
+    config: &CheckedConfig,
     me: NodeId,
     links: &mut L,
     disk: &mut D,
 ) -> Result<Answer, NodeError>
-    requires range { IsInRange config.now }
     requires good { IsSetupOf M.spec (setup_of config.now) }
     requires me { me.0 < (setup_of config.now).n }
     ensures ok { IfOk result (λ a. IsOfNode config.now me.0 (L.ends links.old) (L.ends links.new)
@@ -318,6 +311,7 @@ fn run_node_under<M: Sequenced, L: Links, D: Disk>(
     ensures links { HasCause (L.faults links.old) (L.faults links.new) (IsErrOf result NodeError.LinksFault) }
     ensures disk { HasDiskCause (D.faults disk.old) (D.faults disk.new) (IsErrOf result NodeError.DiskFault) }
 {
+    let config = config.config();
     let fresh = start_node::<M>(alloc, config, me)?;
     let mut running = RunningNode::of(fresh, disk);
     let ran = node(alloc, config, links, &mut running);

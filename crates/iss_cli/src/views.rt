@@ -4,17 +4,15 @@ ghost use Rattle.iss_cli.specs.Views.{IsShown, outcome_of, text_in};
 ghost use Rattle.iss_model.specs.Courses.{Course};
 ghost use Rattle.iss_replay.specs.Refines.{ReportRefinesRun, end_kept};
 ghost use Rattle.iss_rules.specs.Setups.{IsSetupOf};
-ghost use Rattle.iss_schedule.specs.Events.{AreInRange};
-ghost use Rattle.iss_schedule.specs.Schedules.{IsKnown};
 ghost use Rattle.iss_theorems.specs.Headline.{IsWhole, course_after};
 
 use crate::answers::Answer;
+use crate::checked::CheckedSchedule;
 use crate::status::Outcome;
 use iss_replay::{Report, replay, summary, text};
 use iss_replies::replies;
 use iss_request::{Bytes, NoMemory};
 use iss_sb::Sequenced;
-use iss_schedule::Schedule;
 use iss_world::ends::Evidence;
 use sb_chained::Chained;
 use sb_hotstuff::HotStuff;
@@ -38,12 +36,10 @@ pub enum View {
 /// loss and certified checkpoints, as `IsWhole` in `iss_theorems` defines them, over all crashes and recoveries (ISS,
 /// whole protocol). There is no assumption on signatures or SHA-256: a run that violates one stops, and the view ends
 /// with the evidence. The only error is out of memory.
-pub fn show(alloc: Global, view: View, schedule: &Schedule) -> Result<Answer, NoMemory>
-    requires known { IsKnown schedule.now.setup }
-    requires range { AreInRange schedule.now.setup schedule.now.events }
+pub fn show(alloc: Global, view: View, schedule: &CheckedSchedule) -> Result<Answer, NoMemory>
     ensures { IfOk result (IsShown view schedule.now) }
 {
-    match schedule.setup.module {
+    match schedule.schedule().setup.module {
         1 => show_under::<Relay>(alloc, view, schedule),
         2 => show_under::<Raft>(alloc, view, schedule),
         3 => show_under::<Pbft>(alloc, view, schedule),
@@ -57,17 +53,16 @@ pub fn show(alloc: Global, view: View, schedule: &Schedule) -> Result<Answer, No
 fn show_under<M: Sequenced>(
     alloc: Global,
     view: View,
-    schedule: &Schedule,
+    schedule: &CheckedSchedule,
 ) -> Result<Answer, NoMemory>
-    requires good { IsSetupOf M.spec schedule.now.setup }
-    requires range { AreInRange schedule.now.setup schedule.now.events }
+    requires { IsSetupOf M.spec schedule.now.setup }
     ensures printed { IfOk result (λ a. a.printed ≡ text_in view schedule.now.setup M.spec
         (course_after schedule.now.setup M.spec schedule.now.events)) }
     ensures outcome { IfOk result (λ a. a.outcome ≡
         outcome_of (course_after schedule.now.setup M.spec schedule.now.events).ended) }
     ensures whole { IsWhole schedule.now.setup M.spec schedule.now.events }
 {
-    let report = replay::<M>(alloc, schedule)?;
+    let report = replay::<M>(alloc, schedule.schedule())?;
     Ok(Answer {
         printed: write_view(alloc, view, &report)?,
         outcome: outcome_of(&report.ended),

@@ -200,7 +200,6 @@ module _ {M Msg : Type 0} (m : Module Msg) (refines : Relation M Msg) where
               calls = calls.1;
             };
             made = t.made;
-            addressed = t.addressed of;
           }
 
       dropped-answer : (why : Why) → IsDrop m refines c stepped new why → Written (Kept_dropped why) → StoresOn → (stepped ≡ Dropped why) × RefinesMachine m refines new c d

@@ -1,20 +1,19 @@
 -- Packets that are posted one by one.
-use Rattle.std.proofs.Common.{inl, inr, ◌≡◌, ◌≢◌, ℕ, zero, suc, ◌+◌, ◌<◌, ◌≤◌, Bool, true, false, List, [], ◌∷◌, ◌++◌, length, take, get_or, refl, sym, ap, ◌∙◌, subst, arith, add-one, if◌then◌else◌, Some}
-use Rattle.std.specs.Prelude.{◌==◌, cond}
+use Rattle.std.proofs.Common.{◌≡◌, ℕ, zero, suc, ◌+◌, ◌<◌, ◌≤◌, Bool, true, false, List, [], ◌∷◌, ◌++◌, length, take, get_or, refl, sym, ap, ◌∙◌, subst, arith, add-one, if◌then◌else◌, Some}
+use Rattle.std.specs.Prelude.{cond}
 use Rattle.std.specs.List.{filter}
 use Rattle.std.proofs.Math.Seq.{take-suc}
-use Rattle.iss_base.proofs.Lists.{eqb-other, eqb-same, same_or_not}
 use Rattle.iss_request.specs.declared.setups.Setup.{Setup}
 use Rattle.iss_base.specs.Lists.{below, nth}
-use Rattle.iss_model.specs.Run.{addressees, node_of, posted_all, posted_to}
+use Rattle.iss_model.specs.Run.{addressees, cores_of, posted_all, posted_to}
 use Rattle.iss_theorems.proofs.Refinement.PacketsHoldSends.{posted-append}
-use Rattle.iss_model.proofs.Twins.{node-is}
 use Rattle.iss_network.specs.Network.{Network, posted}
 use Rattle.iss_network.specs.declared.packets.Sent.{Sent}
 use Rattle.iss_sb.specs.declared.effects.To.{To}
-use Rattle.iss_sb.specs.Calls.{AreToNodes, IsToNode}
+use Rattle.iss_sb.specs.declared.effects.To.TheVariants.{All as To_all, One as To_one}
 use Rattle.iss_world.specs.Internal.Shape.{IsNetworkOf}
-use Rattle.iss_world.specs.State.{AreBetweenCores}
+use Rattle.iss_world.specs.Internal.Posting.{is_for}
+use Rattle.iss_world.specs.State.{AreBetweenCores, SimulationState, with_network}
 
 between-more : (n : ℕ) (ps : List Sent) (p : Sent) → AreBetweenCores n ps → p.from < n → p.to < n → AreBetweenCores n (ps ++ p ∷ [])
 between-more n [] p h from to = (from, to, tt)
@@ -34,13 +33,6 @@ posted_to-append : (w : Network) (from : ℕ) (b : List ℕ) (xs ys : List ℕ) 
 posted_to-append w from b [] ys = refl
 posted_to-append w from b (x ∷ xs) ys = posted_to-append (posted w (record { from = from; to = x; bytes = b })) from b xs ys
 
--- Packets for all cores below k, then one for core k.
-pub each-next : (w now later : Network) (from : ℕ) (b : List ℕ) (k : ℕ) → now ≡ posted_to w from b (below k) → later ≡ posted now (record { from = from; to = k; bytes = b }) → later ≡ posted_to w from b (below (k + 1))
-each-next w now later from b k e l =
-    l ∙ ap (λ (u : Network). posted u (record { from = from; to = k; bytes = b })) e
-    ∙ sym (posted_to-append w from b (below k) (k ∷ []))
-    ∙ ap (λ (m : ℕ). posted_to w from b (below m)) (sym (add-one k))
-
 -- The first i elements and the next one.
 pub take-next : {A : Type 0} (xs : List A) (i : ℕ) (x : A) → i < length xs → x ≡ get_or xs i x → take (i + 1) xs ≡ take i xs ++ x ∷ []
 take-next {A} xs i x lt is = rw add-one (take-suc xs i x lt ∙ ap (λ (y : A). take i xs ++ y ∷ []) (sym is))
@@ -51,14 +43,6 @@ all-next n w now later from xs i x lt is e l =
     l ∙ ap (λ (u : Network). posted_to u from x.1 (addressees n x.0)) e
     ∙ sym (posted-append n w from (take i xs) (x ∷ []))
     ∙ ap (λ (ys : List (To × List ℕ)). posted_all n w from ys) (sym (take-next xs i x lt is))
-
-to-at : (n : ℕ) (xs : List (To × List ℕ)) (i : ℕ) (d : To × List ℕ) → AreToNodes n xs → i < length xs → IsToNode n (get_or xs i d).0
-to-at n [] i d h lt = absurd (omega arith)
-to-at n (y ∷ ys) zero d h lt = h.0
-to-at n (y ∷ ys) (suc i) d h lt = to-at n ys i d h.1 (omega arith)
-
-pub to-node : (n : ℕ) (xs : List (To × List ℕ)) (i : ℕ) (x : To × List ℕ) → AreToNodes n xs → i < length xs → x ≡ get_or xs i x → IsToNode n x.0
-to-node n xs i x h lt is = subst (λ (y : To × List ℕ). IsToNode n y.0) (sym is) (to-at n xs i x h lt)
 
 -- ---- the cores of a node
 
@@ -73,53 +57,52 @@ filter-append P (x ∷ xs) ys = put (P x) x (filter P (xs ++ ys)) (filter P xs) 
 keep-one : (b : Bool) (P : ℕ → Bool) (c : ℕ) → P c ≡ b → filter P (c ∷ []) ≡ cond b (c ∷ []) []
 keep-one b P c e = ap (λ (t : Bool). cond t (c ∷ []) []) e
 
-none-below : (s : Setup) (k m : ℕ) → m ≤ k → k < s.n → filter (λ c. node_of s c == k) (below m) ≡ []
-none-below s k zero le lt = refl
-none-below s k (suc m) le lt =
-    let P : ℕ → Bool = λ c. node_of s c == k in
-    let other : P m ≡ false = ap (λ (i : ℕ). i == k) (node-is s m (omega (arith, le, lt))) ∙ eqb-other m k (λ e. omega (arith, e, le)) in
-    filter-append P (below m) (m ∷ []) ∙ ap (λ (zs : List ℕ). zs ++ filter P (m ∷ [])) (none-below s k m (omega (arith, le)) lt) ∙ keep-one false P m other
+-- The packets for the cores below c + 1 that P chooses: those for the cores below c, and one for c if P chooses it.
+pub core-next : (w : Network) (from : ℕ) (b : List ℕ) (P : ℕ → Bool) (c : ℕ) (chosen : Bool) → P c ≡ chosen →
+    posted_to w from b (filter P (below (c + 1)))
+    ≡ (let now : Network = posted_to w from b (filter P (below c)) in
+    cond chosen (posted now (record { from = from; to = c; bytes = b })) now)
+core-next w from b P c chosen is =
+    ap (λ (m : ℕ). posted_to w from b (filter P (below m))) (add-one c)
+    ∙ ap (λ (zs : List ℕ). posted_to w from b zs) (filter-append P (below c) (c ∷ []))
+    ∙ posted_to-append w from b (filter P (below c)) (filter P (c ∷ []))
+    ∙ ap (λ (zs : List ℕ). posted_to (posted_to w from b (filter P (below c))) from b zs) (keep-one chosen P c is)
+    ∙ one chosen (posted_to w from b (filter P (below c)))
+  where
+    one : (x : Bool) (now : Network) → posted_to now from b (cond x (c ∷ []) []) ≡ cond x (posted now (record { from = from; to = c; bytes = b })) now
+    one true now = refl
+    one false now = refl
 
-one-below : (s : Setup) (k i : ℕ) → k < i → i ≤ s.n → filter (λ c. node_of s c == k) (below i) ≡ k ∷ []
-one-below s k zero lt le = absurd (omega (arith, lt))
-one-below s k (suc i) lt le =
-    let P : ℕ → Bool = λ c. node_of s c == k in
-    let here : node_of s i ≡ i = node-is s i (omega (arith, le)) in
-    filter-append P (below i) (i ∷ []) ∙ elim (same_or_not i k) [
-      | inl e ↦
-          let same : P i ≡ true = ap (λ (j : ℕ). j == k) (here ∙ e) ∙ eqb-same k in
-          ap (λ (zs : List ℕ). zs ++ filter P (i ∷ [])) (none-below s k i (omega (arith, e)) (omega (arith, lt, le))) ∙ keep-one true P i same ∙ ap (λ (j : ℕ). j ∷ []) e
-      | inr ne ↦
-          let other : P i ≡ false = ap (λ (j : ℕ). j == k) here ∙ eqb-other i k ne in
-          let far : k < i = omega (arith, lt, ne) in
-          ap (λ (zs : List ℕ). zs ++ filter P (i ∷ [])) (one-below s k i far (omega (arith, le))) ∙ ap (λ (zs : List ℕ). k ∷ zs) (keep-one false P i other)
-    ]
+all-kept : (xs : List ℕ) → filter (λ c. true) xs ≡ xs
+all-kept [] = refl
+all-kept (x ∷ xs) = ap (λ (zs : List ℕ). x ∷ zs) (all-kept xs)
 
--- Among the first n cores, exactly one runs node k.
-pub own-core : (s : Setup) (k : ℕ) → k < s.n → filter (λ c. node_of s c == k) (below s.n) ≡ k ∷ []
-own-core s k lt = one-below s k s.n lt (omega arith)
+-- A send is for its addressees.
+pub addressees-are : (s : Setup) (to : To) → filter (is_for s to) (below (cores_of s)) ≡ addressees s to
+addressees-are s To_all = all-kept (below (cores_of s))
+addressees-are s (To_one node) = refl
 
-pub own-posted : (s : Setup) (w later : Network) (from : ℕ) (b : List ℕ) (k : ℕ) → k < s.n → later ≡ posted w (record { from = from; to = k; bytes = b }) →
-    later ≡ posted_to w from b (filter (λ c. node_of s c == k) (below s.n))
-own-posted s w later from b k lt e = e ∙ ap (λ (zs : List ℕ). posted_to w from b zs) (sym (own-core s k lt))
+-- ---- a simulation that posts
 
--- One more core gets the packet or is skipped.
-pub core-next : (s : Setup) (w now later : Network) (from : ℕ) (b : List ℕ) (k c : ℕ) → now ≡ posted_to w from b (filter (λ c. node_of s c == k) (below c)) →
-    later ≡ posted_to now from b (filter (λ c. node_of s c == k) (c ∷ [])) → later ≡ posted_to w from b (filter (λ c. node_of s c == k) (below (c + 1)))
-core-next s w now later from b k c e l =
-    let P : ℕ → Bool = λ c. node_of s c == k in
-    l ∙ ap (λ (u : Network). posted_to u from b (filter P (c ∷ []))) e
-    ∙ sym (posted_to-append w from b (filter P (below c)) (filter P (c ∷ [])))
-    ∙ ap (λ (zs : List ℕ). posted_to w from b zs) (sym (filter-append P (below c) (c ∷ [])))
-    ∙ ap (λ (m : ℕ). posted_to w from b (filter P (below m))) (sym (add-one c))
+-- One more send.
+pub send-next : {M Msg : Type 0} (v now later : SimulationState M Msg) (from : ℕ) (xs : List (To × List ℕ)) (i : ℕ) (x : To × List ℕ) → i < length xs → x ≡ get_or xs i x →
+    now ≡ with_network v (posted_all v.setup v.network from (take i xs)) → later ≡ with_network now (posted_to now.network from x.1 (addressees now.setup x.0)) →
+    later ≡ with_network v (posted_all v.setup v.network from (take (i + 1) xs))
+send-next {M} {Msg} v now later from xs i x lt is e l =
+    l ∙ ap (λ (u : SimulationState M Msg). with_network u (posted_to u.network from x.1 (addressees u.setup x.0))) e
+    ∙ ap (λ (n : Network). with_network v n) (all-next v.setup v.network (posted_all v.setup v.network from (take i xs)) _ from xs i x lt is refl refl)
 
-pub passed-over : (s : Setup) (w : Network) (from : ℕ) (b : List ℕ) (k c n : ℕ) → n ≡ node_of s c → n ≢ k → w ≡ posted_to w from b (filter (λ c. node_of s c == k) (c ∷ []))
-passed-over s w from b k c n is ne =
-    let other : (node_of s c == k) ≡ false = ap (λ (i : ℕ). i == k) (sym is) ∙ eqb-other n k ne in
-    ap (λ (t : Bool). posted_to w from b (cond t (c ∷ []) [])) (sym other)
+-- One more core, which the send is for or not.
+pub core-posted : {M Msg : Type 0} (v now later : SimulationState M Msg) (from : ℕ) (x : To × List ℕ) (c : ℕ) → is_for v.setup x.0 c ≡ true →
+    now ≡ with_network v (posted_to v.network from x.1 (filter (is_for v.setup x.0) (below c))) →
+    later ≡ with_network now (posted now.network (record { from = from; to = c; bytes = x.1 })) →
+    later ≡ with_network v (posted_to v.network from x.1 (filter (is_for v.setup x.0) (below (c + 1))))
+core-posted {M} {Msg} v now later from x c is e l =
+    l ∙ ap (λ (u : SimulationState M Msg). with_network u (posted u.network (record { from = from; to = c; bytes = x.1 }))) e
+    ∙ ap (λ (n : Network). with_network v n) (sym (core-next v.network from x.1 (is_for v.setup x.0) c true is))
 
-pub posted-if : (s : Setup) (w later : Network) (from : ℕ) (b : List ℕ) (k c n : ℕ) → n ≡ node_of s c → n ≡ k → later ≡ posted w (record { from = from; to = c; bytes = b }) →
-    later ≡ posted_to w from b (filter (λ c. node_of s c == k) (c ∷ []))
-posted-if s w later from b k c n is e p =
-    let mine : (node_of s c == k) ≡ true = ap (λ (i : ℕ). i == k) (sym is ∙ e) ∙ eqb-same k in
-    p ∙ ap (λ (t : Bool). posted_to w from b (cond t (c ∷ []) [])) (sym mine)
+pub core-passed : {M Msg : Type 0} (v now : SimulationState M Msg) (from : ℕ) (x : To × List ℕ) (c : ℕ) → is_for v.setup x.0 c ≡ false →
+    now ≡ with_network v (posted_to v.network from x.1 (filter (is_for v.setup x.0) (below c))) →
+    now ≡ with_network v (posted_to v.network from x.1 (filter (is_for v.setup x.0) (below (c + 1))))
+core-passed v now from x c is e =
+    e ∙ ap (λ (n : Network). with_network v n) (sym (core-next v.network from x.1 (is_for v.setup x.0) c false is))

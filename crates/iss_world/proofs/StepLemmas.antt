@@ -32,7 +32,7 @@ use Rattle.iss_model.specs.Disks.{Disk, fails, fused, keeps, works_again}
 use Rattle.iss_model.specs.Driver.{Upshot, done, lost_by}
 use Rattle.iss_sb.specs.declared.effects.Claim.{Claim}
 use Rattle.iss_sb.specs.declared.effects.To.{To}
-use Rattle.iss_sb.specs.Calls.{AreToNodes, Relation}
+use Rattle.iss_sb.specs.Calls.{Relation}
 use Rattle.iss_sb.specs.Evidence.{Module}
 use Rattle.iss_world.proofs.OverLemmas.{at-working, epoch-grown, log-grown, over-shows, over-stale}
 use Rattle.iss_world.specs.Books.{AreHashed, AreSigned}
@@ -256,9 +256,6 @@ module _ {M Msg : Type 0} (m : Module Msg) (refines : Relation M Msg) where
       module _ (outcome : Outcome) (is : answer ≡ Kept_taken outcome) (w : Machines Msg) (st : RefinesMachines m refines v w) (working : (w.disks i).failed ≡ false) where
         pub turn-kept : IsKeptTurn m refines (w.disks i) event (step_there w) later outcome
         turn-kept = answer-is w st working (Kept_taken outcome) is
-
-        pub turn-addressed : AreToNodes v.setup.n outcome.sends
-        turn-addressed = subst (λ (s : Setup). AreToNodes s.n outcome.sends) (same.setup ∙ r.setups i g at) turn-kept.addressed
 
         good-there : IsSetupOf m g.setup
         good-there = subst (λ (s : Setup). IsSetupOf m s) (sym (r.setups i g at)) r.good

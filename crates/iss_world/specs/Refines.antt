@@ -21,7 +21,7 @@ use Rattle.iss_request.specs.declared.requests.Value.{Value}
 use Rattle.iss_request.specs.declared.setups.Setup.{Setup}
 use Rattle.iss_schedule.specs.declared.schedules.Event.{Event}
 use Rattle.iss_theorems.specs.Readers.{is_reader, reader_at, reader_of}
-use Rattle.iss_model.specs.Courses.{Course, Machines, core_of as core_of_kept}
+use Rattle.iss_model.specs.Courses.{Course, Machines, core_of as core_of_kept, driver_of}
 use Rattle.iss_model.specs.Disks.{Disk, new_disk}
 use Rattle.iss_model.specs.Driver.{Driver, Upshot, apply_event}
 use Rattle.iss_rules.specs.Concrete.{rules_of}
@@ -138,6 +138,11 @@ abbrev pub RefinesOrShows : {M Msg : Type 0} → Module Msg → Relation M Msg �
     Machines Msg → Type 0
 RefinesOrShows m refines v w = RefinesMachines m refines v w ⊎ IsLeft m refines v w
 
+-- What is said of the machines that the simulation refines or shows.
+abbrev pub InMachines : {M Msg : Type 0} → Module Msg → Relation M Msg → SimulationState M Msg →
+    (Machines Msg → Type 0) → Type 0
+InMachines {Msg = Msg} m refines v P = (w : Machines Msg) → RefinesOrShows m refines v w → P w
+
 -- The model's evidence.
 abbrev pub end_of : Evidence → End
 end_of (Evidence_forged claim) = Forged claim
@@ -152,6 +157,21 @@ HasChanged m refines reader v d (Lost why) = RefinesMachines m refines v d.state
     × (d.ended ≡ None)
 HasChanged m refines reader v d (Ended end) = IsLeftBy m refines reader v d.state × (d.lost ≡ None)
     × (d.ended ≡ Some (end_of end))
+
+-- After a call the simulation refines what the driver makes of any machines that it refined: this change, in whose
+-- course this core, if any, read the evidence that stops the run.
+abbrev pub Follows : {M Msg : Type 0} → Module Msg → Relation M Msg → SimulationState M Msg → SimulationState M Msg →
+    (Driver (Machines Msg) → Machines Msg → Option ℕ) →
+    (Driver (Machines Msg) → Machines Msg → Upshot (Machines Msg)) → EventOutcome → Type 0
+Follows {Msg = Msg} m refines old new reader change r = (w : Machines Msg) → RefinesMachines m refines old w →
+    HasChanged m refines (reader (driver_of old.setup m) w) new (change (driver_of old.setup m) w) r
+
+-- No core, or this core, reads evidence.
+abbrev pub by_none : {Msg : Type 0} → Driver (Machines Msg) → Machines Msg → Option ℕ
+by_none W w = None
+
+abbrev pub by_core : {Msg : Type 0} → ℕ → Driver (Machines Msg) → Machines Msg → Option ℕ
+by_core core W w = Some core
 
 -- The simulation refines some state of the model.
 abbrev pub RefinesSome : {M Msg : Type 0} → Module Msg → Relation M Msg → SimulationState M Msg → Type 0
@@ -193,6 +213,16 @@ RefinesRunUntil m refines v w (Some at) = HasEnded m refines v w at.1
 -- The world refines this run, stopped or not.
 abbrev pub RefinesRun : {M Msg : Type 0} → Module Msg → Relation M Msg → WorldState M Msg → Course Msg → Type 0
 RefinesRun m refines v p = RefinesRunUntil m refines v p.state p.ended
+
+-- What is said of the run that the world refines, stopped or not.
+abbrev pub InRun : {M Msg : Type 0} → Module Msg → Relation M Msg → WorldState M Msg → (Course Msg → Type 0) → Type 0
+InRun {Msg = Msg} m refines v P = (p : Course Msg) → RefinesRun m refines v p → P p
+
+-- What is said of a core while its disk works.
+abbrev pub IfWorks : {M Msg : Type 0} → Module Msg → Relation M Msg → WorldState M Msg → ℕ → (Core Msg → Type 0) →
+    Type 0
+IfWorks {Msg = Msg} m refines v core P = (w : Machines Msg) → WorldRefinesMachines m refines v w →
+    (w.disks core).failed ≡ false → P (w.held.net.cores core)
 
 -- A core's kept node is stale exactly where its disk has failed, or where it read the evidence that ended the run.
 -- rule: Evidence: Of all cores the one that read the evidence is stale, and those whose disk has failed

@@ -18,6 +18,10 @@ pub record SimulationState (M Msg : Type 0) : Type 0 where
   pub signed : List (List ℕ)
   pub hashed : List (List ℕ × List ℕ)
 
+-- The same simulation with this network.
+abbrev pub with_network : {M Msg : Type 0} → SimulationState M Msg → Network → SimulationState M Msg
+with_network v network = record v { network = network }
+
 pub record WorldState (M Msg : Type 0) : Type 0 where
   pub simulation : SimulationState M Msg
   -- The evidence that stopped the run, if any.

@@ -5,13 +5,13 @@ ghost use Rattle.std.specs.Cmp.Lexicographic.{pointwise, slice_cmp, nat_list_eq_
 ghost use Rattle.std.specs.Cmp.{partial_equiv_from_equiv};
 ghost use Rattle.std.specs.Ordering.{nat_cmp};
 ghost use Rattle.iss_rules.specs.Books.{Signed};
-ghost use Rattle.iss_rules.specs.Concrete.{keys_of, rules_of};
+ghost use Rattle.iss_rules.specs.Concrete.{rules_of};
 ghost use Rattle.iss_model.specs.Run.{as_signed, booked, first_forged, is_forged};
 ghost use Rattle.iss_sb.specs.Evidence.{is_correct};
 ghost use Rattle.iss_world.specs.Books.{AreSigned, is_booked};
 
 use crate::ends::copy_of;
-use iss_keys::Directory;
+use crate::members::Members;
 use iss_request::{NoMemory, NodeId, Setup};
 use iss_sb::Claim;
 use std::alloc::Global;
@@ -139,17 +139,16 @@ impl Claims {
     fn is_forged(
         &self,
         alloc: Global,
-        setup: &Setup,
-        directory: &Directory,
+        members: &Members,
         claim: &Claim,
     ) -> Result<bool, NoMemory>
-        requires { directory.now ≡ keys_of setup.now }
         ensures { IfOk result (λ forged. (book : List Signed) → AreSigned self.now book →
-            forged ≡ is_forged setup.now (rules_of setup.now) book claim.now) }
+            forged ≡ is_forged members.now (rules_of members.now) book claim.now) }
     {
-        if self.has(alloc, claim)? || !is_correct(setup, claim.by.0 as u32) {
+        if self.has(alloc, claim)? || !is_correct(members.setup(), claim.by.0 as u32) {
             return Ok(false);
         }
+        let directory = members.directory();
         Ok(directory.verify_node(claim.by.0, claim.statement.as_slice(), claim.sig.as_slice()))
     }
 
@@ -157,16 +156,14 @@ impl Claims {
     pub fn first_forged(
         &self,
         alloc: Global,
-        setup: &Setup,
-        directory: &Directory,
+        members: &Members,
         claims: &[Claim],
     ) -> Result<Option<Claim>, NoMemory>
-        requires { directory.now ≡ keys_of setup.now }
         ensures { IfOk result (λ forged. (book : List Signed) → AreSigned self.now book →
-            forged ≡ first_forged setup.now (rules_of setup.now) book claims.now) }
+            forged ≡ first_forged members.now (rules_of members.now) book claims.now) }
     {
         for claim in claims {
-            if self.is_forged(alloc, setup, directory, claim)? {
+            if self.is_forged(alloc, members, claim)? {
                 return Ok(Some(copy_of(claim)?));
             }
         }
@@ -178,15 +175,15 @@ impl Claims {
 // rule: Evidence: The claims that correct nodes send are booked, and none of a faulty node
 pub fn book_own(
     alloc: Global,
-    setup: &Setup,
+    members: &Members,
     core: u32,
     own: &[Claim],
     signed: &mut Claims,
 ) -> Result<(), NoMemory>
     ensures { OnOk result ((book : List Signed) → AreSigned signed.old book →
-        AreSigned signed.new (booked setup.now core own.now ++ book)) }
+        AreSigned signed.new (booked members.now core own.now ++ book)) }
 {
-    if !is_correct(setup, core) {
+    if !is_correct(members.setup(), core) {
         return Ok(());
     }
     signed.book(alloc, own)

@@ -11,6 +11,7 @@ ghost use Rattle.iss_rules.specs.Setups.{IsSetupOf};
 ghost use Rattle.iss_request.specs.Setup.{IsGoodSetup};
 ghost use Rattle.iss_world.specs.Refines.{AreFresh, IsFresh, LeadsBy, RefinesMachine};
 
+use crate::members::Members;
 use iss_disk::MemoryDisk;
 use iss_journal::{AttachError, a_file_has_one_reading};
 use iss_keep::{Kept, a_journal_recovers};
@@ -56,16 +57,14 @@ pub fn directory_of(alloc: Global, setup: &Setup) -> Result<SharedDirectory, NoM
 /// All cores of a cluster, ascending. None has taken an event; each has its own new disk, and all share the directory.
 pub fn start_cores<M: Sequenced>(
     alloc: Global,
-    setup: &Setup,
-    directory: &SharedDirectory,
+    members: &Members,
 ) -> Result<Vec<Kept<M, MemoryDisk>>, NoMemory>
-    requires good { IsSetupOf M.spec setup.now }
-    requires directory { directory.now ≡ keys_of setup.now }
-    ensures { IfOk result (λ nodes. AreFresh M.spec M.refines setup.now (cores_of setup.now) nodes.items) }
+    requires { IsSetupOf M.spec members.now }
+    ensures { IfOk result (λ nodes. AreFresh M.spec M.refines members.now (cores_of members.now) nodes.items) }
 {
     let mut nodes = Vec::new(alloc);
-    for core in 0..cores_of(setup) {
-        nodes.push(start_core(alloc, setup, directory, core)?)?;
+    for core in 0..members.cores() {
+        nodes.push(start_core(alloc, members, core)?)?;
     }
     Ok(nodes)
 }
@@ -73,17 +72,16 @@ pub fn start_cores<M: Sequenced>(
 // A core that has taken no event, with its node's keys from the directory.
 fn start_core<M: Sequenced>(
     alloc: Global,
-    setup: &Setup,
-    directory: &SharedDirectory,
+    members: &Members,
     core: u32,
 ) -> Result<Kept<M, MemoryDisk>, NoMemory>
-    requires good { IsSetupOf M.spec setup.now }
-    requires directory { directory.now ≡ keys_of setup.now }
-    requires core { core < cores_of setup.now }
-    ensures { IfOk result (λ node. IsFresh M.spec M.refines setup.now core node) }
+    requires good { IsSetupOf M.spec members.now }
+    requires core { core < cores_of members.now }
+    ensures { IfOk result (λ node. IsFresh M.spec M.refines members.now core node) }
 {
     let disk = MemoryDisk::new(alloc)?;
-    let mut node = Kept::over(alloc, setup, directory, node_of(setup, core), disk)?;
+    let me = members.node_of(core);
+    let mut node = Kept::over(alloc, members.setup(), members.shared(), me, disk)?;
     make_anew(&mut node)?;
     Ok(node)
 }

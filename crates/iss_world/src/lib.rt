@@ -4,6 +4,7 @@
 pub mod claims;
 pub mod cores;
 pub mod ends;
+pub mod members;
 mod posting;
 mod requests;
 mod shown;

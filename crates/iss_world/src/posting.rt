@@ -1,138 +1,65 @@
 //! Posting the messages that a core sends.
-ghost use Rattle.std.specs.Prelude.{◌≡◌, ◌<◌, ◌==◌, ◌∷◌, [], ℕ, length, OnOk};
-ghost use Rattle.std.specs.List.{filter};
-ghost use Rattle.iss_base.specs.Lists.{below};
-ghost use Rattle.iss_model.specs.Run.{addressees, cores_of, node_of, posted_all, posted_to};
+ghost use Rattle.std.specs.Prelude.{◌≡◌, ◌<◌, OnOk};
+ghost use Rattle.iss_model.specs.Run.{addressees, cores_of, posted_all, posted_to};
 ghost use Rattle.iss_network.specs.Network.{posted};
-ghost use Rattle.iss_request.specs.Setup.{IsGoodSetup};
-ghost use Rattle.iss_sb.specs.Calls.{AreToNodes, IsToNode};
-ghost use Rattle.iss_world.specs.Internal.Shape.{IsNetworkOf};
+ghost use Rattle.iss_world.specs.Internal.Posting.{is_for};
+ghost use Rattle.iss_world.specs.State.{with_network};
 
-use crate::cores::{cores_of, node_of};
-use iss_network::Network;
-use iss_request::{Bytes, NoMemory, NodeId, Setup};
-use iss_sb::To;
+use crate::members::Members;
+use crate::simulation::Simulation;
+use iss_request::{Bytes, NoMemory};
+use iss_sb::{Sequenced, To};
 
-/// Posts the packets of a step, in their order. A send to all posts one packet for each core. A send to a node posts
-/// one for each of its cores, ascending.
-pub fn post_all(
-    network: &mut Network,
-    setup: &Setup,
-    from: u32,
-    sends: &[(To, Bytes)],
-) -> Result<(), NoMemory>
-    requires good { IsGoodSetup setup.now }
-    requires between { IsNetworkOf (cores_of setup.now) network.old }
-    requires from { from < cores_of setup.now }
-    requires addressed { AreToNodes setup.now.n sends.now }
-    ensures posted { OnOk result (network.new ≡ posted_all setup.now network.old from sends.now) }
-    ensures between { IsNetworkOf (cores_of setup.now) network.new }
+// Whether a send is for this core: one to all is, and one to a node is for its own core and its twins.
+fn is_for(members: &Members, to: To, core: u32) -> bool
+    requires { core < cores_of members.now }
+    ensures { result ≡ is_for members.now to core }
 {
-    for send in sends {
-        post_send(network, setup, from, send)?;
-    }
-    Ok(())
-}
-
-// Posts the packets of one send.
-// rule: Network: A send to all is a packet for each core, a send to a node one for each of its cores
-fn post_send(
-    network: &mut Network,
-    setup: &Setup,
-    from: u32,
-    send: &(To, Bytes),
-) -> Result<(), NoMemory>
-    requires good { IsGoodSetup setup.now }
-    requires between { IsNetworkOf (cores_of setup.now) network.old }
-    requires from { from < cores_of setup.now }
-    requires addressed { IsToNode setup.now.n send.now.0 }
-    ensures posted { OnOk result
-        (network.new ≡ posted_to network.old from send.now.1 (addressees setup.now send.now.0)) }
-    ensures between { IsNetworkOf (cores_of setup.now) network.new }
-{
-    match send.0 {
-        To::All => post_to_each(network, cores_of(setup), from, &send.1),
-        To::One(node) => post_to_node(network, setup, from, node, &send.1),
+    match to {
+        To::All => true,
+        To::One(node) => members.node_of(core).0 == node.0,
     }
 }
 
-// Posts a packet to each core, ascending.
-fn post_to_each(network: &mut Network, n: u32, from: u32, bytes: &Bytes) -> Result<(), NoMemory>
-    requires between { IsNetworkOf n network.old }
-    requires from { from < n }
-    ensures posted { OnOk result (network.new ≡ posted_to network.old from bytes.now (below n)) }
-    ensures between { IsNetworkOf n network.new }
-{
-    for core in 0..n {
-        post_to(network, n, from, core, bytes)?;
+impl<M: Sequenced> Simulation<M> {
+    /// Posts the packets of a core's step, in their order.
+    pub(crate) fn post_all(&mut self, from: u32, sends: &[(To, Bytes)]) -> Result<(), NoMemory>
+        requires { from < cores_of self.old.setup }
+        ensures posted { OnOk result (self.new ≡
+            with_network self.old (posted_all self.old.setup self.old.network from sends.now)) }
+        ensures same { self.new.setup ≡ self.old.setup }
+    {
+        for send in sends {
+            self.post_send(from, send)?;
+        }
+        Ok(())
     }
-    Ok(())
-}
 
-// Posts a packet to each core of a node: its own core and its twins.
-fn post_to_node(
-    network: &mut Network,
-    setup: &Setup,
-    from: u32,
-    node: NodeId,
-    bytes: &Bytes,
-) -> Result<(), NoMemory>
-    requires good { IsGoodSetup setup.now }
-    requires between { IsNetworkOf (cores_of setup.now) network.old }
-    requires from { from < cores_of setup.now }
-    requires addressed { node.0 < setup.now.n }
-    ensures posted { OnOk result (network.new ≡
-        posted_to network.old from bytes.now
-        (filter (λ c. node_of setup.now c == node.0) (below (cores_of setup.now)))) }
-    ensures between { IsNetworkOf (cores_of setup.now) network.new }
-{
-    let n = cores_of(setup);
-    post_to(network, n, from, node.0 as u32, bytes)?;
-    for core in setup.n..n {
-        post_if_runs(network, setup, from, node, core, bytes)?;
+    // Posts the packets of one send: one for each core that it is for, ascending.
+    // rule: Network: A send to all is a packet for each core, a send to a node one for each of its cores
+    fn post_send(&mut self, from: u32, send: &(To, Bytes)) -> Result<(), NoMemory>
+        requires { from < cores_of self.old.setup }
+        ensures posted { OnOk result (self.new ≡ with_network self.old
+            (posted_to self.old.network from send.now.1 (addressees self.old.setup send.now.0))) }
+        ensures same { self.new.setup ≡ self.old.setup }
+    {
+        for core in 0..self.members.cores() {
+            if is_for(&self.members, send.0, core) {
+                self.post_to(from, core, &send.1)?;
+            }
+        }
+        Ok(())
     }
-    Ok(())
-}
 
-// Posts a packet to a core if it runs this node.
-fn post_if_runs(
-    network: &mut Network,
-    setup: &Setup,
-    from: u32,
-    node: NodeId,
-    core: u32,
-    bytes: &Bytes,
-) -> Result<(), NoMemory>
-    requires good { IsGoodSetup setup.now }
-    requires between { IsNetworkOf (cores_of setup.now) network.old }
-    requires from { from < cores_of setup.now }
-    requires core { core < cores_of setup.now }
-    ensures posted { OnOk result
-        (network.new ≡ posted_to network.old from bytes.now (filter (λ c. node_of setup.now c == node.0) (core ∷ []))) }
-    ensures between { IsNetworkOf (cores_of setup.now) network.new }
-{
-    let runs = node_of(setup, core);
-    if runs.0 != node.0 {
-        return Ok(());
+    // Posts a packet to a core.
+    fn post_to(&mut self, from: u32, core: u32, bytes: &Bytes) -> Result<(), NoMemory>
+        requires from { from < cores_of self.old.setup }
+        requires core { core < cores_of self.old.setup }
+        ensures posted { OnOk result (self.new ≡ with_network self.old
+            (posted self.old.network (record { from = from; to = core; bytes = bytes.now }))) }
+        ensures same { self.new.setup ≡ self.old.setup }
+    {
+        prove!(core < cores_of self.old.setup);
+        self.network.post(from, core, bytes.copy()?)
     }
-    post_to(network, cores_of(setup), from, core, bytes)
-}
-
-// Posts a packet to core `core` of `n`.
-fn post_to(
-    network: &mut Network,
-    n: u32,
-    from: u32,
-    core: u32,
-    bytes: &Bytes,
-) -> Result<(), NoMemory>
-    requires between { IsNetworkOf n network.old }
-    requires from { from < n }
-    requires core { core < n }
-    ensures posted { OnOk result
-        (network.new ≡ posted network.old (record { from = from; to = core; bytes = bytes.now })) }
-    ensures between { IsNetworkOf n network.new }
-{
-    prove!(core < n);
-    network.post(from, core, bytes.copy()?)
 }

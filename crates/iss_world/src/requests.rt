@@ -1,13 +1,13 @@
 //! A client's request as a packet.
 ghost use Rattle.std.specs.Prelude.{◌≡◌, ◌<◌, ◌≤◌, ◌^◌, IfOk, length};
-ghost use Rattle.iss_rules.specs.Concrete.{keys_of, request_of};
+ghost use Rattle.iss_rules.specs.Concrete.{request_of};
 ghost use Rattle.iss_rules.specs.Formats.{formats_of};
 ghost use Rattle.iss_rules.specs.Parcels.{OfRequest};
 ghost use Rattle.iss_request.specs.declared.setups.Setup.{Setup};
 
-use iss_keys::Directory;
+use crate::members::Members;
 use iss_packet::{Packet, PacketKind};
-use iss_request::{Bytes, Epoch, NoMemory, ReqId, Request, Setup, Writer, write_request};
+use iss_request::{Bytes, Epoch, NoMemory, ReqId, Request, Writer, write_request};
 use iss_sb::Sequenced;
 use iss_segment::sign_request;
 use std::alloc::Global;
@@ -17,25 +17,23 @@ use std::alloc::Global;
 // rule: Signatures: A request of a schedule is signed by its client, with the leaf of its number
 pub fn request_packet<M: Sequenced>(
     alloc: Global,
-    setup: &Setup,
-    directory: &Directory,
+    members: &Members,
     id: ReqId,
     payload: &Bytes,
 ) -> Result<Bytes, NoMemory>
-    requires directory { directory.now ≡ keys_of setup.now }
-    requires client { id.client < setup.now.clients }
-    requires leaf { id.number < 2 ^ setup.now.keys }
+    requires client { id.client < members.now.clients }
+    requires leaf { id.number < 2 ^ members.now.keys }
     requires payload { length payload.now ≤ 256 }
-    ensures { IfOk result (λ bytes. bytes ≡ (formats_of setup.now M.spec).wrap
-        (record { from = 255; epoch = 0; body = OfRequest (request_of setup.now id.client id.number payload.now) })) }
+    ensures { IfOk result (λ bytes. bytes ≡ (formats_of members.now M.spec).wrap
+        (record { from = 255; epoch = 0; body = OfRequest (request_of members.now id.client id.number payload.now) })) }
 {
-    let mut keys = directory.keys_of_client(alloc, id.client);
+    let mut keys = members.directory().keys_of_client(alloc, id.client);
     let request = Request {
         id,
         payload: payload.copy()?,
         sig: sign_request(&mut keys, id, payload.as_slice())?,
     };
-    Ok(wrapped::<M>(alloc, setup.version, &request)?)
+    Ok(wrapped::<M>(alloc, members.setup().version, &request)?)
 }
 
 // The packet of a request.

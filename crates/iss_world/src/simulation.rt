@@ -1,25 +1,25 @@
 //! The cores of a cluster and the network between them, while memory suffices.
-ghost use Rattle.std.specs.Prelude.{◌≡◌, ◌<◌, IfOk, None, Some, reverse, slice_get, true, false};
+ghost use Rattle.std.specs.Prelude.{◌≡◌, ◌<◌, IfOk, Some, slice_get, true, false};
 ghost use Rattle.iss_base.specs.Lists.{nth};
 ghost use Rattle.iss_model.specs.Run.{cores_of, node_of};
-ghost use Rattle.iss_model.specs.Courses.{Machines, begin_machines, with_disk, with_packets, driver_of};
+ghost use Rattle.iss_model.specs.Courses.{begin_machines, with_disk, with_packets};
 ghost use Rattle.iss_model.specs.Disks.{fused};
 ghost use Rattle.iss_model.specs.Driver.{apply_event, calms, delivers, delivers_each, done, injects, loses, pumps};
 ghost use Rattle.iss_rules.specs.Setups.{IsSetupOf};
 ghost use Rattle.iss_network.specs.Network.{cleared, due, held_to};
 ghost use Rattle.iss_schedule.specs.Events.{IsInRange};
 ghost use Rattle.iss_theorems.specs.Readers.{addressee, reader_of, reader_of_calm, reader_of_each, reader_of_pump};
-ghost use Rattle.iss_world.specs.Refines.{HasChanged, RefinesMachines, RefinesOrShows, RefinesSome, ShowsCore, log_at};
+ghost use Rattle.iss_world.specs.Refines.{Follows, InMachines, RefinesMachines, RefinesSome, ShowsCore, by_core, by_none};
 ghost use Rattle.iss_world.specs.State.{AreBetweenCores};
 
 use crate::claims::Claims;
-use crate::cores::{cores_of, directory_of, make_anew, start_cores};
+use crate::cores::{make_anew, start_cores};
 use crate::ends::EventOutcome;
+use crate::members::Members;
 use crate::requests::request_packet;
 use crate::strings::Strings;
 use iss_disk::MemoryDisk;
 use iss_keep::Kept;
-use iss_keys::SharedDirectory;
 use iss_log::Log;
 use iss_network::{Network, Sent};
 use iss_request::{Bytes, Epoch, Kind, NoMemory, ReqId, Setup, Value};
@@ -32,9 +32,7 @@ use std::marker::Model;
 /// The cores of a cluster, the network between them, and records of what was signed and hashed.
 #[derive(Drop)]
 pub struct Simulation<M: Sequenced> {
-    pub(crate) setup: Setup,
-    // The keys of all nodes and clients.
-    pub(crate) directory: SharedDirectory,
+    pub(crate) members: Members,
     // Core `i` is at index `i`, and each core has its own disk.
     pub(crate) nodes: Vec<Kept<M, MemoryDisk>>,
     pub(crate) network: Network,
@@ -44,24 +42,26 @@ pub struct Simulation<M: Sequenced> {
 }
 
 impl<M: Sequenced> Model for Simulation<M> {
-    ghost use Rattle.std.specs.Prelude.{◌≡◌};
-    ghost use Rattle.iss_rules.specs.Concrete.{keys_of};
     ghost use Rattle.iss_world.specs.State.{SimulationState};
     ghost use Rattle.iss_world.specs.Internal.Shape.{IsSimulation};
 
     ghost Value = { SimulationState M M.Msg };
 
     ghost view = { λ w. record {
-      setup = w.setup;
+      setup = w.members;
       nodes = w.nodes.items;
       network = w.network;
       signed = w.signed;
       hashed = w.hashed;
     } };
 
-    ghost invariant = { λ w. IsSimulation M.spec
-        (record { setup = w.setup; nodes = w.nodes.items; network = w.network; signed = w.signed; hashed = w.hashed })
-        × (w.directory ≡ keys_of w.setup) };
+    ghost invariant = { λ w. IsSimulation M.spec (record {
+      setup = w.members;
+      nodes = w.nodes.items;
+      network = w.network;
+      signed = w.signed;
+      hashed = w.hashed;
+    }) };
 }
 
 impl<M: Sequenced> Simulation<M> {
@@ -72,14 +72,13 @@ impl<M: Sequenced> Simulation<M> {
         ensures refines { IfOk result (λ v. RefinesMachines M.spec M.refines v (begin_machines setup.now)) }
         ensures same { IfOk result (λ v. v.setup ≡ setup.now) }
     {
-        let directory = directory_of(alloc, setup)?;
+        let members = Members::of(alloc, setup)?;
         Ok(Simulation {
-            setup: setup.copy()?,
-            nodes: start_cores(alloc, setup, &directory)?,
-            network: Network::new(alloc, cores_of(setup))?,
+            nodes: start_cores(alloc, &members)?,
+            network: Network::new(alloc, members.cores())?,
             signed: Claims::new(alloc),
             hashed: Strings::new(alloc)?,
-            directory,
+            members,
         })
     }
 
@@ -88,9 +87,8 @@ impl<M: Sequenced> Simulation<M> {
     pub fn event(&mut self, alloc: Global, event: &Event) -> Result<EventOutcome, NoMemory>
         requires range { IsInRange self.old.setup event.now }
         requires standing { RefinesSome M.spec M.refines self.old }
-        ensures happened { IfOk result (λ r. (w : Machines M.Msg) → RefinesMachines M.spec M.refines self.old w →
-            HasChanged M.spec M.refines (reader_of (driver_of self.old.setup M.spec) w event.now) self.new
-            (apply_event (driver_of self.old.setup M.spec) w event.now) r) }
+        ensures happened { IfOk result (Follows M.spec M.refines self.old self.new
+            (λ W w. reader_of W w event.now) (λ W w. apply_event W w event.now)) }
         ensures same { self.new.setup ≡ self.old.setup }
     {
         match event {
@@ -134,14 +132,11 @@ impl<M: Sequenced> Simulation<M> {
     ) -> Result<EventOutcome, NoMemory>
         requires range { IsInRange self.old.setup (Event.Request core id.client id.number payload.now) }
         requires standing { RefinesSome M.spec M.refines self.old }
-        ensures happened { IfOk result (λ r. (w : Machines M.Msg) → RefinesMachines M.spec M.refines self.old w →
-            HasChanged M.spec M.refines (Some core) self.new
-            (apply_event (driver_of self.old.setup M.spec) w (Event.Request core id.client id.number payload.now))
-            r) }
+        ensures happened { IfOk result (Follows M.spec M.refines self.old self.new
+            (by_core core) (λ W w. apply_event W w (Event.Request core id.client id.number payload.now))) }
         ensures same { self.new.setup ≡ self.old.setup }
     {
-        let directory = self.directory.directory();
-        let packet = request_packet::<M>(alloc, &self.setup, directory, id, payload)?;
+        let packet = request_packet::<M>(alloc, &self.members, id, payload)?;
         self.take(alloc, core, NodeEvent::Packet(packet))
     }
 
@@ -150,9 +145,8 @@ impl<M: Sequenced> Simulation<M> {
     // rule: Recovery: A missing packet is reported before the disk is asked
     fn deliver(&mut self, alloc: Global, packet: u64) -> Result<EventOutcome, NoMemory>
         requires { RefinesSome M.spec M.refines self.old }
-        ensures happened { IfOk result (λ r. (w : Machines M.Msg) → RefinesMachines M.spec M.refines self.old w →
-            HasChanged M.spec M.refines (addressee w packet) self.new
-            (delivers (driver_of self.old.setup M.spec) w packet) r) }
+        ensures happened { IfOk result (Follows M.spec M.refines self.old self.new
+            (λ W w. addressee w packet) (λ W w. delivers W w packet)) }
         ensures same { self.new.setup ≡ self.old.setup }
     {
         let Some(sent) = self.network.packet(packet) else {
@@ -167,9 +161,8 @@ impl<M: Sequenced> Simulation<M> {
     // Loses a packet: it is no longer in flight.
     // rule: Network: A lost packet waits no more
     fn lose(&mut self, packet: u64) -> EventOutcome
-        ensures happened { (w : Machines M.Msg) → RefinesMachines M.spec M.refines self.old w →
-            HasChanged M.spec M.refines None self.new
-            (loses (driver_of self.old.setup M.spec) w packet (nth w.held.net.network.packets packet)) result }
+        ensures happened { Follows M.spec M.refines self.old self.new
+            by_none (λ W w. loses W w packet (nth w.held.net.network.packets packet)) result }
         ensures same { self.new.setup ≡ self.old.setup }
     {
         match self.network.packet(packet) {
@@ -192,9 +185,7 @@ impl<M: Sequenced> Simulation<M> {
     // Delivers all packets in flight for cores that are not held, ascending. Stops if a delivery reveals evidence.
     fn pump(&mut self, alloc: Global) -> Result<EventOutcome, NoMemory>
         requires { RefinesSome M.spec M.refines self.old }
-        ensures happened { IfOk result (λ r. (w : Machines M.Msg) → RefinesMachines M.spec M.refines self.old w →
-            HasChanged M.spec M.refines (reader_of_pump (driver_of self.old.setup M.spec) w) self.new
-            (pumps (driver_of self.old.setup M.spec) w) r) }
+        ensures happened { IfOk result (Follows M.spec M.refines self.old self.new reader_of_pump pumps) }
         ensures same { self.new.setup ≡ self.old.setup }
     {
         let packets = self.due(alloc)?;
@@ -204,9 +195,8 @@ impl<M: Sequenced> Simulation<M> {
     // Delivers these packets in order. Stops if a delivery reveals evidence.
     fn deliver_each(&mut self, alloc: Global, packets: &[u64]) -> Result<EventOutcome, NoMemory>
         requires { RefinesSome M.spec M.refines self.old }
-        ensures happened { IfOk result (λ r. (w : Machines M.Msg) → RefinesMachines M.spec M.refines self.old w →
-            HasChanged M.spec M.refines (reader_of_each (driver_of self.old.setup M.spec) packets.now w) self.new
-            (delivers_each (driver_of self.old.setup M.spec) packets.now w) r) }
+        ensures happened { IfOk result (Follows M.spec M.refines self.old self.new
+            (λ W w. reader_of_each W packets.now w) (λ W w. delivers_each W packets.now w)) }
         ensures same { self.new.setup ≡ self.old.setup }
     {
         for packet in packets {
@@ -221,9 +211,8 @@ impl<M: Sequenced> Simulation<M> {
     // rule: Network: A calm is n pumps, fewer if one finds nothing or ends the run
     fn calm(&mut self, alloc: Global, most: u32) -> Result<EventOutcome, NoMemory>
         requires { RefinesSome M.spec M.refines self.old }
-        ensures happened { IfOk result (λ r. (w : Machines M.Msg) → RefinesMachines M.spec M.refines self.old w →
-            HasChanged M.spec M.refines (reader_of_calm (driver_of self.old.setup M.spec) most w) self.new
-            (calms (driver_of self.old.setup M.spec) most w) r) }
+        ensures happened { IfOk result (Follows M.spec M.refines self.old self.new
+            (λ W w. reader_of_calm W most w) (λ W w. calms W most w)) }
         ensures same { self.new.setup ≡ self.old.setup }
     {
         for done in 0..most {
@@ -241,9 +230,8 @@ impl<M: Sequenced> Simulation<M> {
     // Holds a core: pumps no longer deliver to it.
     fn hold(&mut self, core: u32) -> EventOutcome
         requires { core < cores_of self.old.setup }
-        ensures happened { (w : Machines M.Msg) → RefinesMachines M.spec M.refines self.old w →
-            HasChanged M.spec M.refines None self.new
-            (done (with_packets w (held_to w.held.net.network core true))) result }
+        ensures happened { Follows M.spec M.refines self.old self.new
+            by_none (λ W w. done (with_packets w (held_to w.held.net.network core true))) result }
         ensures same { self.new.setup ≡ self.old.setup }
     {
         self.network.hold(core);
@@ -253,9 +241,8 @@ impl<M: Sequenced> Simulation<M> {
     // Frees a core: pumps deliver to it again.
     fn free(&mut self, core: u32) -> EventOutcome
         requires { core < cores_of self.old.setup }
-        ensures happened { (w : Machines M.Msg) → RefinesMachines M.spec M.refines self.old w →
-            HasChanged M.spec M.refines None self.new
-            (done (with_packets w (held_to w.held.net.network core false))) result }
+        ensures happened { Follows M.spec M.refines self.old self.new
+            by_none (λ W w. done (with_packets w (held_to w.held.net.network core false))) result }
         ensures same { self.new.setup ≡ self.old.setup }
     {
         self.network.free(core);
@@ -265,9 +252,8 @@ impl<M: Sequenced> Simulation<M> {
     // Loses all packets in flight for a core.
     fn clear(&mut self, core: u32) -> EventOutcome
         requires { core < cores_of self.old.setup }
-        ensures happened { (w : Machines M.Msg) → RefinesMachines M.spec M.refines self.old w →
-            HasChanged M.spec M.refines None self.new
-            (done (with_packets w (cleared w.held.net.network core))) result }
+        ensures happened { Follows M.spec M.refines self.old self.new
+            by_none (λ W w. done (with_packets w (cleared w.held.net.network core))) result }
         ensures same { self.new.setup ≡ self.old.setup }
     {
         self.network.drop_for(core);
@@ -280,9 +266,7 @@ impl<M: Sequenced> Simulation<M> {
     fn restart(&mut self, core: u32) -> Result<EventOutcome, NoMemory>
         requires core { core < cores_of self.old.setup }
         requires standing { RefinesSome M.spec M.refines self.old }
-        ensures happened { IfOk result (λ r. (w : Machines M.Msg) → RefinesMachines M.spec M.refines self.old w →
-            HasChanged M.spec M.refines None self.new
-            ((driver_of self.old.setup M.spec).restart w core) r) }
+        ensures happened { IfOk result (Follows M.spec M.refines self.old self.new by_none (λ W w. W.restart w core)) }
         ensures same { self.new.setup ≡ self.old.setup }
     {
         let node = &mut self.nodes[core as usize];
@@ -295,9 +279,8 @@ impl<M: Sequenced> Simulation<M> {
     // rule: Recovery: After a crash n more disk calls of a core pass, and all others fail until it recovers
     fn crash(&mut self, core: u32, calls: u32) -> EventOutcome
         requires { core < cores_of self.old.setup }
-        ensures happened { (w : Machines M.Msg) → RefinesMachines M.spec M.refines self.old w →
-            HasChanged M.spec M.refines None self.new
-            (done (with_disk w core (fused (w.disks core) calls))) result }
+        ensures happened { Follows M.spec M.refines self.old self.new
+            by_none (λ W w. done (with_disk w core (fused (w.disks core) calls))) result }
         ensures same { self.new.setup ≡ self.old.setup }
     {
         self.nodes[core as usize].fuse(calls as u64);
@@ -309,12 +292,11 @@ impl<M: Sequenced> Simulation<M> {
         requires kind { self.old.setup.kind ≡ Kind.Byzantine }
         requires core { core < cores_of self.old.setup }
         requires standing { RefinesSome M.spec M.refines self.old }
-        ensures happened { IfOk result (λ r. (w : Machines M.Msg) → RefinesMachines M.spec M.refines self.old w →
-            HasChanged M.spec M.refines (Some core) self.new
-            (injects (driver_of self.old.setup M.spec) w core bytes.now) r) }
+        ensures happened { IfOk result (Follows M.spec M.refines self.old self.new
+            (by_core core) (λ W w. injects W w core bytes.now)) }
         ensures same { self.new.setup ≡ self.old.setup }
     {
-        let _ = &self.setup;
+        let _setup = self.members.setup();
         let packet = bytes.copy()?;
         self.take(alloc, core, NodeEvent::Packet(packet))
     }
@@ -324,13 +306,12 @@ impl<M: Sequenced> Simulation<M> {
         ensures same { result.now ≡ self.now.setup }
         ensures good { IsSetupOf M.spec result.now }
     {
-        &self.setup
+        self.members.setup()
     }
 
     /// The packets that were sent, by number.
     pub fn packets(&self) -> &[Sent]
-        ensures shown { (w : Machines M.Msg) → RefinesOrShows M.spec M.refines self.now w →
-            result.now ≡ w.held.net.network.packets }
+        ensures shown { InMachines M.spec M.refines self.now (λ w. result.now ≡ w.held.net.network.packets) }
         ensures between { AreBetweenCores (cores_of self.now.setup) result.now }
     {
         self.network.packets()
@@ -340,37 +321,10 @@ impl<M: Sequenced> Simulation<M> {
     pub fn node(&self, core: u32) -> &Kept<M, MemoryDisk>
         requires { core < cores_of self.now.setup }
         ensures at { slice_get self.now.nodes core ≡ Some result.now }
-        ensures shown { (w : Machines M.Msg) → RefinesOrShows M.spec M.refines self.now w →
-            ShowsCore M.spec self.now.setup (node_of self.now.setup core) result.now (w.held.net.cores core) }
+        ensures shown { InMachines M.spec M.refines self.now (λ w. ShowsCore M.spec self.now.setup
+            (node_of self.now.setup core) result.now (w.held.net.cores core)) }
         ensures same { (result.now.setup ≡ self.now.setup) × (result.now.me.0 ≡ node_of self.now.setup core) }
     {
         &self.nodes[core as usize]
-    }
-
-    /// The log of a core.
-    pub fn log(&self, core: u32) -> &Log
-        requires { core < cores_of self.now.setup }
-        ensures { (w : Machines M.Msg) → RefinesOrShows M.spec M.refines self.now w →
-            log_at self.now.setup M.spec w.held core ≡ reverse result.now.entries }
-    {
-        self.node(core).log()
-    }
-
-    /// The values of a core's log, by slot.
-    pub fn entries(&self, core: u32) -> &[Value]
-        requires { core < cores_of self.now.setup }
-        ensures { (w : Machines M.Msg) → RefinesOrShows M.spec M.refines self.now w →
-            log_at self.now.setup M.spec w.held core ≡ reverse result.now }
-    {
-        self.log(core).entries()
-    }
-
-    /// The epoch of a core.
-    pub fn epoch(&self, core: u32) -> Epoch
-        requires { core < cores_of self.now.setup }
-        ensures { (w : Machines M.Msg) → RefinesOrShows M.spec M.refines self.now w →
-            result.0 ≡ (w.held.net.cores core).past.epoch }
-    {
-        self.node(core).epoch()
     }
 }

@@ -4,7 +4,6 @@ ghost use Rattle.std.specs.Prelude.{◌≡◌, ◌<◌, ◌≤◌, ℕ, false, I
 ghost use Rattle.iss_base.specs.Lists.{push_all};
 ghost use Rattle.iss_rules.specs.Books.{Signed};
 ghost use Rattle.iss_rules.specs.declared.events.NodeEvent.{NodeEvent as ModelEvent};
-ghost use Rattle.iss_rules.specs.Concrete.{keys_of};
 ghost use Rattle.iss_model.specs.Node.{Core, Taken, Turn, step};
 ghost use Rattle.iss_model.specs.Run.{cores_of, node_of};
 ghost use Rattle.iss_model.specs.Frames.{claims_at_in, frame_of, step_in};
@@ -12,23 +11,21 @@ ghost use Rattle.iss_disk.specs.declared.memory.MemoryDisk.{MemoryDisk};
 ghost use Rattle.iss_keep.specs.State.{KeptRefinesCore, KeptState};
 ghost use Rattle.iss_keep.specs.Steps.{IsSame};
 ghost use Rattle.iss_node.specs.Steps.{IsMade, IsOfNodes};
-ghost use Rattle.iss_model.specs.Courses.{Machines, with_disks, driver_of};
+ghost use Rattle.iss_model.specs.Courses.{Machines, with_disks};
 ghost use Rattle.iss_model.specs.Disks.{Disk};
-ghost use Rattle.iss_sb.specs.Calls.{AreToNodes};
 ghost use Rattle.iss_world.specs.Books.{AreHashed, AreSigned};
-ghost use Rattle.iss_world.specs.Refines.{HasChanged, IsLeftBy, RefinesMachine, RefinesMachines, RefinesSome, end_of};
+ghost use Rattle.iss_world.specs.Refines.{Follows, HasChanged, IsLeftBy, RefinesMachine, RefinesMachines, RefinesSome, by_core, end_of};
 ghost use Rattle.iss_world.specs.Internal.Steps.{HasAnswered, IsBehind, IsWorking, ends_by, kept_at, kept_to, stepped_to};
 
 use crate::claims::{Claims, book_own};
 use crate::ends::{EventOutcome, Evidence};
-use crate::posting::post_all;
+use crate::members::Members;
 use crate::simulation::Simulation;
 use crate::strings::Strings;
 use iss_disk::MemoryDisk;
 use iss_keep::{Answer, Kept};
-use iss_keys::Directory;
 use iss_node::Outcome;
-use iss_request::{Epoch, NoMemory, Seq, Setup, Value};
+use iss_request::{Epoch, NoMemory, Seq, Value};
 use iss_rules::{NodeEvent, Why};
 use iss_sb::{Claim, Sequenced};
 use std::alloc::Global;
@@ -87,23 +84,21 @@ fn take_with_savepoint<M: Sequenced>(
 // evidence, the step's strings are recorded as hashed.
 fn ends(
     alloc: Global,
-    setup: &Setup,
-    directory: &Directory,
+    members: &Members,
     signed: &Claims,
     hashed: &mut Strings,
     outcome: &Outcome,
 ) -> Result<Option<Evidence>, NoMemory>
-    requires { directory.now ≡ keys_of setup.now }
     ensures told { IfOk result (λ end. (claims : List Signed) (strings : List (List ℕ)) → AreSigned signed.now claims →
         AreHashed hashed.old strings →
-        option_map end_of end ≡ ends_by setup.now claims strings outcome.now.early outcome.now.hashed) }
+        option_map end_of end ≡ ends_by members.now claims strings outcome.now.early outcome.now.hashed) }
     ensures booked { IfOk result (λ end. (strings : List (List ℕ)) → AreHashed hashed.old strings → end ≡ None →
         AreHashed hashed.new (push_all outcome.now.hashed strings)) }
 {
     let early = outcome.early.as_slice();
-    match signed.first_forged(alloc, setup, directory, early)? {
+    match signed.first_forged(alloc, members, early)? {
         Some(claim) => Ok(Some(Evidence::Forged(claim))),
-        None => hashed.book(directory, outcome.hashed.as_slice()),
+        None => hashed.book(members.directory(), outcome.hashed.as_slice()),
     }
 }
 
@@ -121,9 +116,8 @@ impl<M: Sequenced> Simulation<M> {
         requires core { core < cores_of self.old.setup }
         requires nodes { IsOfNodes self.old.setup.n event }
         requires standing { RefinesSome M.spec M.refines self.old }
-        ensures happened { IfOk result (λ r. (w : Machines M.Msg) → RefinesMachines M.spec M.refines self.old w →
-            HasChanged M.spec M.refines (Some core) self.new
-            ((driver_of self.old.setup M.spec).takes w core event) r) }
+        ensures happened { IfOk result (Follows M.spec M.refines self.old self.new
+            (by_core core) (λ W w. W.takes w core event)) }
         ensures same { self.new.setup ≡ self.old.setup }
     {
         let node = &self.nodes[core as usize];
@@ -131,10 +125,9 @@ impl<M: Sequenced> Simulation<M> {
             return Ok(EventOutcome::Lost(Why::Stopped));
         }
         let claims = claims_at(alloc, node, &event)?;
-        let directory = self.directory.directory();
         let forged = self
             .signed
-            .first_forged(alloc, &self.setup, directory, claims.as_slice())?;
+            .first_forged(alloc, &self.members, claims.as_slice())?;
         match forged {
             Some(claim) => {
                 self.stop_at(core);
@@ -191,7 +184,6 @@ impl<M: Sequenced> Simulation<M> {
         epoch: Epoch,
     ) -> Result<EventOutcome, NoMemory>
         requires core { core < cores_of self.old.setup }
-        requires addressed { AreToNodes self.old.setup.n outcome.now.sends }
         requires slots { (g : KeptState M M.Msg MemoryDisk) → slice_get self.old.nodes core ≡ Some g →
             slots ≤ length g.node.state.log.entries }
         requires epoch { (g : KeptState M M.Msg MemoryDisk) → slice_get self.old.nodes core ≡ Some g →
@@ -202,11 +194,9 @@ impl<M: Sequenced> Simulation<M> {
             (with_disks w (kept_at w core event) (stepped_to self.old.setup w.held core (Taken t))) r) }
         ensures same { self.new.setup ≡ self.old.setup }
     {
-        let directory = self.directory.directory();
         let ended = ends(
             alloc,
-            &self.setup,
-            directory,
+            &self.members,
             &self.signed,
             &mut self.hashed,
             outcome,
@@ -218,15 +208,10 @@ impl<M: Sequenced> Simulation<M> {
             }
             None => {
                 let values = values_from(&self.nodes[core as usize], slots);
-                self.hashed.share(self.setup.version, directory, values)?;
+                self.hashed.share(&self.members, values)?;
                 let own = outcome.own.as_slice();
-                book_own(alloc, &self.setup, core, own, &mut self.signed)?;
-                post_all(
-                    &mut self.network,
-                    &self.setup,
-                    core,
-                    outcome.sends.as_slice(),
-                )?;
+                book_own(alloc, &self.members, core, own, &mut self.signed)?;
+                self.post_all(core, outcome.sends.as_slice())?;
                 Ok(EventOutcome::Done)
             }
         }

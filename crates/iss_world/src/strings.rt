@@ -7,6 +7,7 @@ ghost use Rattle.iss_world.specs.Books.{AreHashed, difference, string_at};
 ghost use Rattle.iss_world.specs.Refines.{end_of};
 
 use crate::ends::Evidence;
+use crate::members::Members;
 use crate::texts::Text;
 use iss_keys::Directory;
 use iss_request::{Bytes, NoMemory, Value, value_string};
@@ -100,14 +101,14 @@ impl Strings {
     // Keeps the string of a value, if its bytes are kept, as the value.
     fn share_one(
         &mut self,
-        version: u8,
-        directory: &Directory,
+        members: &Members,
         value: &Value,
     ) -> Result<(), NoMemory>
         ensures { OnOk result ((book : List (List ℕ)) → AreHashed self.old book → AreHashed self.new book) }
     {
+        let version = members.setup().version;
         let string = value_string(self.alloc, version, value)?;
-        let digest = digest(directory, string.as_slice());
+        let digest = digest(members.directory(), string.as_slice());
         let here = self.copies(digest, string.as_slice());
         if !here {
             return Ok(());
@@ -119,14 +120,13 @@ impl Strings {
     /// Keeps the strings of these values, if they are here, as the values. The same strings are hashed as before.
     pub fn share(
         &mut self,
-        version: u8,
-        directory: &Directory,
+        members: &Members,
         values: &[Value],
     ) -> Result<(), NoMemory>
         ensures { OnOk result ((book : List (List ℕ)) → AreHashed self.old book → AreHashed self.new book) }
     {
         for value in values {
-            self.share_one(version, directory, value)?;
+            self.share_one(members, value)?;
         }
         Ok(())
     }

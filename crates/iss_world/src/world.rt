@@ -1,14 +1,14 @@
 //! The world of a cluster, with the evidence that stopped its run and whether memory ran out.
 ghost use Rattle.std.specs.Prelude.{◌≡◌, ◌<◌, ◌++◌, ◌∷◌, [], IfOk, List, None, OnOk, Some, reverse, slice_get};
 ghost use Rattle.iss_model.specs.Run.{cores_of, node_of};
-ghost use Rattle.iss_model.specs.Courses.{Course, Machines, begin_machines, driver_of};
+ghost use Rattle.iss_model.specs.Courses.{Machines, begin_machines, driver_of};
 ghost use Rattle.iss_model.specs.Driver.{run_event, run_event_if_open};
 ghost use Rattle.iss_rules.specs.Setups.{IsSetupOf};
 ghost use Rattle.iss_schedule.specs.Events.{AreInRange, IsInRange};
 ghost use Rattle.iss_schedule.specs.declared.schedules.Event.{Event as ScheduleEvent};
 ghost use Rattle.iss_world.specs.Headline.{IsAnswered, IsHeadline, RefinesEvents};
 ghost use Rattle.iss_world.specs.Internal.Shape.{IsWorld};
-ghost use Rattle.iss_world.specs.Refines.{AreStaleBehind, HasHappened, IsOverOr, IsStaleOr, RefinesMachine, RefinesOrRetreated, RefinesRun, RefinesSome, WorldRefinesMachines, awake, log_at, result_of};
+ghost use Rattle.iss_world.specs.Refines.{AreStaleBehind, HasHappened, InRun, IsOverOr, IsStaleOr, RefinesMachine, RefinesOrRetreated, RefinesSome, WorldRefinesMachines, awake, log_at, result_of};
 ghost use Rattle.iss_world.specs.State.{AreBetweenCores};
 
 use crate::ends::{EventOutcome, Evidence};
@@ -100,11 +100,10 @@ impl<M: Sequenced> World<M> {
     // rule: Transfer: A value that a correct node adopted was delivered in that slot by a correct node
     pub fn event(&mut self, alloc: Global, event: &Event) -> EventResult
         requires { IsInRange self.old.simulation.setup event.now }
-        ensures happened { (p : Course M.Msg) → RefinesRun M.spec M.refines self.old p →
-            HasHappened M.spec M.refines self.new p
-            (run_event_if_open p.ended (driver_of self.old.simulation.setup M.spec) p event.now) result }
-        ensures silent { (p : Course M.Msg) → RefinesRun M.spec M.refines self.old p → p.ended ≡ None →
-            IsAnswered result → AreStaleBehind (driver_of self.old.simulation.setup M.spec) p event.now self.new }
+        ensures happened { InRun M.spec M.refines self.old (λ p. HasHappened M.spec M.refines self.new p
+            (run_event_if_open p.ended (driver_of self.old.simulation.setup M.spec) p event.now) result) }
+        ensures silent { InRun M.spec M.refines self.old (λ p. p.ended ≡ None → IsAnswered result →
+            AreStaleBehind (driver_of self.old.simulation.setup M.spec) p event.now self.new) }
         ensures headline { (events : List ScheduleEvent) → AreInRange self.old.simulation.setup events →
             RefinesEvents self.old.simulation.setup M.spec M.refines self.old events → IsAnswered result →
             IsHeadline self.old.simulation.setup M.spec M.refines self.new (events ++ event.now ∷ []) }
@@ -143,9 +142,9 @@ impl<M: Sequenced> World<M> {
         ensures at { slice_get self.now.simulation.nodes core ≡ Some result.now }
         ensures refines { (w : Machines M.Msg) → WorldRefinesMachines M.spec M.refines self.now w →
             RefinesMachine M.spec M.refines result.now (w.held.net.cores core) (w.disks core) }
-        ensures left { (p : Course M.Msg) → RefinesRun M.spec M.refines self.now p →
-            RefinesOrRetreated M.spec M.refines self.now.simulation.setup (node_of self.now.simulation.setup core)
-            result.now (p.state.held.net.cores core) (p.state.disks core) }
+        ensures left { InRun M.spec M.refines self.now (λ p. RefinesOrRetreated M.spec M.refines
+            self.now.simulation.setup (node_of self.now.simulation.setup core)
+            result.now (p.state.held.net.cores core) (p.state.disks core)) }
         ensures same { (result.now.setup ≡ self.now.simulation.setup)
             × (result.now.me.0 ≡ node_of self.now.simulation.setup core) }
     {
@@ -155,8 +154,7 @@ impl<M: Sequenced> World<M> {
     /// The packets that were sent, by number: each with the core that sent it, the core that it is for, and its bytes.
     /// Evidence leaves those from before its event.
     pub fn packets(&self) -> &[Sent]
-        ensures refines { (p : Course M.Msg) → RefinesRun M.spec M.refines self.now p →
-            result.now ≡ p.state.held.net.network.packets }
+        ensures refines { InRun M.spec M.refines self.now (λ p. result.now ≡ p.state.held.net.network.packets) }
         ensures between { AreBetweenCores (cores_of self.now.simulation.setup) result.now }
     {
         self.simulation.packets()
@@ -165,28 +163,27 @@ impl<M: Sequenced> World<M> {
     /// The log of a core.
     pub fn log(&self, core: u32) -> &Log
         requires { core < cores_of self.now.simulation.setup }
-        ensures { (p : Course M.Msg) → RefinesRun M.spec M.refines self.now p →
-            log_at self.now.simulation.setup M.spec p.state.held core ≡ reverse result.now.entries }
+        ensures { InRun M.spec M.refines self.now
+            (λ p. log_at self.now.simulation.setup M.spec p.state.held core ≡ reverse result.now.entries) }
     {
-        self.simulation.log(core)
+        self.simulation.node(core).log()
     }
 
     /// The values of a core's log, by slot.
     pub fn entries(&self, core: u32) -> &[Value]
         requires { core < cores_of self.now.simulation.setup }
-        ensures { (p : Course M.Msg) → RefinesRun M.spec M.refines self.now p →
-            log_at self.now.simulation.setup M.spec p.state.held core ≡ reverse result.now }
+        ensures { InRun M.spec M.refines self.now
+            (λ p. log_at self.now.simulation.setup M.spec p.state.held core ≡ reverse result.now) }
     {
-        self.simulation.entries(core)
+        self.log(core).entries()
     }
 
     /// The epoch of a core.
     pub fn epoch(&self, core: u32) -> Epoch
         requires { core < cores_of self.now.simulation.setup }
-        ensures { (p : Course M.Msg) → RefinesRun M.spec M.refines self.now p →
-            result.0 ≡ (p.state.held.net.cores core).past.epoch }
+        ensures { InRun M.spec M.refines self.now (λ p. result.0 ≡ (p.state.held.net.cores core).past.epoch) }
     {
-        self.simulation.epoch(core)
+        self.simulation.node(core).epoch()
     }
 }
 
@@ -199,13 +196,11 @@ fn run_event<M: Sequenced>(
 ) -> Result<EventResult, NoMemory>
     requires range { IsInRange simulation.old.setup event.now }
     requires standing { ended.old ≡ None → RefinesSome M.spec M.refines simulation.old }
-    ensures happened { IfOk result
-        (λ r. (p : Course M.Msg) → RefinesRun M.spec M.refines (awake simulation.old ended.old) p →
-        HasHappened M.spec M.refines (awake simulation.new ended.new) p
-        (run_event_if_open p.ended (driver_of simulation.old.setup M.spec) p event.now) r) }
-    ensures silent { OnOk result ((p : Course M.Msg) → RefinesRun M.spec M.refines (awake simulation.old ended.old) p →
-        p.ended ≡ None → AreStaleBehind (driver_of simulation.old.setup M.spec) p event.now
-        (awake simulation.new ended.new)) }
+    ensures happened { IfOk result (λ r. InRun M.spec M.refines (awake simulation.old ended.old)
+        (λ p. HasHappened M.spec M.refines (awake simulation.new ended.new) p
+        (run_event_if_open p.ended (driver_of simulation.old.setup M.spec) p event.now) r)) }
+    ensures silent { OnOk result (InRun M.spec M.refines (awake simulation.old ended.old) (λ p. p.ended ≡ None →
+        AreStaleBehind (driver_of simulation.old.setup M.spec) p event.now (awake simulation.new ended.new))) }
     ensures answered { IfOk result (λ r. IsAnswered r) }
     ensures world { OnOk result (IsWorld M.spec M.refines (awake simulation.new ended.new)) }
     ensures over { IsOverOr (awake simulation.old ended.old) (awake simulation.new ended.new) }

@@ -20,7 +20,7 @@ use Rattle.iss_model.specs.Driver.{Upshot, lost_by}
 use Rattle.iss_rules.specs.Books.{Signed}
 use Rattle.iss_rules.specs.Concrete.{rules_of}
 use Rattle.iss_rules.specs.Past.{log_of}
-use Rattle.iss_sb.specs.Calls.{AreToNodes, Relation}
+use Rattle.iss_sb.specs.Calls.{Relation}
 use Rattle.iss_sb.specs.Evidence.{Module}
 use Rattle.iss_sb.specs.declared.effects.Claim.{Claim}
 use Rattle.iss_world.specs.Books.{AreHashed, AreSigned}
@@ -58,7 +58,6 @@ pub record IsKeptTurn {M Msg : Type 0} (m : Module Msg) (refines : Relation M Ms
   pub room : may_keep d.passes ≡ true
   pub over : RefinesMachine m refines new turn.core (keeps d event)
   pub made : IsMade turn outcome
-  pub addressed : AreToNodes new.setup.n outcome.sends
 
 -- The event would have been accepted, but the disk failed before it was journaled.
 pub record IsStop {M Msg : Type 0} (m : Module Msg) (refines : Relation M Msg) (c : Core Msg) (d : Disk)

@@ -7,5 +7,5 @@ use Rattle.iss_world.proofs.cores.start_cores.Goals as goal
 
 pub loop-core-preserved : goal.loop-core-preserved
 loop-core-preserved g c =
-    subst (λ (xs : List (KeptState g.row.M.Denot g.row.M-Msg.Denot MemoryDisk)). AreFresh g.M.Sequenced.spec g.M.Sequenced.refines c.args.setup.now (c.loop-core.core + 1) xs) (sym c.in_ok-push.ensures.items)
-    (fresh-more g.M.Sequenced.spec g.M.Sequenced.refines c.args.setup.now c.loop-core.core c.loop-core.nodes.items c.in_ok-start_core.field-0 c.loop-core.invariant c.in_ok-start_core.ensures)
+    subst (λ (xs : List (KeptState g.row.M.Denot g.row.M-Msg.Denot MemoryDisk)). AreFresh g.M.Sequenced.spec g.M.Sequenced.refines c.args.members.now (c.loop-core.core + 1) xs) (sym c.in_ok-push.ensures.items)
+    (fresh-more g.M.Sequenced.spec g.M.Sequenced.refines c.args.members.now c.loop-core.core c.loop-core.nodes.items c.in_ok-start_core.field-0 c.loop-core.invariant c.in_ok-start_core.ensures)

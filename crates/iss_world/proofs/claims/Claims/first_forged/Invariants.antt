@@ -6,4 +6,4 @@ use Rattle.iss_world.specs.Books.{AreSigned}
 use Rattle.iss_world.proofs.claims.Claims.first_forged.Given as goal
 
 abbrev pub invariant-loop-claim : goal.invariant-loop-claim
-invariant-loop-claim l = (book : List Signed) → AreSigned l.self book → first_forged l.setup (rules_of l.setup) book (take l.claim-index l.claims) ≡ None
+invariant-loop-claim l = (book : List Signed) → AreSigned l.self book → first_forged l.members (rules_of l.members) book (take l.claim-index l.claims) ≡ None

@@ -4,5 +4,5 @@ use Rattle.iss_world.proofs.claims.Claims.is_forged.Goals as goal
 
 pub returns : goal.returns
 returns c book h =
-    forged-is c.args.setup.now book c.args.claim.now c.args.directory.now c.in_ok-has.field-0 c.is_correct.result c.verify_node.result c.as_slice.result.now c.as_slice-2.result.now
-    c.requires (c.in_ok-has.ensures ∙ h c.args.claim.now.by.0 c.args.claim.now.statement) c.if-branch.false c.is_correct.ensures c.if-not-is_correct.false c.as_slice.ensures c.as_slice-2.ensures c.verify_node.ensures
+    forged-is c.args.members.now book c.args.claim.now c.directory.result.now c.in_ok-has.field-0 c.is_correct.result c.verify_node.result c.as_slice.result.now c.as_slice-2.result.now
+    c.directory.ensures (c.in_ok-has.ensures ∙ h c.args.claim.now.by.0 c.args.claim.now.statement) c.if-branch.false c.is_correct.ensures c.if-not-is_correct.false c.as_slice.ensures c.as_slice-2.ensures c.verify_node.ensures

@@ -14,4 +14,4 @@ returns-clause-shown g c = λ w k.
 pub returns-clause-between : goal.returns-clause-between
 returns-clause-between g c =
     rw (← c.self.view_is)
-    (subst (λ (ps : List Sent). AreBetweenCores (cores_of c.self.inside.setup) ps) (sym c.packets.ensures) c.self.invariant.0.network.packets)
+    (subst (λ (ps : List Sent). AreBetweenCores (cores_of c.self.inside.members) ps) (sym c.packets.ensures) c.self.invariant.network.packets)

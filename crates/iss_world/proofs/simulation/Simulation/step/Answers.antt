@@ -5,108 +5,90 @@ use Rattle.iss_node.specs.Steps.{IsOfNodes}
 use Rattle.iss_world.specs.Refines.{RefinesMachines}
 use Rattle.iss_world.specs.State.{SimulationState}
 use Rattle.iss_world.proofs.BookLemmas.{if-ok}
-use Rattle.iss_world.proofs.StepLemmas.{behind, epoch-kept, made-there, same-network, slots-kept, step-dropped, step-stopped, step-taken, still-running, turn-addressed}
+use Rattle.iss_world.proofs.StepLemmas.{behind, epoch-kept, made-there, same-network, slots-kept, step-dropped, step-stopped, step-taken, still-running}
 use Rattle.iss_world.proofs.simulation.Simulation.step.Goals as goal
 
 pub invariant_of-self : goal.invariant_of-self
 invariant_of-self g c =
-    let v : SimulationState g.row.M.Denot g.row.M-Msg.Denot = record { setup = c.self.inside.setup; nodes = c.self.inside.nodes.items; network = c.self.inside.network; signed = c.self.inside.signed; hashed = c.self.inside.hashed } in
-    let lt : c.args.core < length c.self.inside.nodes.items = omega (arith, ap (λ (z : SimulationState _ _). cores_of z.setup) c.self.view_is, c.self.invariant.0.count) in
-    let at = slice_get_read c.self.inside.nodes.items _ c.args.core c.index_mut.result.now refl lt c.index_mut.ensures.value in (
-      still-running g.M.Sequenced.spec g.M.Sequenced.refines v c.args.core c.index_mut.result.now c.take_with_savepoint-answer.new.node c.self.inside.network c.self.inside.signed c.self.inside.hashed c.self.invariant.0 lt at c.take_with_savepoint-answer.ensures.same
-          (same-network g.M.Sequenced.spec g.M.Sequenced.refines v c.self.invariant.0),
-      c.self.invariant.1,
-    )
+    let v : SimulationState g.row.M.Denot g.row.M-Msg.Denot = record { setup = c.self.inside.members; nodes = c.self.inside.nodes.items; network = c.self.inside.network; signed = c.self.inside.signed; hashed = c.self.inside.hashed } in
+    let lt : c.args.core < length c.self.inside.nodes.items = omega (arith, ap (λ (z : SimulationState _ _). cores_of z.setup) c.self.view_is, c.self.invariant.count) in
+    let at = slice_get_read c.self.inside.nodes.items _ c.args.core c.index_mut.result.now refl lt c.index_mut.ensures.value in
+    still-running g.M.Sequenced.spec g.M.Sequenced.refines v c.args.core c.index_mut.result.now c.take_with_savepoint-answer.new.node c.self.inside.network c.self.inside.signed c.self.inside.hashed c.self.invariant lt at c.take_with_savepoint-answer.ensures.same
+          (same-network g.M.Sequenced.spec g.M.Sequenced.refines v c.self.invariant)
 
 pub invariant_of-self-in-Dropped : goal.invariant_of-self-in-Dropped
 invariant_of-self-in-Dropped g c =
-    let v : SimulationState g.row.M.Denot g.row.M-Msg.Denot = record { setup = c.self.inside.setup; nodes = c.self.inside.nodes.items; network = c.self.inside.network; signed = c.self.inside.signed; hashed = c.self.inside.hashed } in
-    let lt : c.args.core < length c.self.inside.nodes.items = omega (arith, ap (λ (z : SimulationState _ _). cores_of z.setup) c.self.view_is, c.self.invariant.0.count) in
-    let at = slice_get_read c.self.inside.nodes.items _ c.args.core c.index_mut.result.now refl lt c.index_mut.ensures.value in (
-      still-running g.M.Sequenced.spec g.M.Sequenced.refines v c.args.core c.index_mut.result.now c.take_with_savepoint-answer.new.node c.self.inside.network c.self.inside.signed c.self.inside.hashed c.self.invariant.0 lt at c.take_with_savepoint-answer.ensures.same
-          (same-network g.M.Sequenced.spec g.M.Sequenced.refines v c.self.invariant.0),
-      c.self.invariant.1,
-    )
+    let v : SimulationState g.row.M.Denot g.row.M-Msg.Denot = record { setup = c.self.inside.members; nodes = c.self.inside.nodes.items; network = c.self.inside.network; signed = c.self.inside.signed; hashed = c.self.inside.hashed } in
+    let lt : c.args.core < length c.self.inside.nodes.items = omega (arith, ap (λ (z : SimulationState _ _). cores_of z.setup) c.self.view_is, c.self.invariant.count) in
+    let at = slice_get_read c.self.inside.nodes.items _ c.args.core c.index_mut.result.now refl lt c.index_mut.ensures.value in
+    still-running g.M.Sequenced.spec g.M.Sequenced.refines v c.args.core c.index_mut.result.now c.take_with_savepoint-answer.new.node c.self.inside.network c.self.inside.signed c.self.inside.hashed c.self.invariant lt at c.take_with_savepoint-answer.ensures.same
+          (same-network g.M.Sequenced.spec g.M.Sequenced.refines v c.self.invariant)
 
 pub invariant_of-self-in-Failed : goal.invariant_of-self-in-Failed
 invariant_of-self-in-Failed g c =
-    let v : SimulationState g.row.M.Denot g.row.M-Msg.Denot = record { setup = c.self.inside.setup; nodes = c.self.inside.nodes.items; network = c.self.inside.network; signed = c.self.inside.signed; hashed = c.self.inside.hashed } in
-    let lt : c.args.core < length c.self.inside.nodes.items = omega (arith, ap (λ (z : SimulationState _ _). cores_of z.setup) c.self.view_is, c.self.invariant.0.count) in
-    let at = slice_get_read c.self.inside.nodes.items _ c.args.core c.index_mut.result.now refl lt c.index_mut.ensures.value in (
-      still-running g.M.Sequenced.spec g.M.Sequenced.refines v c.args.core c.index_mut.result.now c.take_with_savepoint-answer.new.node c.self.inside.network c.self.inside.signed c.self.inside.hashed c.self.invariant.0 lt at c.take_with_savepoint-answer.ensures.same
-          (same-network g.M.Sequenced.spec g.M.Sequenced.refines v c.self.invariant.0),
-      c.self.invariant.1,
-    )
+    let v : SimulationState g.row.M.Denot g.row.M-Msg.Denot = record { setup = c.self.inside.members; nodes = c.self.inside.nodes.items; network = c.self.inside.network; signed = c.self.inside.signed; hashed = c.self.inside.hashed } in
+    let lt : c.args.core < length c.self.inside.nodes.items = omega (arith, ap (λ (z : SimulationState _ _). cores_of z.setup) c.self.view_is, c.self.invariant.count) in
+    let at = slice_get_read c.self.inside.nodes.items _ c.args.core c.index_mut.result.now refl lt c.index_mut.ensures.value in
+    still-running g.M.Sequenced.spec g.M.Sequenced.refines v c.args.core c.index_mut.result.now c.take_with_savepoint-answer.new.node c.self.inside.network c.self.inside.signed c.self.inside.hashed c.self.invariant lt at c.take_with_savepoint-answer.ensures.same
+          (same-network g.M.Sequenced.spec g.M.Sequenced.refines v c.self.invariant)
 
 pub invariant_of-self-in-NoMemory : goal.invariant_of-self-in-NoMemory
 invariant_of-self-in-NoMemory g c =
-    let v : SimulationState g.row.M.Denot g.row.M-Msg.Denot = record { setup = c.self.inside.setup; nodes = c.self.inside.nodes.items; network = c.self.inside.network; signed = c.self.inside.signed; hashed = c.self.inside.hashed } in
-    let lt : c.args.core < length c.self.inside.nodes.items = omega (arith, ap (λ (z : SimulationState _ _). cores_of z.setup) c.self.view_is, c.self.invariant.0.count) in
-    let at = slice_get_read c.self.inside.nodes.items _ c.args.core c.index_mut.result.now refl lt c.index_mut.ensures.value in (
-      still-running g.M.Sequenced.spec g.M.Sequenced.refines v c.args.core c.index_mut.result.now c.take_with_savepoint-answer.new.node c.self.inside.network c.self.inside.signed c.self.inside.hashed c.self.invariant.0 lt at c.take_with_savepoint-answer.ensures.same
-          (same-network g.M.Sequenced.spec g.M.Sequenced.refines v c.self.invariant.0),
-      c.self.invariant.1,
-    )
-
-pub taken-requires-clause-addressed : goal.taken-requires-clause-addressed
-taken-requires-clause-addressed g c =
-    let v : SimulationState g.row.M.Denot g.row.M-Msg.Denot = record { setup = c.self.inside.setup; nodes = c.self.inside.nodes.items; network = c.self.inside.network; signed = c.self.inside.signed; hashed = c.self.inside.hashed } in
-    let lt : c.args.core < length c.self.inside.nodes.items = omega (arith, ap (λ (z : SimulationState _ _). cores_of z.setup) c.self.view_is, c.self.invariant.0.count) in
+    let v : SimulationState g.row.M.Denot g.row.M-Msg.Denot = record { setup = c.self.inside.members; nodes = c.self.inside.nodes.items; network = c.self.inside.network; signed = c.self.inside.signed; hashed = c.self.inside.hashed } in
+    let lt : c.args.core < length c.self.inside.nodes.items = omega (arith, ap (λ (z : SimulationState _ _). cores_of z.setup) c.self.view_is, c.self.invariant.count) in
     let at = slice_get_read c.self.inside.nodes.items _ c.args.core c.index_mut.result.now refl lt c.index_mut.ensures.value in
-    let nodes = subst (λ (z : SimulationState _ _). IsOfNodes z.setup.n c.args.event) (sym c.self.view_is) c.requires.nodes in
-    let st = subst (λ (z : SimulationState _ _). RefinesMachines g.M.Sequenced.spec g.M.Sequenced.refines z c.requires.working.0) (sym c.self.view_is) c.requires.working.1 in
-    turn-addressed g.M.Sequenced.spec g.M.Sequenced.refines v c.args.core c.index_mut.result.now c.args.event c.self.invariant.0 at c.take_with_savepoint-answer.new.node lt c.take_with_savepoint-answer.ensures.same nodes c.take_with_savepoint-answer.result.0 c.take_with_savepoint-answer.ensures.answer
-    c.in-Taken.outcome c.in-Taken.is c.requires.working.0 st c.requires.working.2
+    still-running g.M.Sequenced.spec g.M.Sequenced.refines v c.args.core c.index_mut.result.now c.take_with_savepoint-answer.new.node c.self.inside.network c.self.inside.signed c.self.inside.hashed c.self.invariant lt at c.take_with_savepoint-answer.ensures.same
+          (same-network g.M.Sequenced.spec g.M.Sequenced.refines v c.self.invariant)
 
 pub taken-requires-clause-slots : goal.taken-requires-clause-slots
 taken-requires-clause-slots g c =
-    let v : SimulationState g.row.M.Denot g.row.M-Msg.Denot = record { setup = c.self.inside.setup; nodes = c.self.inside.nodes.items; network = c.self.inside.network; signed = c.self.inside.signed; hashed = c.self.inside.hashed } in
-    let lt : c.args.core < length c.self.inside.nodes.items = omega (arith, ap (λ (z : SimulationState _ _). cores_of z.setup) c.self.view_is, c.self.invariant.0.count) in
+    let v : SimulationState g.row.M.Denot g.row.M-Msg.Denot = record { setup = c.self.inside.members; nodes = c.self.inside.nodes.items; network = c.self.inside.network; signed = c.self.inside.signed; hashed = c.self.inside.hashed } in
+    let lt : c.args.core < length c.self.inside.nodes.items = omega (arith, ap (λ (z : SimulationState _ _). cores_of z.setup) c.self.view_is, c.self.invariant.count) in
     let at = slice_get_read c.self.inside.nodes.items _ c.args.core c.index_mut.result.now refl lt c.index_mut.ensures.value in
     let nodes = subst (λ (z : SimulationState _ _). IsOfNodes z.setup.n c.args.event) (sym c.self.view_is) c.requires.nodes in
     let st = subst (λ (z : SimulationState _ _). RefinesMachines g.M.Sequenced.spec g.M.Sequenced.refines z c.requires.working.0) (sym c.self.view_is) c.requires.working.1 in
-    slots-kept g.M.Sequenced.spec g.M.Sequenced.refines v c.args.core c.index_mut.result.now c.args.event c.self.invariant.0 at c.take_with_savepoint-answer.new.node lt c.take_with_savepoint-answer.ensures.same nodes c.take_with_savepoint-answer.result.0 c.take_with_savepoint-answer.ensures.answer
+    slots-kept g.M.Sequenced.spec g.M.Sequenced.refines v c.args.core c.index_mut.result.now c.args.event c.self.invariant at c.take_with_savepoint-answer.new.node lt c.take_with_savepoint-answer.ensures.same nodes c.take_with_savepoint-answer.result.0 c.take_with_savepoint-answer.ensures.answer
     c.in-Taken.outcome c.in-Taken.is c.requires.working.0 st c.requires.working.2 c.take_with_savepoint-answer.result.1 c.take_with_savepoint-answer.ensures.slots
 
 pub taken-requires-clause-epoch : goal.taken-requires-clause-epoch
 taken-requires-clause-epoch g c =
-    let v : SimulationState g.row.M.Denot g.row.M-Msg.Denot = record { setup = c.self.inside.setup; nodes = c.self.inside.nodes.items; network = c.self.inside.network; signed = c.self.inside.signed; hashed = c.self.inside.hashed } in
-    let lt : c.args.core < length c.self.inside.nodes.items = omega (arith, ap (λ (z : SimulationState _ _). cores_of z.setup) c.self.view_is, c.self.invariant.0.count) in
+    let v : SimulationState g.row.M.Denot g.row.M-Msg.Denot = record { setup = c.self.inside.members; nodes = c.self.inside.nodes.items; network = c.self.inside.network; signed = c.self.inside.signed; hashed = c.self.inside.hashed } in
+    let lt : c.args.core < length c.self.inside.nodes.items = omega (arith, ap (λ (z : SimulationState _ _). cores_of z.setup) c.self.view_is, c.self.invariant.count) in
     let at = slice_get_read c.self.inside.nodes.items _ c.args.core c.index_mut.result.now refl lt c.index_mut.ensures.value in
     let nodes = subst (λ (z : SimulationState _ _). IsOfNodes z.setup.n c.args.event) (sym c.self.view_is) c.requires.nodes in
     let st = subst (λ (z : SimulationState _ _). RefinesMachines g.M.Sequenced.spec g.M.Sequenced.refines z c.requires.working.0) (sym c.self.view_is) c.requires.working.1 in
-    epoch-kept g.M.Sequenced.spec g.M.Sequenced.refines v c.args.core c.index_mut.result.now c.args.event c.self.invariant.0 at c.take_with_savepoint-answer.new.node lt c.take_with_savepoint-answer.ensures.same nodes c.take_with_savepoint-answer.result.0 c.take_with_savepoint-answer.ensures.answer
+    epoch-kept g.M.Sequenced.spec g.M.Sequenced.refines v c.args.core c.index_mut.result.now c.args.event c.self.invariant at c.take_with_savepoint-answer.new.node lt c.take_with_savepoint-answer.ensures.same nodes c.take_with_savepoint-answer.result.0 c.take_with_savepoint-answer.ensures.answer
     c.in-Taken.outcome c.in-Taken.is c.requires.working.0 st c.requires.working.2 c.take_with_savepoint-answer.result.2.0 c.take_with_savepoint-answer.ensures.epoch
 
 pub returns-in-Taken-clause-happened : goal.returns-in-Taken-clause-happened
 returns-in-Taken-clause-happened g c =
-    let v : SimulationState g.row.M.Denot g.row.M-Msg.Denot = record { setup = c.self.inside.setup; nodes = c.self.inside.nodes.items; network = c.self.inside.network; signed = c.self.inside.signed; hashed = c.self.inside.hashed } in
-    let lt : c.args.core < length c.self.inside.nodes.items = omega (arith, ap (λ (z : SimulationState _ _). cores_of z.setup) c.self.view_is, c.self.invariant.0.count) in
+    let v : SimulationState g.row.M.Denot g.row.M-Msg.Denot = record { setup = c.self.inside.members; nodes = c.self.inside.nodes.items; network = c.self.inside.network; signed = c.self.inside.signed; hashed = c.self.inside.hashed } in
+    let lt : c.args.core < length c.self.inside.nodes.items = omega (arith, ap (λ (z : SimulationState _ _). cores_of z.setup) c.self.view_is, c.self.invariant.count) in
     let at = slice_get_read c.self.inside.nodes.items _ c.args.core c.index_mut.result.now refl lt c.index_mut.ensures.value in
     let nodes = subst (λ (z : SimulationState _ _). IsOfNodes z.setup.n c.args.event) (sym c.self.view_is) c.requires.nodes in
     rw (← c.self.view_is)
     (if-ok _ _ c.taken.result c.taken.ensures.happened (λ r k w st working.
-    step-taken g.M.Sequenced.spec g.M.Sequenced.refines v c.args.core c.index_mut.result.now c.args.event c.self.invariant.0 at c.take_with_savepoint-answer.new.node lt c.take_with_savepoint-answer.ensures.same nodes c.take_with_savepoint-answer.result.0 c.take_with_savepoint-answer.ensures.answer
+    step-taken g.M.Sequenced.spec g.M.Sequenced.refines v c.args.core c.index_mut.result.now c.args.event c.self.invariant at c.take_with_savepoint-answer.new.node lt c.take_with_savepoint-answer.ensures.same nodes c.take_with_savepoint-answer.result.0 c.take_with_savepoint-answer.ensures.answer
     c.in-Taken.outcome c.in-Taken.is w st working c.taken.new.self r
-    (k w _ _ (behind g.M.Sequenced.spec g.M.Sequenced.refines v c.args.core c.index_mut.result.now c.args.event c.self.invariant.0 at c.take_with_savepoint-answer.new.node lt c.take_with_savepoint-answer.ensures.same nodes c.take_with_savepoint-answer.result.0 c.take_with_savepoint-answer.ensures.answer
+    (k w _ _ (behind g.M.Sequenced.spec g.M.Sequenced.refines v c.args.core c.index_mut.result.now c.args.event c.self.invariant at c.take_with_savepoint-answer.new.node lt c.take_with_savepoint-answer.ensures.same nodes c.take_with_savepoint-answer.result.0 c.take_with_savepoint-answer.ensures.answer
     c.in-Taken.outcome c.in-Taken.is w st working c.take_with_savepoint-answer.result.1 c.take_with_savepoint-answer.result.2.0 c.take_with_savepoint-answer.ensures.slots c.take_with_savepoint-answer.ensures.epoch)
-    (made-there g.M.Sequenced.spec g.M.Sequenced.refines v c.args.core c.index_mut.result.now c.args.event c.self.invariant.0 at c.take_with_savepoint-answer.new.node lt c.take_with_savepoint-answer.ensures.same nodes c.take_with_savepoint-answer.result.0 c.take_with_savepoint-answer.ensures.answer
+    (made-there g.M.Sequenced.spec g.M.Sequenced.refines v c.args.core c.index_mut.result.now c.args.event c.self.invariant at c.take_with_savepoint-answer.new.node lt c.take_with_savepoint-answer.ensures.same nodes c.take_with_savepoint-answer.result.0 c.take_with_savepoint-answer.ensures.answer
     c.in-Taken.outcome c.in-Taken.is w st working))))
 
 pub returns-in-Dropped-clause-happened : goal.returns-in-Dropped-clause-happened
 returns-in-Dropped-clause-happened g c =
-    let v : SimulationState g.row.M.Denot g.row.M-Msg.Denot = record { setup = c.self.inside.setup; nodes = c.self.inside.nodes.items; network = c.self.inside.network; signed = c.self.inside.signed; hashed = c.self.inside.hashed } in
-    let lt : c.args.core < length c.self.inside.nodes.items = omega (arith, ap (λ (z : SimulationState _ _). cores_of z.setup) c.self.view_is, c.self.invariant.0.count) in
+    let v : SimulationState g.row.M.Denot g.row.M-Msg.Denot = record { setup = c.self.inside.members; nodes = c.self.inside.nodes.items; network = c.self.inside.network; signed = c.self.inside.signed; hashed = c.self.inside.hashed } in
+    let lt : c.args.core < length c.self.inside.nodes.items = omega (arith, ap (λ (z : SimulationState _ _). cores_of z.setup) c.self.view_is, c.self.invariant.count) in
     let at = slice_get_read c.self.inside.nodes.items _ c.args.core c.index_mut.result.now refl lt c.index_mut.ensures.value in
     let nodes = subst (λ (z : SimulationState _ _). IsOfNodes z.setup.n c.args.event) (sym c.self.view_is) c.requires.nodes in
     rw (← c.self.view_is)
-    (step-dropped g.M.Sequenced.spec g.M.Sequenced.refines v c.args.core c.index_mut.result.now c.args.event c.self.invariant.0 at c.take_with_savepoint-answer.new.node lt c.take_with_savepoint-answer.ensures.same nodes c.take_with_savepoint-answer.result.0 c.take_with_savepoint-answer.ensures.answer c.in-Dropped.why c.in-Dropped.is)
+    (step-dropped g.M.Sequenced.spec g.M.Sequenced.refines v c.args.core c.index_mut.result.now c.args.event c.self.invariant at c.take_with_savepoint-answer.new.node lt c.take_with_savepoint-answer.ensures.same nodes c.take_with_savepoint-answer.result.0 c.take_with_savepoint-answer.ensures.answer c.in-Dropped.why c.in-Dropped.is)
 
 pub returns-in-Failed-clause-happened : goal.returns-in-Failed-clause-happened
 returns-in-Failed-clause-happened g c =
-    let v : SimulationState g.row.M.Denot g.row.M-Msg.Denot = record { setup = c.self.inside.setup; nodes = c.self.inside.nodes.items; network = c.self.inside.network; signed = c.self.inside.signed; hashed = c.self.inside.hashed } in
-    let lt : c.args.core < length c.self.inside.nodes.items = omega (arith, ap (λ (z : SimulationState _ _). cores_of z.setup) c.self.view_is, c.self.invariant.0.count) in
+    let v : SimulationState g.row.M.Denot g.row.M-Msg.Denot = record { setup = c.self.inside.members; nodes = c.self.inside.nodes.items; network = c.self.inside.network; signed = c.self.inside.signed; hashed = c.self.inside.hashed } in
+    let lt : c.args.core < length c.self.inside.nodes.items = omega (arith, ap (λ (z : SimulationState _ _). cores_of z.setup) c.self.view_is, c.self.invariant.count) in
     let at = slice_get_read c.self.inside.nodes.items _ c.args.core c.index_mut.result.now refl lt c.index_mut.ensures.value in
     let nodes = subst (λ (z : SimulationState _ _). IsOfNodes z.setup.n c.args.event) (sym c.self.view_is) c.requires.nodes in
     rw (← c.self.view_is)
-    (step-stopped g.M.Sequenced.spec g.M.Sequenced.refines v c.args.core c.index_mut.result.now c.args.event c.self.invariant.0 at c.take_with_savepoint-answer.new.node lt c.take_with_savepoint-answer.ensures.same nodes c.take_with_savepoint-answer.result.0 c.take_with_savepoint-answer.ensures.answer c.in-Failed.is)
+    (step-stopped g.M.Sequenced.spec g.M.Sequenced.refines v c.args.core c.index_mut.result.now c.args.event c.self.invariant at c.take_with_savepoint-answer.new.node lt c.take_with_savepoint-answer.ensures.same nodes c.take_with_savepoint-answer.result.0 c.take_with_savepoint-answer.ensures.answer c.in-Failed.is)
