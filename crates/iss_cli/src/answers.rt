@@ -54,12 +54,12 @@ pub fn respond<L: Links, D: Disk>(
     disk: &mut D,
 ) -> Result<Answer, NodeError>
     requires { HasPorts order }
-    ensures ok { IfOk result (IsAnswer order.entry (devices (L.ends links.old) (D.files disk.old) (D.history disk.old))
-        (devices (L.ends links.new) (D.files disk.new) (D.history disk.new)) input.now) }
+    ensures ok { IfOk result (IsAnswer order.entry (devices (L.ends links.old) (D.state disk.old).files (D.state disk.old).history)
+        (devices (L.ends links.new) (D.state disk.new).files (D.state disk.new).history) input.now) }
     ensures links_fail { IsErrOf result NodeError.LinksFault → UsesLinks order.entry × IsStarted order.entry input.now }
     ensures disk_fails { IsErrOf result NodeError.DiskFault → UsesDisk order.entry × IsStarted order.entry input.now }
     ensures links { HasCause (L.faults links.old) (L.faults links.new) (IsErrOf result NodeError.LinksFault) }
-    ensures disk { HasDiskCause (D.faults disk.old) (D.faults disk.new) (IsErrOf result NodeError.DiskFault) }
+    ensures disk { HasDiskCause (D.state disk.old).faults (D.state disk.new).faults (IsErrOf result NodeError.DiskFault) }
     ensures same_links { ¬ UsesLinks order.entry → links.new ≡ links.old }
     ensures same_disk { ¬ UsesDisk order.entry → disk.new ≡ disk.old }
     ensures refused { IfOk result (λ a. a.outcome ≡ Outcome.RefusedConfiguration →

@@ -191,12 +191,12 @@ pub fn run_node<L: Links, D: Disk>(
 ) -> Result<Answer, NodeError>
     requires { order.port ≤ 65000 }
     ensures ok { IfOk result (IsOfConfig
-        (IsOfNodeOrder order.entry (devices (L.ends links.old) (D.files disk.old) (D.history disk.old))
-        (devices (L.ends links.new) (D.files disk.new) (D.history disk.new))) input.now) }
+        (IsOfNodeOrder order.entry (devices (L.ends links.old) (D.state disk.old).files (D.state disk.old).history)
+        (devices (L.ends links.new) (D.state disk.new).files (D.state disk.new).history)) input.now) }
     ensures links_fail { IsErrOf result NodeError.LinksFault → IsStarted (ModelNode order.entry) input.now }
     ensures disk_fails { IsErrOf result NodeError.DiskFault → IsStarted (ModelNode order.entry) input.now }
     ensures links { HasCause (L.faults links.old) (L.faults links.new) (IsErrOf result NodeError.LinksFault) }
-    ensures disk { HasDiskCause (D.faults disk.old) (D.faults disk.new) (IsErrOf result NodeError.DiskFault) }
+    ensures disk { HasDiskCause (D.state disk.old).faults (D.state disk.new).faults (IsErrOf result NodeError.DiskFault) }
     ensures refused { IfOk result (λ a. a.outcome ≡ Outcome.RefusedConfiguration →
         (links.new ≡ links.old) × (disk.new ≡ disk.old)) }
 {
@@ -216,12 +216,12 @@ fn run_one<L: Links, D: Disk>(
 ) -> Result<Answer, NodeError>
     requires { order.port ≤ 65000 }
     ensures ok { IfOk result
-        (IsOfNodeOrder order.entry (devices (L.ends links.old) (D.files disk.old) (D.history disk.old))
-        (devices (L.ends links.new) (D.files disk.new) (D.history disk.new)) config.now) }
+        (IsOfNodeOrder order.entry (devices (L.ends links.old) (D.state disk.old).files (D.state disk.old).history)
+        (devices (L.ends links.new) (D.state disk.new).files (D.state disk.new).history) config.now) }
     ensures links_fail { IsErrOf result NodeError.LinksFault → order.entry.node < (setup_of config.now).n }
     ensures disk_fails { IsErrOf result NodeError.DiskFault → order.entry.node < (setup_of config.now).n }
     ensures links { HasCause (L.faults links.old) (L.faults links.new) (IsErrOf result NodeError.LinksFault) }
-    ensures disk { HasDiskCause (D.faults disk.old) (D.faults disk.new) (IsErrOf result NodeError.DiskFault) }
+    ensures disk { HasDiskCause (D.state disk.old).faults (D.state disk.new).faults (IsErrOf result NodeError.DiskFault) }
     ensures refused { IfOk result (λ a. a.outcome ≡ Outcome.RefusedConfiguration →
         (links.new ≡ links.old) × (disk.new ≡ disk.old)) }
 {
@@ -242,9 +242,9 @@ fn run_existing<L: Links, D: Disk>(
     requires port { order.port ≤ 65000 }
     requires node { order.node < (setup_of config.now).n }
     ensures ok { IfOk result (λ a. Under config.now.module (IsOfNode config.now order.entry.node (L.ends links.old)
-        (L.ends links.new) (D.files disk.old order.entry.file.now) (D.history disk.new) a)) }
+        (L.ends links.new) ((D.state disk.old).files order.entry.file.now) (D.state disk.new).history a)) }
     ensures links { HasCause (L.faults links.old) (L.faults links.new) (IsErrOf result NodeError.LinksFault) }
-    ensures disk { HasDiskCause (D.faults disk.old) (D.faults disk.new) (IsErrOf result NodeError.DiskFault) }
+    ensures disk { HasDiskCause (D.state disk.old).faults (D.state disk.new).faults (IsErrOf result NodeError.DiskFault) }
 {
     attach(order, links, disk)?;
     let me = NodeId(order.node as u8);
@@ -260,9 +260,9 @@ fn attach<L: Links, D: Disk>(
     requires port { order.port ≤ 65000 }
     requires node { order.node < 10 }
     ensures ends { OnOk result (L.ends links.new ≡ L.ends links.old) }
-    ensures file { OnOk result (D.history disk.new ≡ D.files disk.old order.entry.file.now) }
+    ensures file { OnOk result ((D.state disk.new).history ≡ (D.state disk.old).files order.entry.file.now) }
     ensures links { HasCause (L.faults links.old) (L.faults links.new) (IsErrOf result NodeError.LinksFault) }
-    ensures disk { HasDiskCause (D.faults disk.old) (D.faults disk.new) (IsErrOf result NodeError.DiskFault) }
+    ensures disk { HasDiskCause (D.state disk.old).faults (D.state disk.new).faults (IsErrOf result NodeError.DiskFault) }
 {
     links.attach(order.port, order.node, 1)?;
     match disk.attach(order.file) {
@@ -282,9 +282,9 @@ fn run_by_module<L: Links, D: Disk>(
 ) -> Result<Answer, NodeError>
     requires { me.0 < (setup_of config.now).n }
     ensures ok { IfOk result (λ a. Under config.now.module (IsOfNode config.now me.0 (L.ends links.old)
-        (L.ends links.new) (D.history disk.old) (D.history disk.new) a)) }
+        (L.ends links.new) (D.state disk.old).history (D.state disk.new).history a)) }
     ensures links { HasCause (L.faults links.old) (L.faults links.new) (IsErrOf result NodeError.LinksFault) }
-    ensures disk { HasDiskCause (D.faults disk.old) (D.faults disk.new) (IsErrOf result NodeError.DiskFault) }
+    ensures disk { HasDiskCause (D.state disk.old).faults (D.state disk.new).faults (IsErrOf result NodeError.DiskFault) }
 {
     match config.config().module {
         1 => run_node_under::<Relay, L, D>(alloc, config, me, links, disk),
@@ -307,9 +307,9 @@ fn run_node_under<M: Sequenced, L: Links, D: Disk>(
     requires good { IsSetupOf M.spec (setup_of config.now) }
     requires me { me.0 < (setup_of config.now).n }
     ensures ok { IfOk result (λ a. IsOfNode config.now me.0 (L.ends links.old) (L.ends links.new)
-        (D.history disk.old) (D.history disk.new) a M.Msg M.spec) }
+        (D.state disk.old).history (D.state disk.new).history a M.Msg M.spec) }
     ensures links { HasCause (L.faults links.old) (L.faults links.new) (IsErrOf result NodeError.LinksFault) }
-    ensures disk { HasDiskCause (D.faults disk.old) (D.faults disk.new) (IsErrOf result NodeError.DiskFault) }
+    ensures disk { HasDiskCause (D.state disk.old).faults (D.state disk.new).faults (IsErrOf result NodeError.DiskFault) }
 {
     let config = config.config();
     let fresh = start_node::<M>(alloc, config, me)?;

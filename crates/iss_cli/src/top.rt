@@ -40,8 +40,8 @@ pub fn run<I: Source, O: Sink, L: Links, D: Disk>(
     disk: &mut D,
 ) -> Status
     ensures printed { Ends (map string_bytes words.now) (I.left input.old) (I.left input.new)
-        (devices (L.ends links.old) (D.files disk.old) (D.history disk.old))
-        (devices (L.ends links.new) (D.files disk.new) (D.history disk.new)) (O.held out.old) (O.held out.new) result }
+        (devices (L.ends links.old) (D.state disk.old).files (D.state disk.old).history)
+        (devices (L.ends links.new) (D.state disk.new).files (D.state disk.new).history) (O.held out.old) (O.held out.new) result }
     ensures taken { Drains 16777217 (I.left input.old) (I.left input.new) }
     ensures empty { I.empties input.new ≤ I.empties input.old + 1 }
     ensures unread { ¬ ReadsInput (map string_bytes words.now) → input.new ≡ input.old }
@@ -52,7 +52,7 @@ pub fn run<I: Source, O: Sink, L: Links, D: Disk>(
     ensures source { HasCause (I.faults input.old) (I.faults input.new) (result ≡ Status.SourceFailed) }
     ensures sink { HasCause (O.faults out.old) (O.faults out.new) (result ≡ Status.SinkFailed) }
     ensures links { HasCause (L.faults links.old) (L.faults links.new) (result ≡ Status.LinksFailed) }
-    ensures disk { HasDiskCause (D.faults disk.old) (D.faults disk.new) (result ≡ Status.DiskFailed) }
+    ensures disk { HasDiskCause (D.state disk.old).faults (D.state disk.new).faults (result ≡ Status.DiskFailed) }
 {
     match answer(alloc, words, input, links, disk) {
         Ok(answer) => print(out, &answer),
@@ -69,8 +69,8 @@ fn answer<I: Source, L: Links, D: Disk>(
     disk: &mut D,
 ) -> Result<Answer, AnswerError>
     ensures ok { IfOk result (IsAnswered (map string_bytes words.now) (I.left input.old) (I.left input.new)
-        (devices (L.ends links.old) (D.files disk.old) (D.history disk.old))
-        (devices (L.ends links.new) (D.files disk.new) (D.history disk.new))) }
+        (devices (L.ends links.old) (D.state disk.old).files (D.state disk.old).history)
+        (devices (L.ends links.new) (D.state disk.new).files (D.state disk.new).history)) }
     ensures err { IfErr result (IsUnanswered (map string_bytes words.now) (I.left input.old) (I.left input.new)) }
     ensures taken { Drains 16777217 (I.left input.old) (I.left input.new) }
     ensures empty { I.empties input.new ≤ I.empties input.old + 1 }
@@ -81,7 +81,7 @@ fn answer<I: Source, L: Links, D: Disk>(
         (links.new ≡ links.old) × (disk.new ≡ disk.old)) }
     ensures source { HasCause (I.faults input.old) (I.faults input.new) (IsErrOf result AnswerError.SourceFailed) }
     ensures links { HasCause (L.faults links.old) (L.faults links.new) (IsErrOf result AnswerError.LinksFailed) }
-    ensures disk { HasDiskCause (D.faults disk.old) (D.faults disk.new) (IsErrOf result AnswerError.DiskFailed) }
+    ensures disk { HasDiskCause (D.state disk.old).faults (D.state disk.new).faults (IsErrOf result AnswerError.DiskFailed) }
 {
     match read_words(alloc, words) {
         Ok(order) => answer_order(alloc, order, input, links, disk),
@@ -100,8 +100,8 @@ fn answer_order<I: Source, L: Links, D: Disk>(
 ) -> Result<Answer, AnswerError>
     requires { HasPorts order }
     ensures ok { IfOk result (IsAnswerTo order.entry (I.left input.old) (I.left input.new)
-        (devices (L.ends links.old) (D.files disk.old) (D.history disk.old))
-        (devices (L.ends links.new) (D.files disk.new) (D.history disk.new))) }
+        (devices (L.ends links.old) (D.state disk.old).files (D.state disk.old).history)
+        (devices (L.ends links.new) (D.state disk.new).files (D.state disk.new).history)) }
     ensures err { IfErr result (HasNone order.entry (I.left input.old) (I.left input.new)) }
     ensures taken { Drains 16777217 (I.left input.old) (I.left input.new) }
     ensures empty { I.empties input.new ≤ I.empties input.old + 1 }
@@ -112,7 +112,7 @@ fn answer_order<I: Source, L: Links, D: Disk>(
         (links.new ≡ links.old) × (disk.new ≡ disk.old)) }
     ensures source { HasCause (I.faults input.old) (I.faults input.new) (IsErrOf result AnswerError.SourceFailed) }
     ensures links { HasCause (L.faults links.old) (L.faults links.new) (IsErrOf result AnswerError.LinksFailed) }
-    ensures disk { HasDiskCause (D.faults disk.old) (D.faults disk.new) (IsErrOf result AnswerError.DiskFailed) }
+    ensures disk { HasDiskCause (D.state disk.old).faults (D.state disk.new).faults (IsErrOf result AnswerError.DiskFailed) }
 {
     if !reads(order) {
         return Ok(respond(alloc, order, &[], links, disk)?);

@@ -50,7 +50,7 @@ impl<M: Sequenced, D: Disk> Model for RunningNode<M, D> {
 
     ghost view = { λ v. v.kept };
 
-    ghost invariant = { λ v. IsRunning M.spec D.history v.nodes v.me v.kept };
+    ghost invariant = { λ v. IsRunning M.spec (D.state v.nodes).history v.me v.kept };
 }
 
 /// Node `me` of the cluster with this configuration, without a journal. The only error is out of memory.
@@ -94,13 +94,13 @@ impl<M: Sequenced, D: Disk> RunningNode<M, D> {
 
     // Reads the journal, and recovers the node from the snapshots and the events in it.
     fn reopen(&mut self) -> Result<(), AttachError>
-        ensures read { OnOk result (HasRead M.spec M.refines (D.history self.old.disk) self.new) }
+        ensures read { OnOk result (HasRead M.spec M.refines (D.state self.old.disk).history self.new) }
         ensures refused { (at : ℕ) → IsErrOf result (AttachError.Damaged at) → IsRefused M.spec self.old.setup
-            self.old.me.0 (D.history self.old.disk) (D.history self.new.disk) at }
-        ensures cause { HasDiskCause (D.faults self.old.disk) (D.faults self.new.disk)
+            self.old.me.0 (D.state self.old.disk).history (D.state self.new.disk).history at }
+        ensures cause { HasDiskCause (D.state self.old.disk).faults (D.state self.new.disk).faults
             (IsErrOf result AttachError.Failed) }
-        ensures place { D.current self.new.disk ≡ D.current self.old.disk }
-        ensures loses { LosesNothing version_1 (D.history self.old.disk) (D.history self.new.disk) }
+        ensures place { (D.state self.new.disk).current ≡ (D.state self.old.disk).current }
+        ensures loses { LosesNothing version_1 (D.state self.old.disk).history (D.state self.new.disk).history }
         ensures same { IsSame self.old self.new }
     {
         a_journal_recovers::<M>();
@@ -114,7 +114,7 @@ impl<M: Sequenced, D: Disk> RunningNode<M, D> {
         ensures block { IfOk result (λ block. (B : NodeBehavior) (events : List ModelEvent) →
             HasTaken M.spec M.refines self.now B events →
             (block ≡ B.prints events) × (B.epoch events < 2 ^ 64)) }
-        ensures durable { IsDurable D.history self.now }
+        ensures durable { IsDurable (D.state self.now).history }
     {
         let mut block = Vec::new(alloc);
         put_node(&mut block, self.me, self.kept.epoch(), self.kept.log())?;
@@ -129,11 +129,11 @@ impl<M: Sequenced, D: Disk> JournaledNode for RunningNode<M, D> {
 
     ghost has = { λ node B events. HasTaken M.spec M.refines node B events };
 
-    ghost faults = { λ node. D.faults node.disk };
+    ghost faults = { λ node. (D.state node.disk).faults };
 
-    ghost place = { λ node. D.current node.disk };
+    ghost place = { λ node. (D.state node.disk).current };
 
-    ghost leaves = { λ node B events event. Leaves node.setup.n (D.history node.disk) B events event };
+    ghost leaves = { λ node B events event. Leaves node.setup.n (D.state node.disk).history B events event };
 
     fn take(&mut self, event: NodeEvent) -> Result<NodeStep, StepError> {
         as_step(self.kept.take(event))
@@ -188,15 +188,15 @@ pub fn node<M: Sequenced, L: Links, D: Disk>(
 ) -> Result<Bytes, NodeFailure>
     requires { running.old.setup ≡ setup_of config.now }
     ensures run { IfOk result (IsNodeRun M.spec config.now running.old.me.0 (L.ends links.old) (L.ends links.new)
-        (D.history running.old.disk) (D.history running.new.disk)) }
+        (D.state running.old.disk).history (D.state running.new.disk).history) }
     ensures damaged { (at : ℕ) → IsErrOf result (NodeFailure.Damaged at) → IsRefused M.spec (setup_of config.now)
-        running.old.me.0 (D.history running.old.disk) (D.history running.new.disk) at }
+        running.old.me.0 (D.state running.old.disk).history (D.state running.new.disk).history at }
     ensures stopped { IsErrOf result NodeFailure.DiskFault → IsStopped M.spec config.now running.old.me.0
-        (L.ends links.old) (L.ends links.new) (D.history running.old.disk) (D.history running.new.disk) }
+        (L.ends links.old) (L.ends links.new) (D.state running.old.disk).history (D.state running.new.disk).history }
     ensures links { HasCause (L.faults links.old) (L.faults links.new) (IsErrOf result NodeFailure.LinksFault) }
-    ensures disk { HasDiskCause (D.faults running.old.disk) (D.faults running.new.disk)
+    ensures disk { HasDiskCause (D.state running.old.disk).faults (D.state running.new.disk).faults
         (IsErrOf result NodeFailure.DiskFault) }
-    ensures place { D.current running.new.disk ≡ D.current running.old.disk }
+    ensures place { (D.state running.new.disk).current ≡ (D.state running.old.disk).current }
     ensures same { OnOk result ((running.new.setup ≡ running.old.setup) × (running.new.me ≡ running.old.me)) }
 {
     running.reopen()?;

@@ -83,16 +83,14 @@ fn append_entry<D: Disk>(
     entry: Entry,
     entered: &mut Option<Bytes>,
 ) -> Result<(), EndError>
-    requires sound { IsSound D.history D.room journal.old }
     requires attached { is_attached journal.old ≡ true }
     requires short { length (entry_kept entered.old (entry.kind ∷ entry.content)) ≤ max_entry }
     ensures written { (outcome : Outcome) →
         IsWritten (entries_of journal.old) (entry_kept entered.new (entry.kind ∷ entry.content))
-        (sight D.history D.passes D.faults D.current D.files (disk_of journal.old))
-        (sight D.history D.passes D.faults D.current D.files (disk_of journal.new)) (entries_of journal.new)
+        (D.state (disk_of journal.old))
+        (D.state (disk_of journal.new)) (entries_of journal.new)
         (released (Node_taken outcome) result) }
     ensures same { (IsErrOf result EndError.NoMemory → ⊥) → entered.new ≡ entered.old }
-    ensures sound { IsSound D.history D.room journal.new }
     ensures attached { OnOk result (is_attached journal.new ≡ true) }
 {
     let Ok(snapshot) = share(entered) else {
@@ -115,20 +113,18 @@ fn append_or_retreat<M: Sequenced, D: Disk>(
     entered: &mut Option<Bytes>,
     savepoint: (usize, Epoch),
 ) -> Result<(), EndError>
-    requires sound { IsSound D.history D.room journal.old }
     requires attached { is_attached journal.old ≡ true }
     requires short { length (entry_kept entered.old (entry.kind ∷ entry.content)) ≤ max_entry }
     requires slots { savepoint.0 ≤ length node.old.state.log.entries }
     requires epoch { savepoint.1.0 ≤ node.old.state.epoch }
     ensures written { (outcome : Outcome) →
         IsWritten (entries_of journal.old) (entry_kept entered.new (entry.kind ∷ entry.content))
-        (sight D.history D.passes D.faults D.current D.files (disk_of journal.old))
-        (sight D.history D.passes D.faults D.current D.files (disk_of journal.new)) (entries_of journal.new)
+        (D.state (disk_of journal.old))
+        (D.state (disk_of journal.new)) (entries_of journal.new)
         (released (Node_taken outcome) result) }
     ensures same { (IsErrOf result EndError.NoMemory → ⊥) → entered.new ≡ entered.old }
     ensures ended { (outcome : Outcome) →
         HasEnded outcome savepoint.0 savepoint.1.0 node.old node.new (released (Node_taken outcome) result) }
-    ensures sound { IsSound D.history D.room journal.new }
     ensures attached { OnOk result (is_attached journal.new ≡ true) }
 {
     match append_entry(journal, entry, entered) {
@@ -158,16 +154,14 @@ fn apply_then_append<M: Sequenced, D: Disk>(
 ) -> Result<(), EndError>
     requires good { IsSetupOf M.spec node.old.state.setup }
     requires refines { (c : Core M.Msg) × RefinesCore M.spec M.refines node.old c }
-    requires sound { IsSound D.history D.room journal.old }
     requires attached { is_attached journal.old ≡ true }
     requires entry { entry.kind ∷ entry.content ≡ spell_event event }
     ensures written { IsWritten (entries_of journal.old) (entry_made made.new (entry.kind ∷ entry.content))
-        (sight D.history D.passes D.faults D.current D.files (disk_of journal.old))
-        (sight D.history D.passes D.faults D.current D.files (disk_of journal.new)) (entries_of journal.new)
+        (D.state (disk_of journal.old))
+        (D.state (disk_of journal.new)) (entries_of journal.new)
         (released made.new result) }
     ensures stepped { HasStepped M.spec M.refines event node.old node.new
         (entry_made made.new (entry.kind ∷ entry.content)) (released made.new result) }
-    ensures sound { IsSound D.history D.room journal.new }
     ensures attached { makes_stale (released made.new result) ≡ false → is_attached journal.new ≡ true }
     ensures same { (node.new.state.setup ≡ node.old.state.setup) × (node.new.state.me ≡ node.old.state.me) }
 {
@@ -197,15 +191,13 @@ pub(crate) fn journal_and_apply<M: Sequenced, D: Disk>(
 ) -> Result<(), EndError>
     requires good { IsSetupOf M.spec node.old.state.setup }
     requires refines { (c : Core M.Msg) × RefinesCore M.spec M.refines node.old c }
-    requires sound { IsSound D.history D.room journal.old }
     requires attached { is_attached journal.old ≡ true }
     ensures written { IsWritten (entries_of journal.old) (entry_made made.new (spell_event event))
-        (sight D.history D.passes D.faults D.current D.files (disk_of journal.old))
-        (sight D.history D.passes D.faults D.current D.files (disk_of journal.new)) (entries_of journal.new)
+        (D.state (disk_of journal.old))
+        (D.state (disk_of journal.new)) (entries_of journal.new)
         (released made.new result) }
     ensures stepped { HasStepped M.spec M.refines event node.old node.new (entry_made made.new (spell_event event))
         (released made.new result) }
-    ensures sound { IsSound D.history D.room journal.new }
     ensures attached { makes_stale (released made.new result) ≡ false → is_attached journal.new ≡ true }
     ensures same { (node.new.state.setup ≡ node.old.state.setup) × (node.new.state.me ≡ node.old.state.me) }
 {

@@ -46,7 +46,7 @@ impl<M: Sequenced, D: Disk> Model for Kept<M, D> {
 
     ghost view = { λ v. state_over v.setup v.me v.node v.journal v.stale };
 
-    ghost invariant = { λ v. IsKept M.spec M.refines D.history D.room v.directory v.journal
+    ghost invariant = { λ v. IsKept M.spec M.refines (D.state D.room).history v.directory v.journal
         (state_over v.setup v.me v.node v.journal v.stale) };
 }
 
@@ -111,8 +111,8 @@ impl<M: Sequenced, D: Disk> Kept<M, D> {
         ensures refused { (result ≡ Answer.Stale) ↔ (self.old.stale ≡ true) }
         ensures stale { self.new.stale ≡ makes_stale result }
         ensures written { IsJournaled M.spec M.refines self.old event
-            (sight D.history D.passes D.faults D.current D.files self.old.disk)
-            (sight D.history D.passes D.faults D.current D.files self.new.disk) self.new.entries result }
+            (D.state self.old.disk)
+            (D.state self.new.disk) self.new.entries result }
         ensures shown { self.new.stale ≡ true → ShowsAsBefore self.old self.new }
         ensures same { IsSame self.old self.new }
     {
@@ -140,14 +140,14 @@ impl<M: Sequenced, D: Disk> Kept<M, D> {
         ensures core { OnOk result ((found : Rebuilt M.Msg)
             × (core_of self.new.setup M.spec self.new.me.0 self.new.entries ≡ Some found)
             × RefinesStored M.spec M.refines self.new (stored_as self.new.entries found)) }
-        ensures attached { OnOk result (IsAttached (sight D.history D.passes D.faults D.current D.files self.old.disk)
-            (sight D.history D.passes D.faults D.current D.files self.new.disk) self.new.entries) }
+        ensures attached { OnOk result (IsAttached (D.state self.old.disk)
+            (D.state self.new.disk) self.new.entries) }
         ensures damaged { (at : ℕ) → IsErrOf result (AttachError.Damaged at) →
-            IsDamaged self.old.setup M.spec self.old.me.0 self.new.entries (D.history self.old.disk) at }
+            IsDamaged self.old.setup M.spec self.old.me.0 self.new.entries (D.state self.old.disk).history at }
         ensures left { (at : ℕ) → IsErrOf result (AttachError.Damaged at) →
-            IsLeft self.new.entries (D.history self.old.disk) (D.history self.new.disk) at }
-        ensures loses { LosesNone (sight D.history D.passes D.faults D.current D.files self.old.disk)
-            (sight D.history D.passes D.faults D.current D.files self.new.disk) (IsErrOf result AttachError.Failed) }
+            IsLeft self.new.entries (D.state self.old.disk).history (D.state self.new.disk).history at }
+        ensures loses { LosesNone (D.state self.old.disk)
+            (D.state self.new.disk) (IsErrOf result AttachError.Failed) }
         ensures shown { OnErr result (ShowsAsBefore self.old self.new) }
         ensures same { IsSame self.old self.new }
     {
@@ -218,13 +218,13 @@ impl<M: Sequenced, D: Disk> Kept<M, D> {
 impl<M: Sequenced, D: Fused> Kept<M, D> {
     /// Lets the next `calls` calls of the disk succeed. All later ones fail.
     pub fn fuse(&mut self, calls: u64)
-        ensures passes { D.passes self.new.disk ≡ up_to calls }
+        ensures passes { (D.state self.new.disk).passes ≡ up_to calls }
         ensures node { self.new.node ≡ self.old.node }
         ensures entries { self.new.entries ≡ self.old.entries }
         ensures stale { self.new.stale ≡ self.old.stale }
-        ensures files { Stays (D.current self.old.disk) (D.current self.new.disk)
-            (D.files self.old.disk) (D.files self.new.disk) }
-        ensures faults { D.faults self.new.disk ≡ D.faults self.old.disk }
+        ensures files { Stays (D.state self.old.disk).current (D.state self.new.disk).current
+            (D.state self.old.disk).files (D.state self.new.disk).files }
+        ensures faults { (D.state self.new.disk).faults ≡ (D.state self.old.disk).faults }
         ensures same { IsSame self.old self.new }
     {
         self.journal.fuse(calls);
@@ -233,10 +233,10 @@ impl<M: Sequenced, D: Fused> Kept<M, D> {
     /// Simulates a crash: the disk keeps only what was synced, and its calls succeed again. The node has to be
     /// reopened.
     pub fn restart(&mut self)
-        ensures files { (name : List ℕ) → Restarts (D.files self.old.disk name) (D.files self.new.disk name) }
-        ensures current { D.current self.new.disk ≡ D.current self.old.disk }
-        ensures passes { D.passes self.new.disk ≡ script [] }
-        ensures faults { D.faults self.new.disk ≡ D.faults self.old.disk }
+        ensures files { (name : List ℕ) → Restarts ((D.state self.old.disk).files name) ((D.state self.new.disk).files name) }
+        ensures current { (D.state self.new.disk).current ≡ (D.state self.old.disk).current }
+        ensures passes { (D.state self.new.disk).passes ≡ script [] }
+        ensures faults { (D.state self.new.disk).faults ≡ (D.state self.old.disk).faults }
         ensures node { self.new.node ≡ self.old.node }
         ensures entries { self.new.entries ≡ self.old.entries }
         ensures stale { self.new.stale ≡ true }

@@ -239,22 +239,20 @@ pub(crate) fn open<M: Sequenced, D: Disk>(
     journal: &mut Journal<D>,
 ) -> Result<Node<M>, AttachError>
     requires member { IsMember M.spec setup.now directory.now me.0 }
-    requires sound { IsSound D.history D.room journal.old }
     ensures refines { IfOk result (IsReplayed setup.now M.spec M.refines me.0 (entries_of journal.new)) }
     ensures stay { OnOk result (retained (entries_of journal.new) ≡ entries_of journal.new) }
     ensures same { IfOk result (IsOf setup.now me) }
     ensures attached { OnOk result
-        (IsAttached (sight D.history D.passes D.faults D.current D.files (disk_of journal.old))
-        (sight D.history D.passes D.faults D.current D.files (disk_of journal.new)) (entries_of journal.new)) }
+        (IsAttached (D.state (disk_of journal.old))
+        (D.state (disk_of journal.new)) (entries_of journal.new)) }
     ensures is_attached { OnOk result (is_attached journal.new ≡ true) }
     ensures damaged { (at : ℕ) → IsErrOf result (AttachError.Damaged at) →
-        IsDamaged setup.now M.spec me.0 (entries_of journal.new) (D.history (disk_of journal.old)) at }
+        IsDamaged setup.now M.spec me.0 (entries_of journal.new) (D.state (disk_of journal.old)).history at }
     ensures left { (at : ℕ) → IsErrOf result (AttachError.Damaged at) →
-        IsLeft (entries_of journal.new) (D.history (disk_of journal.old)) (D.history (disk_of journal.new)) at }
-    ensures loses { LosesNone (sight D.history D.passes D.faults D.current D.files (disk_of journal.old))
-        (sight D.history D.passes D.faults D.current D.files (disk_of journal.new))
+        IsLeft (entries_of journal.new) (D.state (disk_of journal.old)).history (D.state (disk_of journal.new)).history at }
+    ensures loses { LosesNone (D.state (disk_of journal.old))
+        (D.state (disk_of journal.new))
         (IsErrOf result AttachError.Failed) }
-    ensures sound { IsSound D.history D.room journal.new }
 {
     match journal.attach() {
         Ok(()) => recover(alloc, setup, directory, me, journal),

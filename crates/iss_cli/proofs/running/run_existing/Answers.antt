@@ -10,6 +10,6 @@ returns-clause-ok g c =
     let k = c.args.config.now in
     let r = c.run_by_module.result in
     let ends_now = g.L.Links.ends c.run_by_module.new.links in
-    let now = g.D.Disk.history c.run_by_module.new.disk in
-    subst (λ (ends : Option (List End)). IfOk r (λ a. Under k.module (IsOfNode k c.args.order.node ends ends_now (g.D.Disk.files c.args.disk.now c.args.order.file.now) now a))) c.in_ok-attach.ensures.ends
+    let now = (g.D.Disk.state c.run_by_module.new.disk).history in
+    subst (λ (ends : Option (List End)). IfOk r (λ a. Under k.module (IsOfNode k c.args.order.node ends ends_now ((g.D.Disk.state c.args.disk.now).files c.args.order.file.now) now a))) c.in_ok-attach.ensures.ends
     (subst (λ (file : List File). IfOk r (λ a. Under k.module (IsOfNode k c.args.order.node (g.L.Links.ends c.attach.new.links) ends_now file now a))) c.in_ok-attach.ensures.file c.run_by_module.ensures.ok)

@@ -13,7 +13,7 @@ pub returns-clause-block : goal.returns-clause-block
 returns-clause-block g c =
     let m = g.M.Sequenced.spec in
     let refines = g.M.Sequenced.refines in
-    let history = g.D.Disk.history in
+    let history = (g.D.Disk.state in).history
     let v = c.self.inside.kept in
     let few : c.epoch.result.0 < 2 ^ 64 = omega arith in
     let text = c.of.ensures ∙ c.in_ok-put_node.ensures ∙ ap (λ (bytes : List ℕ). bytes ++ node_block c.self.inside.me.0 c.epoch.result.0 (reverse c.log.result.now.entries)) c.new-block.ensures.items in
@@ -25,4 +25,4 @@ returns-clause-block g c =
 
 pub returns-clause-durable : goal.returns-clause-durable
 returns-clause-durable g c =
-    subst (λ (v : KeptState _ _ _). IsDurable g.D.Disk.history v) c.self.view_is (c.self.invariant.durable (subst (λ (v : KeptState _ _ _). v.stale ≡ false) (sym c.self.view_is) c.requires))
+    subst (λ (v : KeptState _ _ _). IsDurable (g.D.Disk.state v).history) c.self.view_is (c.self.invariant.durable (subst (λ (v : KeptState _ _ _). v.stale ≡ false) (sym c.self.view_is) c.requires))

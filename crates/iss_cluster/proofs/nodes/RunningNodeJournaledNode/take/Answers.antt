@@ -15,27 +15,27 @@ as_step-requires g c = λ is.
     let m = g.M.Sequenced.spec in
     let refines = g.M.Sequenced.refines in
     let opened = subst (λ (v : KeptState _ _ _). IsOpen (λ B es. HasTaken m refines v B es)) (sym c.self.view_is) c.requires.open in
-    true≢false (sym (c.take.ensures.refused.0 is) ∙ has-fresh m refines g.D.Disk.history c.self.inside.kept opened.0 opened.1 opened.2)
+    true≢false (sym (c.take.ensures.refused.0 is) ∙ has-fresh m refines (g.D.Disk.state c.self.inside.kept).history opened.0 opened.1 opened.2)
 
 pub invariant_of-self : goal.invariant_of-self
 invariant_of-self g c =
     let m = g.M.Sequenced.spec in
     let refines = g.M.Sequenced.refines in
-    let history = g.D.Disk.history in
+    let history = (g.D.Disk.state in).history
     let old = c.self.inside.kept in
     let new = c.take.new.self in
     let opened = subst (λ (v : KeptState _ _ _). IsOpen (λ B es. HasTaken m refines v B es)) (sym c.self.view_is) c.requires.open in
     running-on m refines history c.self.inside.nodes c.self.inside.me old new c.self.invariant c.take.ensures.same
     (by-durable m refines history c.args.event old new c.take.ensures.same
-    (sight g.D.Disk.history g.D.Disk.passes g.D.Disk.faults g.D.Disk.current g.D.Disk.files old.disk)
-    (sight g.D.Disk.history g.D.Disk.passes g.D.Disk.faults g.D.Disk.current g.D.Disk.files new.disk)
+    (g.D.Disk.state old.disk)
+    (g.D.Disk.state new.disk)
     refl refl c.take.result c.take.ensures.written c.take.ensures.stale c.self.invariant.durable (has-fresh m refines history old opened.0 opened.1 opened.2))
 
 pub returns-clause-step : goal.returns-clause-step
 returns-clause-step g c =
     let m = g.M.Sequenced.spec in
     let refines = g.M.Sequenced.refines in
-    let history = g.D.Disk.history in
+    let history = (g.D.Disk.state in).history
     let old = c.self.inside.kept in
     let new = c.take.new.self in
     let names = subst (λ (v : KeptState _ _ _). NamesNodes v.setup.n c.args.event) (sym c.self.view_is) c.requires.nodes in
@@ -47,7 +47,7 @@ pub returns-clause-addressed : goal.returns-clause-addressed
 returns-clause-addressed g c =
     let m = g.M.Sequenced.spec in
     let refines = g.M.Sequenced.refines in
-    let history = g.D.Disk.history in
+    let history = (g.D.Disk.state in).history
     let old = c.self.inside.kept in
     let new = c.take.new.self in
     let names = subst (λ (v : KeptState _ _ _). NamesNodes v.setup.n c.args.event) (sym c.self.view_is) c.requires.nodes in
@@ -60,7 +60,7 @@ pub returns-clause-cut : goal.returns-clause-cut
 returns-clause-cut g c =
     let m = g.M.Sequenced.spec in
     let refines = g.M.Sequenced.refines in
-    let history = g.D.Disk.history in
+    let history = (g.D.Disk.state in).history
     let old = c.self.inside.kept in
     let new = c.take.new.self in
     let names = subst (λ (v : KeptState _ _ _). NamesNodes v.setup.n c.args.event) (sym c.self.view_is) c.requires.nodes in
@@ -69,6 +69,6 @@ returns-clause-cut g c =
     (subst (λ (r : Result NodeStep StepError). IsErrOf r DiskFault → (B : NodeBehavior) (events : List NodeEvent) → HasTaken m refines old B events
     → FailsAt B (λ (es : List NodeEvent) (e : NodeEvent). Leaves new.setup.n (history new.disk) B es e) events c.args.event) (sym c.as_step.ensures)
     (by-cut m refines history c.args.event old new c.take.ensures.same names c.take.ensures.stored
-    (sight g.D.Disk.history g.D.Disk.passes g.D.Disk.faults g.D.Disk.current g.D.Disk.files old.disk)
-    (sight g.D.Disk.history g.D.Disk.passes g.D.Disk.faults g.D.Disk.current g.D.Disk.files new.disk)
+    (g.D.Disk.state old.disk)
+    (g.D.Disk.state new.disk)
     refl refl c.take.result c.take.ensures.answer c.take.ensures.written))

@@ -4,7 +4,7 @@ use Rattle.iss_keep.proofs.kept.Kept.reopen.Goals as goal
 
 pub invariant_of-self : goal.invariant_of-self
 invariant_of-self g c =
-    reopened-kept g.M.Sequenced.spec g.M.Sequenced.refines g.D.Disk.history g.D.Disk.room c.self.inside.directory c.open.new.journal c.self.inside.setup c.self.inside.me
+    reopened-kept g.M.Sequenced.spec g.M.Sequenced.refines (g.D.Disk.state g.D.Disk.room).history c.self.inside.directory c.open.new.journal c.self.inside.setup c.self.inside.me
     c.in-Ok.node c.in-Ok.ensures.stay c.in-Ok.ensures.refines c.in-Ok.ensures.same c.self.invariant.good c.self.invariant.member c.self.invariant.keys c.open.ensures.sound
     c.in-Ok.ensures.is_attached c.in-Ok.ensures.attached.durable
 
@@ -19,6 +19,6 @@ returns-in-Ok-clause-core g c =
     let h = c.in-Ok.ensures.refines in (
       h.0,
       h.2,
-      reopened-stored g.M.Sequenced.spec g.M.Sequenced.refines g.D.Disk.history g.D.Disk.room c.self.inside.directory c.open.new.journal c.self.inside.setup c.self.inside.me
+      reopened-stored g.M.Sequenced.spec g.M.Sequenced.refines (g.D.Disk.state g.D.Disk.room).history c.self.inside.directory c.open.new.journal c.self.inside.setup c.self.inside.me
           c.in-Ok.node c.in-Ok.ensures.stay h c.in-Ok.ensures.same,
     )

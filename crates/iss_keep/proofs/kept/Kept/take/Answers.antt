@@ -8,7 +8,7 @@ pub invariant_of-self : goal.invariant_of-self
 invariant_of-self g c =
     let fresh : c.self.inside.stale ≡ false = search rules in
     let made = c.journal_and_apply-kept.new.made in
-    take-kept g.M.Sequenced.spec g.M.Sequenced.refines g.D.Disk.history g.D.Disk.room c.self.inside.directory c.self.inside.journal _ c.self.invariant
+    take-kept g.M.Sequenced.spec g.M.Sequenced.refines (g.D.Disk.state g.D.Disk.room).history c.self.inside.directory c.self.inside.journal _ c.self.invariant
     c.args.event c.journal_and_apply-kept.new.node c.journal_and_apply-kept.ensures.same.0 c.journal_and_apply-kept.ensures.same.1 fresh c.journal_and_apply-kept.new.journal
     (entry_made made (spell_event c.args.event)) c.makes_stale-self-inside.result (released made c.journal_and_apply-kept.result)
     c.makes_stale-self-inside.ensures c.journal_and_apply-kept.ensures.stepped
@@ -18,7 +18,7 @@ pub returns-clause-answer : goal.returns-clause-answer
 returns-clause-answer g c =
     let fresh : c.self.inside.stale ≡ false = search rules in
     let made = c.journal_and_apply-kept.new.made in
-    rw c.release.ensures (rw (← c.self.view_is) (take-answers g.M.Sequenced.spec g.M.Sequenced.refines g.D.Disk.history g.D.Disk.room c.self.inside.directory c.self.inside.journal _ c.self.invariant
+    rw c.release.ensures (rw (← c.self.view_is) (take-answers g.M.Sequenced.spec g.M.Sequenced.refines (g.D.Disk.state g.D.Disk.room).history c.self.inside.directory c.self.inside.journal _ c.self.invariant
     c.args.event c.journal_and_apply-kept.new.node c.journal_and_apply-kept.ensures.same.0 c.journal_and_apply-kept.ensures.same.1 fresh c.journal_and_apply-kept.new.journal
     (entry_made made (spell_event c.args.event)) c.makes_stale-self-inside.result (released made c.journal_and_apply-kept.result)
     c.makes_stale-self-inside.ensures c.journal_and_apply-kept.ensures.stepped))
@@ -27,7 +27,7 @@ pub returns-clause-stored : goal.returns-clause-stored
 returns-clause-stored g c =
     let fresh : c.self.inside.stale ≡ false = search rules in
     let made = c.journal_and_apply-kept.new.made in
-    rw (← c.self.view_is) (take-stores g.M.Sequenced.spec g.M.Sequenced.refines g.D.Disk.history g.D.Disk.room c.self.inside.directory c.self.inside.journal _ c.self.invariant
+    rw (← c.self.view_is) (take-stores g.M.Sequenced.spec g.M.Sequenced.refines (g.D.Disk.state g.D.Disk.room).history c.self.inside.directory c.self.inside.journal _ c.self.invariant
     c.args.event c.journal_and_apply-kept.new.node c.journal_and_apply-kept.ensures.same.0 c.journal_and_apply-kept.ensures.same.1 fresh c.journal_and_apply-kept.new.journal
     (entry_made made (spell_event c.args.event)) c.makes_stale-self-inside.result (released made c.journal_and_apply-kept.result)
     c.makes_stale-self-inside.ensures c.journal_and_apply-kept.ensures.stepped c.journal_and_apply-kept.ensures.written.added)
@@ -38,7 +38,7 @@ returns-clause-written g c =
     rw c.release.ensures (rw (← c.self.view_is) (record {
       entry = entry_made made (spell_event c.args.event);
       written = c.journal_and_apply-kept.ensures.written;
-      right = λ on st for. right-entry g.M.Sequenced.spec g.M.Sequenced.refines g.D.Disk.history g.D.Disk.room c.self.inside.directory c.self.inside.journal _ c.self.invariant
+      right = λ on st for. right-entry g.M.Sequenced.spec g.M.Sequenced.refines (g.D.Disk.state g.D.Disk.room).history c.self.inside.directory c.self.inside.journal _ c.self.invariant
           c.args.event c.journal_and_apply-kept.new.node c.journal_and_apply-kept.ensures.same.0 c.journal_and_apply-kept.ensures.same.1 st for
           (entry_made made (spell_event c.args.event)) (released made c.journal_and_apply-kept.result) c.journal_and_apply-kept.ensures.stepped on;
     }))
