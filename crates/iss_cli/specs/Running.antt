@@ -7,6 +7,7 @@ use Rattle.iss_cluster.specs.declared.errors.NodeFailure.{NodeFailure}
 use Rattle.iss_cluster.specs.declared.errors.NodeFailure.TheVariants.{Damaged, LinksFault as Node_links_fault, DiskFault as Node_disk_fault}
 use Rattle.iss_config.specs.Configs.{IsConfig, setup_of}
 use Rattle.iss_config.specs.declared.configs.Config.{Config}
+use Rattle.iss_disk.specs.Calls.{Device}
 use Rattle.iss_disk.specs.File.{File}
 use Rattle.iss_links.specs.Ends.{End}
 use Rattle.iss_loops.specs.Loop.{loop_of}
@@ -33,8 +34,8 @@ pub record Devices : Type 0 where
   pub files : List ℕ → List File
   pub current : List File
 
-abbrev pub devices : Option (List End) → (List ℕ → List File) → List File → Devices
-devices ends files current = record { ends = ends; files = files; current = current }
+abbrev pub devices : Option (List End) → Device → Devices
+devices ends disk = record { ends = ends; files = disk.files; current = disk.history }
 
 -- ---- configurations
 

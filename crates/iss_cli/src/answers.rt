@@ -54,8 +54,8 @@ pub fn respond<L: Links, D: Disk>(
     disk: &mut D,
 ) -> Result<Answer, NodeError>
     requires { HasPorts order }
-    ensures ok { IfOk result (IsAnswer order.entry (devices (L.ends links.old) (D.state disk.old).files (D.state disk.old).history)
-        (devices (L.ends links.new) (D.state disk.new).files (D.state disk.new).history) input.now) }
+    ensures ok { IfOk result (IsAnswer order.entry (devices (L.ends links.old) (D.state disk.old))
+        (devices (L.ends links.new) (D.state disk.new)) input.now) }
     ensures links_fail { IsErrOf result NodeError.LinksFault → UsesLinks order.entry × IsStarted order.entry input.now }
     ensures disk_fails { IsErrOf result NodeError.DiskFault → UsesDisk order.entry × IsStarted order.entry input.now }
     ensures links { HasCause (L.faults links.old) (L.faults links.new) (IsErrOf result NodeError.LinksFault) }

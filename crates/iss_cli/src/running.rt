@@ -191,8 +191,8 @@ pub fn run_node<L: Links, D: Disk>(
 ) -> Result<Answer, NodeError>
     requires { order.port ≤ 65000 }
     ensures ok { IfOk result (IsOfConfig
-        (IsOfNodeOrder order.entry (devices (L.ends links.old) (D.state disk.old).files (D.state disk.old).history)
-        (devices (L.ends links.new) (D.state disk.new).files (D.state disk.new).history)) input.now) }
+        (IsOfNodeOrder order.entry (devices (L.ends links.old) (D.state disk.old))
+        (devices (L.ends links.new) (D.state disk.new))) input.now) }
     ensures links_fail { IsErrOf result NodeError.LinksFault → IsStarted (ModelNode order.entry) input.now }
     ensures disk_fails { IsErrOf result NodeError.DiskFault → IsStarted (ModelNode order.entry) input.now }
     ensures links { HasCause (L.faults links.old) (L.faults links.new) (IsErrOf result NodeError.LinksFault) }
@@ -216,8 +216,8 @@ fn run_one<L: Links, D: Disk>(
 ) -> Result<Answer, NodeError>
     requires { order.port ≤ 65000 }
     ensures ok { IfOk result
-        (IsOfNodeOrder order.entry (devices (L.ends links.old) (D.state disk.old).files (D.state disk.old).history)
-        (devices (L.ends links.new) (D.state disk.new).files (D.state disk.new).history) config.now) }
+        (IsOfNodeOrder order.entry (devices (L.ends links.old) (D.state disk.old))
+        (devices (L.ends links.new) (D.state disk.new)) config.now) }
     ensures links_fail { IsErrOf result NodeError.LinksFault → order.entry.node < (setup_of config.now).n }
     ensures disk_fails { IsErrOf result NodeError.DiskFault → order.entry.node < (setup_of config.now).n }
     ensures links { HasCause (L.faults links.old) (L.faults links.new) (IsErrOf result NodeError.LinksFault) }

@@ -40,8 +40,8 @@ pub fn run<I: Source, O: Sink, L: Links, D: Disk>(
     disk: &mut D,
 ) -> Status
     ensures printed { Ends (map string_bytes words.now) (I.left input.old) (I.left input.new)
-        (devices (L.ends links.old) (D.state disk.old).files (D.state disk.old).history)
-        (devices (L.ends links.new) (D.state disk.new).files (D.state disk.new).history) (O.held out.old) (O.held out.new) result }
+        (devices (L.ends links.old) (D.state disk.old))
+        (devices (L.ends links.new) (D.state disk.new)) (O.held out.old) (O.held out.new) result }
     ensures taken { Drains 16777217 (I.left input.old) (I.left input.new) }
     ensures empty { I.empties input.new ≤ I.empties input.old + 1 }
     ensures unread { ¬ ReadsInput (map string_bytes words.now) → input.new ≡ input.old }
@@ -69,8 +69,8 @@ fn answer<I: Source, L: Links, D: Disk>(
     disk: &mut D,
 ) -> Result<Answer, AnswerError>
     ensures ok { IfOk result (IsAnswered (map string_bytes words.now) (I.left input.old) (I.left input.new)
-        (devices (L.ends links.old) (D.state disk.old).files (D.state disk.old).history)
-        (devices (L.ends links.new) (D.state disk.new).files (D.state disk.new).history)) }
+        (devices (L.ends links.old) (D.state disk.old))
+        (devices (L.ends links.new) (D.state disk.new))) }
     ensures err { IfErr result (IsUnanswered (map string_bytes words.now) (I.left input.old) (I.left input.new)) }
     ensures taken { Drains 16777217 (I.left input.old) (I.left input.new) }
     ensures empty { I.empties input.new ≤ I.empties input.old + 1 }
@@ -100,8 +100,8 @@ fn answer_order<I: Source, L: Links, D: Disk>(
 ) -> Result<Answer, AnswerError>
     requires { HasPorts order }
     ensures ok { IfOk result (IsAnswerTo order.entry (I.left input.old) (I.left input.new)
-        (devices (L.ends links.old) (D.state disk.old).files (D.state disk.old).history)
-        (devices (L.ends links.new) (D.state disk.new).files (D.state disk.new).history)) }
+        (devices (L.ends links.old) (D.state disk.old))
+        (devices (L.ends links.new) (D.state disk.new))) }
     ensures err { IfErr result (HasNone order.entry (I.left input.old) (I.left input.new)) }
     ensures taken { Drains 16777217 (I.left input.old) (I.left input.new) }
     ensures empty { I.empties input.new ≤ I.empties input.old + 1 }

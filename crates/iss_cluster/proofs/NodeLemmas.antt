@@ -7,7 +7,7 @@ use Rattle.iss_cluster.proofs.EventLemmas.{accepted-more, named-more, since-more
 use Rattle.iss_cluster.specs.Nodes.{BeginsWith, HasRead, HasTaken, IsCutShort, IsDurable, IsNodeRun, IsRefused, IsRunning, Leaves, as_step, is_taken, newest_entry, node_behavior_of, sends_of, stored_since}
 use Rattle.iss_config.specs.Configs.{setup_of}
 use Rattle.iss_config.specs.declared.configs.Config.{Config}
-use Rattle.iss_disk.specs.Calls.{EachState, HasCause, IfTold}
+use Rattle.iss_disk.specs.Calls.{Device, EachState, HasCause, IfTold}
 use Rattle.iss_disk.specs.File.{File}
 use Rattle.iss_journal.specs.Frames.{version_1}
 use Rattle.iss_journal.proofs.Showing.{shows_either}
@@ -18,7 +18,7 @@ use Rattle.iss_keep.specs.Cores.{core_of, shown_of, step_of, stored_after, store
 use Rattle.iss_keep.specs.Entries.{NamesNode, spell_event}
 use Rattle.iss_keep.specs.Recovery.{AreNamed, Recovers}
 use Rattle.iss_keep.specs.State.{KeptRefinesCore, KeptState, RefinesStored, stored_as}
-use Rattle.iss_keep.specs.Steps.{IsAnswer, IsAttached, IsDrop, IsJournaled, IsSame, IsTaken, IsTurn, Sight, Writes, makes_stale}
+use Rattle.iss_keep.specs.Steps.{IsAnswer, IsAttached, IsDrop, IsJournaled, IsSame, IsTaken, IsTurn, Writes, makes_stale}
 use Rattle.iss_keep.specs.declared.answers.Answer.{Answer}
 use Rattle.iss_keep.specs.declared.answers.Answer.TheVariants.{Dropped as Kept_dropped, Failed, NoMemory, Stale, Taken as Kept_taken}
 use Rattle.iss_links.specs.Ends.{End}
@@ -120,7 +120,7 @@ left-now : (entries : List (List ℕ)) (entry : List ℕ) (before now : List Fil
 left-now entries entry [] now is = subst (λ (h : List File). IfTold h (OnlyLeaves (ShowsWithOrWithout version_1 entries entry))) (sym is) tt
 left-now entries entry (file ∷ past) now (all, stay, leaves) = each-shows entries all entry stay now (told-now (HoldsWithOrWithout version_1 all entry) (file ∷ past) now leaves)
 
-module _ {M Msg D : Type 0} (m : Module Msg) (refines : Relation M Msg) (history : D → List File) where
+module _ {M Msg D : Type 0} (m : Module Msg) (refines : Relation M Msg) (state : D → Device) where
   abbrev Has : KeptState M Msg D → NodeBehavior → List NodeEvent → Type 0
   Has v B events = HasTaken m refines v B events
 
@@ -227,8 +227,8 @@ module _ {M Msg D : Type 0} (m : Module Msg) (refines : Relation M Msg) (history
           )
 
       -- the disk failed
-      fails-at : (entry : List ℕ) → Writes old.entries entry (history old.disk) (history new.disk) Failed → (stored_after old.setup m old.me.0 st event).entries ≡ entry ∷ st.entries → IsTaken stepped
-          → FailsAt B (λ (es : List NodeEvent) (e : NodeEvent). Leaves new.setup.n (history new.disk) B es e) events event
+      fails-at : (entry : List ℕ) → Writes old.entries entry (state old.disk).history (state new.disk).history Failed → (stored_after old.setup m old.me.0 st event).entries ≡ entry ∷ st.entries → IsTaken stepped
+          → FailsAt B (λ (es : List NodeEvent) (e : NodeEvent). Leaves new.setup.n (state new.disk).history B es e) events event
       fails-at entry written right t =
           let kept : newest_entry (stored_after old.setup m old.me.0 st event) ≡ entry = ap (λ (es : List (List ℕ)). get_or es 0 []) right in
           record {
@@ -236,9 +236,9 @@ module _ {M Msg D : Type 0} (m : Module Msg) (refines : Relation M Msg) (history
             left = record {
               accepted = h.accepted;
               named = subst (λ (s : Setup). AreNamed s.n events) (sym same.setup) h.named;
-              left = subst (λ (es : List (List ℕ)). IfTold (history new.disk) (OnlyLeaves (ShowsWithOrWithout version_1 es (B.keeps events event)))) (shows-is old B events h)
-                  (subst (λ (e : List ℕ). IfTold (history new.disk) (OnlyLeaves (ShowsWithOrWithout version_1 old.entries e))) (sym kept ∙ ap (λ (x : NodeBehavior). x.keeps events event) (sym h.does))
-                  (left-now old.entries entry (history old.disk) (history new.disk) written.0));
+              left = subst (λ (es : List (List ℕ)). IfTold (state new.disk).history (OnlyLeaves (ShowsWithOrWithout version_1 es (B.keeps events event)))) (shows-is old B events h)
+                  (subst (λ (e : List ℕ). IfTold (state new.disk).history (OnlyLeaves (ShowsWithOrWithout version_1 old.entries e))) (sym kept ∙ ap (λ (x : NodeBehavior). x.keeps events event) (sym h.does))
+                  (left-now old.entries entry (state old.disk).history (state new.disk).history written.0));
             };
           }
 
@@ -264,26 +264,26 @@ module _ {M Msg D : Type 0} (m : Module Msg) (refines : Relation M Msg) (history
       by-address Stale says o = tt
       by-address NoMemory says o = tt
 
-      pub by-cut : (before now : Sight) → before.history ≡ history old.disk → now.history ≡ history new.disk → (a : Answer) → Says a → IsJournaled m refines old event before now new.entries a → IsErrOf (as_step a) DiskFault
-          → (B : NodeBehavior) (events : List NodeEvent) → Has old B events → FailsAt B (λ (es : List NodeEvent) (e : NodeEvent). Leaves new.setup.n (history new.disk) B es e) events event
+      pub by-cut : (before now : Device) → before.history ≡ (state old.disk).history → now.history ≡ (state new.disk).history → (a : Answer) → Says a → IsJournaled m refines old event before now new.entries a → IsErrOf (as_step a) DiskFault
+          → (B : NodeBehavior) (events : List NodeEvent) → Has old B events → FailsAt B (λ (es : List NodeEvent) (e : NodeEvent). Leaves new.setup.n (state new.disk).history B es e) events event
       by-cut before now first last (Kept_taken outcome) says w q = absurd (cc)
       by-cut before now first last (Kept_dropped why) says w q = absurd (cc)
       by-cut before now first last Failed says w q = λ B events h.
           fails-at names B events h w.entry
-          (subst (λ (x : List File). Writes old.entries w.entry x (history new.disk) Failed) first (subst (λ (x : List File). Writes old.entries w.entry before.history x Failed) last w.written.file))
+          (subst (λ (x : List File). Writes old.entries w.entry x (state new.disk).history Failed) first (subst (λ (x : List File). Writes old.entries w.entry before.history x Failed) last w.written.file))
           (w.right refl (stored_since old.setup m old.me.0 h.base events) h.stored) (says (stored_since old.setup m old.me.0 h.base events).core (is-there old B events h))
       by-cut before now first last Stale says w q = absurd (cc)
       by-cut before now first last NoMemory says w q = absurd (cc)
 
     -- every crash image shows its entries after the answer, too
-    pub by-durable : (before now : Sight) → before.history ≡ history old.disk → now.history ≡ history new.disk → (a : Answer) → IsJournaled m refines old event before now new.entries a → new.stale ≡ makes_stale a
-        → (old.stale ≡ false → IsDurable history old) → old.stale ≡ false → new.stale ≡ false → IsDurable history new
+    pub by-durable : (before now : Device) → before.history ≡ (state old.disk).history → now.history ≡ (state new.disk).history → (a : Answer) → IsJournaled m refines old event before now new.entries a → new.stale ≡ makes_stale a
+        → (old.stale ≡ false → IsDurable state old) → old.stale ≡ false → new.stale ≡ false → IsDurable state new
     by-durable before now first last (Kept_taken outcome) w is durable was fresh =
         subst (λ (x : List File). IfTold x (OnlyLeaves (Shows version_1 new.entries))) last
         (subst (λ (es : List (List ℕ)). IfTold now.history (OnlyLeaves (Shows version_1 es))) (sym w.written.added) w.written.file.1)
     by-durable before now first last (Kept_dropped why) w is durable was fresh =
         subst (λ (x : List File). IfTold x (OnlyLeaves (Shows version_1 new.entries))) (sym first ∙ sym w.written.file ∙ last)
-        (subst (λ (es : List (List ℕ)). IfTold (history old.disk) (OnlyLeaves (Shows version_1 es))) (sym w.written.added) (durable was))
+        (subst (λ (es : List (List ℕ)). IfTold (state old.disk).history (OnlyLeaves (Shows version_1 es))) (sym w.written.added) (durable was))
     by-durable before now first last Failed w is durable was fresh = absurd (true≢false (sym is ∙ fresh))
     by-durable before now first last Stale w is durable was fresh = absurd (true≢false (sym is ∙ fresh))
     by-durable before now first last NoMemory w is durable was fresh = absurd (true≢false (sym is ∙ fresh))
@@ -298,7 +298,7 @@ module _ {M Msg D : Type 0} (m : Module Msg) (refines : Relation M Msg) (history
   -- ---- from call to call
 
   pub starts : (s : Setup) (i me : NodeId) (nodes : ℕ) (v : KeptState M Msg D) → IsSetupOf m s → i.0 < s.n → nodes ≡ s.n → i ≡ me
-      → v.setup ≡ s → v.me ≡ me → v.stale ≡ true → IsRunning m history nodes i v
+      → v.setup ≡ s → v.me ≡ me → v.stale ≡ true → IsRunning m state nodes i v
   starts s i me nodes v good member count number setup is stale = record {
     good = subst (λ (t : Setup). IsSetupOf m t) (sym setup) good;
     member = subst (λ (t : Setup). v.me.0 < t.n) (sym setup) (subst (λ (k : NodeId). k.0 < s.n) (number ∙ sym is) member);
@@ -307,8 +307,8 @@ module _ {M Msg D : Type 0} (m : Module Msg) (refines : Relation M Msg) (history
     durable = λ fresh. absurd (true≢false (sym stale ∙ fresh));
   }
 
-  pub running-on : (nodes : ℕ) (me : NodeId) (old new : KeptState M Msg D) → IsRunning m history nodes me old → IsSame old new → (new.stale ≡ false → IsDurable history new)
-      → IsRunning m history nodes me new
+  pub running-on : (nodes : ℕ) (me : NodeId) (old new : KeptState M Msg D) → IsRunning m state nodes me old → IsSame old new → (new.stale ≡ false → IsDurable state new)
+      → IsRunning m state nodes me new
   running-on nodes me old new runs same durable = record {
     good = subst (λ (s : Setup). IsSetupOf m s) (sym same.setup) runs.good;
     member = subst (λ (s : Setup). new.me.0 < s.n) (sym same.setup) (subst (λ (i : NodeId). i.0 < old.setup.n) (sym same.me) runs.member);
@@ -319,16 +319,16 @@ module _ {M Msg D : Type 0} (m : Module Msg) (refines : Relation M Msg) (history
 
   -- ---- reopening
 
-  module _ (before now : Sight) (old new : KeptState M Msg D) (same : IsSame old new) (seen : now.history ≡ history new.disk) where
+  module _ (before now : Device) (old new : KeptState M Msg D) (same : IsSame old new) (seen : now.history ≡ (state new.disk).history) where
     abbrev Led : Type 0
     Led = (found : Rebuilt Msg) × (core_of new.setup m new.me.0 new.entries ≡ Some found) × RefinesStored m refines new (stored_as new.entries found)
 
-    reopened-durable : (r : Result (Unit {0}) AttachError) → new.stale ≡ not (is_ok r) → OnOk r (IsAttached before now new.entries) → new.stale ≡ false → IsDurable history new
+    reopened-durable : (r : Result (Unit {0}) AttachError) → new.stale ≡ not (is_ok r) → OnOk r (IsAttached before now new.entries) → new.stale ≡ false → IsDurable state new
     reopened-durable (Ok x) is attached fresh = subst (λ (h : List File). IfTold h (OnlyLeaves (Shows version_1 new.entries))) seen attached.durable
     reopened-durable (Err e) is attached fresh = absurd (true≢false (sym is ∙ fresh))
 
-    pub reopened-running : (nodes : ℕ) (me : NodeId) (r : Result (Unit {0}) AttachError) → IsRunning m history nodes me old → new.stale ≡ not (is_ok r)
-        → OnOk r (IsAttached before now new.entries) → IsRunning m history nodes me new
+    pub reopened-running : (nodes : ℕ) (me : NodeId) (r : Result (Unit {0}) AttachError) → IsRunning m state nodes me old → new.stale ≡ not (is_ok r)
+        → OnOk r (IsAttached before now new.entries) → IsRunning m state nodes me new
     reopened-running nodes me r runs is attached = running-on nodes me old new runs same (reopened-durable r is attached)
 
     -- what it had stored whose journal it read
@@ -397,9 +397,9 @@ module _ {M Msg D : Type 0} (m : Module Msg) (refines : Relation M Msg) (history
     led-there = subst (λ (i : ℕ). core_of (setup_of c) m i mid.entries ≡ Some read.found) number (subst (λ (s : Setup). core_of s m mid.me.0 mid.entries ≡ Some read.found) setup read.leads)
 
     module _ (ends ends_now : Option (List End)) where
-      pub node-ran : (printed : List ℕ) → IsDurable history end
+      pub node-ran : (printed : List ℕ) → IsDurable state end
           → ((B : NodeBehavior) (events : List NodeEvent) → Has mid B events → HasLooped events (Has end B) ends ends_now (node_loop_of B 200000 64 c.turns events))
-          → ((B : NodeBehavior) (events : List NodeEvent) → Has end B events → (printed ≡ B.prints events) × (B.epoch events < 2 ^ 64)) → IsNodeRun m c me ends ends_now before (history end.disk) printed
+          → ((B : NodeBehavior) (events : List NodeEvent) → Has end B events → (printed ≡ B.prints events) × (B.epoch events < 2 ^ 64)) → IsNodeRun m c me ends ends_now before (state end.disk).history printed
       node-ran printed durable loops prints = record {
         held = mid.entries;
         found = read.found;
@@ -413,7 +413,7 @@ module _ {M Msg D : Type 0} (m : Module Msg) (refines : Relation M Msg) (history
               taken = l.later;
               accepted = l.there.accepted;
               named = subst (λ (n : ℕ). AreNamed n l.later) (sym (nodes-is end B l.later l.there)) l.there.named;
-              kept = subst (λ (es : List (List ℕ)). IfTold (history end.disk) (OnlyLeaves (Shows version_1 es))) (shows-is end B l.later l.there) durable;
+              kept = subst (λ (es : List (List ℕ)). IfTold (state end.disk).history (OnlyLeaves (Shows version_1 es))) (shows-is end B l.later l.there) durable;
               loops = l.loops;
               block = p.0;
               low = p.1;
@@ -421,8 +421,8 @@ module _ {M Msg D : Type 0} (m : Module Msg) (refines : Relation M Msg) (history
       }
 
       -- a run that the disk ends
-      pub cut-short : Cuts (Has mid) (λ (B : NodeBehavior) (es : List NodeEvent) (e : NodeEvent). Leaves end.setup.n (history end.disk) B es e) ends (record { count = 0; idle = true; idle_turns = 0 }) ends_now
-          → end.setup.n ≡ mid.setup.n → IsCutShort m c me ends ends_now before (history end.disk)
+      pub cut-short : Cuts (Has mid) (λ (B : NodeBehavior) (es : List NodeEvent) (e : NodeEvent). Leaves end.setup.n (state end.disk).history B es e) ends (record { count = 0; idle = true; idle_turns = 0 }) ends_now
+          → end.setup.n ≡ mid.setup.n → IsCutShort m c me ends ends_now before (state end.disk).history
       cut-short cuts nodes = record {
         held = mid.entries;
         found = read.found;
@@ -435,7 +435,7 @@ module _ {M Msg D : Type 0} (m : Module Msg) (refines : Relation M Msg) (history
               taken = cut.kept;
               failed = cut.failed;
               fails = cut.fails.accepted;
-              kept = subst (λ (n : ℕ). Leaves n (history end.disk) B cut.kept cut.failed) (nodes ∙ ap (λ (s : Setup). s.n) setup) cut.fails.left;
+              kept = subst (λ (n : ℕ). Leaves n (state end.disk).history B cut.kept cut.failed) (nodes ∙ ap (λ (s : Setup). s.n) setup) cut.fails.left;
               sent = λ there told. cut.sent (begins [] there) (record { events_are = refl; ends_are = told; count = refl; idle = refl; idle_turns = refl });
             };
       }

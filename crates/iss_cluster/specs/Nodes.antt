@@ -3,7 +3,7 @@
 use Rattle.std.specs.Prelude.{◌≡◌, ◌⊎◌, ℕ, ◌<◌, ◌^◌, Bool, true, false, List, [], ◌∷◌, Result, Ok, Err, get_or, map, reverse, Option, Some, ◌++◌}
 use Rattle.iss_config.specs.Configs.{setup_of}
 use Rattle.iss_config.specs.declared.configs.Config.{Config}
-use Rattle.iss_disk.specs.Calls.{IfTold}
+use Rattle.iss_disk.specs.Calls.{Device, IfTold}
 use Rattle.iss_disk.specs.File.{File}
 use Rattle.iss_journal.specs.Frames.{version_1}
 use Rattle.iss_journal.specs.Promises.{LosesNothing, OnlyLeaves, Shows, ShowsWithOrWithout}
@@ -193,14 +193,14 @@ pub record HasRead {M Msg D : Type 0} (m : Module Msg) (refines : Relation M Msg
   pub stored : (base : Stored Msg) → BeginsWith v.setup m v.me.0 v.entries found base → RefinesStored m refines v base
 
 -- every crash image of its file shows its entries
-abbrev pub IsDurable : {M Msg D : Type 0} → (history : D → List File) → KeptState M Msg D → Type 0
-IsDurable history v = IfTold (history v.disk) (OnlyLeaves (Shows version_1 v.entries))
+abbrev pub IsDurable : {M Msg D : Type 0} → (state : D → Device) → KeptState M Msg D → Type 0
+IsDurable state v = IfTold (state v.disk).history (OnlyLeaves (Shows version_1 v.entries))
 
 -- A running node knows its identity and how many nodes there are. Unless it has to be reopened, its journal is durable.
-pub record IsRunning {M Msg D : Type 0} (m : Module Msg) (history : D → List File)
+pub record IsRunning {M Msg D : Type 0} (m : Module Msg) (state : D → Device)
     (nodes : ℕ) (me : NodeId) (v : KeptState M Msg D) : Type 0 where
   pub good : IsSetupOf m v.setup
   pub member : v.me.0 < v.setup.n
   pub count : nodes ≡ v.setup.n
   pub number : me ≡ v.me
-  pub durable : v.stale ≡ false → IsDurable history v
+  pub durable : v.stale ≡ false → IsDurable state v

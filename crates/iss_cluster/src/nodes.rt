@@ -50,7 +50,7 @@ impl<M: Sequenced, D: Disk> Model for RunningNode<M, D> {
 
     ghost view = { λ v. v.kept };
 
-    ghost invariant = { λ v. IsRunning M.spec (D.state v.nodes).history v.me v.kept };
+    ghost invariant = { λ v. IsRunning M.spec D.state v.nodes v.me v.kept };
 }
 
 /// Node `me` of the cluster with this configuration, without a journal. The only error is out of memory.
@@ -114,7 +114,7 @@ impl<M: Sequenced, D: Disk> RunningNode<M, D> {
         ensures block { IfOk result (λ block. (B : NodeBehavior) (events : List ModelEvent) →
             HasTaken M.spec M.refines self.now B events →
             (block ≡ B.prints events) × (B.epoch events < 2 ^ 64)) }
-        ensures durable { IsDurable (D.state self.now).history }
+        ensures durable { IsDurable D.state self.now }
     {
         let mut block = Vec::new(alloc);
         put_node(&mut block, self.me, self.kept.epoch(), self.kept.log())?;

@@ -7,7 +7,7 @@ use Rattle.iss_rules.specs.declared.events.Why.{Why}
 use Rattle.iss_disk.specs.Calls.{IfTold, Passes, Restarts, Runs, Stays, script, up_to}
 use Rattle.iss_disk.specs.File.{File, settled}
 use Rattle.iss_disk.specs.MemoryLaws.{memory_here}
-use Rattle.iss_disk.specs.MemoryViews.{calls_of, current_of, faults_of, files_of}
+use Rattle.iss_disk.specs.MemoryViews.{calls_of, state_of}
 use Rattle.iss_disk.specs.StoredViews.{history_of}
 use Rattle.iss_disk.specs.declared.memory.MemoryDisk.{MemoryDisk}
 use Rattle.iss_journal.specs.Frames.{Reading, Reads, version_1}
@@ -19,7 +19,7 @@ use Rattle.iss_keep.specs.Cores.{core_of as core_of_entries, shown_of, step_of, 
 use Rattle.iss_keep.specs.Entries.{NamesNode, spell_event}
 use Rattle.iss_keep.specs.Recovery.{AreNamed, Recovers}
 use Rattle.iss_keep.specs.State.{KeptRefinesCore, KeptState, RefinesStored, stored_as}
-use Rattle.iss_keep.specs.Steps.{IsAnswer, IsAttached, IsDamaged, IsDrop, IsJournaled, IsSame, IsTaken, IsTurn, LosesNone, ShowsAsBefore, Sight, makes_stale, sight}
+use Rattle.iss_keep.specs.Steps.{IsAnswer, IsAttached, IsDamaged, IsDrop, IsJournaled, IsSame, IsTaken, IsTurn, LosesNone, ShowsAsBefore, makes_stale}
 use Rattle.iss_keep.specs.declared.answers.Answer.{Answer}
 use Rattle.iss_keep.specs.declared.answers.Answer.TheVariants.{Dropped as Kept_dropped, Failed, NoMemory, Stale, Taken as Kept_taken}
 use Rattle.iss_log.specs.LogState.{GoesOn}
@@ -53,8 +53,8 @@ same-again a b c p q = record { setup = q.setup ∙ p.setup; me = q.me ∙ p.me 
 -- ---- the disk
 
 -- The visible state of a disk in memory.
-abbrev pub seen : MemoryDisk → Sight
-seen disk = sight (λ (d : MemoryDisk). history_of d.file) calls_of faults_of current_of files_of disk
+abbrev pub seen : MemoryDisk → Device
+seen disk = state_of disk
 
 passes-kept : (o : Option ℕ) (now : Passes) → Runs 4 (calls_to_come o) now true → (may_keep o ≡ true) × (now ≡ calls_to_come (left_behind o))
 passes-kept None now h = (refl, (runs-all 4 now true h).1)

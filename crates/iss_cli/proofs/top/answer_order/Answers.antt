@@ -13,8 +13,8 @@ returns-then-not-reads-clause-ok g c =
 
 pub returns-clause-ok : goal.returns-clause-ok
 returns-clause-ok g c =
-    let before = devices (g.L.Links.ends c.args.links.now) (g.D.Disk.state c.args.disk.now).files (g.D.Disk.state c.args.disk.now).history in
-    let now = devices (g.L.Links.ends c.respond-2.new.links) (g.D.Disk.state c.respond-2.new.disk).files (g.D.Disk.state c.respond-2.new.disk).history in
+    let before = devices (g.L.Links.ends c.args.links.now) (g.D.Disk.state c.args.disk.now) in
+    let now = devices (g.L.Links.ends c.respond-2.new.links) (g.D.Disk.state c.respond-2.new.disk) in
     let P : List ℕ → Type 0 = λ bytes. IsAnswer c.args.order before now bytes c.in_ok-respond-2.field-0 in
     answer_read c.args.order (g.I.Source.left c.args.input.now) (g.I.Source.left c.read_up_to.new.input) before now c.in_ok-bytes.bytes.items c.in_ok-respond-2.field-0
     c.in_ok-bytes.ensures.bytes c.in_ok-bytes.ensures.end (subst P c.deref.ensures.value c.in_ok-respond-2.ensures.ok)

@@ -11,4 +11,4 @@ returns g c =
     let m = g.M.Sequenced.spec in
     let refines = g.M.Sequenced.refines in
     subst (λ (v : KeptState _ _ _). (B : NodeBehavior) (events : List NodeEvent) → HasTaken m refines v B events → c.castable.result ≡ B.castable events) c.self.view_is
-    (λ B events h. castable-is m refines (g.D.Disk.state c.self.inside.kept).history B events h c.castable.result c.castable.ensures.is)
+    (λ B events h. castable-is m refines g.D.Disk.state c.self.inside.kept B events h c.castable.result c.castable.ensures.is)
