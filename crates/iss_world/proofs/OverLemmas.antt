@@ -4,7 +4,7 @@ use Rattle.std.proofs.lemmas.Bool.{le-leb, lt-leb}
 use Rattle.iss_base.proofs.Lists.{some-injective}
 use Rattle.iss_rules.specs.declared.events.NodeEvent.{NodeEvent}
 use Rattle.iss_rules.specs.declared.events.Why.{Why}
-use Rattle.iss_disk.specs.Calls.{IfTold, Passes, Restarts, Runs, Stays, script, up_to}
+use Rattle.iss_disk.specs.Calls.{Device, IfTold, Passes, Restarts, Runs, Stays, script, up_to}
 use Rattle.iss_disk.specs.File.{File, settled}
 use Rattle.iss_disk.specs.MemoryLaws.{memory_here}
 use Rattle.iss_disk.specs.MemoryViews.{calls_of, state_of}
