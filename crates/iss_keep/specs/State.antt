@@ -2,21 +2,17 @@
 -- was stored if it is not stale, its node refines the core that stored it, next leaf included, and the journal shows of
 -- it what stays. In any case it is stale, or every crash leaves these entries: those that it read, and behind them what
 -- later events stored.
-use Rattle.std.specs.Prelude.{◌≡◌, ◌⊎◌, ℕ, ◌<◌, Bool, true, false, List, reverse, Some}
-use Rattle.iss_disk.specs.Calls.{IfTold, Room}
-use Rattle.iss_disk.specs.File.{File}
+use Rattle.std.specs.Prelude.{◌≡◌, ◌⊎◌, ℕ, Bool, true, false, List, [], reverse, Some}
+use Rattle.iss_disk.specs.Calls.{Device, IfTold}
 use Rattle.iss_journal.specs.Frames.{version_1}
 use Rattle.iss_journal.specs.Promises.{OnlyLeaves, Shows}
-use Rattle.iss_journal.specs.Sound.{IsSound, disk_of, entries_of, is_attached}
-use Rattle.iss_journal.specs.declared.journal.Journal.{Journal}
+use Rattle.iss_journal.specs.Sound.{JournalState}
 use Rattle.iss_keys.specs.Directories.{DirectoryView}
-use Rattle.iss_rules.specs.Concrete.{keys_of}
 use Rattle.iss_model.specs.Frames.{frame_of}
 use Rattle.iss_model.specs.Node.{Core, initial_core}
-use Rattle.iss_rules.specs.Setups.{IsSetupOf}
 use Rattle.iss_rules.specs.declared.events.NodeEvent.{NodeEvent}
 use Rattle.iss_node.specs.Saved.{saved_of}
-use Rattle.iss_node.specs.State.{NodeView, RefinesCore}
+use Rattle.iss_node.specs.State.{IsMember, NodeView, RefinesCore}
 use Rattle.iss_rebuilt.specs.Reading.{Rebuilt}
 use Rattle.iss_rebuilt.specs.Stored.{Stored, stored_on}
 use Rattle.iss_request.specs.declared.ids.NodeId.{NodeId}
@@ -36,9 +32,9 @@ pub record KeptState (M Msg D : Type 0) : Type 0 where
   -- The node has to be reopened before it takes events.
   pub stale : Bool
 
-abbrev pub state_over : {M Msg D : Type 0} → Setup → NodeId → NodeView M Msg → Journal D → Bool → KeptState M Msg D
+abbrev pub state_over : {M Msg D : Type 0} → Setup → NodeId → NodeView M Msg → JournalState D → Bool → KeptState M Msg D
 state_over s me node journal stale =
-    record { setup = s; me = me; node = node; disk = disk_of journal; entries = entries_of journal; stale = stale }
+    record { setup = s; me = me; node = node; disk = journal.disk; entries = journal.entries; stale = stale }
 
 -- A node that has taken no event and has no journal yet.
 pub record FreshState (M Msg : Type 0) : Type 0 where
@@ -46,12 +42,10 @@ pub record FreshState (M Msg : Type 0) : Type 0 where
   pub me : NodeId
   pub node : NodeView M Msg
 
--- Its set-up is good, it is a member, and it refines the first core.
+-- It is a member of a good set-up, and it refines the first core.
 pub record IsFresh {M Msg : Type 0} (m : Module Msg) (refines : Relation M Msg) (directory : DirectoryView)
     (v : FreshState M Msg) : Type 0 where
-  pub good : IsSetupOf m v.setup
-  pub member : v.me.0 < v.setup.n
-  pub keys : directory ≡ keys_of v.setup
+  pub member : IsMember m v.setup directory v.me.0
   pub cluster : v.node.state.setup ≡ v.setup
   pub number : v.node.state.me ≡ v.me
   pub core : RefinesCore m refines v.node initial_core
@@ -87,18 +81,21 @@ pub record IsStoredSince {Msg : Type 0} (s : Setup) (m : Module Msg) (me : ℕ) 
   pub events : List NodeEvent
   pub is : st ≡ stored_on (frame_of s m) spell_event me (stored_as read found) events
 
--- The invariant of a kept node. Its set-up is good, it is a member, and its journal is sound. Unless it is stale, every
+-- The invariant of a kept node. It is a member of a good set-up. Unless it is stale, its journal is attached, every
 -- crash image holds its entries, and it stands for what these were and what was stored behind them.
-pub record IsKept {M Msg D : Type 0} (m : Module Msg) (refines : Relation M Msg)
-    (history : D → List File) (room : D → Room) (directory : DirectoryView) (journal : Journal D)
-    (v : KeptState M Msg D) : Type 0 where
-  pub good : IsSetupOf m v.setup
-  pub member : v.me.0 < v.setup.n
-  pub keys : directory ≡ keys_of v.setup
+pub record IsKept {M Msg D : Type 0} (m : Module Msg) (refines : Relation M Msg) (state : D → Device)
+    (directory : DirectoryView) (journal : JournalState D) (v : KeptState M Msg D) : Type 0 where
+  pub member : IsMember m v.setup directory v.me.0
   pub cluster : v.node.state.setup ≡ v.setup
   pub number : v.node.state.me ≡ v.me
-  pub sound : IsSound history room journal
-  pub attached : v.stale ≡ false → is_attached journal ≡ true
-  pub durable : v.stale ≡ false → IfTold (history v.disk) (OnlyLeaves (Shows version_1 v.entries))
+  pub attached : v.stale ≡ false → journal.attached ≡ true
+  pub durable : v.stale ≡ false → IfTold (state v.disk).history (OnlyLeaves (Shows version_1 v.entries))
   pub kept : (v.stale ≡ true)
       ⊎ ((st : Stored Msg) × RefinesStored m refines v st × IsStoredSince v.setup m v.me.0 st)
+
+-- A kept node that was not opened yet. It is stale, reports an empty log and epoch 0, and has read no entry.
+pub record IsUnopened {M Msg D : Type 0} (s : Setup) (i : NodeId) (d : D) (v : KeptState M Msg D) : Type 0 where
+  pub same : (v.setup ≡ s) × (v.me ≡ i)
+  pub stale : v.stale ≡ true
+  pub journal : (v.disk ≡ d) × (v.entries ≡ [])
+  pub shown : (v.node.state.log.entries ≡ []) × (v.node.state.epoch ≡ 0)

@@ -3,24 +3,27 @@
 -- `reopen`: the entries are those of the file, which is brought to rest and loses none of them; a refusal names the
 -- damaged place. A crash in between leaves the node as before the event or as after it. Meanwhile a stale node shows
 -- the log and epoch from before.
-use Rattle.std.specs.Prelude.{◌≡◌, ◌⊎◌, ℕ, Bool, true, false, List, [], ◌∷◌, ◌++◌}
-use Rattle.iss_disk.specs.Calls.{HasCause, IfTold, Passes, Place, Runs, StaysHere}
+use Rattle.std.specs.Prelude.{◌≡◌, ◌⊎◌, ℕ, Bool, true, false, List, [], ◌∷◌, ◌++◌, take, Some, Result, IsErrOf}
+use Rattle.iss_disk.specs.Calls.{Device, HasCause, IfTold, Passes, Runs, StaysHere}
 use Rattle.iss_disk.specs.File.{File, settled}
 use Rattle.iss_journal.specs.Frames.{damaged, Reads, version_1}
-use Rattle.iss_journal.specs.Promises.{ComesToRest, LeavesWithOrWithout, LosesNothing, OnlyLeaves, Shows, Works}
+use Rattle.iss_journal.specs.Promises.{ComesToRest, LeavesWithOrWithout, OnlyLeaves, Shows}
 use Rattle.iss_journal.specs.Retained.{retained}
 use Rattle.iss_journal.specs.Sound.{IsRead}
+use Rattle.iss_journal.specs.declared.errors.AttachError.{AttachError}
+use Rattle.iss_journal.specs.declared.errors.AttachError.TheVariants.{Damaged}
 use Rattle.iss_model.specs.Node.{Core, Dropped as Step_dropped, Stepped, Taken as Step_taken, Turn}
+use Rattle.iss_rebuilt.specs.Reading.{Rebuilt}
 use Rattle.iss_rebuilt.specs.Stored.{Stored}
 use Rattle.iss_rules.specs.declared.events.NodeEvent.{NodeEvent}
 use Rattle.iss_rules.specs.declared.events.Why.{Why}
-use Rattle.iss_node.specs.Steps.{IsMade}
+use Rattle.iss_node.specs.Steps.{IsMade, IsOfNodes}
 use Rattle.iss_node.specs.declared.answers.Outcome.{Outcome}
 use Rattle.iss_request.specs.declared.setups.Setup.{Setup}
 use Rattle.iss_sb.specs.Calls.{AreToNodes, Relation}
 use Rattle.iss_sb.specs.Evidence.{Module}
-use Rattle.iss_keep.specs.Cores.{StopsAt, stored_after}
-use Rattle.iss_keep.specs.State.{KeptRefinesCore, KeptState, RefinesStored}
+use Rattle.iss_keep.specs.Cores.{StopsAt, core_of, step_of, stored_after}
+use Rattle.iss_keep.specs.State.{KeptRefinesCore, KeptState, RefinesStored, stored_as}
 use Rattle.iss_keep.specs.declared.answers.Answer.{Answer}
 use Rattle.iss_keep.specs.declared.answers.Answer.TheVariants.{Dropped as Kept_dropped, Failed, NoMemory, Stale, Taken as Kept_taken}
 
@@ -53,6 +56,18 @@ IsAnswer m refines asked c stepped new Failed = IsTaken stepped
 IsAnswer m refines asked c stepped new Stale = ⊥
 IsAnswer m refines asked c stepped new NoMemory = Unit {0}
 
+-- For each core that the node refines, the answer is that of the model's step.
+abbrev pub AnswersEvent : {M Msg D : Type 0} → Module Msg → Relation M Msg → NodeEvent → (old new : KeptState M Msg D) →
+    Answer → Type 0
+AnswersEvent {Msg = Msg} m refines event old new answer = (c : Core Msg) → KeptRefinesCore m refines old c →
+    IsAnswer m refines (IsOfNodes old.setup.n event) c (step_of old.setup m old.me.0 c event) new answer
+
+-- Unless it is stale afterwards, the node stands for what is stored with the event, too.
+abbrev pub StoresEvent : {M Msg D : Type 0} → Module Msg → Relation M Msg → NodeEvent → (old new : KeptState M Msg D) →
+    Type 0
+StoresEvent {Msg = Msg} m refines event old new = (st : Stored Msg) → RefinesStored m refines old st →
+    new.stale ≡ false → RefinesStored m refines new (stored_after old.setup m old.me.0 st event)
+
 -- Whether the node has to be reopened after this answer.
 abbrev pub makes_stale : Answer → Bool
 makes_stale (Kept_taken outcome) = false
@@ -62,26 +77,6 @@ makes_stale Stale = true
 makes_stale NoMemory = true
 
 -- ---- the disk after an answer
-
--- What contracts see of a disk: the history of its current file, the results of coming calls, the number of faults, its
--- current file, and the history of each file.
-pub record Sight : Type 0 where
-  pub history : List File
-  pub passes : Passes
-  pub faults : ℕ
-  pub current : Place
-  pub files : List ℕ → List File
-
-abbrev pub sight : {D : Type 0} → (D → List File) → (D → Passes) → (D → ℕ) → (D → Place) →
-    (D → List ℕ → List File) → D → Sight
-sight history passes faults current files disk =
-    record {
-      history = history disk;
-      passes = passes disk;
-      faults = faults disk;
-      current = current disk;
-      files = files disk;
-    }
 
 -- What a journal shows after this answer to an event that is kept as this entry. A snapshot drops the events before it.
 -- rule: Persistence: A dropped event changes nothing and is not kept
@@ -117,7 +112,7 @@ Calls before now NoMemory = now ≡ before
 -- The journal and its disk after an answer to an event that is kept as this entry. `later` is what the journal shows
 -- then.
 -- rule: Persistence: Room for the entry is reserved before the node steps
-pub record IsWritten (entries : List (List ℕ)) (entry : List ℕ) (before now : Sight) (later : List (List ℕ))
+pub record IsWritten (entries : List (List ℕ)) (entry : List ℕ) (before now : Device) (later : List (List ℕ))
     (answer : Answer) : Type 0 where
   pub added : later ≡ entries_after entries entry answer
   pub file : Writes entries entry before.history now.history answer
@@ -133,12 +128,12 @@ is_appended Failed = true
 is_appended Stale = false
 is_appended NoMemory = false
 
--- The same of an answer to this event. What was written is the event, or the snapshot that takes its place.
+-- What was written for an answer to this event is the event, or the snapshot that takes its place.
 -- rule: Persistence: The snapshot of a node that entered an epoch takes the place of the event that ended the last one
-pub record IsJournaled {M Msg D : Type 0} (m : Module Msg) (refines : Relation M Msg) (old : KeptState M Msg D)
-    (event : NodeEvent) (before now : Sight) (later : List (List ℕ)) (answer : Answer) : Type 0 where
+pub record IsJournaled {M Msg D : Type 0} (state : D → Device) (m : Module Msg) (refines : Relation M Msg)
+    (event : NodeEvent) (old new : KeptState M Msg D) (answer : Answer) : Type 0 where
   pub entry : List ℕ
-  pub written : IsWritten old.entries entry before now later answer
+  pub written : IsWritten old.entries entry (state old.disk) (state new.disk) new.entries answer
   pub right : is_appended answer ≡ true → (st : Stored Msg) → RefinesStored m refines old st →
       (stored_after old.setup m old.me.0 st event).entries ≡ entry ∷ st.entries
 
@@ -146,17 +141,10 @@ pub record IsJournaled {M Msg D : Type 0} (m : Module Msg) (refines : Relation M
 
 -- The journal was attached. It has the entries that the file held, the file's content is settled, and every crash image
 -- holds the entries from then on.
-pub record IsAttached (before now : Sight) (entries : List (List ℕ)) : Type 0 where
+pub record IsAttached (before now : Device) (entries : List (List ℕ)) : Type 0 where
   pub read : IfTold before.history (λ file. Shows version_1 entries file.content)
   pub rest : IfTold before.history (λ from. IfTold now.history (ComesToRest from.content))
   pub durable : IfTold now.history (OnlyLeaves (Shows version_1 entries))
-
--- Holds for every result: a crash at any moment of the call lost no entry, and the call failed only if the disk did.
-pub record LosesNone (before now : Sight) (failed : Type 0) : Type 0 where
-  pub any_moment : LosesNothing version_1 before.history now.history
-  pub cause : HasCause before.faults now.faults failed
-  pub works : Works before.passes now.passes failed
-  pub others : StaysHere before.current now.current before.files now.files
 
 -- Either the file is damaged at this offset, or all entries are read and the node refuses the one after this gate.
 abbrev pub IsDamaged : {Msg : Type 0} → Setup → Module Msg → ℕ → List (List ℕ) → List File → ℕ → Type 0
@@ -173,6 +161,25 @@ IsLeft entries before now at = IfTold before (λ from.
     (Reads version_1 from.content (damaged at) × IfTold now (λ file. file ≡ settled from.content))
     ⊎ (Shows version_1 entries from.content × IfTold now (ComesToRest from.content)))
 
+-- Reopening was refused at this offset.
+pub record IsRefused {Msg : Type 0} (s : Setup) (m : Module Msg) (me : ℕ) (entries : List (List ℕ))
+    (before now : Device) (at : ℕ) : Type 0 where
+  pub damaged : IsDamaged s m me entries before.history at
+  pub left : IsLeft entries before.history now.history at
+
+-- If the answer is damage, this is why, and what is left.
+abbrev pub Refuses : {M Msg D T : Type 0} → (D → Device) → Module Msg → (old new : KeptState M Msg D) →
+    Result T AttachError → Type 0
+Refuses state m old new result = (at : ℕ) → IsErrOf result (Damaged at) →
+    IsRefused old.setup m old.me.0 new.entries (state old.disk) (state new.disk) at
+
+-- The node was reopened. It stands for the core that its entries lead to, and these are what the file held.
+pub record IsReopened {M Msg D : Type 0} (state : D → Device) (m : Module Msg) (refines : Relation M Msg)
+    (old new : KeptState M Msg D) : Type 0 where
+  pub core : (found : Rebuilt Msg) × (core_of new.setup m new.me.0 new.entries ≡ Some found)
+      × RefinesStored m refines new (stored_as new.entries found)
+  pub attached : IsAttached (state old.disk) (state new.disk) new.entries
+
 -- ---- what does not change
 
 -- The node reports the same log and epoch as before.
@@ -185,3 +192,30 @@ pub record ShowsAsBefore {M Msg D : Type 0} (old new : KeptState M Msg D) : Type
 pub record IsSame {M Msg D : Type 0} (old new : KeptState M Msg D) : Type 0 where
   pub setup : new.setup ≡ old.setup
   pub me : new.me ≡ old.me
+
+-- In addition a node that has become stale reports the log and epoch from before.
+pub record IsSameNode {M Msg D : Type 0} (old new : KeptState M Msg D) : Type 0 where
+  pub same : IsSame old new
+  pub shown : new.stale ≡ true → ShowsAsBefore old new
+
+-- Only its disk has changed, and whether it is stale.
+pub record OnlyDisk {M Msg D : Type 0} (old new : KeptState M Msg D) : Type 0 where
+  pub node : new.node ≡ old.node
+  pub entries : new.entries ≡ old.entries
+  pub same : IsSame old new
+
+-- The node went back to its first slots and an earlier epoch, and has to be reopened.
+pub record HasRetreated {M Msg D : Type 0} (old new : KeptState M Msg D) (slots e : ℕ) : Type 0 where
+  pub stale : new.stale ≡ true
+  pub log : new.node.state.log.entries ≡ take slots old.node.state.log.entries
+  pub epoch : new.node.state.epoch ≡ e
+  pub journal : (new.disk ≡ old.disk) × (new.entries ≡ old.entries)
+  pub same : IsSame old new
+
+-- ---- what it reports
+
+-- This is reported of each core that the node refines, and that while it is stale.
+pub record Reports {M Msg D : Type 0} (m : Module Msg) (refines : Relation M Msg) (v : KeptState M Msg D)
+    (Fits : Core Msg → Type 0) (IfStale : Type 0) : Type 0 where
+  pub is : (c : Core Msg) → KeptRefinesCore m refines v c → Fits c
+  pub stale : v.stale ≡ true → IfStale

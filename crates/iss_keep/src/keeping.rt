@@ -1,14 +1,9 @@
 // One event of a node with an attached journal: reserve room for the entry, step the node, append the entry or the
 // snapshot that takes its place.
-ghost use Rattle.std.specs.Prelude.{◌≡◌, ◌≤◌, ◌∷◌, [], false, true, length, IfOk, IsErrOf, OnOk};
-ghost use Rattle.iss_journal.specs.Frames.{max_entry};
-ghost use Rattle.iss_journal.specs.Sound.{IsSound, disk_of, entries_of, is_attached};
+ghost use Rattle.std.specs.Prelude.{◌≡◌, ◌∷◌, [], length, IfOk, OnOk};
 ghost use Rattle.iss_keep.specs.Entries.{spell_event};
-ghost use Rattle.iss_keep.specs.Internal.Keeping.{HasEnded, HasStepped, entry_kept, entry_made, released};
-ghost use Rattle.iss_keep.specs.Steps.{IsWritten, makes_stale, sight};
-ghost use Rattle.iss_model.specs.Node.{Core};
-ghost use Rattle.iss_rules.specs.Setups.{IsSetupOf};
-ghost use Rattle.iss_node.specs.State.{RefinesCore};
+ghost use Rattle.iss_keep.specs.Internal.Keeping.{HasAppended, HasEnded, HasJournaled, MayAppend, MayRetreat, MayStep};
+ghost use Rattle.iss_keep.specs.Internal.Keeping.{entry_kept, released};
 ghost use Rattle.iss_node.specs.declared.answers.Answer.TheVariants.{Taken as Node_taken};
 ghost use Rattle.iss_node.specs.declared.answers.Outcome.{Outcome};
 
@@ -83,15 +78,8 @@ fn append_entry<D: Disk>(
     entry: Entry,
     entered: &mut Option<Bytes>,
 ) -> Result<(), EndError>
-    requires attached { is_attached journal.old ≡ true }
-    requires short { length (entry_kept entered.old (entry.kind ∷ entry.content)) ≤ max_entry }
-    ensures written { (outcome : Outcome) →
-        IsWritten (entries_of journal.old) (entry_kept entered.new (entry.kind ∷ entry.content))
-        (D.state (disk_of journal.old))
-        (D.state (disk_of journal.new)) (entries_of journal.new)
-        (released (Node_taken outcome) result) }
-    ensures same { (IsErrOf result EndError.NoMemory → ⊥) → entered.new ≡ entered.old }
-    ensures attached { OnOk result (is_attached journal.new ≡ true) }
+    requires { MayAppend journal.old (entry_kept entered.old (entry.kind ∷ entry.content)) }
+    ensures { HasAppended D.state (entry.kind ∷ entry.content) entered.old entered.new journal.old journal.new result }
 {
     let Ok(snapshot) = share(entered) else {
         return Err(EndError::NoMemory);
@@ -113,19 +101,12 @@ fn append_or_retreat<M: Sequenced, D: Disk>(
     entered: &mut Option<Bytes>,
     savepoint: (usize, Epoch),
 ) -> Result<(), EndError>
-    requires attached { is_attached journal.old ≡ true }
-    requires short { length (entry_kept entered.old (entry.kind ∷ entry.content)) ≤ max_entry }
-    requires slots { savepoint.0 ≤ length node.old.state.log.entries }
-    requires epoch { savepoint.1.0 ≤ node.old.state.epoch }
-    ensures written { (outcome : Outcome) →
-        IsWritten (entries_of journal.old) (entry_kept entered.new (entry.kind ∷ entry.content))
-        (D.state (disk_of journal.old))
-        (D.state (disk_of journal.new)) (entries_of journal.new)
-        (released (Node_taken outcome) result) }
-    ensures same { (IsErrOf result EndError.NoMemory → ⊥) → entered.new ≡ entered.old }
+    requires append { MayAppend journal.old (entry_kept entered.old (entry.kind ∷ entry.content)) }
+    requires retreat { MayRetreat savepoint.0 savepoint.1.0 node.old }
+    ensures appended { HasAppended D.state (entry.kind ∷ entry.content) entered.old entered.new journal.old journal.new
+        result }
     ensures ended { (outcome : Outcome) →
         HasEnded outcome savepoint.0 savepoint.1.0 node.old node.new (released (Node_taken outcome) result) }
-    ensures attached { OnOk result (is_attached journal.new ≡ true) }
 {
     match append_entry(journal, entry, entered) {
         Ok(()) => Ok(()),
@@ -152,18 +133,9 @@ fn apply_then_append<M: Sequenced, D: Disk>(
     entry: Entry,
     made: &mut NodeAnswer,
 ) -> Result<(), EndError>
-    requires good { IsSetupOf M.spec node.old.state.setup }
-    requires refines { (c : Core M.Msg) × RefinesCore M.spec M.refines node.old c }
-    requires attached { is_attached journal.old ≡ true }
+    requires step { MayStep M.spec M.refines node.old journal.old }
     requires entry { entry.kind ∷ entry.content ≡ spell_event event }
-    ensures written { IsWritten (entries_of journal.old) (entry_made made.new (entry.kind ∷ entry.content))
-        (D.state (disk_of journal.old))
-        (D.state (disk_of journal.new)) (entries_of journal.new)
-        (released made.new result) }
-    ensures stepped { HasStepped M.spec M.refines event node.old node.new
-        (entry_made made.new (entry.kind ∷ entry.content)) (released made.new result) }
-    ensures attached { makes_stale (released made.new result) ≡ false → is_attached journal.new ≡ true }
-    ensures same { (node.new.state.setup ≡ node.old.state.setup) × (node.new.state.me ≡ node.old.state.me) }
+    ensures { HasJournaled D.state M.spec M.refines event node.old node.new journal.old journal.new made.new result }
 {
     let slots = node.log().entries().len();
     let epoch = node.epoch();
@@ -189,17 +161,8 @@ pub(crate) fn journal_and_apply<M: Sequenced, D: Disk>(
     event: NodeEvent,
     made: &mut NodeAnswer,
 ) -> Result<(), EndError>
-    requires good { IsSetupOf M.spec node.old.state.setup }
-    requires refines { (c : Core M.Msg) × RefinesCore M.spec M.refines node.old c }
-    requires attached { is_attached journal.old ≡ true }
-    ensures written { IsWritten (entries_of journal.old) (entry_made made.new (spell_event event))
-        (D.state (disk_of journal.old))
-        (D.state (disk_of journal.new)) (entries_of journal.new)
-        (released made.new result) }
-    ensures stepped { HasStepped M.spec M.refines event node.old node.new (entry_made made.new (spell_event event))
-        (released made.new result) }
-    ensures attached { makes_stale (released made.new result) ≡ false → is_attached journal.new ≡ true }
-    ensures same { (node.new.state.setup ≡ node.old.state.setup) × (node.new.state.me ≡ node.old.state.me) }
+    requires { MayStep M.spec M.refines node.old journal.old }
+    ensures { HasJournaled D.state M.spec M.refines event node.old node.new journal.old journal.new made.new result }
 {
     let Ok(entry) = entry_of(alloc, &event) else {
         return Err(EndError::NoMemory);

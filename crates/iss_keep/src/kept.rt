@@ -1,16 +1,13 @@
 //! A kept node: a replica with a journal of its events.
-ghost use Rattle.std.specs.Prelude.{◌≡◌, ◌<◌, ◌≤◌, ◌↔◌, ℕ, [], List, Some, true, false, not, take, is_ok, length, IfOk, OnOk, OnErr, IsErrOf};
-ghost use Rattle.iss_disk.specs.Calls.{Restarts, Stays, script, up_to};
-ghost use Rattle.iss_keep.specs.Cores.{core_of, step_of, stored_after};
-ghost use Rattle.iss_keep.specs.State.{KeptRefinesCore, RefinesStored, stored_as};
-ghost use Rattle.iss_keep.specs.Steps.{IsAnswer, IsAttached, IsDamaged, IsJournaled, IsLeft, IsSame, LosesNone, ShowsAsBefore};
-ghost use Rattle.iss_keep.specs.Steps.{makes_stale, sight};
-ghost use Rattle.iss_model.specs.Node.{Core};
+ghost use Rattle.std.specs.Prelude.{◌≡◌, ◌<◌, ◌≤◌, ◌↔◌, true, not, is_ok, length, IfOk, OnOk, OnErr, IsErrOf};
+ghost use Rattle.iss_disk.specs.Calls.{IsFused, IsRestarted};
+ghost use Rattle.iss_journal.specs.Frames.{version_1};
+ghost use Rattle.iss_journal.specs.Promises.{LosesNone};
+ghost use Rattle.iss_keep.specs.State.{IsUnopened};
+ghost use Rattle.iss_keep.specs.Steps.{AnswersEvent, HasRetreated, IsJournaled, IsReopened, IsSame, IsSameNode, OnlyDisk};
+ghost use Rattle.iss_keep.specs.Steps.{Refuses, ShowsAsBefore, StoresEvent, makes_stale};
 ghost use Rattle.iss_rules.specs.Setups.{IsSetupOf};
 ghost use Rattle.iss_node.specs.State.{IsMember};
-ghost use Rattle.iss_node.specs.Steps.{IsOfNodes};
-ghost use Rattle.iss_rebuilt.specs.Reading.{Rebuilt};
-ghost use Rattle.iss_rebuilt.specs.Stored.{Stored};
 
 use crate::answers::{Answer, makes_stale, release};
 use crate::fresh::Fresh;
@@ -46,7 +43,7 @@ impl<M: Sequenced, D: Disk> Model for Kept<M, D> {
 
     ghost view = { λ v. state_over v.setup v.me v.node v.journal v.stale };
 
-    ghost invariant = { λ v. IsKept M.spec M.refines (D.state D.room).history v.directory v.journal
+    ghost invariant = { λ v. IsKept M.spec M.refines D.state v.directory v.journal
         (state_over v.setup v.me v.node v.journal v.stale) };
 }
 
@@ -61,10 +58,7 @@ impl<M: Sequenced, D: Disk + Drop> Kept<M, D> {
         disk: D,
     ) -> Result<Kept<M, D>, NoMemory>
         requires { IsMember M.spec setup.now directory.now me.0 }
-        ensures same { IfOk result (λ v. (v.setup ≡ setup.now) × (v.me ≡ me)) }
-        ensures stale { IfOk result (λ v. v.stale ≡ true) }
-        ensures journal { IfOk result (λ v. (v.disk ≡ disk) × (v.entries ≡ [])) }
-        ensures shown { IfOk result (λ v. (v.node.state.log.entries ≡ []) × (v.node.state.epoch ≡ 0)) }
+        ensures { IfOk result (IsUnopened setup.now me disk) }
     {
         let fresh = Fresh::start(alloc, setup, directory, me)?;
         Ok(Kept::of(fresh, disk))
@@ -74,10 +68,7 @@ impl<M: Sequenced, D: Disk + Drop> Kept<M, D> {
 impl<M: Sequenced, D: Disk> Kept<M, D> {
     /// A fresh node as a kept one, as `over` makes it.
     pub fn of(fresh: Fresh<M>, disk: D) -> Kept<M, D>
-        ensures same { (result.setup ≡ fresh.setup) × (result.me ≡ fresh.me) }
-        ensures stale { result.stale ≡ true }
-        ensures journal { (result.disk ≡ disk) × (result.entries ≡ []) }
-        ensures shown { (result.node.state.log.entries ≡ []) × (result.node.state.epoch ≡ 0) }
+        ensures { IsUnopened fresh.setup fresh.me disk result }
     {
         let Fresh {
             alloc,
@@ -103,18 +94,12 @@ impl<M: Sequenced, D: Disk> Kept<M, D> {
     /// its peer does not exist, `reopen` will report its entry as damage, until a snapshot takes its place.
     // rule: Persistence: A stale node takes nothing and shows the log and epoch from before
     pub fn take(&mut self, event: NodeEvent) -> Answer
-        ensures answer { (c : Core M.Msg) → KeptRefinesCore M.spec M.refines self.old c → IsAnswer M.spec M.refines
-            (IsOfNodes self.old.setup.n event) c (step_of self.old.setup M.spec self.old.me.0 c event)
-            self.new result }
-        ensures stored { (st : Stored M.Msg) → RefinesStored M.spec M.refines self.old st → self.new.stale ≡ false →
-            RefinesStored M.spec M.refines self.new (stored_after self.old.setup M.spec self.old.me.0 st event) }
+        ensures answer { AnswersEvent M.spec M.refines event self.old self.new result }
+        ensures stored { StoresEvent M.spec M.refines event self.old self.new }
         ensures refused { (result ≡ Answer.Stale) ↔ (self.old.stale ≡ true) }
         ensures stale { self.new.stale ≡ makes_stale result }
-        ensures written { IsJournaled M.spec M.refines self.old event
-            (D.state self.old.disk)
-            (D.state self.new.disk) self.new.entries result }
-        ensures shown { self.new.stale ≡ true → ShowsAsBefore self.old self.new }
-        ensures same { IsSame self.old self.new }
+        ensures written { IsJournaled D.state M.spec M.refines event self.old self.new result }
+        ensures node { IsSameNode self.old self.new }
     {
         if self.stale {
             return Answer::Stale;
@@ -137,17 +122,10 @@ impl<M: Sequenced, D: Disk> Kept<M, D> {
     /// takes it for a new one. `Failed` only if the disk failed.
     pub fn reopen(&mut self) -> Result<(), AttachError>
         ensures stale { self.new.stale ≡ not (is_ok result) }
-        ensures core { OnOk result ((found : Rebuilt M.Msg)
-            × (core_of self.new.setup M.spec self.new.me.0 self.new.entries ≡ Some found)
-            × RefinesStored M.spec M.refines self.new (stored_as self.new.entries found)) }
-        ensures attached { OnOk result (IsAttached (D.state self.old.disk)
-            (D.state self.new.disk) self.new.entries) }
-        ensures damaged { (at : ℕ) → IsErrOf result (AttachError.Damaged at) →
-            IsDamaged self.old.setup M.spec self.old.me.0 self.new.entries (D.state self.old.disk).history at }
-        ensures left { (at : ℕ) → IsErrOf result (AttachError.Damaged at) →
-            IsLeft self.new.entries (D.state self.old.disk).history (D.state self.new.disk).history at }
-        ensures loses { LosesNone (D.state self.old.disk)
-            (D.state self.new.disk) (IsErrOf result AttachError.Failed) }
+        ensures reopened { OnOk result (IsReopened D.state M.spec M.refines self.old self.new) }
+        ensures refused { Refuses D.state M.spec self.old self.new result }
+        ensures loses { LosesNone version_1 (IsErrOf result AttachError.Failed) (D.state self.old.disk)
+            (D.state self.new.disk) }
         ensures shown { OnErr result (ShowsAsBefore self.old self.new) }
         ensures same { IsSame self.old self.new }
     {
@@ -204,11 +182,7 @@ impl<M: Sequenced, D: Disk> Kept<M, D> {
     pub fn retreat(&mut self, slots: usize, epoch: Epoch)
         requires slots { slots ≤ length self.old.node.state.log.entries }
         requires epoch { epoch.0 ≤ self.old.node.state.epoch }
-        ensures stale { self.new.stale ≡ true }
-        ensures log { self.new.node.state.log.entries ≡ take slots self.old.node.state.log.entries }
-        ensures epoch { self.new.node.state.epoch ≡ epoch.0 }
-        ensures journal { (self.new.disk ≡ self.old.disk) × (self.new.entries ≡ self.old.entries) }
-        ensures same { IsSame self.old self.new }
+        ensures { HasRetreated self.old self.new slots epoch.0 }
     {
         self.stale = true;
         self.node.retreat(slots, epoch);
@@ -218,14 +192,9 @@ impl<M: Sequenced, D: Disk> Kept<M, D> {
 impl<M: Sequenced, D: Fused> Kept<M, D> {
     /// Lets the next `calls` calls of the disk succeed. All later ones fail.
     pub fn fuse(&mut self, calls: u64)
-        ensures passes { (D.state self.new.disk).passes ≡ up_to calls }
-        ensures node { self.new.node ≡ self.old.node }
-        ensures entries { self.new.entries ≡ self.old.entries }
+        ensures disk { IsFused calls (D.state self.old.disk) (D.state self.new.disk) }
+        ensures only { OnlyDisk self.old self.new }
         ensures stale { self.new.stale ≡ self.old.stale }
-        ensures files { Stays (D.state self.old.disk).current (D.state self.new.disk).current
-            (D.state self.old.disk).files (D.state self.new.disk).files }
-        ensures faults { (D.state self.new.disk).faults ≡ (D.state self.old.disk).faults }
-        ensures same { IsSame self.old self.new }
     {
         self.journal.fuse(calls);
     }
@@ -233,14 +202,9 @@ impl<M: Sequenced, D: Fused> Kept<M, D> {
     /// Simulates a crash: the disk keeps only what was synced, and its calls succeed again. The node has to be
     /// reopened.
     pub fn restart(&mut self)
-        ensures files { (name : List ℕ) → Restarts ((D.state self.old.disk).files name) ((D.state self.new.disk).files name) }
-        ensures current { (D.state self.new.disk).current ≡ (D.state self.old.disk).current }
-        ensures passes { (D.state self.new.disk).passes ≡ script [] }
-        ensures faults { (D.state self.new.disk).faults ≡ (D.state self.old.disk).faults }
-        ensures node { self.new.node ≡ self.old.node }
-        ensures entries { self.new.entries ≡ self.old.entries }
+        ensures disk { IsRestarted (D.state self.old.disk) (D.state self.new.disk) }
+        ensures only { OnlyDisk self.old self.new }
         ensures stale { self.new.stale ≡ true }
-        ensures same { IsSame self.old self.new }
     {
         self.stale = true;
         self.journal.restart();

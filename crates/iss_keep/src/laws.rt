@@ -1,19 +1,16 @@
 //! What holds for a node over all crashes and restarts. Each law is a call without a body; the caller gets its
 //! `ensures`.
-ghost use Rattle.std.specs.Prelude.{◌≡◌, ◌⊎◌, ◌∷◌, ◌++◌, ◌<◌, ◌^◌, ℕ, List, reverse};
+ghost use Rattle.std.specs.Prelude.{◌≡◌, ◌++◌, ℕ, List, reverse};
 ghost use Rattle.iss_base.specs.Lists.{Extends};
-ghost use Rattle.iss_journal.specs.Frames.{version_1};
-ghost use Rattle.iss_journal.specs.Promises.{Shows, ShowsWithOrWithout};
-ghost use Rattle.iss_keep.specs.Cores.{shown_of, step_of, stored_of};
+ghost use Rattle.iss_keep.specs.Cores.{stored_of};
 ghost use Rattle.iss_keep.specs.Internal.Makings.{AreApart, makings_from, makings_of};
-ghost use Rattle.iss_keep.specs.Recovery.{AreNamed, Recovers};
+ghost use Rattle.iss_keep.specs.Recovery.{AddsDeed, OfEachHistory, RecoversAll, RecoversOneOfTwo, deeds_of};
 ghost use Rattle.iss_model.specs.Courses.{core_of as core_after};
 ghost use Rattle.iss_model.specs.Frames.{frame_of};
-ghost use Rattle.iss_model.specs.Node.{Taken, Turn};
 ghost use Rattle.iss_rules.specs.Concrete.{rules_of};
 ghost use Rattle.iss_rules.specs.Formats.{formats_of};
 ghost use Rattle.iss_rules.specs.Setups.{IsSetupOf};
-ghost use Rattle.iss_theorems.specs.Leaves.{SignsOnceEach, core_behind, life_of};
+ghost use Rattle.iss_theorems.specs.Leaves.{SignsOnceEach, core_behind};
 ghost use Rattle.iss_rules.specs.declared.events.NodeEvent.{NodeEvent};
 ghost use Rattle.iss_request.specs.declared.setups.Setup.{Setup};
 
@@ -24,9 +21,7 @@ use iss_theorems::leaves_sign_once;
 
 /// What a replica stored leads back to it, though the journal shows of it only what stays.
 pub fn a_journal_recovers<M: Sequenced>()
-    ensures { (s : Setup) → IsSetupOf M.spec s → (me : ℕ) → me < s.n → (events : List NodeEvent) →
-        AreNamed s.n events → (stored_of s M.spec me events).core.past.epoch < 2 ^ 64 →
-        Recovers s M.spec me (shown_of (stored_of s M.spec me events)) (stored_of s M.spec me events) }
+    ensures { OfEachHistory M.spec (RecoversAll M.spec) }
 {
     journals_recover::<M>();
 }
@@ -34,14 +29,7 @@ pub fn a_journal_recovers<M: Sequenced>()
 /// A crash while an event is journaled recovers the core from before the event or the core after it. `bytes` is any
 /// crash image that `Kept::take` allows (`Writes`); `reopen` reads the entries in it.
 pub fn a_crash_leaves_one_of_two<M: Sequenced>()
-    ensures { (s : Setup) → IsSetupOf M.spec s → (me : ℕ) → me < s.n → (events : List NodeEvent) (event : NodeEvent) →
-        AreNamed s.n (event ∷ events) → (stored_of s M.spec me (event ∷ events)).core.past.epoch < 2 ^ 64 →
-        (entry bytes : List ℕ) (found : List (List ℕ)) →
-        (stored_of s M.spec me (event ∷ events)).entries ≡ entry ∷ (stored_of s M.spec me events).entries →
-        ShowsWithOrWithout version_1 (shown_of (stored_of s M.spec me events)) entry bytes →
-        Shows version_1 found bytes →
-        Recovers s M.spec me found (stored_of s M.spec me events)
-        ⊎ Recovers s M.spec me found (stored_of s M.spec me (event ∷ events)) }
+    ensures { OfEachHistory M.spec (RecoversOneOfTwo M.spec) }
 {
     a_file_has_one_reading();
     journals_recover::<M>();
@@ -64,15 +52,12 @@ pub fn leaves_are_of_one_entry<M: Sequenced>()
 // rule: Signatures: A node signs at most one statement with each leaf
 pub fn leaves_are_of_one_statement<M: Sequenced>()
     ensures signs { (s : Setup) → IsSetupOf M.spec s → (me : ℕ) (events : List NodeEvent) →
-        SignsOnceEach (frame_of s M.spec) me (life_of (frame_of s M.spec) me events) }
+        SignsOnceEach (frame_of s M.spec) me (deeds_of s M.spec me events) }
     ensures core { (s : Setup) (me : ℕ) (events : List NodeEvent) →
-        core_behind (life_of (frame_of s M.spec) me events) ≡ (stored_of s M.spec me events).core }
-    ensures taken { (s : Setup) (me : ℕ) (events : List NodeEvent) (event : NodeEvent) (t : Turn M.Msg) →
-        step_of s M.spec me (stored_of s M.spec me events).core event ≡ Taken t →
-        life_of (frame_of s M.spec) me (event ∷ events)
-        ≡ record { event = event; turn = t } ∷ life_of (frame_of s M.spec) me events }
+        core_behind (deeds_of s M.spec me events) ≡ (stored_of s M.spec me events).core }
+    ensures taken { (s : Setup) (me : ℕ) (events : List NodeEvent) → AddsDeed s M.spec me events }
     ensures again { (s : Setup) (me : ℕ) (events more : List NodeEvent) →
-        Extends (life_of (frame_of s M.spec) me events) (life_of (frame_of s M.spec) me (more ++ events)) }
+        Extends (deeds_of s M.spec me events) (deeds_of s M.spec me (more ++ events)) }
 {
     leaves_sign_once::<M>();
 }

@@ -1,16 +1,13 @@
 // Recovery: a node is rebuilt from the snapshots of its journal, and replays the events behind them.
-ghost use Rattle.std.specs.Prelude.{◌≡◌, ◌<◌, ℕ, [], Some, true, get_or, length, slice_index_or, take, IfOk, IfSome, IsErrOf, OnOk};
+ghost use Rattle.std.specs.Prelude.{◌≡◌, ◌<◌, [], get_or, length, slice_index_or, take, IfOk, IsErrOf};
+ghost use Rattle.iss_journal.specs.Frames.{version_1};
+ghost use Rattle.iss_journal.specs.Promises.{LosesNone};
 ghost use Rattle.iss_journal.specs.Retained.{is_snapshot, retained};
 ghost use Rattle.iss_journal.specs.SharedViews.{shared_in};
-ghost use Rattle.iss_journal.specs.Sound.{IsSound, disk_of, entries_of, gates_of, is_attached};
-ghost use Rattle.iss_keep.specs.Cores.{StopsAt};
-ghost use Rattle.iss_keep.specs.Internal.Replays.{AreInFront, GoesTo, IsFound, IsOf, IsReplayed};
-ghost use Rattle.iss_keep.specs.Steps.{IsAttached, IsDamaged, IsLeft, LosesNone, sight};
+ghost use Rattle.iss_keep.specs.Internal.Replays.{AreInFront, HasReadOn, HasReplayed, IsBackAt, IsInFront, IsOf};
+ghost use Rattle.iss_keep.specs.Internal.Replays.{IsOpening, IsRecovery};
 ghost use Rattle.iss_model.specs.Node.{initial_core};
-ghost use Rattle.iss_model.specs.Frames.{frame_of};
-ghost use Rattle.iss_node.specs.Rebuilding.{IsReadOn, RefinesRebuilt};
 ghost use Rattle.iss_node.specs.State.{IsMember, RefinesCore};
-ghost use Rattle.iss_rebuilt.specs.Reading.{Rebuilt, reads_entry};
 
 use crate::entries::decode_entry;
 use iss_disk::Disk;
@@ -62,8 +59,8 @@ fn snapshots_in_front(alloc: Global, entries: &SharedEntries) -> Result<usize, N
 
 // That entry `k` leads nowhere.
 fn damage_at<D: Disk>(journal: &Journal<D>, k: usize) -> AttachError
-    requires { k < length (entries_of journal.now) }
-    ensures { result ≡ AttachError.Damaged (get_or (gates_of journal.now) k 0) }
+    requires { k < length journal.now.entries }
+    ensures { result ≡ AttachError.Damaged (get_or journal.now.gates k 0) }
 {
     AttachError::Damaged {
         at: journal.gate_of(k),
@@ -77,12 +74,8 @@ fn read_at<M: Sequenced>(
     entries: &SharedEntries,
     k: usize,
 ) -> Result<Option<Rebuilding<M>>, NoMemory>
-    requires k { k < length (shared_in entries.now) }
-    ensures read { IfOk result (λ next. (r : Rebuilt M.Msg) → RefinesRebuilt M.spec M.refines rebuilding r →
-        IsReadOn M.spec M.refines (reads_entry (frame_of rebuilding.state.setup M.spec) rebuilding.state.me.0 (Some r)
-        (slice_index_or (shared_in entries.now) k [])) next) }
-    ensures same { IfOk result (λ next. IfSome next
-        (λ v. (v.state.setup ≡ rebuilding.state.setup) × (v.state.me ≡ rebuilding.state.me))) }
+    requires { k < length (shared_in entries.now) }
+    ensures { IfOk result (HasReadOn M.spec M.refines (slice_index_or (shared_in entries.now) k []) rebuilding) }
 {
     let entry = entries.get(alloc, k)?;
     rebuilding.read(&entry)
@@ -99,12 +92,9 @@ fn rebuild<M: Sequenced, D: Disk>(
     front: usize,
 ) -> Result<Node<M>, AttachError>
     requires member { IsMember M.spec setup.now directory.now me.0 }
-    requires front { AreInFront (entries_of journal.now) front }
-    ensures refines { IfOk result (IsReplayed setup.now M.spec M.refines me.0 (take front (entries_of journal.now))) }
-    ensures same { IfOk result (IsOf setup.now me) }
-    ensures damaged { (at : ℕ) → IsErrOf result (AttachError.Damaged at) →
-        StopsAt setup.now M.spec me.0 at (entries_of journal.now) (gates_of journal.now) }
-    ensures sound { IsErrOf result AttachError.Failed → ⊥ }
+    requires front { AreInFront journal.now.entries front }
+    ensures { IsRecovery (IsBackAt setup.now M.spec M.refines me (take front journal.now.entries))
+        setup.now M.spec me.0 journal.now result }
 {
     let Ok(mut rebuilding) = Rebuilding::<M>::start(alloc, setup, directory, me) else {
         return Err(AttachError::NoMemory);
@@ -133,9 +123,7 @@ fn replay_entry<M: Sequenced>(
     entry: &[u8],
 ) -> Result<bool, NoMemory>
     requires { n ≡ node.old.state.setup.n }
-    ensures goes { IfOk result (λ taken. (found : Rebuilt M.Msg) → IsFound M.spec M.refines node.old found →
-        GoesTo node.old.state.setup M.spec M.refines node.old.state.me.0 found entry.now node.new taken) }
-    ensures same { (node.new.state.setup ≡ node.old.state.setup) × (node.new.state.me ≡ node.old.state.me) }
+    ensures { HasReplayed M.spec M.refines entry.now node.old node.new result }
 {
     let Some(event) = decode_entry(alloc, n, entry)? else {
         return Ok(false);
@@ -158,10 +146,7 @@ fn replay_at<M: Sequenced>(
 ) -> Result<bool, NoMemory>
     requires n { n ≡ node.old.state.setup.n }
     requires k { k < length (shared_in entries.now) }
-    ensures goes { IfOk result (λ taken. (found : Rebuilt M.Msg) → IsFound M.spec M.refines node.old found →
-        GoesTo node.old.state.setup M.spec M.refines node.old.state.me.0 found
-        (slice_index_or (shared_in entries.now) k []) node.new taken) }
-    ensures same { (node.new.state.setup ≡ node.old.state.setup) × (node.new.state.me ≡ node.old.state.me) }
+    ensures { HasReplayed M.spec M.refines (slice_index_or (shared_in entries.now) k []) node.old node.new result }
 {
     let entry = entries.get(alloc, k)?;
     replay_entry(alloc, n, node, &entry)
@@ -176,17 +161,11 @@ fn replay_behind<M: Sequenced, D: Disk>(
     journal: &Journal<D>,
     front: usize,
 ) -> Result<(), AttachError>
-    requires front { AreInFront (entries_of journal.now) front }
-    requires cluster { node.old.state.setup ≡ setup.now }
-    requires begun { IsReplayed setup.now M.spec M.refines node.old.state.me.0
-        (take front (entries_of journal.now)) node.old }
-    requires stay { retained (entries_of journal.now) ≡ entries_of journal.now }
-    ensures refines { OnOk result (IsReplayed setup.now M.spec M.refines node.old.state.me.0
-        (entries_of journal.now) node.new) }
+    requires { IsInFront setup.now M.spec M.refines journal.now.entries front node.old }
+    ensures recovered { IsRecovery
+        (λ done. IsBackAt setup.now M.spec M.refines node.old.state.me journal.now.entries node.new)
+        setup.now M.spec node.old.state.me.0 journal.now result }
     ensures same { IsOf setup.now node.old.state.me node.new }
-    ensures damaged { (at : ℕ) → IsErrOf result (AttachError.Damaged at) →
-        StopsAt setup.now M.spec node.old.state.me.0 at (entries_of journal.now) (gates_of journal.now) }
-    ensures sound { IsErrOf result AttachError.Failed → ⊥ }
 {
     let entries = journal.entries();
     for k in front..entries.len() {
@@ -214,12 +193,9 @@ fn recover<M: Sequenced, D: Disk>(
     journal: &Journal<D>,
 ) -> Result<Node<M>, AttachError>
     requires member { IsMember M.spec setup.now directory.now me.0 }
-    requires stay { retained (entries_of journal.now) ≡ entries_of journal.now }
-    ensures refines { IfOk result (IsReplayed setup.now M.spec M.refines me.0 (entries_of journal.now)) }
-    ensures same { IfOk result (IsOf setup.now me) }
-    ensures damaged { (at : ℕ) → IsErrOf result (AttachError.Damaged at) →
-        StopsAt setup.now M.spec me.0 at (entries_of journal.now) (gates_of journal.now) }
-    ensures sound { IsErrOf result AttachError.Failed → ⊥ }
+    requires stay { retained journal.now.entries ≡ journal.now.entries }
+    ensures { IsRecovery (IsBackAt setup.now M.spec M.refines me journal.now.entries)
+        setup.now M.spec me.0 journal.now result }
 {
     let Ok(front) = snapshots_in_front(alloc, journal.entries()) else {
         return Err(AttachError::NoMemory);
@@ -239,20 +215,9 @@ pub(crate) fn open<M: Sequenced, D: Disk>(
     journal: &mut Journal<D>,
 ) -> Result<Node<M>, AttachError>
     requires member { IsMember M.spec setup.now directory.now me.0 }
-    ensures refines { IfOk result (IsReplayed setup.now M.spec M.refines me.0 (entries_of journal.new)) }
-    ensures stay { OnOk result (retained (entries_of journal.new) ≡ entries_of journal.new) }
-    ensures same { IfOk result (IsOf setup.now me) }
-    ensures attached { OnOk result
-        (IsAttached (D.state (disk_of journal.old))
-        (D.state (disk_of journal.new)) (entries_of journal.new)) }
-    ensures is_attached { OnOk result (is_attached journal.new ≡ true) }
-    ensures damaged { (at : ℕ) → IsErrOf result (AttachError.Damaged at) →
-        IsDamaged setup.now M.spec me.0 (entries_of journal.new) (D.state (disk_of journal.old)).history at }
-    ensures left { (at : ℕ) → IsErrOf result (AttachError.Damaged at) →
-        IsLeft (entries_of journal.new) (D.state (disk_of journal.old)).history (D.state (disk_of journal.new)).history at }
-    ensures loses { LosesNone (D.state (disk_of journal.old))
-        (D.state (disk_of journal.new))
-        (IsErrOf result AttachError.Failed) }
+    ensures opened { IsOpening D.state setup.now M.spec M.refines me journal.old journal.new result }
+    ensures loses { LosesNone version_1 (IsErrOf result AttachError.Failed) (D.state journal.old.disk)
+        (D.state journal.new.disk) }
 {
     match journal.attach() {
         Ok(()) => recover(alloc, setup, directory, me, journal),

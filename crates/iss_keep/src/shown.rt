@@ -1,6 +1,7 @@
 //! What a kept node reports of its core. A stale node shows its log and epoch, and nothing else.
-ghost use Rattle.std.specs.Prelude.{◌≡◌, ℕ, [], IfOk, None, map, option_map, reverse, false, true};
+ghost use Rattle.std.specs.Prelude.{◌≡◌, ℕ, [], IfOk, None, map, option_map, reverse, false};
 ghost use Rattle.iss_keep.specs.State.{KeptRefinesCore};
+ghost use Rattle.iss_keep.specs.Steps.{Reports};
 ghost use Rattle.iss_rules.specs.Concrete.{rules_of};
 ghost use Rattle.iss_rules.specs.Formats.{formats_of};
 ghost use Rattle.iss_model.specs.Node.{Core};
@@ -39,9 +40,8 @@ impl<M: Sequenced, D: Disk> Kept<M, D> {
 
     /// The certificate of an epoch. None if the node keeps none, and while it is stale.
     pub fn cert_at(&self, epoch: Epoch) -> Option<&Cert>
-        ensures is { (c : Core M.Msg) → KeptRefinesCore M.spec M.refines self.now c →
-            option_map (λ c. c.now) result ≡ cert_on c.certs epoch.0 }
-        ensures stale { self.now.stale ≡ true → result ≡ None }
+        ensures { Reports M.spec M.refines self.now
+            (λ c. option_map (λ cert. cert.now) result ≡ cert_on c.certs epoch.0) (result ≡ None) }
     {
         if self.stale {
             return None;
@@ -52,10 +52,9 @@ impl<M: Sequenced, D: Disk> Kept<M, D> {
     /// The signatures that a packet claims, if it is a message of the node's current epoch for a leader of that epoch.
     /// None while the node is stale.
     pub fn claims_of(&self, bytes: &Bytes) -> Result<Seq<Claim>, NoMemory>
-        ensures is { IfOk result (λ claims. (c : Core M.Msg) → KeptRefinesCore M.spec M.refines self.now c →
-            claims ≡ claims_of_bytes (formats_of self.now.setup M.spec)
-            (rules_of self.now.setup) M.spec self.now.me.0 c bytes.now) }
-        ensures stale { self.now.stale ≡ true → IfOk result (λ claims. claims ≡ []) }
+        ensures { IfOk result (λ claims. Reports M.spec M.refines self.now
+            (λ c. claims ≡ claims_of_bytes (formats_of self.now.setup M.spec) (rules_of self.now.setup) M.spec
+            self.now.me.0 c bytes.now) (claims ≡ [])) }
     {
         if self.stale {
             return Ok(Seq::of(Vec::new(self.alloc)));
@@ -65,9 +64,8 @@ impl<M: Sequenced, D: Disk> Kept<M, D> {
 
     /// The batches that the instances of the current epoch accepted, oldest first. None while the node is stale.
     pub fn accepted(&self) -> &[Accepted]
-        ensures is { (c : Core M.Msg) (l : ℕ) → KeptRefinesCore M.spec M.refines self.now c →
-            reverse (accepted_of l result.now) ≡ accepted_by c l }
-        ensures stale { self.now.stale ≡ true → result.now ≡ [] }
+        ensures { Reports M.spec M.refines self.now
+            (λ c. (l : ℕ) → reverse (accepted_of l result.now) ≡ accepted_by c l) (result.now ≡ []) }
     {
         if self.stale {
             return &[];
@@ -77,9 +75,8 @@ impl<M: Sequenced, D: Disk> Kept<M, D> {
 
     /// The identities of waiting requests in order of arrival, and the batches in flight. None while the node is stale.
     pub fn unordered(&self) -> Result<(Seq<ReqId>, &[(Slot, Batch)]), NoMemory>
-        ensures is { IfOk result (λ both. (c : Core M.Msg) → KeptRefinesCore M.spec M.refines self.now c →
-            (both.0 ≡ ids c.waiting) × (both.1.now ≡ c.flight)) }
-        ensures stale { self.now.stale ≡ true → IfOk result (λ both. (both.0 ≡ []) × (both.1.now ≡ [])) }
+        ensures { IfOk result (λ both. Reports M.spec M.refines self.now
+            (λ c. (both.0 ≡ ids c.waiting) × (both.1.now ≡ c.flight)) ((both.0 ≡ []) × (both.1.now ≡ []))) }
     {
         if self.stale {
             return Ok((Seq::of(Vec::new(self.alloc)), &[]));
@@ -89,18 +86,17 @@ impl<M: Sequenced, D: Disk> Kept<M, D> {
 
     /// Whether a proposal would find a free slot. While the node is stale it would not.
     pub fn castable(&self) -> bool
-        ensures is { (c : Core M.Msg) → KeptRefinesCore M.spec M.refines self.now c →
-            result ≡ is_castable_now (rules_of self.now.setup) M.spec self.now.me.0 c }
-        ensures stale { self.now.stale ≡ true → result ≡ false }
+        ensures { Reports M.spec M.refines self.now
+            (λ c. result ≡ is_castable_now (rules_of self.now.setup) M.spec self.now.me.0 c) (result ≡ false) }
     {
         !self.stale && self.node.castable()
     }
 
     /// The leaders whose segments are not yet filled, ascending. None while the node is stale.
     pub fn unfilled(&self) -> Result<Seq<NodeId>, NoMemory>
-        ensures is { IfOk result (λ leaders. (c : Core M.Msg) → KeptRefinesCore M.spec M.refines self.now c →
-            map (λ l. l.0) leaders ≡ unfilled (rules_of self.now.setup) M.spec self.now.setup.n self.now.me.0 c.past) }
-        ensures stale { self.now.stale ≡ true → IfOk result (λ leaders. leaders ≡ []) }
+        ensures { IfOk result (λ leaders. Reports M.spec M.refines self.now
+            (λ c. map (λ l. l.0) leaders
+            ≡ unfilled (rules_of self.now.setup) M.spec self.now.setup.n self.now.me.0 c.past) (leaders ≡ [])) }
     {
         if self.stale {
             return Ok(Seq::of(Vec::new(self.alloc)));

@@ -1,12 +1,16 @@
 -- What the two halves of a journaled event leave: the step of the node, and the append of its entry. The step's
 -- outcome is handed out only with its entry; else the node retreats to the log and epoch from before.
-use Rattle.std.specs.Prelude.{◌≡◌, ℕ, List, Option, None, Some, Result, Ok, Err}
+use Rattle.std.specs.Prelude.{◌≡◌, ℕ, ◌≤◌, true, false, List, length, Option, None, Some, Result, Ok, Err, OnOk, IsErrOf}
+use Rattle.iss_disk.specs.Calls.{Device}
 use Rattle.iss_disk.specs.declared.errors.EndError.{EndError}
 use Rattle.iss_disk.specs.declared.errors.EndError.TheVariants.{Failed as Disk_failed, NoMemory as Disk_no_memory}
+use Rattle.iss_journal.specs.Frames.{max_entry}
+use Rattle.iss_journal.specs.Sound.{JournalState}
 use Rattle.iss_rules.specs.Concrete.{rules_of}
 use Rattle.iss_rules.specs.Formats.{formats_of}
 use Rattle.iss_model.specs.Frames.{frame_of, step_in}
 use Rattle.iss_model.specs.Node.{Core, Taken as Step_taken, Turn, step}
+use Rattle.iss_rules.specs.Setups.{IsSetupOf}
 use Rattle.iss_rules.specs.declared.events.NodeEvent.{NodeEvent}
 use Rattle.iss_node.specs.Saved.{saved_of}
 use Rattle.iss_node.specs.State.{NodeView, RefinesCore}
@@ -18,7 +22,7 @@ use Rattle.iss_sb.specs.Calls.{Relation}
 use Rattle.iss_sb.specs.Evidence.{Module}
 use Rattle.iss_rebuilt.specs.Stored.{Kept, kept_of}
 use Rattle.iss_keep.specs.Entries.{spell_event}
-use Rattle.iss_keep.specs.Steps.{IsTaken}
+use Rattle.iss_keep.specs.Steps.{IsTaken, IsWritten, makes_stale}
 use Rattle.iss_keep.specs.declared.answers.Answer.{Answer}
 use Rattle.iss_keep.specs.declared.answers.Answer.TheVariants.{Dropped as Kept_dropped, Failed, NoMemory, Stale, Taken as Kept_taken}
 
@@ -96,3 +100,42 @@ released Node_no_memory (Ok x) = NoMemory
 released Node_stale (Ok x) = NoMemory
 released made (Err Disk_failed) = Failed
 released made (Err Disk_no_memory) = NoMemory
+
+-- ---- what each of the four functions needs and leaves
+
+-- An entry of these bytes may be appended.
+pub record MayAppend {D : Type 0} (journal : JournalState D) (bytes : List ℕ) : Type 0 where
+  pub attached : journal.attached ≡ true
+  pub short : length bytes ≤ max_entry
+
+-- The entry of an event was appended, or the snapshot that takes its place. Unless memory ran out, the outcome still
+-- has its snapshot.
+pub record HasAppended {D T : Type 0} (state : D → Device) (own : List ℕ) (entered later : Option (List ℕ))
+    (old new : JournalState D) (result : Result T EndError) : Type 0 where
+  pub written : (outcome : Outcome) →
+      IsWritten old.entries (entry_kept later own) (state old.disk) (state new.disk) new.entries
+      (released (Node_taken outcome) result)
+  pub same : (IsErrOf result Disk_no_memory → ⊥) → later ≡ entered
+  pub attached : OnOk result (new.attached ≡ true)
+
+-- The node may go back to this number of slots and this epoch.
+pub record MayRetreat {M Msg : Type 0} (n e : ℕ) (v : NodeView M Msg) : Type 0 where
+  pub slots : n ≤ length v.state.log.entries
+  pub epoch : e ≤ v.state.epoch
+
+-- The node refines a core over a good set-up, and its journal is attached.
+pub record MayStep {M Msg D : Type 0} (m : Module Msg) (refines : Relation M Msg) (v : NodeView M Msg)
+    (journal : JournalState D) : Type 0 where
+  pub good : IsSetupOf m v.state.setup
+  pub core : (c : Core Msg) × RefinesCore m refines v c
+  pub attached : journal.attached ≡ true
+
+-- The node stepped, and what is kept of the event was appended.
+pub record HasJournaled {M Msg D T : Type 0} (state : D → Device) (m : Module Msg) (refines : Relation M Msg)
+    (event : NodeEvent) (old new : NodeView M Msg) (before now : JournalState D) (made : NodeAnswer)
+    (result : Result T EndError) : Type 0 where
+  pub written : IsWritten before.entries (entry_made made (spell_event event)) (state before.disk) (state now.disk)
+      now.entries (released made result)
+  pub stepped : HasStepped m refines event old new (entry_made made (spell_event event)) (released made result)
+  pub attached : makes_stale (released made result) ≡ false → now.attached ≡ true
+  pub same : (new.state.setup ≡ old.state.setup) × (new.state.me ≡ old.state.me)
