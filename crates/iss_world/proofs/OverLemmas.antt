@@ -4,14 +4,14 @@ use Rattle.std.proofs.lemmas.Bool.{le-leb, lt-leb}
 use Rattle.iss_base.proofs.Lists.{some-injective}
 use Rattle.iss_rules.specs.declared.events.NodeEvent.{NodeEvent}
 use Rattle.iss_rules.specs.declared.events.Why.{Why}
-use Rattle.iss_disk.specs.Calls.{Device, IfTold, Passes, Restarts, Runs, Stays, script, up_to}
+use Rattle.iss_disk.specs.Calls.{IfTold, IsRestarted, Passes, Runs, Stays, script, up_to}
 use Rattle.iss_disk.specs.File.{File, settled}
 use Rattle.iss_disk.specs.MemoryLaws.{memory_here}
 use Rattle.iss_disk.specs.MemoryViews.{calls_of, state_of}
 use Rattle.iss_disk.specs.StoredViews.{history_of}
 use Rattle.iss_disk.specs.declared.memory.MemoryDisk.{MemoryDisk}
 use Rattle.iss_journal.specs.Frames.{Reading, Reads, version_1}
-use Rattle.iss_journal.specs.Promises.{Shows}
+use Rattle.iss_journal.specs.Promises.{LosesNone, Shows}
 use Rattle.iss_keep.proofs.DiskLemmas.{attached-same, attached-synced, never-damaged, new-read, reopens-well, restarted-read, runs-all, runs-failed, runs-passed, stays-here, stored-kept, stored-told, written-synced}
 use Rattle.iss_keep.proofs.LifeLemmas.{stored-core}
 use Rattle.iss_keep.proofs.TakenLemmas.{taken-goes-on, taken-later, taken-named}
@@ -19,7 +19,7 @@ use Rattle.iss_keep.specs.Cores.{core_of as core_of_entries, shown_of, step_of, 
 use Rattle.iss_keep.specs.Entries.{NamesNode, spell_event}
 use Rattle.iss_keep.specs.Recovery.{AreNamed, Recovers}
 use Rattle.iss_keep.specs.State.{KeptRefinesCore, KeptState, RefinesStored, stored_as}
-use Rattle.iss_keep.specs.Steps.{IsAnswer, IsAttached, IsDamaged, IsDrop, IsJournaled, IsSame, IsTaken, IsTurn, LosesNone, ShowsAsBefore, makes_stale}
+use Rattle.iss_keep.specs.Steps.{IsAnswer, IsAttached, IsDamaged, IsDrop, IsJournaled, IsSame, IsTaken, IsTurn, ShowsAsBefore, makes_stale}
 use Rattle.iss_keep.specs.declared.answers.Answer.{Answer}
 use Rattle.iss_keep.specs.declared.answers.Answer.TheVariants.{Dropped as Kept_dropped, Failed, NoMemory, Stale, Taken as Kept_taken}
 use Rattle.iss_log.specs.LogState.{GoesOn}
@@ -51,10 +51,6 @@ pub same-again : {M Msg : Type 0} (a b c : KeptState M Msg MemoryDisk) → IsSam
 same-again a b c p q = record { setup = q.setup ∙ p.setup; me = q.me ∙ p.me }
 
 -- ---- the disk
-
--- The visible state of a disk in memory.
-abbrev pub seen : MemoryDisk → Device
-seen disk = state_of disk
 
 passes-kept : (o : Option ℕ) (now : Passes) → Runs 4 (calls_to_come o) now true → (may_keep o ≡ true) × (now ≡ calls_to_come (left_behind o))
 passes-kept None now h = (refl, (runs-all 4 now true h).1)
@@ -166,14 +162,14 @@ module _ {M Msg : Type 0} (m : Module Msg) (refines : Relation M Msg) where
       stepped = step_of old.setup m old.me.0 c event
 
       abbrev Written : Answer → Type 0
-      Written answer = IsJournaled m refines old event (seen old.disk) (seen new.disk) new.entries answer
+      Written answer = IsJournaled state_of m refines event old new answer
 
       -- an answer that leaves the node fresh
       abbrev StoresOn : Type 0
       StoresOn = (z : Stored Msg) → RefinesStored m refines old z → new.stale ≡ false → RefinesStored m refines new (stored_after old.setup m old.me.0 z event)
 
       synced-now : (answer : Answer) → Written answer → IfTold (history_of new.disk.file) (λ file. Shows version_1 new.entries file.kept)
-      synced-now answer w = written-synced old.entries w.entry (seen old.disk) (seen new.disk) new.entries answer w.written (stored-kept new.disk.file) over.synced
+      synced-now answer w = written-synced old.entries w.entry (state_of old.disk) (state_of new.disk) new.entries answer w.written (stored-kept new.disk.file) over.synced
 
       kept-turn : (outcome : Outcome) → IsOfNodes old.setup.n event → IsSetupOf m old.setup → IsTurn m refines (IsOfNodes old.setup.n event) stepped new outcome →
           Written (Kept_taken outcome) → StoresOn → IsKeptTurn m refines d event stepped new outcome
@@ -275,10 +271,10 @@ module _ {M Msg : Type 0} (m : Module Msg) (refines : Relation M Msg) where
     -- ---- a disk that is to fail
 
     pub fused-over : (c : Core Msg) (d : Disk) (calls : ℕ) → RefinesMachine m refines old c d → calls_of new.disk ≡ up_to calls → new.node ≡ old.node → new.entries ≡ old.entries →
-        new.stale ≡ old.stale → Stays (current_of old.disk) (current_of new.disk) (files_of old.disk) (files_of new.disk) → RefinesMachine m refines new c (fused d calls)
+        new.stale ≡ old.stale → Stays (state_of old.disk).current (state_of new.disk).current (state_of old.disk).files (state_of new.disk).files → RefinesMachine m refines new c (fused d calls)
     fused-over c d calls over passes node entries stale files =
         let history : history_of new.disk.file ≡ history_of old.disk.file =
-        stays-here (λ (x : MemoryDisk). history_of x.file) files_of current_of memory_here old.disk new.disk files in
+        stays-here state_of memory_here old.disk new.disk files in
         record {
           there = there-still d.failed over.there;
           entries = shown-still d.kept entries over.entries;
@@ -303,15 +299,15 @@ module _ {M Msg : Type 0} (m : Module Msg) (refines : Relation M Msg) where
     -- ---- a recovered core
 
     -- After a restart of its disk, the node's entries lead to the core that it refined.
-    pub restarted-leads : (c : Core Msg) (d : Disk) → RefinesMachine m refines old c d → ((name : List ℕ) → Restarts (files_of old.disk name) (files_of new.disk name)) →
-        current_of new.disk ≡ current_of old.disk → new.entries ≡ old.entries → new.node ≡ old.node → LeadsBy m new d.kept c
-    restarted-leads c d over restarts current entries node = record {
+    pub restarted-leads : (c : Core Msg) (d : Disk) → RefinesMachine m refines old c d → IsRestarted (state_of old.disk) (state_of new.disk) →
+        new.entries ≡ old.entries → new.node ≡ old.node → LeadsBy m new d.kept c
+    restarted-leads c d over restarts entries node = record {
       entries = shown-still d.kept entries over.entries;
       named = named-still d.kept over.named;
       made = made-still d.kept c over.made;
       epoch = ap (λ (v : NodeView M Msg). v.state.epoch) node ∙ (over-shows old c d over).epoch;
       read = subst (λ (es : List (List ℕ)). IfTold (history_of new.disk.file) (λ file. Shows version_1 es file.content)) (sym entries)
-          (restarted-read old.entries (λ (x : MemoryDisk). history_of x.file) files_of current_of memory_here old.disk new.disk restarts current over.synced).0;
+          (restarted-read old.entries state_of memory_here old.disk new.disk restarts over.synced).0;
     }
 
     module _ (one : (bytes : List ℕ) (r q : Reading) → Reads version_1 bytes r → Reads version_1 bytes q → r ≡ q) (events : List NodeEvent) (c : Core Msg) (leads : LeadsBy m old events c)
@@ -333,12 +329,12 @@ module _ {M Msg : Type 0} (m : Module Msg) (refines : Relation M Msg) where
 
       -- It is reopened at that core.
       pub reopened-over : (failed : Type 0) (found : Rebuilt Msg) → calls_of old.disk ≡ script [] → core_of_entries new.setup m new.me.0 new.entries ≡ Some found →
-          RefinesStored m refines new (stored_as new.entries found) → StandsForSlims m refines → IsAttached (seen old.disk) (seen new.disk) new.entries →
-          LosesNone (seen old.disk) (seen new.disk) failed → RefinesMachine m refines new c (record { kept = events; passes = None; failed = false })
+          RefinesStored m refines new (stored_as new.entries found) → StandsForSlims m refines → IsAttached (state_of old.disk) (state_of new.disk) new.entries →
+          LosesNone version_1 failed (state_of old.disk) (state_of new.disk) → RefinesMachine m refines new c (record { kept = events; passes = None; failed = false })
       reopened-over failed found works leads-to for slims attached loses =
           let told = stored-told old.disk.file in
           let reads = read-told (λ file. Shows version_1 old.entries file.content) (history_of old.disk.file) told.0 told.1 told.2 leads.read in
-          let same-entries : new.entries ≡ old.entries = attached-same one (seen old.disk) (seen new.disk) old.entries new.entries told.0 told.1 told.2 reads attached in
+          let same-entries : new.entries ≡ old.entries = attached-same one (state_of old.disk) (state_of new.disk) old.entries new.entries told.0 told.1 told.2 reads attached in
           let there : core_of_entries old.setup m old.me.0 old.entries ≡ Some found =
           subst (λ (es : List (List ℕ)). core_of_entries old.setup m old.me.0 es ≡ Some found) same-entries
           (subst (λ (i : NodeId). core_of_entries old.setup m i.0 new.entries ≡ Some found) same.me
@@ -358,8 +354,8 @@ module _ {M Msg : Type 0} (m : Module Msg) (refines : Relation M Msg) where
             named = named-still events leads.named;
             made = made-still events c leads.made;
             saved = λ z. saved-of-still events (saved_of new.node.state.saved) (for.saved ∙ ap (λ (r : Rebuilt Msg). r.saved) is ∙ back.saved);
-            synced = attached-synced new.entries (seen old.disk) (seen new.disk) attached (stored-kept new.disk.file);
-            calls = (reopens-well (seen old.disk) (seen new.disk) failed loses works).0;
+            synced = attached-synced new.entries (state_of old.disk) (state_of new.disk) attached (stored-kept new.disk.file);
+            calls = (reopens-well (state_of old.disk) (state_of new.disk) failed loses works).0;
           }
 
       -- Reopening reports no damage.

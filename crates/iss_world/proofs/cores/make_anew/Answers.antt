@@ -18,7 +18,7 @@ unreachable-requires-in-Err-Damaged g c =
     not-damaged g.M.Sequenced.spec g.M.Sequenced.refines c.args.node.now c.reopen.new.self c.reopen.ensures.same c.a_file_has_one_reading.ensures.one whole.0 whole.1 whole.2
     (c.a_journal_recovers.ensures c.args.node.now.setup good c.args.node.now.me.0 low)
     (subst (λ (n : ℕ). n < 2 ^ 64) c.epoch-epoch.ensures.shown few)
-    c.in-Err-Damaged.field-0-0 (c.reopen.ensures.damaged c.in-Err-Damaged.field-0-0 is)
+    c.in-Err-Damaged.field-0-0 (c.reopen.ensures.refused c.in-Err-Damaged.field-0-0 is).damaged
 
 pub returns-in-Ok-clause-anew : goal.returns-in-Ok-clause-anew
 returns-in-Ok-clause-anew g c = λ events d leads.
@@ -28,4 +28,4 @@ returns-in-Ok-clause-anew g c = λ events d leads.
     reopened-over g.M.Sequenced.spec g.M.Sequenced.refines c.args.node.now c.reopen.new.self c.reopen.ensures.same c.a_file_has_one_reading.ensures.one events d leads
     (c.a_journal_recovers.ensures c.args.node.now.setup good c.args.node.now.me.0 low)
     (subst (λ (n : ℕ). n < 2 ^ 64) c.epoch-epoch.ensures.shown few) _
-    c.in-Ok.ensures.core.0 c.requires.works c.in-Ok.ensures.core.1 c.in-Ok.ensures.core.2 c.nodes_stand_for_slims.ensures c.in-Ok.ensures.attached c.reopen.ensures.loses
+    c.in-Ok.ensures.reopened.core.0 c.requires.works c.in-Ok.ensures.reopened.core.1 c.in-Ok.ensures.reopened.core.2 c.nodes_stand_for_slims.ensures c.in-Ok.ensures.reopened.attached c.reopen.ensures.loses

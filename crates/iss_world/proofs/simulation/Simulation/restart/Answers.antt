@@ -13,7 +13,7 @@ invariant_of-self g c =
     let lt : c.args.core < length c.self.inside.nodes.items = omega (arith, ap (λ (z : SimulationState _ _). cores_of z.setup) c.self.view_is, c.self.invariant.count) in
     let at = slice_get_read c.self.inside.nodes.items _ c.args.core c.index_mut-node.result.now refl lt c.index_mut-node.ensures.value in
     still-running g.M.Sequenced.spec g.M.Sequenced.refines v c.args.core c.index_mut-node.result.now c.make_anew.new.node c.self.inside.network c.self.inside.signed c.self.inside.hashed c.self.invariant lt at
-          (same-again c.index_mut-node.result.now c.restart.new.self c.make_anew.new.node c.restart.ensures.same c.make_anew.ensures.same) (same-network g.M.Sequenced.spec g.M.Sequenced.refines v c.self.invariant)
+          (same-again c.index_mut-node.result.now c.restart.new.self c.make_anew.new.node c.restart.ensures.only.same c.make_anew.ensures.same) (same-network g.M.Sequenced.spec g.M.Sequenced.refines v c.self.invariant)
 
 pub invariant_of-self-2 : goal.invariant_of-self-2
 invariant_of-self-2 g c =
@@ -21,7 +21,7 @@ invariant_of-self-2 g c =
     let lt : c.args.core < length c.self.inside.nodes.items = omega (arith, ap (λ (z : SimulationState _ _). cores_of z.setup) c.self.view_is, c.self.invariant.count) in
     let at = slice_get_read c.self.inside.nodes.items _ c.args.core c.index_mut-node.result.now refl lt c.index_mut-node.ensures.value in
     still-running g.M.Sequenced.spec g.M.Sequenced.refines v c.args.core c.index_mut-node.result.now c.make_anew.new.node c.self.inside.network c.self.inside.signed c.self.inside.hashed c.self.invariant lt at
-          (same-again c.index_mut-node.result.now c.restart.new.self c.make_anew.new.node c.restart.ensures.same c.make_anew.ensures.same) (same-network g.M.Sequenced.spec g.M.Sequenced.refines v c.self.invariant)
+          (same-again c.index_mut-node.result.now c.restart.new.self c.make_anew.new.node c.restart.ensures.only.same c.make_anew.ensures.same) (same-network g.M.Sequenced.spec g.M.Sequenced.refines v c.self.invariant)
 
 pub make_anew-requires-clause-whole : goal.make_anew-requires-clause-whole
 make_anew-requires-clause-whole g c =
@@ -32,8 +32,8 @@ make_anew-requires-clause-whole g c =
     let st = subst (λ (z : SimulationState _ _). RefinesMachines g.M.Sequenced.spec g.M.Sequenced.refines z w) (sym c.self.view_is) c.requires.standing.1 in (
       (w.disks c.args.core).kept,
       w.held.net.cores c.args.core,
-      (restarted-leads g.M.Sequenced.spec g.M.Sequenced.refines c.index_mut-node.result.now c.restart.new.self c.restart.ensures.same (w.held.net.cores c.args.core) (w.disks c.args.core) (st.cores c.args.core c.index_mut-node.result.now at)
-          c.restart.ensures.files c.restart.ensures.current c.restart.ensures.entries c.restart.ensures.node),
+      (restarted-leads g.M.Sequenced.spec g.M.Sequenced.refines c.index_mut-node.result.now c.restart.new.self c.restart.ensures.only.same (w.held.net.cores c.args.core) (w.disks c.args.core) (st.cores c.args.core c.index_mut-node.result.now at)
+          c.restart.ensures.disk c.restart.ensures.only.entries c.restart.ensures.only.node),
     )
 
 pub returns-clause-happened : goal.returns-clause-happened
@@ -43,5 +43,5 @@ returns-clause-happened g c =
     let at = slice_get_read c.self.inside.nodes.items _ c.args.core c.index_mut-node.result.now refl lt c.index_mut-node.ensures.value in
     rw (← c.self.view_is) (λ w st.
     remade-runs g.M.Sequenced.spec g.M.Sequenced.refines v c.args.core c.index_mut-node.result.now c.make_anew.new.node c.self.invariant lt at w st
-    (c.in_ok-make_anew.ensures.anew (w.disks c.args.core).kept (w.held.net.cores c.args.core) (restarted-leads g.M.Sequenced.spec g.M.Sequenced.refines c.index_mut-node.result.now c.restart.new.self c.restart.ensures.same (w.held.net.cores c.args.core) (w.disks c.args.core) (st.cores c.args.core c.index_mut-node.result.now at)
-    c.restart.ensures.files c.restart.ensures.current c.restart.ensures.entries c.restart.ensures.node)))
+    (c.in_ok-make_anew.ensures.anew (w.disks c.args.core).kept (w.held.net.cores c.args.core) (restarted-leads g.M.Sequenced.spec g.M.Sequenced.refines c.index_mut-node.result.now c.restart.new.self c.restart.ensures.only.same (w.held.net.cores c.args.core) (w.disks c.args.core) (st.cores c.args.core c.index_mut-node.result.now at)
+    c.restart.ensures.disk c.restart.ensures.only.entries c.restart.ensures.only.node)))
