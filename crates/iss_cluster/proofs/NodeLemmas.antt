@@ -18,7 +18,7 @@ use Rattle.iss_keep.specs.Cores.{core_of, shown_of, step_of, stored_after, store
 use Rattle.iss_keep.specs.Entries.{NamesNode, spell_event}
 use Rattle.iss_keep.specs.Recovery.{AreNamed, Recovers}
 use Rattle.iss_keep.specs.State.{KeptRefinesCore, KeptState, RefinesStored, stored_as}
-use Rattle.iss_keep.specs.Steps.{IsAnswer, IsAttached, IsDrop, IsJournaled, IsSame, IsTaken, IsTurn, Writes, makes_stale}
+use Rattle.iss_keep.specs.Steps.{IsAnswer, IsAttached, IsDrop, IsJournaled, IsReopened, IsSame, IsTaken, IsTurn, Writes, makes_stale}
 use Rattle.iss_keep.specs.declared.answers.Answer.{Answer}
 use Rattle.iss_keep.specs.declared.answers.Answer.TheVariants.{Dropped as Kept_dropped, Failed, NoMemory, Stale, Taken as Kept_taken}
 use Rattle.iss_links.specs.Ends.{End}
@@ -264,29 +264,28 @@ module _ {M Msg D : Type 0} (m : Module Msg) (refines : Relation M Msg) (state :
       by-address Stale says o = tt
       by-address NoMemory says o = tt
 
-      pub by-cut : (before now : Device) → before.history ≡ (state old.disk).history → now.history ≡ (state new.disk).history → (a : Answer) → Says a → IsJournaled m refines old event before now new.entries a → IsErrOf (as_step a) DiskFault
+      pub by-cut : (a : Answer) → Says a → IsJournaled state m refines event old new a → IsErrOf (as_step a) DiskFault
           → (B : NodeBehavior) (events : List NodeEvent) → Has old B events → FailsAt B (λ (es : List NodeEvent) (e : NodeEvent). Leaves new.setup.n (state new.disk).history B es e) events event
-      by-cut before now first last (Kept_taken outcome) says w q = absurd (cc)
-      by-cut before now first last (Kept_dropped why) says w q = absurd (cc)
-      by-cut before now first last Failed says w q = λ B events h.
+      by-cut (Kept_taken outcome) says w q = absurd (cc)
+      by-cut (Kept_dropped why) says w q = absurd (cc)
+      by-cut Failed says w q = λ B events h.
           fails-at names B events h w.entry
-          (subst (λ (x : List File). Writes old.entries w.entry x (state new.disk).history Failed) first (subst (λ (x : List File). Writes old.entries w.entry before.history x Failed) last w.written.file))
+          w.written.file
           (w.right refl (stored_since old.setup m old.me.0 h.base events) h.stored) (says (stored_since old.setup m old.me.0 h.base events).core (is-there old B events h))
-      by-cut before now first last Stale says w q = absurd (cc)
-      by-cut before now first last NoMemory says w q = absurd (cc)
+      by-cut Stale says w q = absurd (cc)
+      by-cut NoMemory says w q = absurd (cc)
 
     -- every crash image shows its entries after the answer, too
-    pub by-durable : (before now : Device) → before.history ≡ (state old.disk).history → now.history ≡ (state new.disk).history → (a : Answer) → IsJournaled m refines old event before now new.entries a → new.stale ≡ makes_stale a
+    pub by-durable : (a : Answer) → IsJournaled state m refines event old new a → new.stale ≡ makes_stale a
         → (old.stale ≡ false → IsDurable state old) → old.stale ≡ false → new.stale ≡ false → IsDurable state new
-    by-durable before now first last (Kept_taken outcome) w is durable was fresh =
-        subst (λ (x : List File). IfTold x (OnlyLeaves (Shows version_1 new.entries))) last
-        (subst (λ (es : List (List ℕ)). IfTold now.history (OnlyLeaves (Shows version_1 es))) (sym w.written.added) w.written.file.1)
-    by-durable before now first last (Kept_dropped why) w is durable was fresh =
-        subst (λ (x : List File). IfTold x (OnlyLeaves (Shows version_1 new.entries))) (sym first ∙ sym w.written.file ∙ last)
+    by-durable (Kept_taken outcome) w is durable was fresh =
+        subst (λ (es : List (List ℕ)). IfTold (state new.disk).history (OnlyLeaves (Shows version_1 es))) (sym w.written.added) w.written.file.1
+    by-durable (Kept_dropped why) w is durable was fresh =
+        subst (λ (x : List File). IfTold x (OnlyLeaves (Shows version_1 new.entries))) (sym w.written.file)
         (subst (λ (es : List (List ℕ)). IfTold (state old.disk).history (OnlyLeaves (Shows version_1 es))) (sym w.written.added) (durable was))
-    by-durable before now first last Failed w is durable was fresh = absurd (true≢false (sym is ∙ fresh))
-    by-durable before now first last Stale w is durable was fresh = absurd (true≢false (sym is ∙ fresh))
-    by-durable before now first last NoMemory w is durable was fresh = absurd (true≢false (sym is ∙ fresh))
+    by-durable Failed w is durable was fresh = absurd (true≢false (sym is ∙ fresh))
+    by-durable Stale w is durable was fresh = absurd (true≢false (sym is ∙ fresh))
+    by-durable NoMemory w is durable was fresh = absurd (true≢false (sym is ∙ fresh))
 
   pub by-cause : (a : Answer) (before now : ℕ) → HasCause before now (a ≡ Failed) → HasCause before now (IsErrOf (as_step a) DiskFault)
   by-cause (Kept_taken outcome) before now h = record { never_falls = h.never_falls; rose = λ q. absurd (cc) }
@@ -319,16 +318,16 @@ module _ {M Msg D : Type 0} (m : Module Msg) (refines : Relation M Msg) (state :
 
   -- ---- reopening
 
-  module _ (before now : Device) (old new : KeptState M Msg D) (same : IsSame old new) (seen : now.history ≡ (state new.disk).history) where
+  module _ (old new : KeptState M Msg D) (same : IsSame old new) where
     abbrev Led : Type 0
     Led = (found : Rebuilt Msg) × (core_of new.setup m new.me.0 new.entries ≡ Some found) × RefinesStored m refines new (stored_as new.entries found)
 
-    reopened-durable : (r : Result (Unit {0}) AttachError) → new.stale ≡ not (is_ok r) → OnOk r (IsAttached before now new.entries) → new.stale ≡ false → IsDurable state new
-    reopened-durable (Ok x) is attached fresh = subst (λ (h : List File). IfTold h (OnlyLeaves (Shows version_1 new.entries))) seen attached.durable
-    reopened-durable (Err e) is attached fresh = absurd (true≢false (sym is ∙ fresh))
+    reopened-durable : (r : Result (Unit {0}) AttachError) → new.stale ≡ not (is_ok r) → OnOk r (IsReopened state m refines old new) → new.stale ≡ false → IsDurable state new
+    reopened-durable (Ok x) is on fresh = on.attached.durable
+    reopened-durable (Err e) is on fresh = absurd (true≢false (sym is ∙ fresh))
 
     pub reopened-running : (nodes : ℕ) (me : NodeId) (r : Result (Unit {0}) AttachError) → IsRunning m state nodes me old → new.stale ≡ not (is_ok r)
-        → OnOk r (IsAttached before now new.entries) → IsRunning m state nodes me new
+        → OnOk r (IsReopened state m refines old new) → IsRunning m state nodes me new
     reopened-running nodes me r runs is attached = running-on nodes me old new runs same (reopened-durable r is attached)
 
     -- what it had stored whose journal it read
@@ -363,14 +362,14 @@ module _ {M Msg D : Type 0} (m : Module Msg) (refines : Relation M Msg) (state :
           subst (λ (z : Stored Msg). RefinesStored m refines new z) (sym is)
           (by-events events (entries ∙ ap (λ (z : Stored Msg). shown_of z) is) names (subst (λ (z : Stored Msg). z.core.past.epoch < 2 ^ 64) is low))
 
-      has-read : IsAttached before now new.entries → HasRead m refines before.history new
+      has-read : IsAttached (state old.disk) (state new.disk) new.entries → HasRead m refines (state old.disk).history new
       has-read attached = record { read = attached.read; found = led.0; leads = led.1; stored = stored-by }
 
     pub read-by : StandsForSlims m refines → ((events : List NodeEvent) → AreNamed new.setup.n events → (stored_of new.setup m new.me.0 events).core.past.epoch < 2 ^ 64 →
         Recovers new.setup m new.me.0 (shown_of (stored_of new.setup m new.me.0 events)) (stored_of new.setup m new.me.0 events))
-        → (r : Result (Unit {0}) AttachError) → OnOk r Led → OnOk r (IsAttached before now new.entries) → OnOk r (HasRead m refines before.history new)
-    read-by slims recovers (Ok x) led attached = has-read slims recovers led attached
-    read-by slims recovers (Err e) led attached = tt
+        → (r : Result (Unit {0}) AttachError) → OnOk r (IsReopened state m refines old new) → OnOk r (HasRead m refines (state old.disk).history new)
+    read-by slims recovers (Ok x) on = has-read slims recovers on.core on.attached
+    read-by slims recovers (Err e) on = tt
 
   -- ---- a whole run
 

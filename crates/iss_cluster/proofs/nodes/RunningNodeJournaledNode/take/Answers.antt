@@ -24,11 +24,9 @@ invariant_of-self g c =
     let old = c.self.inside.kept in
     let new = c.take.new.self in
     let opened = subst (λ (v : KeptState _ _ _). IsOpen (λ B es. HasTaken m refines v B es)) (sym c.self.view_is) c.requires.open in
-    running-on m refines state c.self.inside.nodes c.self.inside.me old new c.self.invariant c.take.ensures.same
-    (by-durable m refines state c.args.event old new c.take.ensures.same
-    (g.D.Disk.state old.disk)
-    (g.D.Disk.state new.disk)
-    refl refl c.take.result c.take.ensures.written c.take.ensures.stale c.self.invariant.durable (has-fresh m refines state old opened.0 opened.1 opened.2))
+    running-on m refines state c.self.inside.nodes c.self.inside.me old new c.self.invariant c.take.ensures.node.same
+    (by-durable m refines state c.args.event old new c.take.ensures.node.same
+    c.take.result c.take.ensures.written c.take.ensures.stale c.self.invariant.durable (has-fresh m refines state old opened.0 opened.1 opened.2))
 
 pub returns-clause-step : goal.returns-clause-step
 returns-clause-step g c =
@@ -40,7 +38,7 @@ returns-clause-step g c =
     let names = subst (λ (v : KeptState _ _ _). NamesNodes v.setup.n c.args.event) (sym c.self.view_is) c.requires.nodes in
     subst (λ (v : KeptState _ _ _). IfOk c.as_step.result (λ step. (B : NodeBehavior) (events : List NodeEvent) → HasTaken m refines v B events → IsStep B events c.args.event (λ es. HasTaken m refines new B es) step)) c.self.view_is
     (subst (λ (r : Result NodeStep StepError). IfOk r (λ step. (B : NodeBehavior) (events : List NodeEvent) → HasTaken m refines old B events → IsStep B events c.args.event (λ es. HasTaken m refines new B es) step)) (sym c.as_step.ensures)
-    (by-step m refines state c.args.event old new c.take.ensures.same names c.take.ensures.stored c.take.result c.take.ensures.answer))
+    (by-step m refines state c.args.event old new c.take.ensures.node.same names c.take.ensures.stored c.take.result c.take.ensures.answer))
 
 pub returns-clause-addressed : goal.returns-clause-addressed
 returns-clause-addressed g c =
@@ -53,7 +51,7 @@ returns-clause-addressed g c =
     let opened = subst (λ (v : KeptState _ _ _). IsOpen (λ B es. HasTaken m refines v B es)) (sym c.self.view_is) c.requires.open in
     subst (λ (v : KeptState _ _ _). IfOk c.as_step.result (GoTo v.setup.n)) c.self.view_is
     (subst (λ (r : Result NodeStep StepError). IfOk r (GoTo old.setup.n)) (sym c.as_step.ensures)
-    (by-address m refines state c.args.event old new c.take.ensures.same names c.take.ensures.stored c.take.result c.take.ensures.answer opened))
+    (by-address m refines state c.args.event old new c.take.ensures.node.same names c.take.ensures.stored c.take.result c.take.ensures.answer opened))
 
 pub returns-clause-cut : goal.returns-clause-cut
 returns-clause-cut g c =
@@ -67,7 +65,5 @@ returns-clause-cut g c =
     → FailsAt B (λ (es : List NodeEvent) (e : NodeEvent). Leaves new.setup.n (state new.disk).history B es e) events c.args.event) c.self.view_is
     (subst (λ (r : Result NodeStep StepError). IsErrOf r DiskFault → (B : NodeBehavior) (events : List NodeEvent) → HasTaken m refines old B events
     → FailsAt B (λ (es : List NodeEvent) (e : NodeEvent). Leaves new.setup.n (state new.disk).history B es e) events c.args.event) (sym c.as_step.ensures)
-    (by-cut m refines state c.args.event old new c.take.ensures.same names c.take.ensures.stored
-    (g.D.Disk.state old.disk)
-    (g.D.Disk.state new.disk)
-    refl refl c.take.result c.take.ensures.answer c.take.ensures.written))
+    (by-cut m refines state c.args.event old new c.take.ensures.node.same names c.take.ensures.stored
+    c.take.result c.take.ensures.answer c.take.ensures.written))

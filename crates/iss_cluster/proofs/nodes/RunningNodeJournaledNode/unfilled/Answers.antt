@@ -13,7 +13,7 @@ returns-clause-leaders g c =
     let m = g.M.Sequenced.spec in
     let refines = g.M.Sequenced.refines in
     subst (λ (v : KeptState _ _ _). IfOk c.unfilled.result (λ leaders. (B : NodeBehavior) (events : List NodeEvent) → HasTaken m refines v B events → leaders ≡ B.unfilled events)) c.self.view_is
-    (IfOk-weaker c.unfilled.result _ _ (λ leaders are. λ B events h. leaders-are m refines g.D.Disk.state c.self.inside.kept B events h leaders are) c.unfilled.ensures.is)
+    (IfOk-weaker c.unfilled.result _ _ (λ leaders are. λ B events h. leaders-are m refines g.D.Disk.state c.self.inside.kept B events h leaders are.is) c.unfilled.ensures)
 
 pub returns-clause-nodes : goal.returns-clause-nodes
 returns-clause-nodes g c =
@@ -21,4 +21,4 @@ returns-clause-nodes g c =
     let refines = g.M.Sequenced.refines in
     let opened = subst (λ (v : KeptState _ _ _). IsOpen (λ B es. HasTaken m refines v B es)) (sym c.self.view_is) c.requires in
     subst (λ (v : KeptState _ _ _). IfOk c.unfilled.result (λ leaders. AreNodes v.setup.n leaders)) c.self.view_is
-    (IfOk-weaker c.unfilled.result _ _ (λ leaders are. leaders-nodes m refines g.D.Disk.state c.self.inside.kept opened.0 opened.1 opened.2 leaders are) c.unfilled.ensures.is)
+    (IfOk-weaker c.unfilled.result _ _ (λ leaders are. leaders-nodes m refines g.D.Disk.state c.self.inside.kept opened.0 opened.1 opened.2 leaders are.is) c.unfilled.ensures)
