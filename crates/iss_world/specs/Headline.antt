@@ -1,7 +1,7 @@
 -- What an event promises for a world that refined the run of the events before it: it refines the run with this event.
 -- The recovery theorem holds for that run, numbers agree between nodes, the journals show what stays of the events that
 -- the run's cores kept, and no leaf signs two statements over all restarts.
-use Rattle.std.specs.Prelude.{◌≡◌, ◌⊎◌, ℕ, true, List, ◌∷◌, Option, None, Some, slice_get}
+use Rattle.std.specs.Prelude.{◌≡◌, ◌⊎◌, ℕ, true, List, [], ◌∷◌, ◌++◌, Option, None, Some, slice_get}
 use Rattle.iss_disk.specs.declared.memory.MemoryDisk.{MemoryDisk}
 use Rattle.iss_keep.specs.State.{KeptState}
 use Rattle.iss_log.specs.LogState.{first_number_of}
@@ -13,6 +13,7 @@ use Rattle.iss_rules.specs.Ends.{End}
 use Rattle.iss_rules.specs.declared.events.NodeEvent.{NodeEvent}
 use Rattle.iss_request.specs.declared.setups.Setup.{Setup}
 use Rattle.iss_theorems.specs.Headline.{IsWhole, course_after, held_after, shown}
+use Rattle.iss_schedule.specs.Events.{AreInRange}
 use Rattle.iss_schedule.specs.declared.schedules.Event.{Event}
 use Rattle.iss_sb.specs.Evidence.{Module, is_correct}
 use Rattle.iss_sb.specs.Calls.{Relation}
@@ -75,3 +76,10 @@ pub record IsHeadline {M Msg : Type 0} (s : Setup) (m : Module Msg) (refines : R
   pub numbers : AgreeOnNumbers s m (held_after s m events)
   pub journals : HoldKept m v (course_after s m events)
   pub leaves : SignOnce s m v
+
+-- If the world refined some events in range, and an event did not run out of memory, the headline holds behind it.
+abbrev pub KeepsHeadline : {M Msg : Type 0} → Module Msg → Relation M Msg → (old new : WorldState M Msg) → Event →
+    EventResult → Type 0
+KeepsHeadline m refines old new event r = (events : List Event) → AreInRange old.simulation.setup events →
+    RefinesEvents old.simulation.setup m refines old events → IsAnswered r →
+    IsHeadline old.simulation.setup m refines new (events ++ event ∷ [])

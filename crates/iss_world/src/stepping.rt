@@ -1,21 +1,18 @@
 //! One event at a core. First the signatures that it claims are tested, then the core takes it. What the step made is
 //! then tested, recorded and posted.
-ghost use Rattle.std.specs.Prelude.{◌≡◌, ◌<◌, ◌≤◌, ℕ, false, IfOk, List, None, Some, length, option_map, slice_get};
+ghost use Rattle.std.specs.Prelude.{◌≡◌, ◌<◌, ℕ, IfOk, List, None, length, option_map};
 ghost use Rattle.iss_base.specs.Lists.{push_all};
 ghost use Rattle.iss_rules.specs.Books.{Signed};
-ghost use Rattle.iss_rules.specs.declared.events.NodeEvent.{NodeEvent as ModelEvent};
-ghost use Rattle.iss_model.specs.Node.{Core, Taken, Turn, step};
-ghost use Rattle.iss_model.specs.Run.{cores_of, node_of};
-ghost use Rattle.iss_model.specs.Frames.{claims_at_in, frame_of, step_in};
-ghost use Rattle.iss_disk.specs.declared.memory.MemoryDisk.{MemoryDisk};
-ghost use Rattle.iss_keep.specs.State.{KeptRefinesCore, KeptState};
+ghost use Rattle.iss_model.specs.Node.{Core};
+ghost use Rattle.iss_model.specs.Run.{cores_of};
+ghost use Rattle.iss_model.specs.Frames.{claims_at_in, frame_of};
+ghost use Rattle.iss_keep.specs.State.{KeptRefinesCore};
 ghost use Rattle.iss_keep.specs.Steps.{IsSame};
-ghost use Rattle.iss_node.specs.Steps.{IsMade, IsOfNodes};
-ghost use Rattle.iss_model.specs.Courses.{Machines, with_disks};
-ghost use Rattle.iss_model.specs.Disks.{Disk};
+ghost use Rattle.iss_node.specs.Steps.{IsOfNodes};
+ghost use Rattle.iss_model.specs.Courses.{Machines};
 ghost use Rattle.iss_world.specs.Books.{AreHashed, AreSigned};
-ghost use Rattle.iss_world.specs.Refines.{Follows, HasChanged, IsLeftBy, RefinesMachine, RefinesMachines, RefinesSome, by_core, end_of};
-ghost use Rattle.iss_world.specs.Internal.Steps.{HasAnswered, IsBehind, IsWorking, ends_by, kept_at, kept_to, stepped_to};
+ghost use Rattle.iss_world.specs.Refines.{Follows, IsLeftBy, RefinesMachines, RefinesSome, by_core, end_of};
+ghost use Rattle.iss_world.specs.Internal.Steps.{AnswersMachine, CompletesTurn, FollowsStep, IsWorking, MayRetreat, ends_by};
 
 use crate::claims::{Claims, book_own};
 use crate::ends::{EventOutcome, Evidence};
@@ -68,9 +65,7 @@ fn take_with_savepoint<M: Sequenced>(
     node: &mut Kept<M, MemoryDisk>,
     event: NodeEvent,
 ) -> (Answer, usize, Epoch)
-    ensures answer { (c : Core M.Msg) (d : Disk) → RefinesMachine M.spec M.refines node.old c d → d.failed ≡ false →
-        IsOfNodes node.old.setup.n event → HasAnswered M.spec M.refines c d event
-        (step_in (frame_of node.old.setup M.spec) node.old.me.0 c event) node.new result.0 }
+    ensures answer { AnswersMachine M.spec M.refines node.old node.new event result.0 }
     ensures slots { result.1 ≡ length node.old.node.state.log.entries }
     ensures epoch { result.2.0 ≡ node.old.node.state.epoch }
     ensures same { IsSame node.old node.new }
@@ -156,10 +151,7 @@ impl<M: Sequenced> Simulation<M> {
         requires core { core < cores_of self.old.setup }
         requires nodes { IsOfNodes self.old.setup.n event }
         requires working { IsWorking M.spec M.refines self.old core }
-        ensures happened { IfOk result (λ r. (w : Machines M.Msg) → RefinesMachines M.spec M.refines self.old w →
-            (w.disks core).failed ≡ false →
-            HasChanged M.spec M.refines (Some core) self.new (kept_to self.old.setup w core event
-            (step_in (frame_of self.old.setup M.spec) (node_of self.old.setup core) (w.held.net.cores core) event)) r) }
+        ensures happened { IfOk result (FollowsStep M.spec M.refines self.old self.new core event) }
         ensures same { self.new.setup ≡ self.old.setup }
     {
         let (answer, slots, epoch) = take_with_savepoint(&mut self.nodes[core as usize], event);
@@ -184,14 +176,9 @@ impl<M: Sequenced> Simulation<M> {
         epoch: Epoch,
     ) -> Result<EventOutcome, NoMemory>
         requires core { core < cores_of self.old.setup }
-        requires slots { (g : KeptState M M.Msg MemoryDisk) → slice_get self.old.nodes core ≡ Some g →
-            slots ≤ length g.node.state.log.entries }
-        requires epoch { (g : KeptState M M.Msg MemoryDisk) → slice_get self.old.nodes core ≡ Some g →
-            epoch.0 ≤ g.node.state.epoch }
-        ensures happened { IfOk result (λ r. (w : Machines M.Msg) (event : ModelEvent) (t : Turn M.Msg) →
-            IsBehind M.spec M.refines self.old w event core t slots epoch.0 → IsMade t outcome.now →
-            HasChanged M.spec M.refines (Some core) self.new
-            (with_disks w (kept_at w core event) (stepped_to self.old.setup w.held core (Taken t))) r) }
+        requires retreat { MayRetreat self.old core slots epoch.0 }
+        ensures happened { IfOk result
+            (CompletesTurn M.spec M.refines self.old self.new core slots epoch.0 outcome.now) }
         ensures same { self.new.setup ≡ self.old.setup }
     {
         let ended = ends(

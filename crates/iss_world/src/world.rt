@@ -1,12 +1,11 @@
 //! The world of a cluster, with the evidence that stopped its run and whether memory ran out.
-ghost use Rattle.std.specs.Prelude.{◌≡◌, ◌<◌, ◌++◌, ◌∷◌, [], IfOk, List, None, OnOk, Some, reverse, slice_get};
+ghost use Rattle.std.specs.Prelude.{◌≡◌, ◌<◌, [], IfOk, None, OnOk, Some, reverse, slice_get};
 ghost use Rattle.iss_model.specs.Run.{cores_of, node_of};
 ghost use Rattle.iss_model.specs.Courses.{Machines, begin_machines, driver_of};
 ghost use Rattle.iss_model.specs.Driver.{run_event, run_event_if_open};
 ghost use Rattle.iss_rules.specs.Setups.{IsSetupOf};
-ghost use Rattle.iss_schedule.specs.Events.{AreInRange, IsInRange};
-ghost use Rattle.iss_schedule.specs.declared.schedules.Event.{Event as ScheduleEvent};
-ghost use Rattle.iss_world.specs.Headline.{IsAnswered, IsHeadline, RefinesEvents};
+ghost use Rattle.iss_schedule.specs.Events.{IsInRange};
+ghost use Rattle.iss_world.specs.Headline.{IsAnswered, KeepsHeadline, RefinesEvents};
 ghost use Rattle.iss_world.specs.Internal.Shape.{IsWorld};
 ghost use Rattle.iss_world.specs.Refines.{AreStaleBehind, HasHappened, InRun, IsOverOr, IsStaleOr, RefinesMachine, RefinesOrRetreated, RefinesSome, WorldRefinesMachines, awake, log_at, result_of};
 ghost use Rattle.iss_world.specs.State.{AreBetweenCores};
@@ -104,9 +103,7 @@ impl<M: Sequenced> World<M> {
             (run_event_if_open p.ended (driver_of self.old.simulation.setup M.spec) p event.now) result) }
         ensures silent { InRun M.spec M.refines self.old (λ p. p.ended ≡ None → IsAnswered result →
             AreStaleBehind (driver_of self.old.simulation.setup M.spec) p event.now self.new) }
-        ensures headline { (events : List ScheduleEvent) → AreInRange self.old.simulation.setup events →
-            RefinesEvents self.old.simulation.setup M.spec M.refines self.old events → IsAnswered result →
-            IsHeadline self.old.simulation.setup M.spec M.refines self.new (events ++ event.now ∷ []) }
+        ensures headline { KeepsHeadline M.spec M.refines self.old self.new event.now result }
         ensures stale { IsStaleOr self.old self.new result }
         ensures over { IsOverOr self.old self.new }
         ensures same { self.new.simulation.setup ≡ self.old.simulation.setup }

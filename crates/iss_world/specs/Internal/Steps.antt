@@ -1,6 +1,6 @@
 -- One step of a core in the world: test what it claims, step and journal, test what it made, book it and post it.
 -- Where the disk fails nothing of the step comes out.
-use Rattle.std.specs.Prelude.{◌≡◌, ℕ, true, false, cond, List, Option, Some, None, reverse, slice_get, take}
+use Rattle.std.specs.Prelude.{◌≡◌, ◌≤◌, ℕ, true, false, cond, List, Option, Some, None, length, reverse, slice_get, take}
 use Rattle.iss_base.specs.Lists.{first_of, set_at}
 use Rattle.iss_rules.specs.Ends.{End, Forged}
 use Rattle.iss_rules.specs.declared.events.NodeEvent.{NodeEvent}
@@ -11,7 +11,8 @@ use Rattle.iss_keep.specs.declared.answers.Answer.{Answer}
 use Rattle.iss_keep.specs.declared.answers.Answer.TheVariants.{Dropped as Kept_dropped, Failed, NoMemory, Stale, Taken as Kept_taken}
 use Rattle.iss_model.specs.Node.{Core, Dropped, Stepped, Taken, Turn}
 use Rattle.iss_model.specs.Run.{Held, after_step, by_forged, collision_in, early_of, first_forged, node_of}
-use Rattle.iss_node.specs.Steps.{IsMade}
+use Rattle.iss_model.specs.Frames.{frame_of, step_in}
+use Rattle.iss_node.specs.Steps.{IsMade, IsOfNodes}
 use Rattle.iss_node.specs.declared.answers.Outcome.{Outcome}
 use Rattle.iss_request.specs.declared.setups.Setup.{Setup}
 use Rattle.iss_model.specs.Courses.{Machines, with_disk, with_disks}
@@ -24,8 +25,9 @@ use Rattle.iss_sb.specs.Calls.{Relation}
 use Rattle.iss_sb.specs.Evidence.{Module}
 use Rattle.iss_sb.specs.declared.effects.Claim.{Claim}
 use Rattle.iss_world.specs.Books.{AreHashed, AreSigned}
-use Rattle.iss_world.specs.Refines.{RefinesMachine, RefinesMachines}
+use Rattle.iss_world.specs.Refines.{HasChanged, RefinesMachine, RefinesMachines}
 use Rattle.iss_world.specs.State.{SimulationState}
+use Rattle.iss_world.specs.declared.ends.EventOutcome.{EventOutcome}
 
 -- The effect of a step of core c whose own claims were tested. The claims in messages that arrived early are tested
 -- next, then the strings that were hashed.
@@ -77,6 +79,20 @@ HasAnswered m refines c d event stepped new Failed = IsStop m refines c d steppe
 HasAnswered m refines c d event stepped new Stale = ⊥
 HasAnswered m refines c d event stepped new NoMemory = Unit {0}
 
+-- The answer to an event that names existing nodes, for each core that the kept node refined over a working disk.
+abbrev pub AnswersMachine : {M Msg : Type 0} → Module Msg → Relation M Msg → (old new : KeptState M Msg MemoryDisk) →
+    NodeEvent → Answer → Type 0
+AnswersMachine {Msg = Msg} m refines old new event answer = (c : Core Msg) (d : Disk) → RefinesMachine m refines old c d →
+    d.failed ≡ false → IsOfNodes old.setup.n event → HasAnswered m refines c d event
+    (step_in (frame_of old.setup m) old.me.0 c event) new answer
+
+-- A core whose disk works takes an event whose own claims were tested.
+abbrev pub FollowsStep : {M Msg : Type 0} → Module Msg → Relation M Msg → (old new : SimulationState M Msg) → ℕ →
+    NodeEvent → EventOutcome → Type 0
+FollowsStep {Msg = Msg} m refines old new core event r = (w : Machines Msg) → RefinesMachines m refines old w →
+    (w.disks core).failed ≡ false → HasChanged m refines (Some core) new (kept_to old.setup w core event
+    (step_in (frame_of old.setup m) (node_of old.setup core) (w.held.net.cores core) event)) r
+
 abbrev pub forged_in : Option Claim → Option End
 forged_in None = None
 forged_in (Some claim) = Some (Forged claim)
@@ -100,3 +116,16 @@ pub record IsBehind {M Msg : Type 0} (m : Module Msg) (refines : Relation M Msg)
       log_of (rules_of v.setup) m (node_of v.setup c) (w.held.net.cores c).past ≡ reverse
       (take slots g.node.state.log.entries)
   pub epoch : at ≡ (w.held.net.cores c).past.epoch
+
+-- What a core made of an event that it accepted and journaled is tested, recorded and posted.
+abbrev pub CompletesTurn : {M Msg : Type 0} → Module Msg → Relation M Msg → (old new : SimulationState M Msg) → ℕ →
+    (slots at : ℕ) → Outcome → EventOutcome → Type 0
+CompletesTurn {Msg = Msg} m refines old new core slots at outcome r = (w : Machines Msg) (event : NodeEvent)
+    (t : Turn Msg) → IsBehind m refines old w event core t slots at → IsMade t outcome →
+    HasChanged m refines (Some core) new
+    (with_disks w (kept_at w core event) (stepped_to old.setup w.held core (Taken t))) r
+
+-- The node of core c may go back to its first slots and an earlier epoch.
+abbrev pub MayRetreat : {M Msg : Type 0} → SimulationState M Msg → (core slots at : ℕ) → Type 0
+MayRetreat {M = M} {Msg = Msg} v core slots at = (g : KeptState M Msg MemoryDisk) → slice_get v.nodes core ≡ Some g →
+    (slots ≤ length g.node.state.log.entries) × (at ≤ g.node.state.epoch)

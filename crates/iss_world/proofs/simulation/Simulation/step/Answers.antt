@@ -40,25 +40,19 @@ invariant_of-self-in-NoMemory g c =
     still-running g.M.Sequenced.spec g.M.Sequenced.refines v c.args.core c.index_mut.result.now c.take_with_savepoint-answer.new.node c.self.inside.network c.self.inside.signed c.self.inside.hashed c.self.invariant lt at c.take_with_savepoint-answer.ensures.same
           (same-network g.M.Sequenced.spec g.M.Sequenced.refines v c.self.invariant)
 
-pub taken-requires-clause-slots : goal.taken-requires-clause-slots
-taken-requires-clause-slots g c =
+pub taken-requires-clause-retreat : goal.taken-requires-clause-retreat
+taken-requires-clause-retreat g c =
     let v : SimulationState g.row.M.Denot g.row.M-Msg.Denot = record { setup = c.self.inside.members; nodes = c.self.inside.nodes.items; network = c.self.inside.network; signed = c.self.inside.signed; hashed = c.self.inside.hashed } in
     let lt : c.args.core < length c.self.inside.nodes.items = omega (arith, ap (λ (z : SimulationState _ _). cores_of z.setup) c.self.view_is, c.self.invariant.count) in
     let at = slice_get_read c.self.inside.nodes.items _ c.args.core c.index_mut.result.now refl lt c.index_mut.ensures.value in
     let nodes = subst (λ (z : SimulationState _ _). IsOfNodes z.setup.n c.args.event) (sym c.self.view_is) c.requires.nodes in
     let st = subst (λ (z : SimulationState _ _). RefinesMachines g.M.Sequenced.spec g.M.Sequenced.refines z c.requires.working.0) (sym c.self.view_is) c.requires.working.1 in
-    slots-kept g.M.Sequenced.spec g.M.Sequenced.refines v c.args.core c.index_mut.result.now c.args.event c.self.invariant at c.take_with_savepoint-answer.new.node lt c.take_with_savepoint-answer.ensures.same nodes c.take_with_savepoint-answer.result.0 c.take_with_savepoint-answer.ensures.answer
-    c.in-Taken.outcome c.in-Taken.is c.requires.working.0 st c.requires.working.2 c.take_with_savepoint-answer.result.1 c.take_with_savepoint-answer.ensures.slots
-
-pub taken-requires-clause-epoch : goal.taken-requires-clause-epoch
-taken-requires-clause-epoch g c =
-    let v : SimulationState g.row.M.Denot g.row.M-Msg.Denot = record { setup = c.self.inside.members; nodes = c.self.inside.nodes.items; network = c.self.inside.network; signed = c.self.inside.signed; hashed = c.self.inside.hashed } in
-    let lt : c.args.core < length c.self.inside.nodes.items = omega (arith, ap (λ (z : SimulationState _ _). cores_of z.setup) c.self.view_is, c.self.invariant.count) in
-    let at = slice_get_read c.self.inside.nodes.items _ c.args.core c.index_mut.result.now refl lt c.index_mut.ensures.value in
-    let nodes = subst (λ (z : SimulationState _ _). IsOfNodes z.setup.n c.args.event) (sym c.self.view_is) c.requires.nodes in
-    let st = subst (λ (z : SimulationState _ _). RefinesMachines g.M.Sequenced.spec g.M.Sequenced.refines z c.requires.working.0) (sym c.self.view_is) c.requires.working.1 in
-    epoch-kept g.M.Sequenced.spec g.M.Sequenced.refines v c.args.core c.index_mut.result.now c.args.event c.self.invariant at c.take_with_savepoint-answer.new.node lt c.take_with_savepoint-answer.ensures.same nodes c.take_with_savepoint-answer.result.0 c.take_with_savepoint-answer.ensures.answer
-    c.in-Taken.outcome c.in-Taken.is c.requires.working.0 st c.requires.working.2 c.take_with_savepoint-answer.result.2.0 c.take_with_savepoint-answer.ensures.epoch
+    λ k is. (
+      slots-kept g.M.Sequenced.spec g.M.Sequenced.refines v c.args.core c.index_mut.result.now c.args.event c.self.invariant at c.take_with_savepoint-answer.new.node lt c.take_with_savepoint-answer.ensures.same nodes c.take_with_savepoint-answer.result.0 c.take_with_savepoint-answer.ensures.answer
+          c.in-Taken.outcome c.in-Taken.is c.requires.working.0 st c.requires.working.2 c.take_with_savepoint-answer.result.1 c.take_with_savepoint-answer.ensures.slots k is,
+      epoch-kept g.M.Sequenced.spec g.M.Sequenced.refines v c.args.core c.index_mut.result.now c.args.event c.self.invariant at c.take_with_savepoint-answer.new.node lt c.take_with_savepoint-answer.ensures.same nodes c.take_with_savepoint-answer.result.0 c.take_with_savepoint-answer.ensures.answer
+          c.in-Taken.outcome c.in-Taken.is c.requires.working.0 st c.requires.working.2 c.take_with_savepoint-answer.result.2.0 c.take_with_savepoint-answer.ensures.epoch k is,
+    )
 
 pub returns-in-Taken-clause-happened : goal.returns-in-Taken-clause-happened
 returns-in-Taken-clause-happened g c =
