@@ -15,6 +15,7 @@ pub struct CheckedConfig {
 }
 
 impl Model for CheckedConfig {
+    ghost use Rattle.iss_config.specs.Configs.{IsInRange};
     ghost use Rattle.iss_config.specs.declared.configs.Config.{Config as ModelConfig};
 
     ghost Value = { ModelConfig };
@@ -49,7 +50,8 @@ pub struct CheckedSchedule {
 }
 
 impl Model for CheckedSchedule {
-    ghost use Rattle.std.specs.Prelude.{◌×◌};
+    ghost use Rattle.iss_schedule.specs.Events.{AreInRange};
+    ghost use Rattle.iss_schedule.specs.Schedules.{IsKnown};
     ghost use Rattle.iss_schedule.specs.declared.schedules.Schedule.{Schedule as ModelSchedule};
 
     ghost Value = { ModelSchedule };

@@ -1,5 +1,5 @@
 //! The nodes and clients of a cluster: its set-up, and the keys of each.
-ghost use Rattle.std.specs.Prelude.{◌≡◌, ◌<◌, ◌×◌, IfOk};
+ghost use Rattle.std.specs.Prelude.{◌≡◌, ◌<◌, IfOk};
 ghost use Rattle.iss_model.specs.Run.{cores_of, node_of};
 ghost use Rattle.iss_request.specs.Setup.{IsGoodSetup};
 ghost use Rattle.iss_rules.specs.Concrete.{keys_of};
@@ -18,7 +18,10 @@ pub struct Members {
 }
 
 impl Model for Members {
+    ghost use Rattle.std.specs.Prelude.{◌≡◌};
+    ghost use Rattle.iss_request.specs.Setup.{IsGoodSetup};
     ghost use Rattle.iss_request.specs.declared.setups.Setup.{Setup as ModelSetup};
+    ghost use Rattle.iss_rules.specs.Concrete.{keys_of};
 
     ghost Value = { ModelSetup };
 

@@ -59,7 +59,6 @@ impl<M: Sequenced> Simulation<M> {
             (posted self.old.network (record { from = from; to = core; bytes = bytes.now }))) }
         ensures same { self.new.setup ≡ self.old.setup }
     {
-        prove!(core < cores_of self.old.setup);
         self.network.post(from, core, bytes.copy()?)
     }
 }

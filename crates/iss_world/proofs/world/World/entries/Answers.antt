@@ -1,7 +1,6 @@
-use Rattle.iss_world.proofs.WorldLemmas.{shown-at}
+use Rattle.std.proofs.Common.{◌∙◌, ap, List, reverse, sym}
+use Rattle.iss_request.specs.declared.requests.Value.{Value}
 use Rattle.iss_world.proofs.world.World.entries.Goals as goal
 
 pub returns : goal.returns
-returns g c =
-    rw (← c.self.view_is)
-    (λ p k. c.entries.ensures p.state (shown-at g.M.Sequenced.spec g.M.Sequenced.refines (record { simulation = c.self.inside.simulation; ended = c.self.inside.ended; stale = c.self.inside.stale }) p k))
+returns g c = λ p k. c.log.ensures p k ∙ ap (λ (values : List Value). reverse values) (sym c.entries.ensures)

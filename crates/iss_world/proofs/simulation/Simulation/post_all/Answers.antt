@@ -1,6 +1,6 @@
 use Rattle.std.proofs.Common.{◌<◌, ◌≤◌, length, arith}
-use Rattle.iss_world.proofs.PostLemmas.{all-sent, send-next}
-use Rattle.iss_world.proofs.posting.Simulation.post_all.Goals as goal
+use Rattle.iss_world.proofs.PostLemmas.{send-next}
+use Rattle.iss_world.proofs.simulation.Simulation.post_all.Goals as goal
 
 pub loop-send-preserved : goal.loop-send-preserved
 loop-send-preserved g c =

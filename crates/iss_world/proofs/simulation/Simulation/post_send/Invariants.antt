@@ -4,7 +4,7 @@ use Rattle.iss_base.specs.Lists.{below}
 use Rattle.iss_model.specs.Run.{posted_to}
 use Rattle.iss_world.specs.Internal.Posting.{is_for}
 use Rattle.iss_world.specs.State.{with_network}
-use Rattle.iss_world.proofs.posting.Simulation.post_send.Given as goal
+use Rattle.iss_world.proofs.simulation.Simulation.post_send.Given as goal
 
 abbrev pub invariant-loop-core : goal.invariant-loop-core
 invariant-loop-core g l = record {

@@ -1,7 +1,7 @@
 use Rattle.std.proofs.Common.{◌≡◌, take}
 use Rattle.iss_model.specs.Run.{posted_all}
 use Rattle.iss_world.specs.State.{with_network}
-use Rattle.iss_world.proofs.posting.Simulation.post_all.Given as goal
+use Rattle.iss_world.proofs.simulation.Simulation.post_all.Given as goal
 
 abbrev pub invariant-loop-send : goal.invariant-loop-send
 invariant-loop-send g l = record {
