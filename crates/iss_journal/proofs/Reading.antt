@@ -1,13 +1,13 @@
 -- Attaching keeps a file's reading at each moment.
 use Rattle.std.proofs.Common.{◌≡◌, inl, inr, ℕ, zero, suc, Some, Result, Ok, Err, OnOk, ◌+◌, ◌<◌, ◌≤◌, true, false, List, [], ◌∷◌, ◌++◌, length, take, refl, sym, ◌∙◌, ap, subst, arith, append_assoc}
 use Rattle.iss_disk.specs.File.{File, Image, settled, synced}
-use Rattle.iss_disk.specs.Calls.{IfTold, EachState, Moves, Place, Stays, Room, Takes}
+use Rattle.iss_disk.specs.Calls.{Device, IfTold, EachState, Moves, Place, Stays, Room, Takes}
 use Rattle.iss_journal.specs.Frames.{ClosesAfter, frames, holds, Reading, Reads, version_1}
 use Rattle.iss_journal.specs.Promises.{OnlyLeaves, LeavesOnly, LeavesReading, LosesNothing, HoldsFirst, HoldsWithOrWithout, RestsOn, ComesToRest}
 use Rattle.iss_journal.proofs.Crash.{only_settled, reads_closed}
 use Rattle.iss_journal.specs.RetainedViews.{HasGrown, IsSame, TakesMore}
 use Rattle.iss_journal.specs.declared.retained.Retained.{Retained}
-use Rattle.iss_journal.specs.Sound.{HasRoom, longest_of}
+use Rattle.iss_journal.specs.Sound.{HasRoom}
 use Rattle.iss_journal.specs.declared.reserved.Reserved.{Reserved}
 use Rattle.iss_journal.proofs.Grammar.{one_reading}
 use Rattle.iss_journal.proofs.Steps.{between_leaves, each_append}
@@ -137,9 +137,12 @@ rests_durable h entries told = told_so _ _ h told (λ file rests c image.
     reads_closed entries rests.gate [] c rests.short rests.closed
     (only_settled (frames entries ++ rests.gate ∷ []) c (subst (λ (f : File). Image f c) rests.is image)))
 
-pub history_same : (h0 h1 : List File) (f0 f1 : List ℕ → List File) (n0 n1 : Place) → h0 ≡ f0 n0.name → h1 ≡ f1 n1.name →
-    Stays n0 n1 f0 f1 → h1 ≡ h0
-history_same h0 h1 f0 f1 n0 n1 is0 is1 stays = is1 ∙ ap (λ (n : Place). f1 n.name) stays.place ∙ stays.all n0.name ∙ sym is0
+-- where all files stayed, so did the history of the current one
+pub history_same : (before now : Device) → before.history ≡ before.files before.current.name →
+    now.history ≡ now.files now.current.name → Stays before.current now.current before.files now.files →
+    now.history ≡ before.history
+history_same before now here_before here_now stays = here_now
+    ∙ ap (λ (n : Place). now.files n.name) stays.place ∙ stays.all before.current.name ∙ sym here_before
 
 -- room that was added does not matter for whether there is room
 pub room_more : (spare : Reserved) (old new : Retained) (room now : Room) → HasRoom spare old room →
@@ -219,15 +222,6 @@ room_after spare left old staged new room now bytes has same grown takes is_entr
       calls = omega (arith, has.calls, takes.calls_left, is_entries);
       on_disk = omega (arith, has.on_disk, takes.bytes_left, is_limit);
     }
-
--- room for every entry below a limit is room for a longest entry
-pub longest_below : (below bytes : ℕ) → bytes < below → (most : ℕ) × (longest_of below ≡ Some most) × (bytes ≤ most)
-longest_below zero bytes lt = absurd (omega (arith, lt))
-longest_below (suc most) bytes lt = (most, refl, omega (arith, lt))
-
-pub so_where_ok : {T E : Type 0} (r : Result T E) (P Q : Type 0) → OnOk r P → (P → Q) → OnOk r Q
-so_where_ok (Ok x) P Q is so = so is
-so_where_ok (Err e) P Q is so = is
 
 pub takes_none : (room : Room) → Takes 0 0 room room
 takes_none room = record { calls_left = omega arith; bytes_left = omega arith }

@@ -178,6 +178,7 @@ impl<D: Disk> Journal<D> {
             (D.state self.new.disk) }
     {
         let bytes = (head.len() + body.len()) as u64;
+        let _attached = self.attached;
         self.reserve(bytes)?;
         let left = left_behind(self.reserved, bytes);
         self.reserved.limit = 0;
