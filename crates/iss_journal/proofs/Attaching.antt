@@ -1,5 +1,5 @@
 -- What attaching leaves at each of its exits: before its first sync, where that fails, and behind it.
-use Rattle.std.proofs.Common.{arith, ◌≡◌, ◌≢◌, ◌≤◌, ℕ, Bool, true, false, Result, Ok, Err, List, [], ◌∷◌, inl, inr, refl, sym, ap, ◌∙◌, subst}
+use Rattle.std.proofs.Common.{arith, ◌≡◌, ◌≤◌, ℕ, Bool, true, false, Ok, Err, List, [], ◌∷◌, inl, inr, refl, sym, ap, ◌∙◌, subst}
 use Rattle.iss_disk.specs.File.{File, Image, settled, synced}
 use Rattle.iss_disk.specs.Calls.{Changes, Device, IfTold, OnlyMakesRoom, Passes, Place, Rose, Runs, StaysHere, script}
 use Rattle.iss_journal.specs.EntryViews.{entries_in}

@@ -1,5 +1,5 @@
 -- Attaching keeps a file's reading at each moment.
-use Rattle.std.proofs.Common.{◌≡◌, inl, inr, ℕ, zero, suc, Some, Result, Ok, Err, OnOk, ◌+◌, ◌<◌, ◌≤◌, true, false, List, [], ◌∷◌, ◌++◌, length, take, refl, sym, ◌∙◌, ap, subst, arith, append_assoc}
+use Rattle.std.proofs.Common.{◌≡◌, inl, inr, ℕ, ◌+◌, ◌<◌, ◌≤◌, true, false, List, [], ◌∷◌, ◌++◌, length, take, refl, sym, ◌∙◌, ap, subst, arith, append_assoc}
 use Rattle.iss_disk.specs.File.{File, Image, settled, synced}
 use Rattle.iss_disk.specs.Calls.{Device, IfTold, EachState, Moves, Place, Stays, Room, Takes}
 use Rattle.iss_journal.specs.Frames.{ClosesAfter, frames, holds, Reading, Reads, version_1}
