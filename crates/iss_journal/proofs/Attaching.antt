@@ -46,7 +46,8 @@ module _ (d0 d1 : Device) (here0 : d0.history ≡ d0.files d0.current.name)
         stays.others name (λ e. other (e ∙ ap (λ (p : Place). p.name) made.same.place)) ∙ made.same.all name;
   }
 
-  module _ (d2 : Device) (read : (file : File) (past : List File) → d1.history ≡ file ∷ past → Image file file.content) where
+  module _ (d2 : Device)
+      (read : (file : File) (past : List File) → d1.history ≡ file ∷ past → Image file file.content) where
     -- the first sync failed
     pub sync_failed : {T E : Type 0} (e : E) (failed : Type 0) → Changes {T = T} {E = E} synced 0 (Err e) d1 d2 →
         LosesNone version_1 failed d0 d2

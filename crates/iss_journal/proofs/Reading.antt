@@ -16,7 +16,8 @@ pub told_so : (P Q : File → Type 0) (h : List File) → IfTold h P → ((file 
 told_so P Q [] told so = tt
 told_so P Q (file ∷ past) told so = so file told
 
-pub reads_same : (h new : List File) → IfTold h (λ file. file ≡ settled file.content) → new ≡ h → LeavesReading version_1 h new
+pub reads_same : (h new : List File) → IfTold h (λ file. file ≡ settled file.content) → new ≡ h →
+    LeavesReading version_1 h new
 reads_same [] new on_disk same = same
 reads_same (file ∷ past) new on_disk same = (
   [],
@@ -28,7 +29,8 @@ reads_same (file ∷ past) new on_disk same = (
   ),
 )
 
-pub reads_like : (h0 h1 new : List File) (found : Reading) → h1 ≡ h0 → IfTold h0 (λ file. Reads version_1 file.content found) →
+pub reads_like : (h0 h1 new : List File) (found : Reading) → h1 ≡ h0 →
+    IfTold h0 (λ file. Reads version_1 file.content found) →
     LeavesOnly (λ bytes. Reads version_1 bytes found) h1 new → LeavesReading version_1 h0 new
 reads_like [] h1 new found same told leaves =
     subst (λ (h : List File). LeavesOnly (λ bytes. Reads version_1 bytes found) h new) same leaves
@@ -71,7 +73,8 @@ whole_rests h new bytes entries told ends long made =
     (told_so _ _ new made (λ now e. inr (entries, ends, long, e))))
 
 -- the first sync, and what follows it
-keeps_first : (entries : List (List ℕ)) (file : File) → Image file file.content → OnlyLeaves (HoldsFirst version_1 entries) file →
+keeps_first : (entries : List (List ℕ)) (file : File) → Image file file.content →
+    OnlyLeaves (HoldsFirst version_1 entries) file →
     OnlyLeaves (HoldsFirst version_1 entries) (synced file)
 keeps_first entries file read leaves c image =
     subst (HoldsFirst version_1 entries) (sym (only_settled file.content c image)) (leaves file.content read)
@@ -144,22 +147,6 @@ pub history_same : (before now : Device) → before.history ≡ before.files bef
 history_same before now here_before here_now stays = here_now
     ∙ ap (λ (n : Place). now.files n.name) stays.place ∙ stays.all before.current.name ∙ sym here_before
 
--- room that was added does not matter for whether there is room
-pub room_more : (spare : Reserved) (old new : Retained) (room now : Room) → HasRoom spare old room →
-    IsSame old new → Takes 0 0 room now → HasRoom spare new now
-room_more spare old new room now has same takes =
-    let own = ap (λ (es : List (List ℕ)). length (frames es)) same.entries.own in
-    record {
-      some = has.some;
-      in_memory = omega (arith, has.in_memory, same.entries.bytes, own);
-      for_marks = omega (arith, has.for_marks, same.entries.marks_room, same.entries.marks);
-      for_tails = omega (arith, has.for_tails, same.entries.tails_room, same.entries.few);
-      for_gates = omega (arith, has.for_gates, same.gates_room, same.few);
-      in_file = omega (arith, has.in_file, same.last);
-      calls = omega (arith, has.calls, takes.calls_left);
-      on_disk = omega (arith, has.on_disk, takes.bytes_left);
-    }
-
 -- room that is reserved is there for one entry
 pub space_of : (spare : Reserved) (kept : Retained) (room : Room) (bytes : ℕ) → HasRoom spare kept room →
     bytes < spare.limit → TakesMore 1 bytes kept
@@ -223,10 +210,6 @@ room_after spare left old staged new room now bytes has same grown takes is_entr
       on_disk = omega (arith, has.on_disk, takes.bytes_left, is_limit);
     }
 
-pub takes_none : (room : Room) → Takes 0 0 room room
-takes_none room = record { calls_left = omega arith; bytes_left = omega arith }
-
--- before an append
 pub rests_start : (h : List File) (entries : List (List ℕ)) (entry : List ℕ) → IfTold h (RestsOn entries) →
     LeavesOnly (HoldsWithOrWithout version_1 entries entry) h h
 rests_start [] entries entry told = refl

@@ -17,8 +17,8 @@ returns-in_err-write_at g c =
     let so = over1 kept entry c.requires.short c.end-gate.result c.staged-staged.result.now c.end-gate.ensures staged
     (g.D.Disk.state c.args.disk.now).history (g.D.Disk.state c.write_at.new.self).history c.requires.rests
     c.in_err-write_at.ensures.file in
-    let kept_bytes : IfTold (g.D.Disk.state c.write_at.new.self).history (λ file. Shows version_1 (shown_in kept) file.kept) =
-    so.stays in
+    let kept_bytes : IfTold (g.D.Disk.state c.write_at.new.self).history
+    (λ file. Shows version_1 (shown_in kept) file.kept) = so.stays in
     record {
       any_moment = so.moment;
       rests = search rules;
@@ -36,10 +36,11 @@ returns-in_err-sync g c =
     let staged = is_body (entries_in kept.entries.own) entry kept.entries.own.bytes.items c.staged-staged.result.now
     c.requires.staged c.staged-staged.ensures in
     let so = over2 kept entry c.requires.short c.end-gate.result c.staged-staged.result.now c.end-gate.ensures staged
-    (g.D.Disk.state c.args.disk.now).history (g.D.Disk.state c.write_at.new.self).history (g.D.Disk.state c.sync.new.self).history
+    (g.D.Disk.state c.args.disk.now).history (g.D.Disk.state c.write_at.new.self).history
+    (g.D.Disk.state c.sync.new.self).history
     c.requires.rests c.in_ok-write_at.ensures.file c.in_err-sync.ensures.file in
-    let kept_bytes : IfTold (g.D.Disk.state c.sync.new.self).history (λ file. Shows version_1 (shown_in kept) file.kept) =
-    so.stays in
+    let kept_bytes : IfTold (g.D.Disk.state c.sync.new.self).history
+    (λ file. Shows version_1 (shown_in kept) file.kept) = so.stays in
     record {
       any_moment = so.moment;
       rests = search rules;
@@ -57,11 +58,13 @@ returns-in_err-write_at-2 g c =
     let staged = is_body (entries_in kept.entries.own) entry kept.entries.own.bytes.items c.staged-staged.result.now
     c.requires.staged c.staged-staged.ensures in
     let so = over3 kept entry c.requires.short c.end-gate.result c.staged-staged.result.now c.end-gate.ensures staged
-    (g.D.Disk.state c.args.disk.now).history (g.D.Disk.state c.write_at.new.self).history (g.D.Disk.state c.sync.new.self).history
-    (g.D.Disk.state c.write_at-2.new.self).history c.requires.rests c.in_ok-write_at.ensures.file c.in_ok-sync.ensures.file
+    (g.D.Disk.state c.args.disk.now).history (g.D.Disk.state c.write_at.new.self).history
+    (g.D.Disk.state c.sync.new.self).history
+    (g.D.Disk.state c.write_at-2.new.self).history c.requires.rests c.in_ok-write_at.ensures.file
+    c.in_ok-sync.ensures.file
     c.in_err-write_at-2.ensures.file in
-    let kept_bytes : IfTold (g.D.Disk.state c.write_at-2.new.self).history (λ file. Shows version_1 (shown_in kept) file.kept) =
-    so.stays in
+    let kept_bytes : IfTold (g.D.Disk.state c.write_at-2.new.self).history
+    (λ file. Shows version_1 (shown_in kept) file.kept) = so.stays in
     record {
       any_moment = so.moment;
       rests = search rules;
@@ -79,12 +82,13 @@ returns-in_err-sync-2 g c =
     let staged = is_body (entries_in kept.entries.own) entry kept.entries.own.bytes.items c.staged-staged.result.now
     c.requires.staged c.staged-staged.ensures in
     let so = over4 kept entry c.requires.short c.end-gate.result c.staged-staged.result.now c.end-gate.ensures staged
-    (g.D.Disk.state c.args.disk.now).history (g.D.Disk.state c.write_at.new.self).history (g.D.Disk.state c.sync.new.self).history
+    (g.D.Disk.state c.args.disk.now).history (g.D.Disk.state c.write_at.new.self).history
+    (g.D.Disk.state c.sync.new.self).history
     (g.D.Disk.state c.write_at-2.new.self).history (g.D.Disk.state c.sync-2.new.self).history c.requires.rests
     c.in_ok-write_at.ensures.file c.in_ok-sync.ensures.file c.in_ok-write_at-2.ensures.file
     c.in_err-sync-2.ensures.file in
-    let kept_bytes : IfTold (g.D.Disk.state c.sync-2.new.self).history (λ file. Shows version_1 (shown_in kept) file.kept) =
-    so.stays in
+    let kept_bytes : IfTold (g.D.Disk.state c.sync-2.new.self).history
+    (λ file. Shows version_1 (shown_in kept) file.kept) = so.stays in
     record {
       any_moment = so.moment;
       rests = search rules;
@@ -101,8 +105,10 @@ returns g c =
     let entry = c.args.head.now ++ c.args.body.now in
     let staged = is_body (entries_in kept.entries.own) entry kept.entries.own.bytes.items c.staged-staged.result.now
     c.requires.staged c.staged-staged.ensures in
-    let so = finish_over kept entry c.requires.short c.end-gate.result c.staged-staged.result.now c.end-gate.ensures staged
-    (g.D.Disk.state c.args.disk.now).history (g.D.Disk.state c.write_at.new.self).history (g.D.Disk.state c.sync.new.self).history
+    let so = finish_over kept entry c.requires.short c.end-gate.result c.staged-staged.result.now c.end-gate.ensures
+    staged
+    (g.D.Disk.state c.args.disk.now).history (g.D.Disk.state c.write_at.new.self).history
+    (g.D.Disk.state c.sync.new.self).history
     (g.D.Disk.state c.write_at-2.new.self).history (g.D.Disk.state c.sync-2.new.self).history c.requires.rests
     c.in_ok-write_at.ensures.file c.in_ok-sync.ensures.file c.in_ok-write_at-2.ensures.file
     c.in_ok-sync-2.ensures.file in

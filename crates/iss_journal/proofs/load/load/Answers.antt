@@ -80,7 +80,8 @@ returns-in_err-cut_tail-in-Whole-clause-only g c =
     record {
       any_moment =
           reads_like (g.D.Disk.state c.args.disk.now).history (g.D.Disk.state c.read_file.new.disk).history
-          (g.D.Disk.state c.cut_tail.new.disk).history (holds (entries_in c.in-Whole.entries)) c.read_file.ensures.only.history
+          (g.D.Disk.state c.cut_tail.new.disk).history (holds (entries_in c.in-Whole.entries))
+          c.read_file.ensures.only.history
           (whole_reads (g.D.Disk.state c.args.disk.now).history c.in_ok-bytes.bytes.items
           (entries_in c.in-Whole.entries) content long ends) c.cut_tail.ensures.settles.any_moment;
       others = search rules;
@@ -97,7 +98,8 @@ returns-in_ok-cut_tail-in-Whole-clause-only g c =
     record {
       any_moment =
           reads_like (g.D.Disk.state c.args.disk.now).history (g.D.Disk.state c.read_file.new.disk).history
-          (g.D.Disk.state c.cut_tail.new.disk).history (holds (entries_in c.in-Whole.entries)) c.read_file.ensures.only.history
+          (g.D.Disk.state c.cut_tail.new.disk).history (holds (entries_in c.in-Whole.entries))
+          c.read_file.ensures.only.history
           (whole_reads (g.D.Disk.state c.args.disk.now).history c.in_ok-bytes.bytes.items
           (entries_in c.in-Whole.entries) content long ends) c.cut_tail.ensures.settles.any_moment;
       others = search rules;
@@ -132,7 +134,8 @@ returns-in_ok-cut_tail-in-Whole-clause-loaded g c =
       read = search rules;
       rests = search rules;
       file =
-          whole_rests (g.D.Disk.state c.args.disk.now).history new bytes (entries_in c.in-Whole.entries) content ends long
+          whole_rests (g.D.Disk.state c.args.disk.now).history new bytes (entries_in c.in-Whole.entries) content ends
+          long
           (subst (λ (b : List ℕ). IfTold new (λ file. file ≡ settled (take end b))) same
           c.in_ok-cut_tail-in-Whole.ensures.done.file);
     }

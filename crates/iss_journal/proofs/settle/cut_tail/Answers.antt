@@ -16,8 +16,8 @@ returns-in_err-cut-clause-settles g c =
     (g.D.Disk.state c.cut.new.self).history) place c.in_err-cut.ensures.file in
     record {
       any_moment =
-          cutting (entries_in c.args.entries.now) c.args.entries.now.bytes.items c.requires.file.ends false
-          (g.D.Disk.state c.args.disk.now).history (g.D.Disk.state c.cut.new.self).history c.requires.file.read moved;
+          cutting (entries_in c.args.entries.now) c.args.entries.now.bytes.items c.requires.ends false
+          (g.D.Disk.state c.args.disk.now).history (g.D.Disk.state c.cut.new.self).history c.requires.read moved;
       others = search rules;
       cause = search rules;
       works = search rules;
@@ -29,13 +29,14 @@ returns-in_err-sync-clause-settles g c =
     ap (λ (n : ℕ). n + 1) c.last.ensures.offset in
     let moved : Moves (shortened (length (frames (entries_in c.args.entries.now)) + 1)) true
     (g.D.Disk.state c.args.disk.now).history (g.D.Disk.state c.cut.new.self).history =
-    subst (λ (n : ℕ). Moves (shortened n) true (g.D.Disk.state c.args.disk.now).history (g.D.Disk.state c.cut.new.self).history)
+    subst (λ (n : ℕ). Moves (shortened n) true (g.D.Disk.state c.args.disk.now).history
+    (g.D.Disk.state c.cut.new.self).history)
     place c.in_ok-cut.ensures.file in
     record {
       any_moment =
-          cut_synced (entries_in c.args.entries.now) c.args.entries.now.bytes.items c.requires.file.ends false
+          cut_synced (entries_in c.args.entries.now) c.args.entries.now.bytes.items c.requires.ends false
           (g.D.Disk.state c.args.disk.now).history (g.D.Disk.state c.cut.new.self).history
-          (g.D.Disk.state c.sync.new.self).history c.requires.file.read moved c.in_err-sync.ensures.file;
+          (g.D.Disk.state c.sync.new.self).history c.requires.read moved c.in_err-sync.ensures.file;
       others = search rules;
       cause = search rules;
       works = search rules;
@@ -47,13 +48,14 @@ returns-in_ok-sync-clause-settles g c =
     ap (λ (n : ℕ). n + 1) c.last.ensures.offset in
     let moved : Moves (shortened (length (frames (entries_in c.args.entries.now)) + 1)) true
     (g.D.Disk.state c.args.disk.now).history (g.D.Disk.state c.cut.new.self).history =
-    subst (λ (n : ℕ). Moves (shortened n) true (g.D.Disk.state c.args.disk.now).history (g.D.Disk.state c.cut.new.self).history)
+    subst (λ (n : ℕ). Moves (shortened n) true (g.D.Disk.state c.args.disk.now).history
+    (g.D.Disk.state c.cut.new.self).history)
     place c.in_ok-cut.ensures.file in
     record {
       any_moment =
-          cut_synced (entries_in c.args.entries.now) c.args.entries.now.bytes.items c.requires.file.ends true
+          cut_synced (entries_in c.args.entries.now) c.args.entries.now.bytes.items c.requires.ends true
           (g.D.Disk.state c.args.disk.now).history (g.D.Disk.state c.cut.new.self).history
-          (g.D.Disk.state c.sync.new.self).history c.requires.file.read moved c.in_ok-sync.ensures.file;
+          (g.D.Disk.state c.sync.new.self).history c.requires.read moved c.in_ok-sync.ensures.file;
       others = search rules;
       cause = search rules;
       works = search rules;
@@ -63,8 +65,8 @@ pub returns-else-has_tail-clause-settles : goal.returns-else-has_tail-clause-set
 returns-else-has_tail-clause-settles g c =
     record {
       any_moment =
-          nothing_done (entries_in c.args.entries.now) c.args.entries.now.bytes.items c.requires.file.ends
-          (g.D.Disk.state c.args.disk.now).history c.requires.file.read;
+          nothing_done (entries_in c.args.entries.now) c.args.entries.now.bytes.items c.requires.ends
+          (g.D.Disk.state c.args.disk.now).history c.requires.read;
       others = search rules;
       cause = search rules;
       works = search rules;
@@ -76,17 +78,18 @@ returns-in_ok-sync-clause-done g c =
     ap (λ (n : ℕ). n + 1) c.last.ensures.offset in
     let moved : Moves (shortened (length (frames (entries_in c.args.entries.now)) + 1)) true
     (g.D.Disk.state c.args.disk.now).history (g.D.Disk.state c.cut.new.self).history =
-    subst (λ (n : ℕ). Moves (shortened n) true (g.D.Disk.state c.args.disk.now).history (g.D.Disk.state c.cut.new.self).history)
+    subst (λ (n : ℕ). Moves (shortened n) true (g.D.Disk.state c.args.disk.now).history
+    (g.D.Disk.state c.cut.new.self).history)
     place c.in_ok-cut.ensures.file in
     record {
       rests =
-          cut_done (entries_in c.args.entries.now) c.args.entries.now.bytes.items c.requires.file.ends
+          cut_done (entries_in c.args.entries.now) c.args.entries.now.bytes.items c.requires.ends
           (g.D.Disk.state c.args.disk.now).history (g.D.Disk.state c.cut.new.self).history
-          (g.D.Disk.state c.sync.new.self).history c.requires.file.read moved c.in_ok-sync.ensures.file;
+          (g.D.Disk.state c.sync.new.self).history c.requires.read moved c.in_ok-sync.ensures.file;
       file =
-          cut_file (entries_in c.args.entries.now) c.args.entries.now.bytes.items c.requires.file.ends
+          cut_file (entries_in c.args.entries.now) c.args.entries.now.bytes.items c.requires.ends
           (g.D.Disk.state c.args.disk.now).history (g.D.Disk.state c.cut.new.self).history
-          (g.D.Disk.state c.sync.new.self).history c.requires.file.read moved c.in_ok-sync.ensures.file;
+          (g.D.Disk.state c.sync.new.self).history c.requires.read moved c.in_ok-sync.ensures.file;
     }
 
 pub returns-else-has_tail-clause-done : goal.returns-else-has_tail-clause-done
@@ -95,9 +98,9 @@ returns-else-has_tail-clause-done g c =
     search rules in
     record {
       rests =
-          rests_already (entries_in c.args.entries.now) c.args.entries.now.bytes.items c.requires.file.ends
-          (g.D.Disk.state c.args.disk.now).history c.requires.file.read brief;
+          rests_already (entries_in c.args.entries.now) c.args.entries.now.bytes.items c.requires.ends
+          (g.D.Disk.state c.args.disk.now).history c.requires.read brief;
       file =
-          left_whole (entries_in c.args.entries.now) c.args.entries.now.bytes.items c.requires.file.ends
-          (g.D.Disk.state c.args.disk.now).history c.requires.file.read brief;
+          left_whole (entries_in c.args.entries.now) c.args.entries.now.bytes.items c.requires.ends
+          (g.D.Disk.state c.args.disk.now).history c.requires.read brief;
     }

@@ -19,7 +19,8 @@ returns-then-ne c =
       err = search rules;
       files = λ n.
           ap (λ (fs : List StoredFile). history_among (c.replace-former.new.dest ∷ fs) n) inserted
-          ∙ ap (λ (f : StoredFile). history_among (f ∷ c.args.self.now.file ∷ c.take_named-next.new.others.items) n) is_next
+          ∙ ap (λ (f : StoredFile). history_among (f ∷ c.args.self.now.file ∷ c.take_named-next.new.others.items) n)
+          is_next
           ∙ attached_files c.args.self.now.file c.take_named-next.result c.args.self.now.others.items
           c.take_named-next.new.others.items c.in_ok-fresh.fresh.name.items apart c.take_named-next.ensures.name found
           (λ name other. c.take_named-next.ensures.others name other

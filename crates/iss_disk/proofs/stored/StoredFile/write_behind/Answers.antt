@@ -26,7 +26,8 @@ invariant_of-self-clause-stored c =
     let extended : longer ≡ content ++ bytes = search rules in
     let one_more : states (calls_of (Just_wrote same) ++ listed) lost longer
     ≡ after (wrote at bytes) (states calls lost content) =
-    written_behind c.args.self.now.recent listed same bytes content lost longer c.requires.rest.all_noted all extended in
+    written_behind c.args.self.now.recent listed same bytes content lost longer c.requires.rest.all_noted all extended
+    in
     let over : longer ≡ overwritten at bytes content =
     extended ∙ ap (λ (l : List ℕ). l ++ bytes) (sym (take_all at content (omega arith)))
     ∙ sym (to-end-overwritten at bytes content (omega arith)) in

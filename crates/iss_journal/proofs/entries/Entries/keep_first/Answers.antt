@@ -42,7 +42,8 @@ pub returns : goal.returns
 returns c =
     let now = c.args.self.now in
     record {
-      entries = (first now.bytes.items c.truncate.new.self.items now.count now.last c.args.count c.gate_before-gate.result
+      entries = (first now.bytes.items c.truncate.new.self.items now.count now.last c.args.count
+      c.gate_before-gate.result
           now.book c.requires c.gate_before-gate.ensures c.truncate.ensures.items).found;
       bytes = search rules;
       marks = search rules;
