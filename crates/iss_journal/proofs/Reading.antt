@@ -147,34 +147,6 @@ pub history_same : (before now : Device) → before.history ≡ before.files bef
 history_same before now here_before here_now stays = here_now
     ∙ ap (λ (n : Place). now.files n.name) stays.place ∙ stays.all before.current.name ∙ sym here_before
 
--- room that is reserved is there for one entry
-pub space_of : (spare : Reserved) (kept : Retained) (room : Room) (bytes : ℕ) → HasRoom spare kept room →
-    bytes < spare.limit → TakesMore 1 bytes kept
-space_of spare kept room bytes has below = record {
-  space = record {
-    in_memory = omega (arith, has.in_memory, below);
-    for_marks = omega (arith, has.for_marks, has.some);
-    for_tails = omega (arith, has.for_tails, has.some);
-  };
-  for_gates = omega (arith, has.for_gates, has.some);
-  in_file = omega (arith, has.in_file, below);
-}
-
--- and still there once the entry is staged
-pub space_same : (some bytes : ℕ) (old new : Retained) → TakesMore some bytes old → IsSame old new →
-    TakesMore some bytes new
-space_same some bytes old new has same =
-    let own = ap (λ (es : List (List ℕ)). length (frames es)) same.entries.own in
-    record {
-      space = record {
-        in_memory = omega (arith, has.space.in_memory, same.entries.bytes, own);
-        for_marks = omega (arith, has.space.for_marks, same.entries.marks_room, same.entries.marks);
-        for_tails = omega (arith, has.space.for_tails, same.entries.tails_room, same.entries.few);
-      };
-      for_gates = omega (arith, has.for_gates, same.gates_room, same.few);
-      in_file = omega (arith, has.in_file, same.last);
-    }
-
 -- the room that is left after an entry
 pub room_after : (spare left : Reserved) (old staged new : Retained) (room now : Room) (bytes : ℕ) →
     HasRoom spare old room → IsSame old staged → HasGrown (5 + bytes) staged new → Takes 4 (bytes + 6) room now →
