@@ -93,12 +93,12 @@ impl<R: Files<File = File>> Disk for FileDisk<R> {
     ghost use Rattle.iss_disk.specs.Internal.Untold.{nothing_told};
 
     ghost state = { λ disk. record {
-        history = [];
-        files = λ name. [];
-        current = record { name = disk.name.items; borrows = [] };
-        faults = disk.faults;
-        passes = untold;
-        room = record { calls = 2 ^ 64; bytes = 2 ^ 64 };
+      history = [];
+      files = λ name. [];
+      current = record { name = disk.name.items; borrows = [] };
+      faults = disk.faults;
+      passes = untold;
+      room = record { calls = 2 ^ 64; bytes = 2 ^ 64 };
     } };
 
     fn attach(&mut self, name: &str) -> Result<(), EndError> {

@@ -11,3 +11,4 @@ pub mod Retaining
 pub mod Showing
 mod RetainedLemmas
 mod Over
+mod Attaching

@@ -162,12 +162,6 @@ module _ (old new : Retained) (entry : List ℕ)
   over_closed h more =
       told_so _ _ h more (λ file r. (r.all ++ entry ∷ [], r.is, (grows r.all r.retains).shown))
 
--- the same entries rest on the same file
-pub same_over : (old new : Retained) → IsSame old new → (h : List File) → IfTold h (RestsOver old) →
-    IfTold h (RestsOver new)
-same_over old new same h over = told_so _ _ h over
-    (λ file r. record { all = r.all; retains = same_retains r.all old new same r.retains; rests = r.rests })
-
 -- attached anew
 pub is_read : (h : List File) (all : List (List ℕ)) (kept : Retained) →
     IfTold h (λ file. Reads version_1 file.content (holds all)) →

@@ -1,13 +1,13 @@
 -- Attaching keeps a file's reading at each moment.
-use Rattle.std.proofs.Common.{◌≡◌, inl, inr, ℕ, zero, suc, Some, Result, Ok, Err, OnOk, ◌+◌, ◌<◌, ◌≤◌, true, false, List, [], ◌∷◌, ◌++◌, length, take, refl, sym, ◌∙◌, ap, subst, arith, append_assoc}
+use Rattle.std.proofs.Common.{◌≡◌, inl, inr, ℕ, ◌+◌, ◌<◌, ◌≤◌, true, false, List, [], ◌∷◌, ◌++◌, length, take, refl, sym, ◌∙◌, ap, subst, arith, append_assoc}
 use Rattle.iss_disk.specs.File.{File, Image, settled, synced}
-use Rattle.iss_disk.specs.Calls.{IfTold, EachState, Moves, Place, Stays, Room, Takes}
+use Rattle.iss_disk.specs.Calls.{Device, IfTold, EachState, Moves, Place, Stays, Room, Takes}
 use Rattle.iss_journal.specs.Frames.{ClosesAfter, frames, holds, Reading, Reads, version_1}
 use Rattle.iss_journal.specs.Promises.{OnlyLeaves, LeavesOnly, LeavesReading, LosesNothing, HoldsFirst, HoldsWithOrWithout, RestsOn, ComesToRest}
 use Rattle.iss_journal.proofs.Crash.{only_settled, reads_closed}
 use Rattle.iss_journal.specs.RetainedViews.{HasGrown, IsSame, TakesMore}
 use Rattle.iss_journal.specs.declared.retained.Retained.{Retained}
-use Rattle.iss_journal.specs.Sound.{HasRoom, longest_of}
+use Rattle.iss_journal.specs.Sound.{HasRoom}
 use Rattle.iss_journal.specs.declared.reserved.Reserved.{Reserved}
 use Rattle.iss_journal.proofs.Grammar.{one_reading}
 use Rattle.iss_journal.proofs.Steps.{between_leaves, each_append}
@@ -16,7 +16,8 @@ pub told_so : (P Q : File → Type 0) (h : List File) → IfTold h P → ((file 
 told_so P Q [] told so = tt
 told_so P Q (file ∷ past) told so = so file told
 
-pub reads_same : (h new : List File) → IfTold h (λ file. file ≡ settled file.content) → new ≡ h → LeavesReading version_1 h new
+pub reads_same : (h new : List File) → IfTold h (λ file. file ≡ settled file.content) → new ≡ h →
+    LeavesReading version_1 h new
 reads_same [] new on_disk same = same
 reads_same (file ∷ past) new on_disk same = (
   [],
@@ -28,7 +29,8 @@ reads_same (file ∷ past) new on_disk same = (
   ),
 )
 
-pub reads_like : (h0 h1 new : List File) (found : Reading) → h1 ≡ h0 → IfTold h0 (λ file. Reads version_1 file.content found) →
+pub reads_like : (h0 h1 new : List File) (found : Reading) → h1 ≡ h0 →
+    IfTold h0 (λ file. Reads version_1 file.content found) →
     LeavesOnly (λ bytes. Reads version_1 bytes found) h1 new → LeavesReading version_1 h0 new
 reads_like [] h1 new found same told leaves =
     subst (λ (h : List File). LeavesOnly (λ bytes. Reads version_1 bytes found) h new) same leaves
@@ -71,7 +73,8 @@ whole_rests h new bytes entries told ends long made =
     (told_so _ _ new made (λ now e. inr (entries, ends, long, e))))
 
 -- the first sync, and what follows it
-keeps_first : (entries : List (List ℕ)) (file : File) → Image file file.content → OnlyLeaves (HoldsFirst version_1 entries) file →
+keeps_first : (entries : List (List ℕ)) (file : File) → Image file file.content →
+    OnlyLeaves (HoldsFirst version_1 entries) file →
     OnlyLeaves (HoldsFirst version_1 entries) (synced file)
 keeps_first entries file read leaves c image =
     subst (HoldsFirst version_1 entries) (sym (only_settled file.content c image)) (leaves file.content read)
@@ -137,53 +140,12 @@ rests_durable h entries told = told_so _ _ h told (λ file rests c image.
     reads_closed entries rests.gate [] c rests.short rests.closed
     (only_settled (frames entries ++ rests.gate ∷ []) c (subst (λ (f : File). Image f c) rests.is image)))
 
-pub history_same : (h0 h1 : List File) (f0 f1 : List ℕ → List File) (n0 n1 : Place) → h0 ≡ f0 n0.name → h1 ≡ f1 n1.name →
-    Stays n0 n1 f0 f1 → h1 ≡ h0
-history_same h0 h1 f0 f1 n0 n1 is0 is1 stays = is1 ∙ ap (λ (n : Place). f1 n.name) stays.place ∙ stays.all n0.name ∙ sym is0
-
--- room that was added does not matter for whether there is room
-pub room_more : (spare : Reserved) (old new : Retained) (room now : Room) → HasRoom spare old room →
-    IsSame old new → Takes 0 0 room now → HasRoom spare new now
-room_more spare old new room now has same takes =
-    let own = ap (λ (es : List (List ℕ)). length (frames es)) same.entries.own in
-    record {
-      some = has.some;
-      in_memory = omega (arith, has.in_memory, same.entries.bytes, own);
-      for_marks = omega (arith, has.for_marks, same.entries.marks_room, same.entries.marks);
-      for_tails = omega (arith, has.for_tails, same.entries.tails_room, same.entries.few);
-      for_gates = omega (arith, has.for_gates, same.gates_room, same.few);
-      in_file = omega (arith, has.in_file, same.last);
-      calls = omega (arith, has.calls, takes.calls_left);
-      on_disk = omega (arith, has.on_disk, takes.bytes_left);
-    }
-
--- room that is reserved is there for one entry
-pub space_of : (spare : Reserved) (kept : Retained) (room : Room) (bytes : ℕ) → HasRoom spare kept room →
-    bytes < spare.limit → TakesMore 1 bytes kept
-space_of spare kept room bytes has below = record {
-  space = record {
-    in_memory = omega (arith, has.in_memory, below);
-    for_marks = omega (arith, has.for_marks, has.some);
-    for_tails = omega (arith, has.for_tails, has.some);
-  };
-  for_gates = omega (arith, has.for_gates, has.some);
-  in_file = omega (arith, has.in_file, below);
-}
-
--- and still there once the entry is staged
-pub space_same : (some bytes : ℕ) (old new : Retained) → TakesMore some bytes old → IsSame old new →
-    TakesMore some bytes new
-space_same some bytes old new has same =
-    let own = ap (λ (es : List (List ℕ)). length (frames es)) same.entries.own in
-    record {
-      space = record {
-        in_memory = omega (arith, has.space.in_memory, same.entries.bytes, own);
-        for_marks = omega (arith, has.space.for_marks, same.entries.marks_room, same.entries.marks);
-        for_tails = omega (arith, has.space.for_tails, same.entries.tails_room, same.entries.few);
-      };
-      for_gates = omega (arith, has.for_gates, same.gates_room, same.few);
-      in_file = omega (arith, has.in_file, same.last);
-    }
+-- where all files stayed, so did the history of the current one
+pub history_same : (before now : Device) → before.history ≡ before.files before.current.name →
+    now.history ≡ now.files now.current.name → Stays before.current now.current before.files now.files →
+    now.history ≡ before.history
+history_same before now here_before here_now stays = here_now
+    ∙ ap (λ (n : Place). now.files n.name) stays.place ∙ stays.all before.current.name ∙ sym here_before
 
 -- the room that is left after an entry
 pub room_after : (spare left : Reserved) (old staged new : Retained) (room now : Room) (bytes : ℕ) →
@@ -220,19 +182,6 @@ room_after spare left old staged new room now bytes has same grown takes is_entr
       on_disk = omega (arith, has.on_disk, takes.bytes_left, is_limit);
     }
 
--- room for every entry below a limit is room for a longest entry
-pub longest_below : (below bytes : ℕ) → bytes < below → (most : ℕ) × (longest_of below ≡ Some most) × (bytes ≤ most)
-longest_below zero bytes lt = absurd (omega (arith, lt))
-longest_below (suc most) bytes lt = (most, refl, omega (arith, lt))
-
-pub so_where_ok : {T E : Type 0} (r : Result T E) (P Q : Type 0) → OnOk r P → (P → Q) → OnOk r Q
-so_where_ok (Ok x) P Q is so = so is
-so_where_ok (Err e) P Q is so = is
-
-pub takes_none : (room : Room) → Takes 0 0 room room
-takes_none room = record { calls_left = omega arith; bytes_left = omega arith }
-
--- before an append
 pub rests_start : (h : List File) (entries : List (List ℕ)) (entry : List ℕ) → IfTold h (RestsOn entries) →
     LeavesOnly (HoldsWithOrWithout version_1 entries entry) h h
 rests_start [] entries entry told = refl

@@ -1,5 +1,6 @@
 -- Sequences of device calls.
-use Rattle.std.proofs.Common.{◌≡◌, inl, inr, ⊎_elim, ℕ, zero, suc, ◌+◌, ◌<◌, ◌≤◌, Bool, true, false, Option, Some, None, List, [], ◌∷◌, ◌++◌, length, drop, refl, sym, ◌∙◌, ap, subst, arith, append_assoc}
+use Rattle.std.specs.Int.{w32, to_be_bytes}
+use Rattle.std.proofs.Common.{◌≡◌, inl, inr, ⊎_elim, ℕ, zero, suc, ◌+◌, ◌<◌, ◌≤◌, Bool, true, false, Option, Some, None, List, [], ◌∷◌, ◌++◌, length, length-append, drop, refl, sym, ◌∙◌, ap, subst, arith, append_assoc}
 use Rattle.std.proofs.lemmas.List.{drop_at, drop-drop}
 use Rattle.std.proofs.lemmas.Bool.{true≢false, false≢true}
 use Rattle.iss_disk.specs.File.{File, Image, settled, wrote, synced}
@@ -7,6 +8,7 @@ use Rattle.iss_disk.specs.Calls.{EachState, IfTold, IsBetween, Moves, Place, Sta
 use Rattle.iss_journal.specs.Frames.{frame, frames, holds, max_entry, Reads, version_1}
 use Rattle.iss_journal.specs.Promises.{OnlyLeaves, LeavesOnly, HoldsWithOrWithout, RestsOn}
 use Rattle.iss_journal.proofs.Crash as crash
+use Rattle.iss_journal.proofs.FrameLemmas.{length-frame}
 
 -- Passes
 
@@ -338,6 +340,14 @@ is_body entries entry bytes behind is is_behind =
     is_behind ∙ ap (drop (length (frames entries) + 1)) is
     ∙ sym (drop-drop 1 (length (frames entries)) (frames entries ++ (frame entry ++ 0 ∷ [])))
     ∙ ap (drop 1) (drop_at (frames entries) (frame entry ++ 0 ∷ []) (length (frames entries)) refl)
+
+pub length-body : (entry : List ℕ) → length (crash.body entry) ≡ length entry + 5
+length-body entry =
+    omega (
+      arith,
+      length-append (to_be_bytes w32 (length entry) ++ entry) (0 ∷ []),
+      length-frame entry,
+    )
 
 -- a write of the same bytes at the same offset
 pub same_write : (at to : ℕ) (bytes others : List ℕ) (passed : Bool) (h new : List File) → at ≡ to → bytes ≡ others →

@@ -1,7 +1,7 @@
 -- Where entries lie in the bytes of a file: offsets of gates, and the bytes between them.
-use Rattle.std.specs.Prelude.{◌≡◌, ℕ, zero, suc, ◌+◌, ◌*◌, ◌<◌, ◌≤◌, List, [], ◌∷◌, length, take, drop, get_or}
+use Rattle.std.specs.Prelude.{◌≡◌, ℕ, zero, suc, ◌+◌, ◌*◌, ◌<◌, ◌≤◌, List, [], ◌∷◌, length, take, drop, get_or, Vec, vec_len, vec_capacity}
 use Rattle.std.specs.Int.{w32, from_be_bytes}
-use Rattle.iss_journal.specs.Frames.{frames, AreShort}
+use Rattle.iss_journal.specs.Frames.{frames, AreShort, max_entry}
 
 -- the length of the entry whose gate is at this offset
 abbrev pub size_at : List ℕ → ℕ → ℕ
@@ -39,3 +39,8 @@ pub record AreMarks (marks : List ℕ) (entries : List (List ℕ)) : Type 0 wher
 pub record IsLaidOut (bytes : List ℕ) (count last : ℕ) (marks : List ℕ) : Type 0 where
   pub book : IsBook bytes count last
   pub marked : AreMarks marks (entries_at bytes count)
+
+-- there is room for the frame of this entry and a closed gate
+pub record TakesFrame {Z : Type 0} (entry : List ℕ) (bytes : Vec ℕ Z) : Type 0 where
+  pub short : length entry ≤ max_entry
+  pub room : vec_len bytes + length entry + 6 ≤ vec_capacity bytes

@@ -1,7 +1,7 @@
 // The entries of a journal, as they are laid out in its file.
-ghost use Rattle.iss_journal.specs.Views.{AreMarks, IsBook, end_at, entries_at};
+ghost use Rattle.iss_journal.specs.Views.{AreMarks, IsBook, TakesFrame, end_at, entries_at};
 ghost use Rattle.std.specs.Prelude.{◌≡◌, ◌+◌, ◌<◌, ◌≤◌, ◌++◌, ℕ, List, [], ◌∷◌, length, vec_len, vec_capacity};
-ghost use Rattle.iss_journal.specs.Frames.{short_prop, frame, frames, max_entry};
+ghost use Rattle.iss_journal.specs.Frames.{short_prop, frame, frames};
 ghost use Rattle.std.proofs.Props.{props};
 
 use std::alloc::{AllocError, Global};
@@ -48,8 +48,7 @@ fn put_some(bytes: &mut Vec<u8>, some: &[u8])
 // Appends the frame of an entry given in two parts, and a closed gate.
 #[inline(always)]
 fn put_frame(bytes: &mut Vec<u8>, head: &[u8], body: &[u8])
-    requires short { length (head.now ++ body.now) ≤ max_entry }
-    requires room { vec_len bytes.old + length (head.now ++ body.now) + 6 ≤ vec_capacity bytes.old }
+    requires { TakesFrame (head.now ++ body.now) bytes.old }
     ensures items { bytes.new.items ≡ bytes.old.items ++ (frame (head.now ++ body.now) ++ 0 ∷ []) }
     ensures no_less { vec_capacity bytes.old ≤ vec_capacity bytes.new }
 {

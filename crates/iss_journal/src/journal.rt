@@ -178,6 +178,8 @@ impl<D: Disk> Journal<D> {
             (D.state self.new.disk) }
     {
         let bytes = (head.len() + body.len()) as u64;
+        // Read, so that the invariant is known of the journal before the call.
+        let _attached = self.attached;
         self.reserve(bytes)?;
         let left = left_behind(self.reserved, bytes);
         self.reserved.limit = 0;

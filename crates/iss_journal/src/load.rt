@@ -1,9 +1,8 @@
 // Reading a journal's file, and cutting off and syncing its end.
 ghost use Rattle.std.specs.Prelude.{◌≡◌, ℕ, IfOk, IsErrOf};
-ghost use Rattle.iss_disk.specs.File.{settled};
-ghost use Rattle.iss_disk.specs.Calls.{Allows, IfTold};
+ghost use Rattle.iss_disk.specs.Calls.{IfTold};
 ghost use Rattle.iss_journal.specs.Frames.{version_1};
-ghost use Rattle.iss_journal.specs.Internal.Settling.{IsLeftDamaged, IsLoaded, OnlyLoads, OnlyLooks};
+ghost use Rattle.iss_journal.specs.Internal.Settling.{IsLeftDamaged, IsLoaded, MayLoad, OnlyLoads, OnlyLooks};
 
 use crate::AttachError;
 use crate::entries::Entries;
@@ -35,8 +34,7 @@ fn read_file<D: Disk>(alloc: Global, disk: &mut D) -> Result<Vec<u8>, EndError>
 /// Reads the entries of the current file, which is all synced, and cuts off what follows the last gate.
 // rule: Journal: A damaged file stays byte for byte
 pub(crate) fn load<D: Disk>(alloc: Global, disk: &mut D) -> Result<Entries, AttachError>
-    requires on_disk { IfTold (D.state disk.old).history (λ file. file ≡ settled file.content) }
-    requires room { Allows 3 1 (D.state disk.old).room }
+    requires { MayLoad (D.state disk.old) }
     ensures loaded { IfOk result (IsLoaded version_1 (D.state disk.old).history (D.state disk.new).history) }
     ensures damaged { (at : ℕ) → IsErrOf result (AttachError.Damaged at) →
         IsLeftDamaged version_1 at (D.state disk.old).history (D.state disk.new).history }

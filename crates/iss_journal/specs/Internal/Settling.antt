@@ -1,6 +1,6 @@
 -- Reading a file, and bringing it to rest.
 use Rattle.std.specs.Prelude.{◌≡◌, ℕ, ◌≤◌, List, length, Result, IsErr}
-use Rattle.iss_disk.specs.Calls.{Device, HasCause, IfTold, Stays, StaysHere, Takes}
+use Rattle.iss_disk.specs.Calls.{Allows, Device, HasCause, IfTold, Stays, StaysHere, Takes}
 use Rattle.iss_disk.specs.File.{File, settled}
 use Rattle.iss_journal.specs.EntryViews.{entries_in}
 use Rattle.iss_journal.specs.Frames.{ClosesAfter, Form, Reads, damaged, holds}
@@ -33,15 +33,22 @@ pub record IsLeftDamaged (form : Form) (at : ℕ) (before now : List File) : Typ
   pub damaged : IfTold before (λ file. Reads form file.content (damaged at))
   pub damaged_stays : now ≡ before
 
--- these entries are those of the file, which is all synced
-pub record AreOfFile (entries : Entries) (history : List File) : Type 0 where
-  pub read : IfTold history (λ file. file ≡ settled entries.bytes.items)
-  pub ends : ClosesAfter (entries_in entries) entries.bytes.items
+-- the file is all synced, and there is room to bring it to rest
+pub record MayLoad (device : Device) : Type 0 where
+  pub on_disk : IfTold device.history (λ file. file ≡ settled file.content)
+  pub room : Allows 3 1 device.room
 
--- these bytes, of which there is at most one, are the file's, and it is all synced
-pub record IsBrief (bytes : List ℕ) (history : List File) : Type 0 where
-  pub read : IfTold history (λ file. file ≡ settled bytes)
+-- these entries are those of the file, which is all synced, and there is room to cut it
+pub record MayCut (entries : Entries) (device : Device) : Type 0 where
+  pub read : IfTold device.history (λ file. file ≡ settled entries.bytes.items)
+  pub ends : ClosesAfter (entries_in entries) entries.bytes.items
+  pub calls : 2 ≤ device.room.calls
+
+-- these bytes, of which there is at most one, are the file's, which is all synced, and there is room to replace them
+pub record MayEmpty (bytes : List ℕ) (device : Device) : Type 0 where
+  pub read : IfTold device.history (λ file. file ≡ settled bytes)
   pub brief : length bytes ≤ 1
+  pub room : Allows 3 1 device.room
 
 -- the file is these bytes, which are these entries at rest
 pub record RestsAs (entries : List (List ℕ)) (bytes : List ℕ) (history : List File) : Type 0 where

@@ -28,7 +28,7 @@ invariant_of-self-clause-stored c =
     let ends : c.len-self.result ≡ length over = search rules in
     let one_more : states all taken over ≡ after (wrote c.args.at bytes) (states before lost content) =
     ap (λ (cs : List Call). states cs taken over) pushed
-    ∙ ap (states (call ∷ calls) taken) c.overwrite.ensures.items
+    ∙ ap (states (call ∷ calls) taken) c.overwrite.ensures.now.items
     ∙ subst (λ (l : List ℕ). states (call ∷ calls) taken (overwritten c.args.at bytes l)
     ≡ after (wrote c.args.at bytes) (states calls lost l)) c.deref-2.ensures.value
     (c.take_away-call.ensures.undoes calls bytes refl)
@@ -37,7 +37,7 @@ invariant_of-self-clause-stored c =
     (states all taken over) c.args.at bytes content over behind c.part-self.new.behind.items same resumes
     c.part-self.result c.len-self.result
     (states_some before lost content) c.args.self.now.stored c.requires.within c.part-self.ensures.no_more
-    c.part-self.ensures.before parted one_more c.overwrite.ensures.items longer ends
+    c.part-self.ensures.before parted one_more c.overwrite.ensures.now.items longer ends
 
 pub invariant_of-self-clause-waits : goal.invariant_of-self-clause-waits
 invariant_of-self-clause-waits c =

@@ -21,13 +21,18 @@ invariant_of-self c =
       marked = subst (λ (es : List (List ℕ)). AreMarks c.mark.new.marks.items es) (sym again.found) marked;
     }
 
-pub returns-clause-entries : goal.returns-clause-entries
-returns-clause-entries c =
+pub returns : goal.returns
+returns c =
     let now = c.args.self.now in
     let next = ap (λ (n : ℕ). now.last + (5 + n)) (sym (length-append c.args.head.now c.args.body.now)) in
     let end = now.last + (5 + (length c.args.head.now + length c.args.body.now)) in
-    (with_entry now.bytes.items now.count (now.count + 1) now.last end (c.args.head.now ++ c.args.body.now)
-    (0 ∷ []) now.book c.requires.bytes c.requires.short refl next).found
+    record {
+      entries = (with_entry now.bytes.items now.count (now.count + 1) now.last end (c.args.head.now ++ c.args.body.now)
+          (0 ∷ []) now.book c.requires.bytes c.requires.short refl next).found;
+      bytes = search rules;
+      mark = search rules;
+      no_less = search rules;
+    }
 
 pub overflow_add-self : goal.overflow_add-self
 overflow_add-self c =

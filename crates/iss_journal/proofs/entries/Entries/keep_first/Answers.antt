@@ -38,8 +38,14 @@ invariant_of-self c =
           c.requires few.0 few.1 c.truncate-2.ensures.items again.found;
     }
 
-pub returns-clause-entries : goal.returns-clause-entries
-returns-clause-entries c =
+pub returns : goal.returns
+returns c =
     let now = c.args.self.now in
-    (first now.bytes.items c.truncate.new.self.items now.count now.last c.args.count c.gate_before-gate.result
-    now.book c.requires c.gate_before-gate.ensures c.truncate.ensures.items).found
+    record {
+      entries = (first now.bytes.items c.truncate.new.self.items now.count now.last c.args.count
+      c.gate_before-gate.result
+          now.book c.requires c.gate_before-gate.ensures c.truncate.ensures.items).found;
+      bytes = search rules;
+      marks = search rules;
+      marks_room = search rules;
+    }

@@ -18,11 +18,16 @@ invariant_of-self c =
       marked = subst (λ (es : List (List ℕ)). AreMarks now.marks.items es) (sym again.found) now.marked;
     }
 
-pub returns-clause-entries : goal.returns-clause-entries
-returns-clause-entries c =
+pub returns : goal.returns
+returns c =
     let now = c.args.self.now in
     let front : c.truncate.new.self.items ≡ frames (entries_in c.args.self.now) = search rules in
     let whole = c.put_frame.ensures.items
     ∙ ap (λ (l : List ℕ). l ++ (frame (c.args.head.now ++ c.args.body.now) ++ 0 ∷ [])) front in
-    (with_tail now.bytes.items now.count now.last c.put_frame.new.bytes.items
-    (frame (c.args.head.now ++ c.args.body.now) ++ 0 ∷ []) now.book whole).found
+    record {
+      entries = (with_tail now.bytes.items now.count now.last c.put_frame.new.bytes.items
+          (frame (c.args.head.now ++ c.args.body.now) ++ 0 ∷ []) now.book whole).found;
+      bytes = search rules;
+      no_less = search rules;
+      marks = search rules;
+    }

@@ -22,29 +22,26 @@ invariant_of-self c =
       ends = ends-event es new entry is now.start now.end _ c.requires.event now.ends next;
     }
 
-pub returns-clause-entries : goal.returns-clause-entries
-returns-clause-entries c =
-    let now = c.args.self.now in
-    with-event (shared_in now.entries) (shared_in c.add.new.self) (c.args.head.now ++ c.args.body) now.kept
-    c.requires.event c.add.ensures.entries
-
-pub returns-clause-retains : goal.returns-clause-retains
-returns-clause-retains c = λ all r.
+pub returns : goal.returns
+returns c =
     let now = c.args.self.now in
     let es = shared_in now.entries in
     let new = shared_in c.add.new.self in
     let entry = c.args.head.now ++ c.args.body in
     let is = with-event es new entry now.kept c.requires.event c.add.ensures.entries in
+    let next = past now.end c.len.result c.args.head.now c.args.body c.len.ensures in
     record {
-      shown = shown-after es new entry is all r.shown;
-      snapshots = snapshots-event all entry now.gates.items c.requires.event r.snapshots;
-      ends = end-after all entry now.end _ r.ends (past now.end c.len.result c.args.head.now c.args.body c.len.ensures);
+      entries = is;
+      event = λ also. c.add.ensures.entries;
+      retains = λ all r. record {
+        shown = shown-after es new entry is all r.shown;
+        snapshots = snapshots-event all entry now.gates.items c.requires.event r.snapshots;
+        ends = end-after all entry now.end _ r.ends next;
+      };
+      grown = record {
+        entries = c.add.ensures.longer;
+        gates = omega arith;
+        gates_room = omega arith;
+        last = next;
+      };
     }
-
-pub returns-clause-grown : goal.returns-clause-grown
-returns-clause-grown c = record {
-  entries = c.add.ensures.longer;
-  gates = omega arith;
-  gates_room = omega arith;
-  last = past c.args.self.now.end c.len.result c.args.head.now c.args.body c.len.ensures;
-}

@@ -1,4 +1,4 @@
-use Rattle.std.proofs.Common.{rules, arith, ℕ, ◌≡◌, ◌∙◌, ◌+◌, true, ◌++◌, [], ◌∷◌, List, length, length-append, take, ap}
+use Rattle.std.proofs.Common.{rules, arith, ℕ, ◌≡◌, ◌∙◌, ◌+◌, true, false, ◌++◌, [], ◌∷◌, List, length, length-append, take, ap}
 use Rattle.std.specs.List.{filter}
 use Rattle.iss_journal.specs.Retained.{is_snapshot, retained}
 use Rattle.iss_journal.specs.SharedViews.{shared_in}
@@ -20,6 +20,9 @@ counted : (gates now : List ℕ) (new : List (List ℕ)) (gate : ℕ) → now �
     length (gates ++ gate ∷ []) ≡ length (filter is_snapshot new) → length now ≡ length (filter is_snapshot new)
 counted gates now new gate is h = ap length is ∙ h
 
+other-kind : (entry : List ℕ) → is_snapshot entry ≡ true → is_snapshot entry ≡ false → ⊥
+other-kind entry is other = cc
+
 pub keep_first-requires : goal.keep_first-requires
 keep_first-requires c =
     let now = c.args.self.now in
@@ -30,9 +33,9 @@ pub add-requires : goal.add-requires
 add-requires c =
     let now = c.args.self.now in
     record {
-      short = c.requires.short;
+      short = c.requires.room.short;
       space = space_fewer 1 (length (c.args.head.now ++ c.args.body)) now.entries c.keep_first.new.self
-          c.requires.room.space c.keep_first.ensures.fewer;
+          c.requires.room.room.space c.keep_first.ensures.fewer;
     }
 
 pub invariant_of-self : goal.invariant_of-self
@@ -51,16 +54,8 @@ invariant_of-self c =
       ends = ends-snapshot es new entry is _ c.requires.snapshot;
     }
 
-pub returns-clause-entries : goal.returns-clause-entries
-returns-clause-entries c =
-    let now = c.args.self.now in
-    let many : c.len-2.result ≡ length now.gates.items = search rules in
-    added (shared_in now.entries) (shared_in c.keep_first.new.self) (shared_in c.add.new.self) c.len-2.result
-    (c.args.head.now ++ c.args.body) now.kept (many ∙ now.count) c.requires.snapshot
-    c.keep_first.ensures.entries c.add.ensures.entries
-
-pub returns-clause-retains : goal.returns-clause-retains
-returns-clause-retains c = λ all r.
+pub returns : goal.returns
+returns c =
     let now = c.args.self.now in
     let es = shared_in now.entries in
     let new = shared_in c.add.new.self in
@@ -68,20 +63,21 @@ returns-clause-retains c = λ all r.
     let many : c.len-2.result ≡ length now.gates.items = search rules in
     let is = added es (shared_in c.keep_first.new.self) new c.len-2.result entry now.kept (many ∙ now.count)
     c.requires.snapshot c.keep_first.ensures.entries c.add.ensures.entries in
+    let next = past now.end c.len.result c.args.head.now c.args.body c.len.ensures in
     record {
-      shown = shown-after es new entry is all r.shown;
-      snapshots = snapshots-more all entry now.gates.items c.push_reserved.new.self.items now.end c.requires.snapshot
-          r.snapshots r.ends c.push_reserved.ensures.items;
-      ends = end-after all entry now.end _ r.ends (past now.end c.len.result c.args.head.now c.args.body c.len.ensures);
-    }
-
-pub returns-clause-grown : goal.returns-clause-grown
-returns-clause-grown c =
-    let now = c.args.self.now in
-    record {
-      entries = longer_fewer (5 + length (c.args.head.now ++ c.args.body)) now.entries c.keep_first.new.self
-          c.add.new.self c.keep_first.ensures.fewer c.add.ensures.longer;
-      gates = omega (arith, c.push_reserved.ensures.len);
-      gates_room = omega (arith, c.push_reserved.ensures.capacity);
-      last = past now.end c.len.result c.args.head.now c.args.body c.len.ensures;
+      entries = is;
+      event = λ other. absurd (other-kind entry c.requires.snapshot other);
+      retains = λ all r. record {
+        shown = shown-after es new entry is all r.shown;
+        snapshots = snapshots-more all entry now.gates.items c.push_reserved.new.self.items now.end c.requires.snapshot
+            r.snapshots r.ends c.push_reserved.ensures.items;
+        ends = end-after all entry now.end _ r.ends next;
+      };
+      grown = record {
+        entries = longer_fewer (5 + length entry) now.entries c.keep_first.new.self c.add.new.self
+            c.keep_first.ensures.fewer c.add.ensures.longer;
+        gates = omega (arith, c.push_reserved.ensures.len);
+        gates_room = omega (arith, c.push_reserved.ensures.capacity);
+        last = next;
+      };
     }
