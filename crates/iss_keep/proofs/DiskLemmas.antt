@@ -1,7 +1,7 @@
 -- What the disk of a kept node holds from call to call. The synced part of its file is exactly the journal's entries,
 -- so a restart reopens the node in the same state.
-use Rattle.std.proofs.Common.{arith, ◌≡◌, ◌≢◌, inl, inr, ℕ, zero, suc, ◌-◌, ◌<◌, ◌≤◌, Bool, true, false, List, [], ◌∷◌, ◌++◌, Some, refl, sym, ap, ◌∙◌, subst, length-append}
-use Rattle.iss_disk.specs.Calls.{IfTold, Passes, Place, Restarts, Room, Runs, Stays, script, up_to}
+use Rattle.std.proofs.Common.{arith, ◌≡◌, inl, inr, ℕ, zero, suc, ◌-◌, ◌<◌, ◌≤◌, Bool, true, false, List, [], ◌∷◌, ◌++◌, Some, refl, sym, ap, ◌∙◌, subst}
+use Rattle.iss_disk.specs.Calls.{Device, IfTold, IsRestarted, Passes, Place, Restarts, Runs, Stays, script, up_to}
 use Rattle.iss_disk.specs.EachState.{newest_state, states_some}
 use Rattle.iss_disk.specs.File.{File, Image, restarted, settled, shortened, wrote}
 use Rattle.iss_disk.specs.NoteViews.{calls_in}
@@ -9,26 +9,17 @@ use Rattle.iss_disk.specs.ReadsAreImages.{image_settled}
 use Rattle.iss_disk.specs.States.{calls_of}
 use Rattle.iss_disk.specs.StoredViews.{history_of}
 use Rattle.iss_disk.specs.declared.stored.StoredFile.{StoredFile}
-use Rattle.iss_journal.specs.Frames.{AreShort, damaged, frames, holds, Reading, Reads, version_1}
+use Rattle.iss_journal.specs.Frames.{damaged, holds, Reading, Reads, version_1}
 use Rattle.iss_journal.proofs.Retaining.{retained-twice}
 use Rattle.iss_journal.proofs.Showing.{shown_once}
-use Rattle.iss_journal.specs.Promises.{OnlyLeaves, Shows}
+use Rattle.iss_journal.specs.Promises.{LosesNone, OnlyLeaves, Shows}
 use Rattle.iss_journal.specs.Retained.{retained}
-use Rattle.iss_journal.specs.RetainedViews.{shown_in}
-use Rattle.iss_journal.specs.Sound.{RestsOver, disk_of, entries_of}
-use Rattle.iss_journal.specs.declared.retained.Retained.{Retained}
-use Rattle.iss_journal.specs.declared.journal.Journal.{Journal}
-use Rattle.iss_keys.specs.Directories.{DirectoryView}
 use Rattle.iss_rebuilt.specs.Reading.{Rebuilt}
-use Rattle.iss_node.specs.State.{NodeView}
-use Rattle.iss_request.specs.declared.ids.NodeId.{NodeId}
 use Rattle.iss_request.specs.declared.setups.Setup.{Setup}
-use Rattle.iss_sb.specs.Calls.{Relation}
 use Rattle.iss_sb.specs.Evidence.{Module}
 use Rattle.iss_keep.proofs.ReplayLemmas.{stops-not}
 use Rattle.iss_keep.specs.Cores.{StopsAt, core_of}
-use Rattle.iss_keep.specs.State.{IsKept, state_over}
-use Rattle.iss_keep.specs.Steps.{IsAttached, IsDamaged, IsWritten, LosesNone, Sight}
+use Rattle.iss_keep.specs.Steps.{IsAttached, IsDamaged, IsWritten}
 use Rattle.iss_keep.specs.declared.answers.Answer.{Answer}
 use Rattle.iss_keep.specs.declared.answers.Answer.TheVariants.{Dropped as Kept_dropped, Failed, NoMemory, Stale, Taken as Kept_taken}
 
@@ -39,7 +30,7 @@ never-both es at h = cc
 
 module _ (one : (bytes : List ℕ) (r q : Reading) → Reads version_1 bytes r → Reads version_1 bytes q → r ≡ q) where
   -- Attaching finds the entries that the file held.
-  pub attached-same : (before now : Sight) (held found : List (List ℕ)) (file : File) (past : List File) → before.history ≡ file ∷ past →
+  pub attached-same : (before now : Device) (held found : List (List ℕ)) (file : File) (past : List File) → before.history ≡ file ∷ past →
       Shows version_1 held file.content → IsAttached before now found → found ≡ held
   attached-same before now held found file past told reads attached =
       let read : Shows version_1 found file.content = subst (λ (h : List File). IfTold h (λ f. Shows version_1 found f.content)) told attached.read in
@@ -60,28 +51,6 @@ module _ (one : (bytes : List ℕ) (r q : Reading) → Reads version_1 bytes r �
     never-damaged history told broken = damaged-not (subst (λ (h : List File). IsDamaged s m me found h at) told broken)
 
 -- ---- what is synced
-
-gate-read : (entries : List (List ℕ)) (gate : ℕ) → gate ≢ 1 → AreShort entries → Reads version_1 (frames entries ++ gate ∷ []) (holds entries)
-gate-read [] gate closed short = inl (omega arith, refl)
-gate-read (entry ∷ entries) gate closed short =
-    inr (omega (arith, length-append (frames (entry ∷ entries)) (gate ∷ [])), record { gate = gate; rest = []; is = refl; closed = closed; short = short })
-
-rest-synced : (kept : Retained) (history : List File) → IfTold history (RestsOver kept) → IfTold history (λ file. Shows version_1 (shown_in kept) file.kept)
-rest-synced kept [] h = tt
-rest-synced kept (file ∷ past) h =
-    let rests = h.rests in
-    record {
-      all = h.all;
-      read = subst (λ (f : File). Reads version_1 f.kept (holds h.all)) (sym rests.is) (gate-read h.all rests.gate rests.closed rests.short);
-      stay = h.retains.shown;
-    }
-
--- If the node is not stale, the synced part of the file is its entries.
-pub kept-synced : {M Msg D : Type 0} (m : Module Msg) (refines : Relation M Msg) (history : D → List File) (room : D → Room) (directory : DirectoryView) (journal : Journal D)
-    (s : Setup) (me : NodeId) (node : NodeView M Msg) → IsKept m refines history room directory journal (state_over s me node journal false) →
-    IfTold (history (disk_of journal)) (λ file. Shows version_1 (entries_of journal) file.kept)
-kept-synced m refines history room directory journal s me node kept =
-    rest-synced journal.kept (history (disk_of journal)) (kept.sound.rests (kept.attached refl))
 
 -- For a file in memory, the synced content is one of the crash images.
 kept-wrote : (at : ℕ) (bytes : List ℕ) (file : File) → Image file file.kept → Image (wrote at bytes file) file.kept
@@ -108,7 +77,7 @@ leaves-synced entries [] image leaves = tt
 leaves-synced entries (file ∷ past) image leaves = leaves file.kept image
 
 -- After reopening, the synced part of the file is the entries.
-pub attached-synced : (entries : List (List ℕ)) (before now : Sight) → IsAttached before now entries → IfTold now.history (λ file. Image file file.kept) →
+pub attached-synced : (entries : List (List ℕ)) (before now : Device) → IsAttached before now entries → IfTold now.history (λ file. Image file file.kept) →
     IfTold now.history (λ file. Shows version_1 entries file.kept)
 attached-synced entries before now attached image = leaves-synced entries now.history image attached.durable
 
@@ -121,7 +90,7 @@ module _ (entries : List (List ℕ)) where
       subst (λ (es : List (List ℕ)). AreSynced now es) (sym added) (subst (λ (f : List File). AreSynced f entries) (sym same) h)
 
   -- Whatever the answer to an event, the synced part of the file is the entries after that event.
-  pub written-synced : (entry : List ℕ) (before now : Sight) (later : List (List ℕ)) (answer : Answer) → IsWritten entries entry before now later answer →
+  pub written-synced : (entry : List ℕ) (before now : Device) (later : List (List ℕ)) (answer : Answer) → IsWritten entries entry before now later answer →
       IfTold now.history (λ file. Image file file.kept) → IfTold before.history (λ file. Shows version_1 entries file.kept) →
       IfTold now.history (λ file. Shows version_1 later file.kept)
   written-synced entry before now later (Kept_taken outcome) w image h =
@@ -145,24 +114,22 @@ module _ (entries : List (List ℕ)) where
       rw h.0 (subst (λ (bytes : List ℕ). Shows version_1 entries bytes) (sym (restarts-kept file h.1)) synced, synced)
 
   -- The current file of a disk after a restart. `here` is the law of `Disk` with that name.
-  module _ {D : Type 0} (history : D → List File) (files : D → List ℕ → List File) (current : D → Place)
-      (here : (disk : D) → history disk ≡ files disk (current disk).name) (old new : D) where
-    restarted-here : ((name : List ℕ) → Restarts (files old name) (files new name)) → current new ≡ current old → Restarts (history old) (history new)
-    restarted-here restarts same =
-        subst (λ (h : List File). Restarts h (history new)) (sym (here old))
-        (subst (λ (h : List File). Restarts (files old (current old).name) h) (sym (here new ∙ ap (λ (place : Place). files new place.name) same)) (restarts (current old).name))
+  module _ {D : Type 0} (state : D → Device) (here : (disk : D) → (state disk).history ≡ (state disk).files (state disk).current.name) (old new : D) where
+    restarted-here : IsRestarted (state old) (state new) → Restarts (state old).history (state new).history
+    restarted-here h =
+        subst (λ (files : List File). Restarts files (state new).history) (sym (here old))
+        (subst (λ (files : List File). Restarts ((state old).files (state old).current.name) files)
+        (sym (here new ∙ ap (λ (place : Place). (state new).files place.name) h.current)) (h.files (state old).current.name))
 
-    pub restarted-read : ((name : List ℕ) → Restarts (files old name) (files new name)) → current new ≡ current old →
-        IfTold (history old) (λ file. Shows version_1 entries file.kept) →
-        IfTold (history new) (λ file. Shows version_1 entries file.content) × IfTold (history new) (λ file. Shows version_1 entries file.kept)
-    restarted-read restarts same synced = restarts-read (history old) (history new) (restarted-here restarts same) synced
+    pub restarted-read : IsRestarted (state old) (state new) → IfTold (state old).history (λ file. Shows version_1 entries file.kept) →
+        IfTold (state new).history (λ file. Shows version_1 entries file.content) × IfTold (state new).history (λ file. Shows version_1 entries file.kept)
+    restarted-read h synced = restarts-read (state old).history (state new).history (restarted-here h) synced
 
 -- A disk whose files do not change keeps its history.
-pub stays-here : {D : Type 0} (history : D → List File) (files : D → List ℕ → List File) (current : D → Place)
-    (here : (disk : D) → history disk ≡ files disk (current disk).name) (old new : D) → Stays (current old) (current new) (files old) (files new) →
-    history new ≡ history old
-stays-here history files current here old new h =
-    here new ∙ ap (λ (place : Place). files new place.name) h.place ∙ h.all (current old).name ∙ sym (here old)
+pub stays-here : {D : Type 0} (state : D → Device) (here : (disk : D) → (state disk).history ≡ (state disk).files (state disk).current.name) (old new : D) →
+    Stays (state old).current (state new).current (state old).files (state new).files → (state new).history ≡ (state old).history
+stays-here state here old new h =
+    here new ∙ ap (λ (place : Place). (state new).files place.name) h.place ∙ h.all (state old).current.name ∙ sym (here old)
 
 -- ---- a new file
 
@@ -175,7 +142,7 @@ new-read history is =
 -- ---- which calls succeed
 
 -- If no call of the disk fails, reopening succeeds and leaves that so.
-pub reopens-well : (before now : Sight) (failed : Type 0) → LosesNone before now failed → before.passes ≡ script [] → (now.passes ≡ script []) × (failed → ⊥)
+pub reopens-well : (before now : Device) (failed : Type 0) → LosesNone version_1 failed before now → before.passes ≡ script [] → (now.passes ≡ script []) × (failed → ⊥)
 reopens-well before now failed h all = h.works all
 
 no-pass : (P : Type 0) → true ≡ false → P

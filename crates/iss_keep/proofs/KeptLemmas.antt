@@ -1,12 +1,11 @@
 -- What each call of a kept node preserves and establishes.
 use Rattle.std.proofs.Common.{inl, inr, ◌≡◌, ◌⊎◌, ℕ, ◌<◌, Bool, true, false, List, [], ◌∷◌, ◌++◌, length, refl, sym, ap, ◌∙◌, subst, true≢false}
-use Rattle.iss_disk.specs.Calls.{IfTold, Room}
+use Rattle.iss_disk.specs.Calls.{Device, IfTold}
 use Rattle.iss_disk.specs.File.{File}
 use Rattle.iss_journal.specs.Frames.{version_1}
 use Rattle.iss_journal.specs.Promises.{OnlyLeaves, Shows}
 use Rattle.iss_journal.specs.Retained.{retained}
-use Rattle.iss_journal.specs.Sound.{IsSound, disk_of, entries_of, is_attached}
-use Rattle.iss_journal.specs.declared.journal.Journal.{Journal}
+use Rattle.iss_journal.specs.Sound.{JournalState}
 use Rattle.iss_keys.specs.Directories.{AreKeysOf, DirectoryView, directory_of, node_secret}
 use Rattle.iss_keys.specs.KeyStates.{KeyState}
 use Rattle.iss_keys.proofs.DirectoryLemmas.{length-nodes}
@@ -14,11 +13,10 @@ use Rattle.iss_rules.specs.Concrete.{keys_of, rules_of}
 use Rattle.iss_rules.specs.Formats.{formats_of}
 use Rattle.iss_model.specs.Frames.{frame_of}
 use Rattle.iss_model.specs.Node.{Core, Stepped, Taken as Step_taken, Turn, step}
-use Rattle.iss_rules.specs.Setups.{IsSetupOf}
 use Rattle.iss_rules.specs.declared.events.NodeEvent.{NodeEvent}
 use Rattle.iss_rules.specs.declared.events.Why.{Why}
 use Rattle.iss_node.specs.Saved.{saved_of}
-use Rattle.iss_node.specs.State.{NodeView, RefinesCore}
+use Rattle.iss_node.specs.State.{IsMember, NodeView, RefinesCore}
 use Rattle.iss_node.specs.Steps.{IsAnswer as Node_answers, IsOfNodes}
 use Rattle.iss_node.specs.declared.answers.Answer.TheVariants.{Dropped as Node_dropped, Taken as Node_taken}
 use Rattle.iss_node.specs.declared.answers.Outcome.{Outcome}
@@ -68,37 +66,31 @@ module _ {Msg : Type 0} (s : Setup) (m : Module Msg) (me : ℕ) where
       stored_after s m me st event ≡ after_turn st (kept_of (frame_of s m) me st.saved (spell_event event) turn) turn.core
   turn-stored st event turn q = ap (λ (o : Stepped Msg). stored_by (frame_of s m) spell_event me st event o) q
 
-module _ {M Msg D : Type 0} (m : Module Msg) (refines : Relation M Msg) (history : D → List File) (room : D → Room) (directory : DirectoryView) where
+module _ {M Msg D : Type 0} (m : Module Msg) (refines : Relation M Msg) (state : D → Device) (directory : DirectoryView) where
   not-both : (b : Bool) (P : Type 0) → b ≡ true → b ≡ false → P
   not-both b P t f = absurd (true≢false (sym t ∙ f))
 
   -- The invariant of a node that has to be reopened.
-  pub stale-kept : (journal : Journal D) (v : KeptState M Msg D) → IsSetupOf m v.setup → v.me.0 < v.setup.n → directory ≡ keys_of v.setup → v.node.state.setup ≡ v.setup → v.node.state.me ≡ v.me →
-      IsSound history room journal → v.stale ≡ true → IsKept m refines history room directory journal v
-  stale-kept journal v good member keys cluster number sound stale = record {
-    good = good;
+  pub stale-kept : (journal : JournalState D) (v : KeptState M Msg D) → IsMember m v.setup directory v.me.0 → v.node.state.setup ≡ v.setup → v.node.state.me ≡ v.me →
+      v.stale ≡ true → IsKept m refines state directory journal v
+  stale-kept journal v member cluster number stale = record {
     member = member;
-    keys = keys;
     cluster = cluster;
     number = number;
-    sound = sound;
     attached = λ f. not-both v.stale _ stale f;
     durable = λ f. not-both v.stale _ stale f;
     kept = inl stale;
   }
 
   -- The invariant of a node that stands for what was stored.
-  pub fresh-kept : (journal : Journal D) (v : KeptState M Msg D) (st : Stored Msg) → IsSetupOf m v.setup → v.me.0 < v.setup.n → directory ≡ keys_of v.setup →
-      IsSound history room journal → is_attached journal ≡ true →
-      IfTold (history v.disk) (OnlyLeaves (Shows version_1 v.entries)) → RefinesStored m refines v st → IsStoredSince v.setup m v.me.0 st →
-      IsKept m refines history room directory journal v
-  fresh-kept journal v st good member keys sound attached durable stands since = record {
-    good = good;
+  pub fresh-kept : (journal : JournalState D) (v : KeptState M Msg D) (st : Stored Msg) → IsMember m v.setup directory v.me.0 →
+      journal.attached ≡ true →
+      IfTold (state v.disk).history (OnlyLeaves (Shows version_1 v.entries)) → RefinesStored m refines v st → IsStoredSince v.setup m v.me.0 st →
+      IsKept m refines state directory journal v
+  fresh-kept journal v st member attached durable stands since = record {
     member = member;
-    keys = keys;
     cluster = stands.cluster;
     number = stands.number;
-    sound = sound;
     attached = λ f. attached;
     durable = λ f. durable;
     kept = inr (st, stands, since);
@@ -112,17 +104,17 @@ module _ {M Msg D : Type 0} (m : Module Msg) (refines : Relation M Msg) (history
   standing v (inl stale) fresh = not-both v.stale _ stale fresh
   standing v (inr h) fresh = h
 
-  pub its-store : (journal : Journal D) (v : KeptState M Msg D) → IsKept m refines history room directory journal v → v.stale ≡ false → Stands v
+  pub its-store : (journal : JournalState D) (v : KeptState M Msg D) → IsKept m refines state directory journal v → v.stale ≡ false → Stands v
   its-store journal v kept fresh = standing v kept.kept fresh
 
   -- So it refines a core.
-  pub its-core : (journal : Journal D) (v : KeptState M Msg D) → IsKept m refines history room directory journal v → v.stale ≡ false →
+  pub its-core : (journal : JournalState D) (v : KeptState M Msg D) → IsKept m refines state directory journal v → v.stale ≡ false →
       (c : Core Msg) × RefinesCore m refines v.node c
   its-core journal v kept fresh = let h = its-store journal v kept fresh in (h.0.core, h.1.node)
 
   -- ---- a step of its node
 
-  module _ (before : Journal D) (old : KeptState M Msg D) (kept : IsKept m refines history room directory before old) (event : NodeEvent) (node : NodeView M Msg)
+  module _ (before : JournalState D) (old : KeptState M Msg D) (kept : IsKept m refines state directory before old) (event : NodeEvent) (node : NodeView M Msg)
       (setup : node.state.setup ≡ old.node.state.setup) (me : node.state.me ≡ old.node.state.me) where
     abbrev node_step : Core Msg → Stepped Msg
     node_step c = step (formats_of old.node.state.setup m) (rules_of old.node.state.setup) m old.node.state.me.0 c event
@@ -138,7 +130,7 @@ module _ {M Msg D : Type 0} (m : Module Msg) (refines : Relation M Msg) (history
       own-peer h = subst (λ (s : Setup). IsOfNodes s.n event) (sym kept.cluster) h
 
       -- The node refines the core after the step.
-      pub took-turn : (journal : Journal D) → (c : Core Msg) → KeptRefinesCore m refines old c →
+      pub took-turn : (journal : JournalState D) → (c : Core Msg) → KeptRefinesCore m refines old c →
           IsTurn m refines (IsOfNodes old.setup.n event) (step_of old.setup m old.me.0 c event) (state_over old.setup old.me node journal false) outcome
       took-turn journal c at =
           let a = answer c at.node in
@@ -153,7 +145,7 @@ module _ {M Msg D : Type 0} (m : Module Msg) (refines : Relation M Msg) (history
 
     module _ (why : Why)
         (answer : (c : Core Msg) → RefinesCore m refines old.node c → Node_answers m refines (IsOfNodes old.node.state.setup.n event) c (node_step c) node (Node_dropped why)) where
-      pub dropped-turn : (journal : Journal D) → (c : Core Msg) → KeptRefinesCore m refines old c →
+      pub dropped-turn : (journal : JournalState D) → (c : Core Msg) → KeptRefinesCore m refines old c →
           IsDrop m refines c (step_of old.setup m old.me.0 c event) (state_over old.setup old.me node journal false) why
       dropped-turn journal c at =
           let a = answer c at.node in
@@ -192,8 +184,8 @@ module _ {M Msg D : Type 0} (m : Module Msg) (refines : Relation M Msg) (history
       right-entry entry NoMemory h on = absurd (true≢false (sym on))
 
       -- After an accepted event the node stands for what is stored with it.
-      took-stored : (journal : Journal D) (entry : List ℕ) (outcome : Outcome) → HasStepped m refines event old.node node entry (Kept_taken outcome) →
-          entries_of journal ≡ retained (old.entries ++ entry ∷ []) →
+      took-stored : (journal : JournalState D) (entry : List ℕ) (outcome : Outcome) → HasStepped m refines event old.node node entry (Kept_taken outcome) →
+          journal.entries ≡ retained (old.entries ++ entry ∷ []) →
           RefinesStored m refines (state_over old.setup old.me node journal false) (stored_after old.setup m old.me.0 st event)
       took-stored journal entry outcome h added =
           let a = h.0 st.core for.node in
@@ -209,8 +201,8 @@ module _ {M Msg D : Type 0} (m : Module Msg) (refines : Relation M Msg) (history
           }
 
       -- A dropped event changes nothing.
-      dropped-stored : (journal : Journal D) (entry : List ℕ) (why : Why) → HasStepped m refines event old.node node entry (Kept_dropped why) →
-          entries_of journal ≡ old.entries →
+      dropped-stored : (journal : JournalState D) (entry : List ℕ) (why : Why) → HasStepped m refines event old.node node entry (Kept_dropped why) →
+          journal.entries ≡ old.entries →
           RefinesStored m refines (state_over old.setup old.me node journal false) (stored_after old.setup m old.me.0 st event)
       dropped-stored journal entry why h added =
           let a = h.0 st.core for.node in
@@ -225,8 +217,8 @@ module _ {M Msg D : Type 0} (m : Module Msg) (refines : Relation M Msg) (history
             saved = h.1 ∙ for.saved;
           })
 
-      pub stores : (journal : Journal D) (entry : List ℕ) (answer : Answer) → HasStepped m refines event old.node node entry answer →
-          entries_of journal ≡ entries_after old.entries entry answer → makes_stale answer ≡ false →
+      pub stores : (journal : JournalState D) (entry : List ℕ) (answer : Answer) → HasStepped m refines event old.node node entry answer →
+          journal.entries ≡ entries_after old.entries entry answer → makes_stale answer ≡ false →
           RefinesStored m refines (state_over old.setup old.me node journal false) (stored_after old.setup m old.me.0 st event)
       stores journal entry (Kept_taken outcome) h added on = took-stored journal entry outcome h added
       stores journal entry (Kept_dropped why) h added on = dropped-stored journal entry why h added
@@ -236,7 +228,7 @@ module _ {M Msg D : Type 0} (m : Module Msg) (refines : Relation M Msg) (history
 
     -- ---- the effect of the whole call on a node that was not stale
 
-    module _ (fresh : old.stale ≡ false) (journal : Journal D) (entry : List ℕ) where
+    module _ (fresh : old.stale ≡ false) (journal : JournalState D) (entry : List ℕ) where
       abbrev left : Answer → KeptState M Msg D
       left answer = state_over old.setup old.me node journal (makes_stale answer)
 
@@ -249,37 +241,36 @@ module _ {M Msg D : Type 0} (m : Module Msg) (refines : Relation M Msg) (history
       answers Stale stepped c at = stepped
       answers NoMemory stepped c at = tt
 
-      fresh-after : IsSound history room journal → is_attached journal ≡ true →
-          IfTold (history (disk_of journal)) (OnlyLeaves (Shows version_1 (entries_of journal))) →
+      fresh-after : journal.attached ≡ true →
+          IfTold (state journal.disk).history (OnlyLeaves (Shows version_1 journal.entries)) →
           ((st : Stored Msg) → RefinesStored m refines old st → RefinesStored m refines (state_over old.setup old.me node journal false) (stored_after old.setup m old.me.0 st event)) →
-          IsKept m refines history room directory journal (state_over old.setup old.me node journal false)
-      fresh-after sound attached durable on =
+          IsKept m refines state directory journal (state_over old.setup old.me node journal false)
+      fresh-after attached durable on =
           let h = its-store before old kept fresh in
-          fresh-kept journal (state_over old.setup old.me node journal false) (stored_after old.setup m old.me.0 h.0 event) kept.good kept.member kept.keys sound attached durable
+          fresh-kept journal (state_over old.setup old.me node journal false) (stored_after old.setup m old.me.0 h.0 event) kept.member attached durable
           (on h.0 h.1) (since-more old.setup m old.me.0 h.0 event h.2)
 
-      stale-after : IsSound history room journal → IsKept m refines history room directory journal (state_over old.setup old.me node journal true)
-      stale-after sound =
-          stale-kept journal (state_over old.setup old.me node journal true) kept.good kept.member kept.keys (setup ∙ kept.cluster) (me ∙ kept.number) sound refl
+      stale-after : IsKept m refines state directory journal (state_over old.setup old.me node journal true)
+      stale-after = stale-kept journal (state_over old.setup old.me node journal true) kept.member (setup ∙ kept.cluster) (me ∙ kept.number) refl
 
-      durable-with : (es : List (List ℕ)) → entries_of journal ≡ es → IfTold (history (disk_of journal)) (OnlyLeaves (Shows version_1 es)) →
-          IfTold (history (disk_of journal)) (OnlyLeaves (Shows version_1 (entries_of journal)))
+      durable-with : (es : List (List ℕ)) → journal.entries ≡ es → IfTold (state journal.disk).history (OnlyLeaves (Shows version_1 es)) →
+          IfTold (state journal.disk).history (OnlyLeaves (Shows version_1 journal.entries))
       durable-with es added told =
-          subst (λ (xs : List (List ℕ)). IfTold (history (disk_of journal)) (OnlyLeaves (Shows version_1 xs))) (sym added) told
+          subst (λ (xs : List (List ℕ)). IfTold (state journal.disk).history (OnlyLeaves (Shows version_1 xs))) (sym added) told
 
-      pub kept-after : (answer : Answer) → HasStepped m refines event old.node node entry answer → entries_of journal ≡ entries_after old.entries entry answer →
-          Writes old.entries entry (history old.disk) (history (disk_of journal)) answer → IsSound history room journal →
-          (makes_stale answer ≡ false → is_attached journal ≡ true) → IsKept m refines history room directory journal (left answer)
-      kept-after (Kept_taken outcome) stepped added wrote sound attached =
-          fresh-after sound (attached refl) (durable-with (retained (old.entries ++ entry ∷ [])) added wrote.1)
+      pub kept-after : (answer : Answer) → HasStepped m refines event old.node node entry answer → journal.entries ≡ entries_after old.entries entry answer →
+          Writes old.entries entry (state old.disk).history (state journal.disk).history answer →
+          (makes_stale answer ≡ false → journal.attached ≡ true) → IsKept m refines state directory journal (left answer)
+      kept-after (Kept_taken outcome) stepped added wrote attached =
+          fresh-after (attached refl) (durable-with (retained (old.entries ++ entry ∷ [])) added wrote.1)
           (λ st for. took-stored st for journal entry outcome stepped added)
-      kept-after (Kept_dropped why) stepped added wrote sound attached =
-          let told : IfTold (history (disk_of journal)) (OnlyLeaves (Shows version_1 old.entries)) =
+      kept-after (Kept_dropped why) stepped added wrote attached =
+          let told : IfTold (state journal.disk).history (OnlyLeaves (Shows version_1 old.entries)) =
           subst (λ (f : List File). IfTold f (OnlyLeaves (Shows version_1 old.entries))) (sym wrote) (kept.durable fresh) in
-          fresh-after sound (attached refl) (durable-with old.entries added told) (λ st for. dropped-stored st for journal entry why stepped added)
-      kept-after Failed stepped added wrote sound attached = stale-after sound
-      kept-after Stale stepped added wrote sound attached = stale-after sound
-      kept-after NoMemory stepped added wrote sound attached = stale-after sound
+          fresh-after (attached refl) (durable-with old.entries added told) (λ st for. dropped-stored st for journal entry why stepped added)
+      kept-after Failed stepped added wrote attached = stale-after
+      kept-after Stale stepped added wrote attached = stale-after
+      kept-after NoMemory stepped added wrote attached = stale-after
 
       shows-after : (answer : Answer) → HasStepped m refines event old.node node entry answer → makes_stale answer ≡ true → (later : Bool) →
           ShowsAsBefore old (state_over old.setup old.me node journal later)
@@ -297,7 +288,7 @@ module _ {M Msg D : Type 0} (m : Module Msg) (refines : Relation M Msg) (history
             subst (λ (b : Bool). IsAnswer m refines (IsOfNodes old.setup.n event) c (step_of old.setup m old.me.0 c event) (state_over old.setup old.me node journal b) answer) (sym is)
             (answers answer stepped c at)
 
-        pub take-stores : entries_of journal ≡ entries_after old.entries entry answer → (st : Stored Msg) → RefinesStored m refines old st → later ≡ false →
+        pub take-stores : journal.entries ≡ entries_after old.entries entry answer → (st : Stored Msg) → RefinesStored m refines old st → later ≡ false →
             RefinesStored m refines (state_over old.setup old.me node journal later) (stored_after old.setup m old.me.0 st event)
         take-stores added st for on =
             subst (λ (b : Bool). RefinesStored m refines (state_over old.setup old.me node journal b) (stored_after old.setup m old.me.0 st event)) (sym on)
@@ -307,25 +298,25 @@ module _ {M Msg D : Type 0} (m : Module Msg) (refines : Relation M Msg) (history
         pub take-shows : later ≡ true → ShowsAsBefore old (state_over old.setup old.me node journal later)
         take-shows stale = shows-after answer stepped (sym is ∙ stale) later
 
-        pub take-kept : entries_of journal ≡ entries_after old.entries entry answer →
-            Writes old.entries entry (history old.disk) (history (disk_of journal)) answer → IsSound history room journal →
-            (makes_stale answer ≡ false → is_attached journal ≡ true) → IsKept m refines history room directory journal (state_over old.setup old.me node journal later)
-        take-kept added wrote sound attached =
-            subst (λ (b : Bool). IsKept m refines history room directory journal (state_over old.setup old.me node journal b)) (sym is)
-            (kept-after answer stepped added wrote sound attached)
+        pub take-kept : journal.entries ≡ entries_after old.entries entry answer →
+            Writes old.entries entry (state old.disk).history (state journal.disk).history answer →
+            (makes_stale answer ≡ false → journal.attached ≡ true) → IsKept m refines state directory journal (state_over old.setup old.me node journal later)
+        take-kept added wrote attached =
+            subst (λ (b : Bool). IsKept m refines state directory journal (state_over old.setup old.me node journal b)) (sym is)
+            (kept-after answer stepped added wrote attached)
 
   -- ---- reopening
 
-  module _ (journal : Journal D) (s : Setup) (i : NodeId) (node : NodeView M Msg) (stay : retained (entries_of journal) ≡ entries_of journal)
-      (h : IsReplayed s m refines i.0 (entries_of journal) node) (own : IsOf s i node) where
+  module _ (journal : JournalState D) (s : Setup) (i : NodeId) (node : NodeView M Msg) (stay : retained journal.entries ≡ journal.entries)
+      (h : IsReplayed s m refines i.0 journal.entries node) (own : IsOf s i node) where
     -- The node stands for the entries that it has read.
-    pub reopened-stored : RefinesStored m refines (state_over s i node journal false) (stored_as (entries_of journal) h.0)
+    pub reopened-stored : RefinesStored m refines (state_over s i node journal false) (stored_as journal.entries h.0)
     reopened-stored =
-        record { fresh = refl; node = h.1.0; cluster = own.cluster; number = own.number; entries = shows-read (entries_of journal) stay; saved = h.1.1 }
+        record { fresh = refl; node = h.1.0; cluster = own.cluster; number = own.number; entries = shows-read journal.entries stay; saved = h.1.1 }
 
-    pub reopened-kept : IsSetupOf m s → i.0 < s.n → directory ≡ keys_of s → IsSound history room journal → is_attached journal ≡ true →
-        IfTold (history (disk_of journal)) (OnlyLeaves (Shows version_1 (entries_of journal))) →
-        IsKept m refines history room directory journal (state_over s i node journal false)
-    reopened-kept good member keys sound attached durable =
-        fresh-kept journal (state_over s i node journal false) (stored_as (entries_of journal) h.0) good member keys sound attached durable reopened-stored
-        (record { read = entries_of journal; found = h.0; is_read = h.2; events = []; is = refl })
+    pub reopened-kept : IsMember m s directory i.0 → journal.attached ≡ true →
+        IfTold (state journal.disk).history (OnlyLeaves (Shows version_1 journal.entries)) →
+        IsKept m refines state directory journal (state_over s i node journal false)
+    reopened-kept member attached durable =
+        fresh-kept journal (state_over s i node journal false) (stored_as journal.entries h.0) member attached durable reopened-stored
+        (record { read = journal.entries; found = h.0; is_read = h.2; events = []; is = refl })

@@ -1,8 +1,10 @@
 -- What a step leaves of a node, and what appending its entry leaves after that.
-use Rattle.std.proofs.Common.{◌≡◌, ℕ, ◌≤◌, List, Option, Result, Ok, Err, IsErrOf, length, take, refl, sym, ap, ◌∙◌, subst}
+use Rattle.std.proofs.Common.{◌≡◌, ℕ, ◌≤◌, true, false, List, Option, Result, Ok, Err, IsErrOf, OnOk, length, take, refl, sym, ap, ◌∙◌, subst, true≢false}
+use Rattle.iss_disk.specs.Calls.{Device}
 use Rattle.iss_disk.specs.declared.errors.EndError.{EndError}
 use Rattle.iss_disk.specs.declared.errors.EndError.TheVariants.{Failed as Disk_failed, NoMemory as Disk_no_memory}
 use Rattle.iss_journal.specs.Frames.{max_entry}
+use Rattle.iss_journal.specs.Sound.{JournalState}
 use Rattle.iss_log.specs.LogState.{GoesOn}
 use Rattle.iss_model.specs.Frames.{frame_of, step_in}
 use Rattle.iss_model.specs.Node.{Core, Stepped, Taken as Step_taken, Turn}
@@ -19,11 +21,13 @@ use Rattle.iss_node.specs.declared.answers.Outcome.{Outcome}
 use Rattle.iss_sb.specs.Calls.{Relation}
 use Rattle.iss_sb.specs.Evidence.{Module}
 use Rattle.iss_keep.specs.Entries.{spell_event}
-use Rattle.iss_keep.specs.Internal.Keeping.{Answers, HasEnded, HasNoted, HasStepped, IsKeptAs, ShowsSame, Takes, entry_kept, kept_at, released}
+use Rattle.iss_keep.specs.Internal.Keeping.{Answers, HasAppended, HasEnded, HasJournaled, HasNoted, HasStepped, IsKeptAs, MayStep, ShowsSame, Takes, entry_kept, entry_made, kept_at, released}
+use Rattle.iss_keep.specs.Steps.{IsWritten, makes_stale}
 use Rattle.iss_keep.specs.declared.answers.Answer.{Answer}
 use Rattle.iss_keep.specs.declared.answers.Answer.TheVariants.{Dropped as Kept_dropped, Failed, NoMemory, Stale, Taken as Kept_taken}
 use Rattle.iss_keep.proofs.SnapshotLemmas.{kept-right, kept-short}
 use Rattle.iss_keep.proofs.TakenLemmas.{log-cut, log-long, taken-goes-on, taken-later, taken-short}
+use Rattle.iss_keep.proofs.WriteLemmas.{nothing-kept}
 
 -- What a node hands out and notes, for the step of each core that it refines.
 abbrev pub Enters : {M Msg : Type 0} → Module Msg → Relation M Msg → NodeEvent → (old new : NodeView M Msg) → NodeAnswer → Type 0
@@ -65,7 +69,33 @@ unaccepted m refines event old new entry (Node_dropped why) core answer enters l
 unaccepted m refines event old new entry Node_no_memory core answer enters left other = shows-spoiled old new left
 unaccepted m refines event old new entry Node_stale core answer enters left other = shows-stale old new left.1
 
+-- The journal is as it was.
+pub unwritten : {D : Type 0} (state : D → Device) (journal : JournalState D) (entry : List ℕ) (made : NodeAnswer) → ((outcome : Outcome) → made ≡ Node_taken outcome → ⊥) →
+    IsWritten journal.entries entry (state journal.disk) (state journal.disk) journal.entries (released made nothing_failed)
+unwritten state journal entry (Node_taken outcome) other = absurd (other outcome refl)
+unwritten state journal entry (Node_dropped why) other = nothing-kept (state journal.disk) journal.entries entry (Kept_dropped why) refl refl refl (λ is. absurd (cc))
+unwritten state journal entry Node_no_memory other = nothing-kept (state journal.disk) journal.entries entry NoMemory refl refl refl (λ is. absurd (cc))
+unwritten state journal entry Node_stale other = nothing-kept (state journal.disk) journal.entries entry NoMemory refl refl refl (λ is. absurd (cc))
+
+pub not-journaled : {M Msg D : Type 0} (state : D → Device) (m : Module Msg) (refines : Relation M Msg) (event : NodeEvent) (old new : NodeView M Msg) (journal : JournalState D)
+    (made : NodeAnswer) → MayStep m refines old journal → Answers m refines event old new made → Enters m refines event old new made → IsLeft old new made →
+    ((outcome : Outcome) → made ≡ Node_taken outcome → ⊥) → (new.state.setup ≡ old.state.setup) × (new.state.me ≡ old.state.me) →
+    HasJournaled state m refines event old new journal journal made nothing_failed
+not-journaled state m refines event old new journal made may answer enters left other same = record {
+  written = unwritten state journal (entry_made made (spell_event event)) made other;
+  stepped = unaccepted m refines event old new (entry_made made (spell_event event)) made may.core answer enters left other;
+  attached = λ on. may.attached;
+  same = same;
+}
+
 -- ---- the event was accepted
+
+-- A journal that took the entry is attached.
+still-on : {D : Type 0} (outcome : Outcome) (now : JournalState D) (r : Result (Unit {0}) EndError) → OnOk r (now.attached ≡ true) →
+    makes_stale (released (Node_taken outcome) r) ≡ false → now.attached ≡ true
+still-on outcome now (Ok x) on h = on
+still-on outcome now (Err Disk_failed) on h = absurd (true≢false h)
+still-on outcome now (Err Disk_no_memory) on h = absurd (true≢false h)
 
 module _ {M Msg : Type 0} (m : Module Msg) (refines : Relation M Msg) (event : NodeEvent) (old taken : NodeView M Msg) (outcome : Outcome)
     (good : IsSetupOf m old.state.setup) (core : (c : Core Msg) × RefinesCore m refines old c) (setup : taken.state.setup ≡ old.state.setup) (me : taken.state.me ≡ old.state.me)
@@ -155,3 +185,18 @@ module _ {M Msg : Type 0} (m : Module Msg) (refines : Relation M Msg) (event : N
     same-node given Failed h = (h.setup ∙ setup, h.me ∙ me)
     same-node given Stale h = absurd h
     same-node given NoMemory h = (h.setup ∙ setup, h.me ∙ me)
+
+    -- The whole: the step, and the append of its entry.
+    pub journaled : {D : Type 0} (state : D → Device) (before now : JournalState D) (after : Option (List ℕ)) (r : Result (Unit {0}) EndError) →
+        HasAppended state own outcome.entered after before now r → ((given : Outcome) → HasEnded given slots epoch taken new (released (Node_taken given) r)) →
+        HasJournaled state m refines event old new before now (Node_taken (record outcome { entered = after })) r
+    journaled state before now after r appended ended =
+        let given : Outcome = record outcome { entered = after } in
+        record {
+          written = subst (λ (bytes : List ℕ). IsWritten before.entries (entry_kept after bytes) (state before.disk) (state now.disk) now.entries (released (Node_taken given) r)) own-is
+              (appended.written given);
+          stepped = subst (λ (bytes : List ℕ). HasStepped m refines event old new (entry_kept after bytes) (released (Node_taken given) r)) own-is
+              (stepped after r appended.same (ended given));
+          attached = still-on given now r appended.attached;
+          same = same-node given (released (Node_taken given) r) (ended given);
+        }

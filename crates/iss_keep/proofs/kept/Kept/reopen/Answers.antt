@@ -1,24 +1,34 @@
+use Rattle.std.proofs.Common.{sym, ◌∙◌}
 use Rattle.iss_keep.proofs.KeptLemmas.{reopened-kept, reopened-stored}
-use Rattle.iss_keep.proofs.WriteLemmas.{loses-none, no-error}
+use Rattle.iss_keep.proofs.WriteLemmas.{loses-none, no-error, refused}
 use Rattle.iss_keep.proofs.kept.Kept.reopen.Goals as goal
 
 pub invariant_of-self : goal.invariant_of-self
 invariant_of-self g c =
-    reopened-kept g.M.Sequenced.spec g.M.Sequenced.refines (g.D.Disk.state g.D.Disk.room).history c.self.inside.directory c.open.new.journal c.self.inside.setup c.self.inside.me
-    c.in-Ok.node c.in-Ok.ensures.stay c.in-Ok.ensures.refines c.in-Ok.ensures.same c.self.invariant.good c.self.invariant.member c.self.invariant.keys c.open.ensures.sound
-    c.in-Ok.ensures.is_attached c.in-Ok.ensures.attached.durable
+    let h = c.in-Ok.ensures.opened in
+    reopened-kept g.M.Sequenced.spec g.M.Sequenced.refines g.D.Disk.state c.self.inside.directory c.open.new.journal c.self.inside.setup c.self.inside.me
+    c.in-Ok.node h.stay h.back.core h.back.same c.self.invariant.member h.is_attached h.attached.durable
 
-pub open-requires-clause-member : goal.open-requires-clause-member
-open-requires-clause-member g c = record { good = c.self.invariant.good; directory = c.self.invariant.keys; me = c.self.invariant.member }
+pub open-requires : goal.open-requires
+open-requires g c = c.self.invariant.member
+
+pub returns-in-Ok-clause-reopened : goal.returns-in-Ok-clause-reopened
+returns-in-Ok-clause-reopened g c =
+    let h = c.in-Ok.ensures.opened in
+    rw (← c.self.view_is) (record {
+      core = (
+        h.back.core.0,
+        h.back.core.2,
+        reopened-stored g.M.Sequenced.spec g.M.Sequenced.refines g.D.Disk.state c.self.inside.directory c.open.new.journal c.self.inside.setup c.self.inside.me
+            c.in-Ok.node h.stay h.back.core h.back.same,
+      );
+      attached = h.attached;
+    })
 
 pub returns-in-Ok-clause-loses : goal.returns-in-Ok-clause-loses
 returns-in-Ok-clause-loses g c = rw (← c.self.view_is) (loses-none _ _ _ _ (no-error _ _) c.in-Ok.ensures.loses)
 
-pub returns-in-Ok-clause-core : goal.returns-in-Ok-clause-core
-returns-in-Ok-clause-core g c =
-    let h = c.in-Ok.ensures.refines in (
-      h.0,
-      h.2,
-      reopened-stored g.M.Sequenced.spec g.M.Sequenced.refines (g.D.Disk.state g.D.Disk.room).history c.self.inside.directory c.open.new.journal c.self.inside.setup c.self.inside.me
-          c.in-Ok.node c.in-Ok.ensures.stay h c.in-Ok.ensures.same,
-    )
+pub returns-in-Err-clause-refused : goal.returns-in-Err-clause-refused
+returns-in-Err-clause-refused g c = λ at is.
+    rw (← c.self.view_is) (refused g.D.Disk.state c.self.inside.setup g.M.Sequenced.spec g.M.Sequenced.refines c.self.inside.me c.self.inside.journal c.open.new.journal
+    c.open.result c.open.ensures.opened at (c.in-Err.is ∙ is))
