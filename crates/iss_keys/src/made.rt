@@ -5,6 +5,7 @@ ghost use Rattle.iss_keys.specs.Trees.{tree_root, KeyTree, AreNodesOf};
 ghost use Rattle.iss_keys.specs.Signatures.{part_of};
 
 use crate::chain::write_values;
+use crate::heights::TreeHeight;
 use crate::tree::{fill_tree, tree_of, write_path};
 use std::alloc::{AllocError, Global};
 use std::marker::Model;
@@ -13,31 +14,34 @@ use std::marker::Model;
 #[derive(Drop)]
 pub struct MadeTree {
     secret: [u8; 32],
-    height: u8,
+    height: TreeHeight,
     nodes: Vec<[u8; 32]>,
 }
 
 impl Model for MadeTree {
     ghost Value = { KeyTree };
 
-    ghost view = { λ t. record { secret = t.secret; height = t.height } };
+    ghost view = { λ t. record { secret = t.secret; height = t.height.levels } };
 
-    ghost invariant = { λ t. AreNodesOf t.secret t.height t.nodes.items };
+    ghost invariant = { λ t. AreNodesOf t.secret t.height.levels t.nodes.items };
 }
 
 // The root of a computed tree.
-fn root_of_nodes(nodes: &[[u8; 32]], secret: &[u8; 32], height: u8) -> [u8; 32]
-    requires { AreNodesOf secret.now height nodes.now }
-    ensures { result ≡ tree_root secret.now height }
+fn root_of_nodes(nodes: &[[u8; 32]], secret: &[u8; 32], height: TreeHeight) -> [u8; 32]
+    requires { AreNodesOf secret.now height.levels nodes.now }
+    ensures { result ≡ tree_root secret.now height.levels }
 {
     nodes[1]
 }
 
 impl MadeTree {
     /// Computes the tree over a secret.
-    pub fn make(alloc: Global, secret: &[u8; 32], height: u8) -> Result<MadeTree, AllocError>
-        requires { height ≤ 12 }
-        ensures { IfOk result (λ t. t ≡ record { secret = secret.now; height = height }) }
+    pub fn make(
+        alloc: Global,
+        secret: &[u8; 32],
+        height: TreeHeight,
+    ) -> Result<MadeTree, AllocError>
+        ensures { IfOk result (λ t. t ≡ record { secret = secret.now; height = height.levels }) }
     {
         let nodes = tree_of(alloc, secret, height)?;
         Ok(MadeTree {
@@ -61,7 +65,7 @@ impl MadeTree {
     pub fn same(&self, secret: &[u8; 32], height: u8) -> Option<&MadeTree>
         ensures { IfSome result (λ t. t.now ≡ record { secret = secret.now; height = height }) }
     {
-        if self.secret == *secret && self.height == height {
+        if self.secret == *secret && self.height.levels == height {
             Some(self)
         } else {
             None
@@ -72,7 +76,7 @@ impl MadeTree {
     pub fn height(&self) -> u8
         ensures { result ≡ self.now.height }
     {
-        self.height
+        self.height.levels
     }
 
     /// The root.
