@@ -1,12 +1,13 @@
 //! A computed tree, and the parts of signatures by its leaves.
 
 ghost use Rattle.std.specs.Prelude.{◌≡◌, ◌^◌, ◌<◌, ◌≤◌, ◌++◌, IfOk, IfSome, OnOk};
-ghost use Rattle.iss_keys.specs.Trees.{tree_root, KeyTree, AreNodesOf};
+ghost use Rattle.iss_keys.specs.Trees.{tree_root, path_node, KeyTree, AreNodesOf};
+ghost use Rattle.iss_keys.specs.Pieces.{join_below};
 ghost use Rattle.iss_keys.specs.Signatures.{part_of};
 
 use crate::chain::write_values;
 use crate::heights::TreeHeight;
-use crate::tree::{fill_tree, tree_of, write_path};
+use crate::tree::{fill_tree, leaves_under, place_beside, tree_of, write_node};
 use std::alloc::{AllocError, Global};
 use std::marker::Model;
 
@@ -24,14 +25,6 @@ impl Model for MadeTree {
     ghost view = { λ t. record { secret = t.secret; height = t.height.levels } };
 
     ghost invariant = { λ t. AreNodesOf t.secret t.height.levels t.nodes.items };
-}
-
-// The root of a computed tree.
-fn root_of_nodes(nodes: &[[u8; 32]], secret: &[u8; 32], height: TreeHeight) -> [u8; 32]
-    requires { AreNodesOf secret.now height.levels nodes.now }
-    ensures { result ≡ tree_root secret.now height.levels }
-{
-    nodes[1]
 }
 
 impl MadeTree {
@@ -83,7 +76,21 @@ impl MadeTree {
     pub fn root(&self) -> [u8; 32]
         ensures { result ≡ tree_root self.now.secret self.now.height }
     {
-        root_of_nodes(&self.nodes, &self.secret, self.height)
+        self.nodes[1]
+    }
+
+    // Appends the authentication path of a leaf.
+    fn write_path(&self, leaf: u32, out: &mut Vec<u8>) -> Result<(), AllocError>
+        requires { leaf < 2 ^ self.now.height }
+        ensures { OnOk result
+            (out.new.items ≡ out.old.items ++ join_below (path_node self.now.secret leaf) self.now.height) }
+    {
+        let mut place = leaves_under(self.height) + leaf as usize;
+        'levels: for k in 0..self.height.levels {
+            write_node(&self.nodes[place_beside(place)], out)?;
+            place /= 2;
+        }
+        Ok(())
     }
 
     /// Appends the part of a signature by a leaf over a digest.
@@ -98,7 +105,7 @@ impl MadeTree {
             (out.new.items ≡ out.old.items ++ part_of self.now.secret self.now.height leaf digest.now) }
     {
         write_values(&self.secret, leaf, digest, out)?;
-        write_path(&self.nodes, self.height, leaf, out)?;
+        self.write_path(leaf, out)?;
         Ok(())
     }
 }

@@ -82,38 +82,18 @@ pub fn root_of_secret(secret: &[u8; 32], height: TreeHeight) -> [u8; 32]
     node_of(secret, height.levels, 0)
 }
 
-// The place of a node's sibling.
-fn place_beside(place: usize) -> usize
+/// The place of a node's sibling.
+pub fn place_beside(place: usize) -> usize
     ensures { result ≡ beside place }
 {
     if place % 2 == 0 { place + 1 } else { place - 1 }
 }
 
-// Appends a node.
-fn write_node(node: &[u8; 32], out: &mut Vec<u8>) -> Result<(), AllocError>
+/// Appends a node.
+pub fn write_node(node: &[u8; 32], out: &mut Vec<u8>) -> Result<(), AllocError>
     ensures { OnOk result (out.new.items ≡ out.old.items ++ node.now) }
 {
     out.extend_from_slice(node)?;
-    Ok(())
-}
-
-/// Appends the authentication path of a leaf.
-pub fn write_path(
-    nodes: &[[u8; 32]],
-    height: TreeHeight,
-    leaf: u32,
-    out: &mut Vec<u8>,
-) -> Result<(), AllocError>
-    requires leaf { leaf < 2 ^ height.levels }
-    requires size { length nodes.now ≡ 2 ^ (height.levels + 1) }
-    ensures { (secret : List ℕ) → HasNodesFrom secret height.levels 1 nodes.now
-        → OnOk result (out.new.items ≡ out.old.items ++ join_below (path_node secret leaf) height.levels) }
-{
-    let mut place = leaves_under(height) + leaf as usize;
-    'levels: for k in 0..height.levels {
-        write_node(&nodes[place_beside(place)], out)?;
-        place /= 2;
-    }
     Ok(())
 }
 

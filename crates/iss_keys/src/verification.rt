@@ -98,7 +98,12 @@ fn root_of_two(leaf: u32, top: TreeHeight, statement: &[u8], parts: &[u8]) -> [u
 {
     let bottom = leaf / BOTTOM_LEAVES;
     let digest = digest_of_statement(statement);
-    let root = root_of_part(leaf % BOTTOM_LEAVES, TreeHeight::of_bottom(), &digest, parts);
+    let root = root_of_part(
+        leaf % BOTTOM_LEAVES,
+        TreeHeight::of_bottom(),
+        &digest,
+        parts,
+    );
     let digest = digest_of_root(bottom, &root);
     root_of_part(bottom, top, &digest, behind(parts, BOTTOM_PART))
 }
@@ -112,7 +117,12 @@ fn root_of_parts(leaf: u32, height: Height, statement: &[u8], parts: &[u8]) -> [
     if has_two_levels(height.levels) {
         root_of_two(leaf, height.of_top(), statement, parts)
     } else {
-        root_of_part(leaf, height.of_top(), &digest_of_statement(statement), parts)
+        root_of_part(
+            leaf,
+            height.of_top(),
+            &digest_of_statement(statement),
+            parts,
+        )
     }
 }
 
