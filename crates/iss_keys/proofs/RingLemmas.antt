@@ -1,7 +1,7 @@
 -- Facts about the trees of numbers.
 use Rattle.std.proofs.Common.{◌≡◌, ℕ, ◌+◌, ◌<◌, ◌≤◌, List, [], ◌∷◌, ◌++◌, length, sym, ap, subst, ◌∙◌, length-append, map, get_or}
 use Rattle.std.proofs.lemmas.List.{length-map, get_or-map}
-use Rattle.std.specs.Prelude.{Option, IfSome, IsSomeAnd, ◌^◌, slice_get}
+use Rattle.std.specs.Prelude.{Option, Some, IfSome, IsSomeAnd, ◌^◌, slice_get}
 use Rattle.iss_keys.specs.Pieces.{listed}
 use Rattle.iss_base.specs.Heights.{IsHeight}
 use Rattle.iss_keys.specs.Levels.{KeySeed, root_of}
@@ -49,6 +49,15 @@ keys_listed secret_of h n i next secret k lt e =
     subst (λ (o : Option PublicKeyView). IfSome o
     (λ key. k ≡ record { secret = secret; height = key.height; used = next }))
     (sym (slice_get-listed f n i within)) e
+
+-- the key of a number has the height of the public key at its place
+pub lone_is : (keys : List PublicKeyView) (i next : ℕ) (secret : List ℕ) (h : ℕ) (x : PublicKeyView) (k : KeyState) →
+    slice_get keys i ≡ Some x → h ≡ x.height → k ≡ record { secret = secret; height = h; used = next }
+    → IfSome (slice_get keys i) (λ key. k ≡ record { secret = secret; height = key.height; used = next })
+lone_is keys i next secret h x k at high e =
+    subst (λ (o : Option PublicKeyView). IfSome o
+    (λ key. k ≡ record { secret = secret; height = key.height; used = next }))
+    (sym at) (e ∙ ap (λ n. record { secret = secret; height = n; used = next }) high)
 
 -- the converse, if the public keys are known
 pub keys_made : (secret_of : ℕ → List ℕ) (h n i next : ℕ) (secret : List ℕ) (k : KeyState) (keys : List PublicKeyView) →

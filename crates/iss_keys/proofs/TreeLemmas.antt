@@ -1,6 +1,7 @@
 -- Facts about the tree of a key.
 use Rattle.std.proofs.Common.{◌≡◌, ℕ, zero, suc, ◌+◌, ◌-◌, ◌*◌, ◌/◌, ◌%◌, ◌^◌, ◌<◌, ◌≤◌, List, [], length, get_or, refl, sym, ap, ap₂, ◌∙◌, arith, add-one, pow-add, inl, inr, get_or-set_same, get_or-set_other}
-use Rattle.std.specs.Prelude.{slice_set}
+use Rattle.std.specs.Prelude.{Some, slice_set}
+use Rattle.std.proofs.lemmas.Option.{slice_get-get_or, get_or_from_slice_get}
 use Rattle.std.proofs.Math.Nat.{pow-succ', pow-suc, div-div-eq-div-mul, div-lt_iff_lt-mul, mul_assoc, mul-le-mul_right}
 use Rattle.std.proofs.Math.Pow.{pow_mono}
 use Rattle.std.proofs.lemmas.Nat.{pow_pos}
@@ -64,6 +65,12 @@ node_more secret h i nodes l r low high len tree left right k p le lt at =
           let above : i + 1 ≤ 2 ^ (h - k) + p = omega arith in
           rw get_or-set_other (tree k p le lt above)
     ]
+
+-- what stands at a place of the array
+pub node_at : (nodes : List (List ℕ)) (i : ℕ) (x : List ℕ) → i < length nodes → x ≡ get_or nodes i x →
+    x ≡ get_or nodes i []
+node_at nodes i x lt e =
+    sym (get_or_from_slice_get nodes i x [] (slice_get-get_or nodes i x lt ∙ ap Some (sym e)))
 
 -- ---- the authentication path of a leaf
 

@@ -347,7 +347,7 @@ bytes_of_signature secret s h q high =
 -- ---- a signature made as defined verifies
 
 -- the leaf's bottom tree and the leaf of the top tree
-top_leaf : (h q : ℕ) → 12 < h → q < 2 ^ h → q / 1024 < 2 ^ (h - 10)
+pub top_leaf : (h q : ℕ) → 12 < h → q < 2 ^ h → q / 1024 < 2 ^ (h - 10)
 top_leaf h q two lt =
     let whole : 2 ^ (h - 10) * 1024 ≡ 2 ^ h = sym (pow-add 2 (h - 10) 10) ∙ ap (λ n. 2 ^ n) (omega (arith, two)) in
     let some : 0 < 1024 = omega arith in

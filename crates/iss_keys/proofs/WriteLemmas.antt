@@ -1,6 +1,6 @@
 -- What is appended for a signature is its parts.
-use Rattle.std.proofs.Common.{◌≡◌, ℕ, ◌+◌, ◌-◌, ◌*◌, ◌/◌, ◌%◌, ◌^◌, ◌<◌, ◌≤◌, List, [], ◌∷◌, ◌++◌, refl, sym, ap, subst, ◌∙◌, arith, append_assoc, pow-add}
-use Rattle.std.proofs.lemmas.Bool.{le-ltb, lt-ltb}
+use Rattle.std.proofs.Common.{◌≡◌, ℕ, ◌+◌, ◌-◌, ◌*◌, ◌/◌, ◌%◌, ◌^◌, ◌<◌, ◌≤◌, List, [], ◌∷◌, ◌++◌, refl, sym, ap, subst, ◌∙◌, arith, append_assoc, pow-add, inl, inr}
+use Rattle.std.proofs.lemmas.Bool.{cases_lt, le-ltb, lt-ltb}
 use Rattle.std.proofs.lemmas.List.{append-nil}
 use Rattle.std.proofs.Math.Nat.{div-lt_iff_lt-mul}
 use Rattle.iss_keys.specs.Chains.{statement_digest}
@@ -8,7 +8,7 @@ use Rattle.iss_keys.specs.Trees.{KeyTree}
 use Rattle.iss_keys.specs.Levels.{bottom_secret, by_top, signings, top_secret, top_tree}
 use Rattle.iss_keys.specs.Signatures.{part_by, part_of, parts_of}
 use Rattle.iss_keys.specs.Internal.Bottoms.{BottomView}
-use Rattle.iss_keys.proofs.VerifyLemmas.{one_appended, parts_appended, top_height, top_of_one}
+use Rattle.iss_keys.proofs.VerifyLemmas.{one_appended, parts_appended, top_height, top_leaf, top_of_one}
 
 -- ---- the leaf of the tree is one of its leaves
 
@@ -17,12 +17,13 @@ one_leaf secret h q t one lt e =
     let height : t.height ≡ h = ap (λ (x : KeyTree). x.height) (e ∙ top_of_one secret h one) in
     rw height lt
 
-pub two_leaf : (secret : List ℕ) (h b : ℕ) (t : KeyTree) → 12 < h → b * 1024 < 2 ^ h → t ≡ top_tree secret h →
-    b < 2 ^ t.height
-two_leaf secret h b t two lt e =
-    let height : t.height ≡ h - 10 = ap (λ (x : KeyTree). x.height) e ∙ top_height secret h two in
-    let whole : 2 ^ (h - 10) * 1024 ≡ 2 ^ h = sym (pow-add 2 (h - 10) 10) ∙ ap (λ n. 2 ^ n) (omega (arith, two)) in
-    rw height (omega (arith, lt, whole))
+pub top_leaf_within : (secret : List ℕ) (h q : ℕ) → q < 2 ^ h → q / 1024 < 2 ^ (top_tree secret h).height
+top_leaf_within secret h q lt = elim (cases_lt 12 h) [
+  | inl two ↦ rw (top_height secret h two) (top_leaf h q two lt)
+  | inr one ↦
+      let height : (top_tree secret h).height ≡ h = ap (λ (x : KeyTree). x.height) (top_of_one secret h one) in
+      rw height (omega (arith, lt))
+]
 
 -- ---- what was appended
 

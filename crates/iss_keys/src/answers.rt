@@ -90,10 +90,8 @@ fn sets_for(n: usize) -> usize
 
 // Where the set of a question begins. Different questions may share a set; an attacker can make many do so, and then
 // only the last few are cached.
-fn set_of(sets: usize, key: &PublicKey, statement: &[u8], signature: &[u8]) -> usize
-    requires low { 1 ≤ sets }
-    requires high { sets ≤ 8192 }
-    ensures { result < 4 * sets }
+fn set_of(n: usize, key: &PublicKey, statement: &[u8], signature: &[u8]) -> usize
+    ensures { result < 4 * 8192 }
 {
     let mut hash = word_at(&key.root(), 0);
     for place in 0..8usize {
@@ -102,7 +100,7 @@ fn set_of(sets: usize, key: &PublicKey, statement: &[u8], signature: &[u8]) -> u
     // A signature begins with five bytes, the height and the leaf's number, followed by the value of a chain.
     hash = hash_on(hash, word_at(signature, 0));
     hash = hash_on(hash, word_at(signature, 5));
-    hash_on(hash, statement.len() as u64) as usize % sets * SET
+    hash_on(hash, statement.len() as u64) as usize % sets_for(n) * SET
 }
 
 // The answer to a question, if it is among these.
@@ -133,6 +131,7 @@ fn find_answer(
 /// The cache. It allocates nothing before the first answer. If it is out of memory, an answer is not cached.
 #[derive(Drop)]
 pub struct Answers {
+    alloc: Global,
     n: usize,
     places: RefCell<Vec<Option<Answer>>>,
 }
@@ -141,6 +140,7 @@ impl Answers {
     /// An empty cache for `nodes` nodes.
     pub(crate) fn new(alloc: Global, n: usize) -> Answers {
         Answers {
+            alloc,
             n,
             places: RefCell::new(Vec::new(alloc)),
         }
@@ -154,7 +154,7 @@ impl Answers {
         let Ok(places) = self.places.try_borrow() else {
             return None;
         };
-        let set = set_of(sets_for(self.n), key, statement, signature);
+        let set = set_of(self.n, key, statement, signature);
         match places.get(set..set + SET) {
             Some(answers) => find_answer(answers, key, statement, signature),
             None => None,
@@ -162,19 +162,17 @@ impl Answers {
     }
 
     // Caches an answer. It replaces the oldest of its set.
-    fn remember(&self, key: &PublicKey, statement: &[u8], signature: &[u8], verifies: bool)
-        requires { IsTrue verifies ↔ Verifies key.now.root key.now.height statement.now signature.now }
-    {
+    fn remember(&self, answer: Answer) {
         let Ok(mut places) = self.places.try_borrow_mut() else {
             return;
         };
-        let alloc = *places.allocator();
-        let Ok(answer) = Answer::to(alloc, key, statement, signature, verifies) else {
-            return;
-        };
-        let sets = sets_for(self.n);
-        let _ = fill_places(&mut places, SET * sets);
-        let set = set_of(sets, key, statement, signature);
+        let _ = fill_places(&mut places, SET * sets_for(self.n));
+        let set = set_of(
+            self.n,
+            &answer.key,
+            answer.statement.as_slice(),
+            answer.signature.as_slice(),
+        );
         if set + SET <= places.len() {
             put_first(&mut places[set..set + SET], answer);
         }
@@ -194,7 +192,9 @@ impl Answers {
             return verifies;
         }
         let verifies = verify(key, statement, signature);
-        self.remember(key, statement, signature, verifies);
+        if let Ok(answer) = Answer::to(self.alloc, key, statement, signature, verifies) {
+            self.remember(answer);
+        }
         verifies
     }
 }

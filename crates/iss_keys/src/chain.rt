@@ -50,7 +50,6 @@ fn step_of_chain(leaf: u32, chain: u16, step: u8, x: [u8; 32]) -> [u8; 32]
 // The steps from `first` up to, but not including, `end`.
 #[tactic(auto, using(crate::proofs::ChainLemmas::steps_more, crate::proofs::ChainLemmas::steps_none))]
 fn steps_of_chain(leaf: u32, chain: u16, first: u8, end: u8, start: [u8; 32]) -> [u8; 32]
-    requires { first ≤ end }
     ensures { result ≡ steps leaf chain first (end - first) start }
 {
     let mut x = start;

@@ -91,6 +91,7 @@ fn find_digest(digests: &[Option<Digested>], string: &[u8]) -> Option<[u8; 32]>
 /// The cache. It allocates nothing before the first digest. If it is out of memory, a digest is not cached.
 #[derive(Drop)]
 pub struct Digests {
+    alloc: Global,
     places: RefCell<Vec<Option<Digested>>>,
 }
 
@@ -98,18 +99,19 @@ impl Digests {
     /// An empty cache.
     pub(crate) fn new(alloc: Global) -> Digests {
         Digests {
+            alloc,
             places: RefCell::new(Vec::new(alloc)),
         }
     }
 
-    // The digest of a string, if it is cached in this set.
-    fn recall(&self, set: usize, string: &[u8]) -> Option<[u8; 32]>
-        requires { set < 4 * 32 }
+    // The digest of a string, if it is cached.
+    fn recall(&self, string: &[u8]) -> Option<[u8; 32]>
         ensures { IfSome result (λ digest. digest ≡ sha256 string.now) }
     {
         let Ok(places) = self.places.try_borrow() else {
             return None;
         };
+        let set = set_of(string);
         match places.get(set..set + SET) {
             Some(digests) => find_digest(digests, string),
             None => None,
@@ -117,18 +119,12 @@ impl Digests {
     }
 
     // Caches a digest. It replaces the oldest of its set.
-    fn remember(&self, set: usize, string: &[u8], digest: &[u8; 32])
-        requires place { set < 4 * 32 }
-        requires right { digest.now ≡ sha256 string.now }
-    {
+    fn remember(&self, digested: Digested) {
         let Ok(mut places) = self.places.try_borrow_mut() else {
             return;
         };
-        let alloc = *places.allocator();
-        let Ok(digested) = Digested::to(alloc, string, digest) else {
-            return;
-        };
         let _ = fill_places(&mut places, SETS * SET);
+        let set = set_of(digested.string.as_slice());
         if set + SET <= places.len() {
             put_first(&mut places[set..set + SET], digested);
         }
@@ -142,12 +138,13 @@ impl Digests {
         if string.len() < SHORTEST || string.len() > LONGEST {
             return Sha256::digest(string);
         }
-        let set = set_of(string);
-        if let Some(digest) = self.recall(set, string) {
+        if let Some(digest) = self.recall(string) {
             return digest;
         }
         let digest = Sha256::digest(string);
-        self.remember(set, string, &digest);
+        if let Ok(digested) = Digested::to(self.alloc, string, &digest) {
+            self.remember(digested);
+        }
         digest
     }
 }

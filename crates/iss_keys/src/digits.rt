@@ -55,11 +55,8 @@ pub fn checksum_of(digest: &[u8; 32]) -> u16
 // rule: Signatures: A leaf signs the digits of a statement's digest and of their checksum
 #[tactic(auto, unfolding(crate::specs::Chains::digit))]
 pub fn digit_of(digest: &[u8; 32], sum: u16, i: u16) -> u8
-    requires sum { sum ≡ checksum digest.now }
-    requires small { sum ≤ 960 }
-    requires range { i < 67 }
-    ensures value { result ≡ digit digest.now i }
-    ensures small { result ≤ 15 }
+    requires { sum ≡ checksum digest.now }
+    ensures { result ≡ digit digest.now i }
 {
     if i < 64 {
         return nibble_of(digest, i as usize);

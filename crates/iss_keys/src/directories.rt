@@ -8,6 +8,7 @@ ghost use Rattle.iss_keys.specs.Directories.{DirectoryView, directory_of, Verifi
 
 use crate::answers::Answers;
 use crate::digests::Digests;
+use crate::heights::Height;
 use crate::keyrings::Keyring;
 use crate::marks::{CLIENT_SECRET, NODE_SECRET};
 use crate::remembered::signatures_each;
@@ -56,12 +57,12 @@ impl Directory {
     /// first needed, by 1,072 small hashes a leaf of its only or its top tree.
     // rule: Signatures: All keys are a function of the numbers of nodes and clients and the keys' height
     pub fn make(alloc: Global, n: u32, clients: u32, height: u8) -> Result<Directory, NoMemory>
-        requires n { n ≤ 256 }
-        requires clients { clients ≤ 256 }
         requires height { IsHeight height }
         ensures { IfOk result (λ d. d ≡ directory_of n clients height) }
     {
-        let nodes = Keyring::own(alloc, NODE_SECRET, n, height, signatures_each(n, height))?;
+        let most = signatures_each(n, height);
+        let height = Height { levels: height };
+        let nodes = Keyring::own(alloc, NODE_SECRET, n, height, most)?;
         let clients = Keyring::own(alloc, CLIENT_SECRET, clients, height, 0)?;
         Ok(Directory {
             nodes,
@@ -72,9 +73,8 @@ impl Directory {
     }
 
     /// The same directory without memory: it computes keys again each time.
-    pub(crate) fn alone(alloc: Global, n: u32, clients: u32, height: u8) -> Directory
-        requires height { IsHeight height }
-        ensures { result ≡ directory_of n clients height }
+    pub(crate) fn alone(alloc: Global, n: u32, clients: u32, height: Height) -> Directory
+        ensures { result ≡ directory_of n clients height.levels }
     {
         Directory {
             nodes: Keyring::alone(alloc, NODE_SECRET, n, height),

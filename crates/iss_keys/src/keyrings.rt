@@ -9,6 +9,7 @@ ghost use Rattle.iss_keys.specs.KeyStates.{PublicKeyView, public_of};
 ghost use Rattle.iss_keys.specs.Directories.{VerifiesBy, public_keys_of};
 ghost use Rattle.iss_keys.specs.Internal.Rings.{keys_of_ring, ring_seed};
 
+use crate::heights::Height;
 use crate::held::HeldTrees;
 use crate::levels::{KeyTrees, root_of_key};
 use crate::signing::{Keys, NoMemory};
@@ -18,6 +19,9 @@ use std::alloc::Global;
 use std::marker::Model;
 use std::rc::Rc;
 
+// How many numbers there are: a number is a byte.
+const NUMBERS: u32 = 256;
+
 // The secret of a number. `kind` says whether it is a node's or a client's.
 fn secret_of(kind: u8, number: u8) -> [u8; 32]
     ensures { result ≡ sha256 (kind ∷ number ∷ []) }
@@ -25,14 +29,12 @@ fn secret_of(kind: u8, number: u8) -> [u8; 32]
     Sha256::digest([kind, number])
 }
 
-// The key with the secret of a number, which shares no tree. The leaves below `next` are used.
-fn lone_key(alloc: Global, kind: u8, number: u8, height: u8, next: u32) -> Keys
-    requires height { IsHeight height }
-    requires next { next ≤ 2 ^ height }
-    ensures { result ≡ record { secret = sha256 (kind ∷ number ∷ []); height = height; used = next } }
+// The trees of a number, which are shared with nobody.
+fn lone_trees(alloc: Global, kind: u8, number: u8, height: Height) -> HeldTrees
+    ensures { result ≡ ring_seed kind height.levels number }
 {
-    let trees = KeyTrees::new(alloc, secret_of(kind, number), height, 0);
-    Keys::of(HeldTrees::own(trees), next)
+    let secret = secret_of(kind, number);
+    HeldTrees::own(KeyTrees::new(alloc, secret, height, 0))
 }
 
 // The keys with the secrets of the numbers below `count`, all of one height. There may be fewer places for trees than
@@ -41,7 +43,7 @@ fn lone_key(alloc: Global, kind: u8, number: u8, height: u8, next: u32) -> Keys
 struct OwnKeys {
     kind: u8,
     count: u32,
-    height: u8,
+    height: Height,
     trees: Vec<Rc<KeyTrees>>,
 }
 
@@ -53,16 +55,15 @@ impl Model for OwnKeys {
 
     ghost use Rattle.iss_keys.specs.Internal.Rings.{IsRing};
 
-    ghost view = { λ k. record { kind = k.kind; count = k.count; height = k.height } };
+    ghost view = { λ k. record { kind = k.kind; count = k.count; height = k.height.levels } };
 
-    ghost invariant = { λ k. IsRing k.kind k.height (map (λ trees. trees.value) k.trees.items) };
+    ghost invariant = { λ k. IsRing k.kind k.height.levels (map (λ trees. trees.value) k.trees.items) };
 }
 
 impl OwnKeys {
     // With no places.
-    fn alone(alloc: Global, kind: u8, count: u32, height: u8) -> OwnKeys
-        requires height { IsHeight height }
-        ensures { result ≡ record { kind = kind; count = count; height = height } }
+    fn alone(alloc: Global, kind: u8, count: u32, height: Height) -> OwnKeys
+        ensures { result ≡ record { kind = kind; count = count; height = height.levels } }
     {
         OwnKeys {
             kind,
@@ -77,15 +78,14 @@ impl OwnKeys {
         alloc: Global,
         kind: u8,
         count: u32,
-        height: u8,
+        height: Height,
         most: usize,
     ) -> Result<OwnKeys, NoMemory>
-        requires count { count ≤ 256 }
-        requires height { IsHeight height }
-        ensures { IfOk result (λ keys. keys ≡ record { kind = kind; count = count; height = height }) }
+        ensures { IfOk result (λ keys. keys ≡ record { kind = kind; count = count; height = height.levels }) }
     {
-        let mut trees = Vec::with_capacity(alloc, count as usize)?;
-        'numbers: for number in 0..count {
+        let places = count.min(NUMBERS);
+        let mut trees = Vec::with_capacity(alloc, places as usize)?;
+        'numbers: for number in 0..places {
             let secret = secret_of(kind, number as u8);
             let key = Rc::new(alloc, KeyTrees::new(alloc, secret, height, most))?;
             trees.push(key)?;
@@ -150,8 +150,7 @@ impl OwnKeys {
                 return HeldTrees::shared(trees);
             }
         }
-        let secret = secret_of(self.kind, number);
-        HeldTrees::own(KeyTrees::new(alloc, secret, self.height, 0))
+        lone_trees(alloc, self.kind, number, self.height)
     }
 
     // A number's trees of any kind. They are shared if the kind is that of these keys.
@@ -161,7 +160,7 @@ impl OwnKeys {
         if kind == self.kind {
             return self.trees(alloc, number);
         }
-        HeldTrees::own(KeyTrees::new(alloc, secret_of(kind, number), self.height, 0))
+        lone_trees(alloc, kind, number, self.height)
     }
 }
 
@@ -195,12 +194,10 @@ impl Keyring {
         alloc: Global,
         kind: u8,
         count: u32,
-        height: u8,
+        height: Height,
         most: usize,
     ) -> Result<Keyring, NoMemory>
-        requires count { count ≤ 256 }
-        requires height { IsHeight height }
-        ensures { IfOk result (λ ring. ring ≡ public_keys_of (λ i. sha256 (kind ∷ i ∷ [])) height count) }
+        ensures { IfOk result (λ ring. ring ≡ public_keys_of (λ i. sha256 (kind ∷ i ∷ [])) height.levels count) }
     {
         let keys = OwnKeys::new(alloc, kind, count, height, most)?;
         Ok(Keyring {
@@ -209,9 +206,8 @@ impl Keyring {
     }
 
     /// The same without memory: keys are computed again each time.
-    pub fn alone(alloc: Global, kind: u8, count: u32, height: u8) -> Keyring
-        requires height { IsHeight height }
-        ensures { result ≡ public_keys_of (λ i. sha256 (kind ∷ i ∷ [])) height count }
+    pub fn alone(alloc: Global, kind: u8, count: u32, height: Height) -> Keyring
+        ensures { result ≡ public_keys_of (λ i. sha256 (kind ∷ i ∷ [])) height.levels count }
     {
         Keyring {
             source: Source::Own(OwnKeys::alone(alloc, kind, count, height)),
@@ -262,7 +258,7 @@ impl Keyring {
         match &self.source {
             Source::Given(keys) => {
                 let height = keys[number as usize].levels();
-                lone_key(alloc, kind, number, height, next)
+                Keys::of(lone_trees(alloc, kind, number, height), next)
             }
             Source::Own(keys) => Keys::of(keys.trees_of_kind(alloc, kind, number), next),
         }

@@ -4,6 +4,7 @@
 ghost use Rattle.std.specs.Prelude.{◌≡◌, ◌≤◌, IfOk, IfSome};
 ghost use Rattle.iss_keys.specs.Trees.{tree_root, KeyTree};
 
+use crate::heights::TreeHeight;
 use crate::made::MadeTree;
 use crate::signing::NoMemory;
 use crate::tree::root_of_secret;
@@ -21,15 +22,14 @@ struct MadeRoot {
 }
 
 // Computes a root without its tree.
-fn make_root(secret: &[u8; 32], height: u8) -> MadeRoot
-    requires { height ≤ 12 }
+fn make_root(secret: &[u8; 32], height: TreeHeight) -> MadeRoot
     ensures secret { result.secret ≡ secret.now }
-    ensures height { result.height ≡ height }
+    ensures height { result.height ≡ height.levels }
 {
     let root = root_of_secret(secret, height);
     MadeRoot {
         secret: *secret,
-        height,
+        height: height.levels,
         root,
     }
 }
@@ -52,27 +52,23 @@ fn root_in(cell: &OnceCell<MadeRoot>, secret: &[u8; 32], height: u8) -> Option<[
 pub struct LateTree {
     alloc: Global,
     secret: [u8; 32],
-    height: u8,
+    height: TreeHeight,
     tree: OnceCell<MadeTree>,
     root: OnceCell<MadeRoot>,
 }
 
 impl Model for LateTree {
-    ghost use Rattle.std.specs.Prelude.{◌≤◌};
     ghost use Rattle.iss_keys.specs.Trees.{KeyTree};
 
     ghost Value = { KeyTree };
 
-    ghost view = { λ t. record { secret = t.secret; height = t.height } };
-
-    ghost invariant = { λ t. t.height ≤ 12 };
+    ghost view = { λ t. record { secret = t.secret; height = t.height.levels } };
 }
 
 impl LateTree {
     /// A tree of which nothing is computed yet.
-    pub fn new(alloc: Global, secret: [u8; 32], height: u8) -> LateTree
-        requires { height ≤ 12 }
-        ensures { result ≡ record { secret = secret; height = height } }
+    pub fn new(alloc: Global, secret: [u8; 32], height: TreeHeight) -> LateTree
+        ensures { result ≡ record { secret = secret; height = height.levels } }
     {
         LateTree {
             alloc,
@@ -93,7 +89,7 @@ impl LateTree {
         ensures { IfSome result (λ t. t.now ≡ self.now) }
     {
         match self.tree.get() {
-            Some(made) => made.same(&self.secret, self.height),
+            Some(made) => made.same(&self.secret, self.height.levels),
             None => None,
         }
     }
@@ -127,7 +123,7 @@ impl LateTree {
     pub fn root(&self) -> [u8; 32]
         ensures { result ≡ tree_root self.now.secret self.now.height }
     {
-        if let Some(root) = root_in(&self.root, &self.secret, self.height) {
+        if let Some(root) = root_in(&self.root, &self.secret, self.height.levels) {
             return root;
         }
         match self.tree() {

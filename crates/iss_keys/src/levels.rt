@@ -5,10 +5,11 @@
 ghost use Rattle.std.specs.Prelude.{◌≡◌, ◌+◌, ◌*◌, ◌^◌, ◌/◌, ◌%◌, ◌<◌, ◌≤◌, ◌++◌, IfOk, IsTrue, OnOk, Some};
 ghost use Rattle.iss_base.specs.Heights.{IsHeight};
 ghost use Rattle.iss_keys.specs.Trees.{tree_root};
-ghost use Rattle.iss_keys.specs.Levels.{top_secret, bottom_secret, bottom_tree, top_tree, by_top, root_in, root_of};
+ghost use Rattle.iss_keys.specs.Levels.{top_secret, bottom_secret, top_tree, by_top, root_statement, root_of};
 ghost use Rattle.iss_keys.specs.Signatures.{part_by, part_of, parts_of, signature_of, Verifies};
 
 use crate::digits::{digest_of_root, digest_of_statement};
+use crate::heights::{Height, TreeHeight};
 use crate::late::LateTree;
 use crate::made::MadeTree;
 use crate::marks::{BOTTOM_SECRET, TOP_SECRET};
@@ -20,9 +21,6 @@ use sha2::{Digest, Sha256};
 use std::alloc::{AllocError, Global};
 use std::cell::RefCell;
 use std::marker::Model;
-
-/// The height of a bottom tree.
-pub const BOTTOM: u8 = 10;
 
 /// How many leaves a bottom tree has.
 pub const BOTTOM_LEAVES: u32 = 1024;
@@ -51,27 +49,25 @@ fn bottom_secret(secret: &[u8; 32], bottom: u32) -> [u8; 32]
 // The tree whose root is public.
 // rule: Signatures: A key above height 12 has a top tree, and a bottom tree of height 10 under each of its leaves
 #[tactic(auto, unfolding(crate::specs::Levels::top_tree))]
-fn top_tree(alloc: Global, secret: &[u8; 32], height: u8) -> LateTree
-    requires { IsHeight height }
-    ensures { result ≡ top_tree secret.now height }
+fn top_tree(alloc: Global, secret: &[u8; 32], height: Height) -> LateTree
+    ensures { result ≡ top_tree secret.now height.levels }
 {
-    if has_two_levels(height) {
-        LateTree::new(alloc, top_secret(secret), height - BOTTOM)
+    if has_two_levels(height.levels) {
+        LateTree::new(alloc, top_secret(secret), height.of_top())
     } else {
-        LateTree::new(alloc, *secret, height)
+        LateTree::new(alloc, *secret, height.of_top())
     }
 }
 
 /// The public root of a secret, computed without a tree: by the same hashes, and without allocating.
 #[tactic(auto, unfolding(crate::specs::Levels::top_tree))]
-pub fn root_of_key(secret: &[u8; 32], height: u8) -> [u8; 32]
-    requires { IsHeight height }
-    ensures { result ≡ root_of secret.now height }
+pub fn root_of_key(secret: &[u8; 32], height: Height) -> [u8; 32]
+    ensures { result ≡ root_of secret.now height.levels }
 {
-    if has_two_levels(height) {
-        root_of_secret(&top_secret(secret), height - BOTTOM)
+    if has_two_levels(height.levels) {
+        root_of_secret(&top_secret(secret), height.of_top())
     } else {
-        root_of_secret(secret, height)
+        root_of_secret(secret, height.of_top())
     }
 }
 
@@ -104,14 +100,13 @@ impl Bottom {
         self.number == number && self.secret == *secret && self.height == height
     }
 
-    // Appends both parts of a signature by a leaf of it over a digest.
+    // Appends both parts of a signature over a digest, by the leaf of it that is this leaf of the key.
     fn write_parts(&self, leaf: u32, digest: &[u8; 32], out: &mut Vec<u8>) -> Result<(), AllocError>
-        requires { leaf < 1024 }
         ensures { OnOk result (out.new.items ≡ out.old.items
-            ++ part_of (bottom_secret self.now.secret self.now.number) 10 leaf digest.now
+            ++ part_of (bottom_secret self.now.secret self.now.number) 10 (leaf % 1024) digest.now
             ++ part_by self.now.secret self.now.height (by_top self.now.secret self.now.number)) }
     {
-        self.tree.write_part(leaf, digest, out)?;
+        self.tree.write_part(leaf % BOTTOM_LEAVES, digest, out)?;
         out.extend_from_slice(&self.above)?;
         Ok(())
     }
@@ -122,7 +117,7 @@ fn tree_over(alloc: Global, old: Option<Bottom>, secret: &[u8; 32]) -> Result<Ma
     ensures { IfOk result (λ t. t ≡ record { secret = secret.now; height = 10 }) }
 {
     let Some(bottom) = old else {
-        return Ok(MadeTree::make(alloc, secret, BOTTOM)?);
+        return Ok(MadeTree::make(alloc, secret, TreeHeight::of_bottom())?);
     };
     let mut tree = bottom.tree;
     tree.replace(secret);
@@ -133,7 +128,7 @@ fn tree_over(alloc: Global, old: Option<Bottom>, secret: &[u8; 32]) -> Result<Ma
 #[derive(Drop)]
 pub struct KeyTrees {
     secret: [u8; 32],
-    height: u8,
+    height: Height,
     top: LateTree,
     bottom: RefCell<Option<Bottom>>,
     made: Signatures,
@@ -141,22 +136,20 @@ pub struct KeyTrees {
 
 impl Model for KeyTrees {
     ghost use Rattle.std.specs.Prelude.{◌≡◌};
-    ghost use Rattle.iss_base.specs.Heights.{IsHeight};
     ghost use Rattle.iss_keys.specs.Levels.{KeySeed, top_tree};
     ghost use Rattle.iss_keys.specs.Internal.Remembered.{AreTrees};
 
     ghost Value = { KeySeed };
 
-    ghost view = { λ t. record { secret = t.secret; height = t.height } };
+    ghost view = { λ t. record { secret = t.secret; height = t.height.levels } };
 
-    ghost invariant = { λ t. AreTrees t.secret t.height t.top t.made };
+    ghost invariant = { λ t. AreTrees t.secret t.height.levels t.top t.made };
 }
 
 impl KeyTrees {
     /// The trees of a key, of which nothing is computed yet. At most `most` signatures are remembered.
-    pub fn new(alloc: Global, secret: [u8; 32], height: u8, most: usize) -> KeyTrees
-        requires { IsHeight height }
-        ensures { result ≡ record { secret = secret; height = height } }
+    pub fn new(alloc: Global, secret: [u8; 32], height: Height, most: usize) -> KeyTrees
+        ensures { result ≡ record { secret = secret; height = height.levels } }
     {
         let top = top_tree(alloc, &secret, height);
         KeyTrees {
@@ -169,9 +162,9 @@ impl KeyTrees {
     }
 
     /// The height of the key.
-    pub fn height(&self) -> u8
-        ensures value { result ≡ self.now.height }
-        ensures height { IsHeight result }
+    pub fn height(&self) -> Height
+        ensures value { result.levels ≡ self.now.height }
+        ensures height { IsHeight result.levels }
     {
         self.height
     }
@@ -183,26 +176,12 @@ impl KeyTrees {
         self.top.root()
     }
 
-    // Appends the part of a signature by the only tree.
-    fn write_one(&self, leaf: u32, statement: &[u8], out: &mut Vec<u8>) -> Result<(), NoMemory>
-        requires one { self.now.height ≤ 12 }
-        requires leaf { leaf < 2 ^ self.now.height }
-        ensures { OnOk result
-            (out.new.items ≡ out.old.items ++ parts_of self.now.secret self.now.height leaf statement.now) }
-    {
-        let tree = self.top.tree()?;
-        tree.write_part(leaf, &digest_of_statement(statement), out)?;
-        Ok(())
-    }
-
-    // The part of a signature by the leaf of the top tree that signs the root of this bottom tree.
+    // The part of a signature by the leaf of the only or the top tree over this root of a bottom tree.
     // rule: Signatures: Leaf b of a top tree signs the root of bottom tree b, and nothing else
     fn part_above(&self, number: u32, root: &[u8; 32]) -> Result<Vec<u8>, NoMemory>
-        requires two { 12 < self.now.height }
-        requires leaf { number * 1024 < 2 ^ self.now.height }
-        requires root { root.now ≡ root_in (bottom_tree self.now.secret number) }
-        ensures { IfOk result
-            (λ part. part.items ≡ part_by self.now.secret self.now.height (by_top self.now.secret number)) }
+        requires { number < 2 ^ (top_tree self.now.secret self.now.height).height }
+        ensures { IfOk result (λ part. part.items ≡ part_by self.now.secret self.now.height
+            (record { tree = 0; leaf = number; statement = root_statement number root.now })) }
     {
         let tree = self.top.tree()?;
         let mut part = Vec::with_capacity(self.top.alloc(), 2144 + 32 * tree.height() as usize)?;
@@ -212,13 +191,12 @@ impl KeyTrees {
 
     // Puts a bottom tree into a place, unless it is there.
     fn put_bottom(&self, place: &mut Option<Bottom>, number: u32) -> Result<(), NoMemory>
-        requires two { 12 < self.now.height }
-        requires leaf { number * 1024 < 2 ^ self.now.height }
+        requires { number < 2 ^ (top_tree self.now.secret self.now.height).height }
         ensures { OnOk result (place.new
             ≡ Some (record { secret = self.now.secret; height = self.now.height; number = number })) }
     {
         if let Some(bottom) = place
-            && bottom.is(&self.secret, self.height, number)
+            && bottom.is(&self.secret, self.height.levels, number)
         {
             return Ok(());
         }
@@ -227,7 +205,7 @@ impl KeyTrees {
         let above = self.part_above(number, &tree.root())?;
         *place = Some(Bottom {
             secret: self.secret,
-            height: self.height,
+            height: self.height.levels,
             number,
             tree,
             above,
@@ -252,17 +230,21 @@ impl KeyTrees {
         let Some(bottom) = place else {
             unreachable!();
         };
-        bottom.write_parts(leaf % BOTTOM_LEAVES, &digest_of_statement(statement), out)?;
+        bottom.write_parts(leaf, &digest_of_statement(statement), out)?;
         Ok(())
     }
 
-    // Appends the parts of a signature by a key with two levels.
-    fn write_two(&self, leaf: u32, statement: &[u8], out: &mut Vec<u8>) -> Result<(), NoMemory>
-        requires two { 12 < self.now.height }
-        requires leaf { leaf < 2 ^ self.now.height }
+    // Appends the parts of a signature.
+    fn write_parts(&self, leaf: u32, statement: &[u8], out: &mut Vec<u8>) -> Result<(), NoMemory>
+        requires { leaf < 2 ^ self.now.height }
         ensures { OnOk result
             (out.new.items ≡ out.old.items ++ parts_of self.now.secret self.now.height leaf statement.now) }
     {
+        if !has_two_levels(self.height.levels) {
+            let tree = self.top.tree()?;
+            tree.write_part(leaf, &digest_of_statement(statement), out)?;
+            return Ok(());
+        }
         if let Ok(mut place) = self.bottom.try_borrow_mut() {
             return self.write_with(&mut place, leaf, statement, out);
         }
@@ -276,15 +258,11 @@ impl KeyTrees {
         ensures { IfOk result
             (λ sig. sig.items ≡ signature_of self.now.secret self.now.height leaf statement.now) }
     {
-        let room = 5 + 32 * digests_of_height(self.height);
+        let room = 5 + 32 * digests_of_height(self.height.levels);
         let mut out = Vec::with_capacity(self.top.alloc(), room)?;
-        out.push(self.height)?;
+        out.push(self.height.levels)?;
         out.extend_from_slice(&leaf.to_be_bytes())?;
-        if has_two_levels(self.height) {
-            self.write_two(leaf, statement, &mut out)?;
-        } else {
-            self.write_one(leaf, statement, &mut out)?;
-        }
+        self.write_parts(leaf, statement, &mut out)?;
         Ok(out)
     }
 

@@ -21,6 +21,7 @@ mod comparing;
 mod digests;
 mod digits;
 mod directories;
+mod heights;
 mod held;
 mod keyrings;
 mod late;

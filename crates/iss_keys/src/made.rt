@@ -1,11 +1,13 @@
 //! A computed tree, and the parts of signatures by its leaves.
 
 ghost use Rattle.std.specs.Prelude.{◌≡◌, ◌^◌, ◌<◌, ◌≤◌, ◌++◌, IfOk, IfSome, OnOk};
-ghost use Rattle.iss_keys.specs.Trees.{tree_root, KeyTree, AreNodesOf};
+ghost use Rattle.iss_keys.specs.Trees.{tree_root, path_node, KeyTree, AreNodesOf};
+ghost use Rattle.iss_keys.specs.Pieces.{join_below};
 ghost use Rattle.iss_keys.specs.Signatures.{part_of};
 
 use crate::chain::write_values;
-use crate::tree::{fill_tree, tree_of, write_path};
+use crate::heights::TreeHeight;
+use crate::tree::{fill_tree, leaves_under, place_beside, tree_of, write_node};
 use std::alloc::{AllocError, Global};
 use std::marker::Model;
 
@@ -13,31 +15,26 @@ use std::marker::Model;
 #[derive(Drop)]
 pub struct MadeTree {
     secret: [u8; 32],
-    height: u8,
+    height: TreeHeight,
     nodes: Vec<[u8; 32]>,
 }
 
 impl Model for MadeTree {
     ghost Value = { KeyTree };
 
-    ghost view = { λ t. record { secret = t.secret; height = t.height } };
+    ghost view = { λ t. record { secret = t.secret; height = t.height.levels } };
 
-    ghost invariant = { λ t. AreNodesOf t.secret t.height t.nodes.items };
-}
-
-// The root of a computed tree.
-fn root_of_nodes(nodes: &[[u8; 32]], secret: &[u8; 32], height: u8) -> [u8; 32]
-    requires { AreNodesOf secret.now height nodes.now }
-    ensures { result ≡ tree_root secret.now height }
-{
-    nodes[1]
+    ghost invariant = { λ t. AreNodesOf t.secret t.height.levels t.nodes.items };
 }
 
 impl MadeTree {
     /// Computes the tree over a secret.
-    pub fn make(alloc: Global, secret: &[u8; 32], height: u8) -> Result<MadeTree, AllocError>
-        requires { height ≤ 12 }
-        ensures { IfOk result (λ t. t ≡ record { secret = secret.now; height = height }) }
+    pub fn make(
+        alloc: Global,
+        secret: &[u8; 32],
+        height: TreeHeight,
+    ) -> Result<MadeTree, AllocError>
+        ensures { IfOk result (λ t. t ≡ record { secret = secret.now; height = height.levels }) }
     {
         let nodes = tree_of(alloc, secret, height)?;
         Ok(MadeTree {
@@ -61,7 +58,7 @@ impl MadeTree {
     pub fn same(&self, secret: &[u8; 32], height: u8) -> Option<&MadeTree>
         ensures { IfSome result (λ t. t.now ≡ record { secret = secret.now; height = height }) }
     {
-        if self.secret == *secret && self.height == height {
+        if self.secret == *secret && self.height.levels == height {
             Some(self)
         } else {
             None
@@ -72,14 +69,28 @@ impl MadeTree {
     pub fn height(&self) -> u8
         ensures { result ≡ self.now.height }
     {
-        self.height
+        self.height.levels
     }
 
     /// The root.
     pub fn root(&self) -> [u8; 32]
         ensures { result ≡ tree_root self.now.secret self.now.height }
     {
-        root_of_nodes(&self.nodes, &self.secret, self.height)
+        self.nodes[1]
+    }
+
+    // Appends the authentication path of a leaf.
+    fn write_path(&self, leaf: u32, out: &mut Vec<u8>) -> Result<(), AllocError>
+        requires { leaf < 2 ^ self.now.height }
+        ensures { OnOk result
+            (out.new.items ≡ out.old.items ++ join_below (path_node self.now.secret leaf) self.now.height) }
+    {
+        let mut place = leaves_under(self.height) + leaf as usize;
+        'levels: for k in 0..self.height.levels {
+            write_node(&self.nodes[place_beside(place)], out)?;
+            place /= 2;
+        }
+        Ok(())
     }
 
     /// Appends the part of a signature by a leaf over a digest.
@@ -94,7 +105,7 @@ impl MadeTree {
             (out.new.items ≡ out.old.items ++ part_of self.now.secret self.now.height leaf digest.now) }
     {
         write_values(&self.secret, leaf, digest, out)?;
-        write_path(&self.nodes, self.height, leaf, out)?;
+        self.write_path(leaf, out)?;
         Ok(())
     }
 }

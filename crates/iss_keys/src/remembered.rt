@@ -9,9 +9,10 @@ ghost use Rattle.iss_keys.specs.Signatures.{signature_of, Verifies};
 ghost use Rattle.iss_keys.specs.Internal.Remembered.{IsMade};
 
 use crate::comparing::same_bytes;
+use crate::heights::Height;
 use crate::places::fill_places;
 use iss_base::heights::digests_of_height;
-use std::alloc::{AllocError, Global};
+use std::alloc::Global;
 use std::cell::RefCell;
 use std::marker::Model;
 
@@ -91,27 +92,23 @@ impl Remembered {
 #[derive(Drop)]
 pub struct Signatures {
     secret: [u8; 32],
-    height: u8,
+    height: Height,
     most: usize,
     places: RefCell<Vec<Option<Remembered>>>,
 }
 
 impl Model for Signatures {
-    ghost use Rattle.iss_base.specs.Heights.{IsHeight};
     ghost use Rattle.iss_keys.specs.Levels.{KeySeed};
 
     ghost Value = { KeySeed };
 
-    ghost view = { λ s. record { secret = s.secret; height = s.height } };
-
-    ghost invariant = { λ s. IsHeight s.height };
+    ghost view = { λ s. record { secret = s.secret; height = s.height.levels } };
 }
 
 impl Signatures {
     /// No signatures of a key. At most `most` are remembered.
-    pub(crate) fn new(alloc: Global, secret: [u8; 32], height: u8, most: usize) -> Signatures
-        requires { IsHeight height }
-        ensures { result ≡ record { secret = secret; height = height } }
+    pub(crate) fn new(alloc: Global, secret: [u8; 32], height: Height, most: usize) -> Signatures
+        ensures { result ≡ record { secret = secret; height = height.levels } }
     {
         Signatures {
             secret,
@@ -140,7 +137,7 @@ impl Signatures {
         let Some(Some(entry)) = places.get(self.place_of(leaf)) else {
             return None;
         };
-        let signature = entry.signature(&self.secret, self.height, leaf, statement)?;
+        let signature = entry.signature(&self.secret, self.height.levels, leaf, statement)?;
         match signature.clone() {
             Ok(signature) => Some(signature),
             Err(_) => None,
@@ -159,37 +156,10 @@ impl Signatures {
         let Some(Some(entry)) = places.get(self.place_of(leaf)) else {
             return false;
         };
-        match entry.signature(&self.secret, self.height, leaf, statement) {
+        match entry.signature(&self.secret, self.height.levels, leaf, statement) {
             Some(known) => same_bytes(known, signature),
             None => false,
         }
-    }
-
-    // A signature as an entry.
-    fn entry(
-        &self,
-        alloc: Global,
-        leaf: u32,
-        statement: &[u8],
-        signature: &[u8],
-    ) -> Result<Remembered, AllocError>
-        requires { IsMade self.now.secret self.now.height leaf statement.now signature.now }
-        ensures { IfOk result (λ r. r ≡ record {
-          secret = self.now.secret;
-          height = self.now.height;
-          leaf = leaf;
-          statement = statement.now;
-        }) }
-    {
-        let statement = statement.to_vec(alloc)?;
-        let signature = signature.to_vec(alloc)?;
-        Ok(Remembered {
-            secret: self.secret,
-            height: self.height,
-            leaf,
-            statement,
-            signature,
-        })
     }
 
     /// Remembers a signature. It replaces an older one in its place.
@@ -203,8 +173,18 @@ impl Signatures {
             return;
         };
         let alloc = *places.allocator();
-        let Ok(entry) = self.entry(alloc, leaf, statement, signature) else {
+        let Ok(statement) = statement.to_vec(alloc) else {
             return;
+        };
+        let Ok(signature) = signature.to_vec(alloc) else {
+            return;
+        };
+        let entry = Remembered {
+            secret: self.secret,
+            height: self.height.levels,
+            leaf,
+            statement,
+            signature,
         };
         let place = self.place_of(leaf);
         let _ = fill_places(&mut places, place + 1);

@@ -1,11 +1,12 @@
 //! A directory with several owners. Each node of a process has one, and all of them share what is computed.
 
-ghost use Rattle.std.specs.Prelude.{◌≡◌, ◌≤◌, IfOk};
+ghost use Rattle.std.specs.Prelude.{◌≡◌, IfOk};
 ghost use Rattle.iss_base.specs.Heights.{IsHeight};
 ghost use Rattle.iss_keys.specs.Directories.{directory_of};
 ghost use Rattle.iss_keys.specs.Internal.Homes.{directory_in};
 
 use crate::directories::Directory;
+use crate::heights::Height;
 use crate::signing::NoMemory;
 use std::alloc::Global;
 use std::marker::Model;
@@ -24,20 +25,21 @@ pub struct SharedDirectory {
     alloc: Global,
     n: u32,
     clients: u32,
-    height: u8,
+    height: Height,
     home: Home,
 }
 
 impl Model for SharedDirectory {
-    ghost use Rattle.iss_keys.specs.Directories.{DirectoryView};
+    ghost use Rattle.std.specs.Prelude.{◌≡◌};
+    ghost use Rattle.iss_keys.specs.Directories.{DirectoryView, directory_of};
 
     ghost Value = { DirectoryView };
 
-    ghost use Rattle.iss_keys.specs.Internal.Homes.{directory_in, IsHome};
+    ghost use Rattle.iss_keys.specs.Internal.Homes.{directory_in};
 
     ghost view = { λ d. directory_in d.home };
 
-    ghost invariant = { λ d. IsHome d.n d.clients d.height d.home };
+    ghost invariant = { λ d. directory_in d.home ≡ directory_of d.n d.clients d.height.levels };
 }
 
 impl SharedDirectory {
@@ -48,8 +50,6 @@ impl SharedDirectory {
         clients: u32,
         height: u8,
     ) -> Result<SharedDirectory, NoMemory>
-        requires n { n ≤ 256 }
-        requires clients { clients ≤ 256 }
         requires height { IsHeight height }
         ensures { IfOk result (λ d. d ≡ directory_of n clients height) }
     {
@@ -59,7 +59,7 @@ impl SharedDirectory {
             alloc,
             n,
             clients,
-            height,
+            height: Height { levels: height },
             home: Home::Shared(shared),
         })
     }

@@ -6,6 +6,7 @@ ghost use Rattle.iss_keys.specs.Levels.{root_of};
 ghost use Rattle.iss_keys.specs.Signatures.{leaf_number, signature_of, Verifies};
 ghost use Rattle.iss_keys.specs.KeyStates.{KeyState, IsKey, left_of, public_of};
 
+use crate::heights::Height;
 use crate::held::HeldTrees;
 use crate::levels::KeyTrees;
 use crate::verification::PublicKey;
@@ -47,18 +48,6 @@ impl From<NoMemory> for SignError {
     }
 }
 
-// The signature of a statement with a leaf, and that it verifies.
-fn signature_by(trees: &KeyTrees, leaf: u32, statement: &[u8]) -> Result<Vec<u8>, NoMemory>
-    requires { leaf < 2 ^ trees.now.height }
-    ensures exact { IfOk result
-        (λ sig. sig.items ≡ signature_of trees.now.secret trees.now.height leaf statement.now) }
-    ensures verifies { IfOk result
-        (λ sig. Verifies (root_of trees.now.secret trees.now.height) trees.now.height statement.now sig.items) }
-{
-    let _height = trees.height();
-    trees.sign(leaf, statement)
-}
-
 /// A key: a secret, the trees over its leaves, and how many leaves are used. A tree is computed when it is first
 /// needed, and takes 64 bytes of memory a leaf. Above height 12 there are two at a time, of 64 KB at most each.
 #[derive(Drop)]
@@ -92,6 +81,7 @@ impl Keys {
         requires next { next ≤ 2 ^ height }
         ensures { IfOk result (λ keys. keys ≡ record { secret = secret; height = height; used = next }) }
     {
+        let height = Height { levels: height };
         Ok(Keys {
             trees: HeldTrees::own(KeyTrees::new(alloc, secret, height, 0)),
             used: next,
@@ -112,7 +102,7 @@ impl Keys {
         ensures value { result ≡ left_of self.now }
         ensures whole { result + self.now.used ≡ 2 ^ self.now.height }
     {
-        (1 << self.trees.trees().height()) - self.used
+        (1 << self.trees.trees().height().levels) - self.used
     }
 
     /// The public key.
@@ -134,7 +124,7 @@ impl Keys {
         ensures leaf { IfOk result (λ sig. leaf_number sig.items ≡ leaf) }
         ensures same { self.new ≡ self.old }
     {
-        signature_by(self.trees.trees(), leaf, statement)
+        self.trees.trees().sign(leaf, statement)
     }
 
     /// Signs with the least unused leaf, which is used from then on. After either error the key is unchanged.

@@ -7,6 +7,7 @@ ghost use Rattle.iss_keys.specs.Trees.{inner, node, tree_root, beside, path_node
 ghost use Rattle.iss_keys.specs.Signatures.{climb};
 
 use crate::chain::{piece_at, value_of_leaf};
+use crate::heights::TreeHeight;
 use crate::marks::INNER_NODE;
 use sha2::{Digest, Sha256};
 use std::alloc::{AllocError, Global};
@@ -23,20 +24,18 @@ fn inner_node(left: &[u8; 32], right: &[u8; 32]) -> [u8; 32]
 }
 
 /// The number of leaves of a tree.
-pub fn leaves_under(height: u8) -> usize
-    requires { height ≤ 12 }
-    ensures value { result ≡ 2 ^ height }
+pub fn leaves_under(height: TreeHeight) -> usize
+    ensures value { result ≡ 2 ^ height.levels }
     ensures low { 1 ≤ result }
     ensures high { result ≤ 4096 }
 {
-    1 << height
+    1 << height.levels
 }
 
 /// Writes the tree over a secret into an array.
-pub fn fill_tree(nodes: &mut [[u8; 32]], secret: &[u8; 32], height: u8)
-    requires height { height ≤ 12 }
-    requires size { length nodes.old ≡ 2 ^ (height + 1) }
-    ensures { HasNodesFrom secret.now height 1 nodes.new }
+pub fn fill_tree(nodes: &mut [[u8; 32]], secret: &[u8; 32], height: TreeHeight)
+    requires size { length nodes.old ≡ 2 ^ (height.levels + 1) }
+    ensures { HasNodesFrom secret.now height.levels 1 nodes.new }
 {
     let leaves = leaves_under(height);
     'leaves: for q in 0..leaves {
@@ -48,10 +47,13 @@ pub fn fill_tree(nodes: &mut [[u8; 32]], secret: &[u8; 32], height: u8)
 }
 
 /// The tree over a secret.
-pub fn tree_of(alloc: Global, secret: &[u8; 32], height: u8) -> Result<Vec<[u8; 32]>, AllocError>
-    requires { height ≤ 12 }
-    ensures size { IfOk result (λ nodes. length nodes.items ≡ 2 ^ (height + 1)) }
-    ensures tree { IfOk result (λ nodes. HasNodesFrom secret.now height 1 nodes.items) }
+pub fn tree_of(
+    alloc: Global,
+    secret: &[u8; 32],
+    height: TreeHeight,
+) -> Result<Vec<[u8; 32]>, AllocError>
+    ensures size { IfOk result (λ nodes. length nodes.items ≡ 2 ^ (height.levels + 1)) }
+    ensures tree { IfOk result (λ nodes. HasNodesFrom secret.now height.levels 1 nodes.items) }
 {
     let mut nodes = vec![in alloc; [0u8; 32]; 2 * leaves_under(height)]?;
     fill_tree(&mut nodes, secret, height);
@@ -74,59 +76,35 @@ fn node_of(secret: &[u8; 32], level: u8, place: u32) -> [u8; 32]
 }
 
 /// The root of the tree over a secret, computed without the tree: by the same hashes, and without allocating.
-pub fn root_of_secret(secret: &[u8; 32], height: u8) -> [u8; 32]
-    requires { height ≤ 12 }
-    ensures { result ≡ tree_root secret.now height }
+pub fn root_of_secret(secret: &[u8; 32], height: TreeHeight) -> [u8; 32]
+    ensures { result ≡ tree_root secret.now height.levels }
 {
-    node_of(secret, height, 0)
+    node_of(secret, height.levels, 0)
 }
 
-// The place of a node's sibling.
-fn place_beside(place: usize) -> usize
-    requires { place < 2 ^ 63 }
+/// The place of a node's sibling.
+pub fn place_beside(place: usize) -> usize
     ensures { result ≡ beside place }
 {
     if place % 2 == 0 { place + 1 } else { place - 1 }
 }
 
-// Appends a node.
-fn write_node(node: &[u8; 32], out: &mut Vec<u8>) -> Result<(), AllocError>
+/// Appends a node.
+pub fn write_node(node: &[u8; 32], out: &mut Vec<u8>) -> Result<(), AllocError>
     ensures { OnOk result (out.new.items ≡ out.old.items ++ node.now) }
 {
     out.extend_from_slice(node)?;
     Ok(())
 }
 
-/// Appends the authentication path of a leaf.
-pub fn write_path(
-    nodes: &[[u8; 32]],
-    height: u8,
-    leaf: u32,
-    out: &mut Vec<u8>,
-) -> Result<(), AllocError>
-    requires height { height ≤ 12 }
-    requires leaf { leaf < 2 ^ height }
-    requires size { length nodes.now ≡ 2 ^ (height + 1) }
-    ensures { (secret : List ℕ) → HasNodesFrom secret height 1 nodes.now
-        → OnOk result (out.new.items ≡ out.old.items ++ join_below (path_node secret leaf) height) }
-{
-    let mut place = leaves_under(height) + leaf as usize;
-    'levels: for k in 0..height {
-        write_node(&nodes[place_beside(place)], out)?;
-        place /= 2;
-    }
-    Ok(())
-}
-
 /// The root over a leaf with this value, from the authentication path in a signature.
 #[tactic(auto, using(crate::proofs::ChainLemmas::climb_more), unfolding(crate::specs::Signatures::climb))]
-pub fn root_from_leaf(leaf: u32, height: u8, value: [u8; 32], part: &[u8]) -> [u8; 32]
-    requires height { height ≤ 12 }
-    requires room { 2144 + 32 * height ≤ length part.now }
-    ensures { result ≡ climb leaf part.now value height }
+pub fn root_from_leaf(leaf: u32, height: TreeHeight, value: [u8; 32], part: &[u8]) -> [u8; 32]
+    requires { 2144 + 32 * height.levels ≤ length part.now }
+    ensures { result ≡ climb leaf part.now value height.levels }
 {
     let mut x = value;
-    'levels: for k in 0..height {
+    'levels: for k in 0..height.levels {
         let sibling = piece_at(part, 2144 + 32 * k as usize);
         let next = if (leaf >> k) % 2 == 0 {
             inner_node(&x, &sibling)

@@ -1,6 +1,5 @@
 -- A signature that is remembered: which key made it, with which leaf, of which statement.
 use Rattle.std.specs.Prelude.{◌≡◌, ℕ, ◌^◌, ◌<◌, List}
-use Rattle.iss_base.specs.Heights.{IsHeight}
 use Rattle.iss_keys.specs.Trees.{KeyTree}
 use Rattle.iss_keys.specs.Levels.{KeySeed, top_tree}
 use Rattle.iss_keys.specs.Signatures.{signature_of}
@@ -20,6 +19,5 @@ pub record IsMade (secret : List ℕ) (height leaf : ℕ) (statement sig : List 
 
 -- the only or the top tree of a key, and the signatures that it made
 pub record AreTrees (secret : List ℕ) (height : ℕ) (top : KeyTree) (made : KeySeed) : Type 0 where
-  pub is_height : IsHeight height
   pub top_is : top ≡ top_tree secret height
   pub made_is : made ≡ record { secret = secret; height = height }

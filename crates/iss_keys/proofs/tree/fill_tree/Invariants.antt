@@ -8,4 +8,4 @@ abbrev pub invariant-leaves : goal.invariant-leaves
 invariant-leaves l = (p : ℕ) → p < l.q → slice_index_or l.nodes (l.leaves + p) [] ≡ leaf_value l.secret p
 
 abbrev pub invariant-inner : goal.invariant-inner
-invariant-inner l = (length l.nodes ≡ 2 * l.leaves) × HasNodesFrom l.secret l.height l.i l.nodes
+invariant-inner l = (length l.nodes ≡ 2 * l.leaves) × HasNodesFrom l.secret l.fn.height.levels l.i l.nodes

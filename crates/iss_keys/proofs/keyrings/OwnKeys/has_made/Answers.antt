@@ -11,7 +11,7 @@ returns-in-Some c = λ made.
     let keys = c.self.inside in
     let own = c.deref.ensures ∙ c.in-Some.ensures
     ∙ ap (λ r. ring_seed r.kind r.height c.args.number) (sym c.self.view_is) in
-    rw (← c.self.view_is) (listed_verifies (λ i. sha256 (keys.kind ∷ i ∷ [])) keys.height keys.count c.args.number
+    rw (← c.self.view_is) (listed_verifies (λ i. sha256 (keys.kind ∷ i ∷ [])) keys.height.levels keys.count c.args.number
     c.args.statement.now c.args.signature.now (search rules)
     (subst (λ (t : KeySeed). Verifies (root_of t.secret t.height) t.height c.args.statement.now c.args.signature.now) own
     (c.has_made.ensures made)))

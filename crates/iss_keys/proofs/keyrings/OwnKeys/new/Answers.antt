@@ -7,17 +7,17 @@ use Rattle.iss_keys.proofs.keyrings.OwnKeys.new.Goals as goal
 pub numbers-init : goal.numbers-init
 numbers-init c = rw c.in_ok-trees.ensures.items (
   refl,
-  ring_none c.args.kind c.args.height c.requires.height,
+  ring_none c.args.kind c.args.height.levels c.args.height.is_height,
 )
 
 pub numbers-preserved : goal.numbers-preserved
 numbers-preserved c =
-    let own : c.in_ok-key.key.value ≡ ring_seed c.args.kind c.args.height c.numbers.number =
+    let own : c.in_ok-key.key.value ≡ ring_seed c.args.kind c.args.height.levels c.numbers.number =
     c.in_ok-key.ensures.ok ∙ c.new.ensures
-    ∙ ap (λ s. record { secret = s; height = c.args.height }) c.secret_of-secret.ensures in
+    ∙ ap (λ s. record { secret = s; height = c.args.height.levels }) c.secret_of-secret.ensures in
     let before = c.numbers.invariant in
     rw (c.in_ok-push.ensures.items, length-append, map-append) (
       omega (arith, before.0),
-      ring_more c.args.kind c.args.height c.numbers.number _ c.in_ok-key.key.value
+      ring_more c.args.kind c.args.height.levels c.numbers.number _ c.in_ok-key.key.value
           (length-map c.numbers.trees.items (λ trees. trees.value) ∙ before.0) own before.1,
     )

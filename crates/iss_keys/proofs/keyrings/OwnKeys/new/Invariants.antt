@@ -4,4 +4,4 @@ use Rattle.iss_keys.proofs.keyrings.OwnKeys.new.Given as goal
 
 abbrev pub invariant-numbers : goal.invariant-numbers
 invariant-numbers l = (length l.trees.items ≡ l.number)
-    × IsRing l.kind l.height (map (λ trees. trees.value) l.trees.items)
+    × IsRing l.kind l.height.levels (map (λ trees. trees.value) l.trees.items)

@@ -1,7 +1,10 @@
 use Rattle.std.proofs.Common.{◌∙◌, sym}
 use Rattle.iss_base.proofs.Lists.{some-injective}
-use Rattle.iss_keys.proofs.WriteLemmas.{two_written}
+use Rattle.iss_keys.proofs.WriteLemmas.{top_leaf_within, two_written}
 use Rattle.iss_keys.proofs.levels.KeyTrees.write_with.Goals as goal
+
+pub put_bottom-requires : goal.put_bottom-requires
+put_bottom-requires c = top_leaf_within c.args.self.now.secret c.args.self.now.height c.args.leaf c.requires.leaf
 
 pub returns : goal.returns
 returns c =
