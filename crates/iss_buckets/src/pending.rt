@@ -1,11 +1,11 @@
 //! The waiting requests.
-ghost use Rattle.std.specs.Prelude.{◌≡◌, ◌<◌, ◌≤◌, ◌++◌, ◌∷◌, [], ◌↔◌, ◌⊎◌, ◌+◌, Ok, ℕ, true, false, length, is_some, if◌then◌else◌, IfOk, IfSome, IfNone, OnOk, OnErr, vec_capacity};
+ghost use Rattle.std.specs.Prelude.{◌≡◌, ◌<◌, ◌++◌, ◌∷◌, [], ◌↔◌, ◌⊎◌, ◌+◌, Ok, true, false, length, is_some, if◌then◌else◌, IfOk, OnOk, OnErr};
 ghost use Rattle.std.specs.Map.{remove_entry, values_of};
 ghost use Rattle.std.specs.Ordering.{is_eq, nat_cmp};
 ghost use Rattle.iss_base.specs.Lists.{Different};
 ghost use Rattle.iss_request.specs.Log.{has_id, ids};
 ghost use Rattle.iss_request.specs.declared.ids.ReqId.{ReqId};
-ghost use Rattle.iss_buckets.specs.Internal.Filed.{AreFiled, AreQueued, filed_prop, IsNext, IsSetAt, bucket_of_id, is_unmarked_in, kept_at, least_of, number_of};
+ghost use Rattle.iss_buckets.specs.Internal.Filed.{AreFiled, AreQueued, filed_prop, IsNext, IsSetAt, bucket_of_id, is_unmarked_in, kept_at, least_of};
 ghost use Rattle.iss_buckets.specs.Internal.Turns.{may_cast_at};
 ghost use Rattle.iss_buckets.specs.Waiting.{waits, may_cast, cut, uncut, absent, AreNew};
 

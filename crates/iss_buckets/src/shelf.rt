@@ -1,11 +1,10 @@
 //! Requests by arrival number.
-ghost use Rattle.std.specs.Prelude.{◌≡◌, ◌++◌, ◌∷◌, [], ◌<◌, ◌≤◌, ◌+◌, ◌^◌, None, length, replicate, is_some, if◌then◌else◌, IfOk, IfSome, OnOk, OnErr};
+ghost use Rattle.std.specs.Prelude.{◌≡◌, ◌++◌, ◌∷◌, [], ◌<◌, ◌+◌, ◌^◌, None, length, is_some, if◌then◌else◌, IfOk, IfSome, OnErr};
 ghost use Rattle.std.specs.Map.{remove_entry, values_of};
 ghost use Rattle.std.specs.Option.{option_copied};
 ghost use Rattle.std.specs.Ordering.{is_eq, nat_cmp};
 ghost use Rattle.iss_request.specs.Log.{ids};
 ghost use Rattle.iss_buckets.specs.Internal.Filed.{AreFiled, AreQueued, kept_at, number_of};
-ghost use Rattle.iss_buckets.specs.Waiting.{waits};
 
 use crate::queues::Queues;
 use iss_request::{NoMemory, ReqId, Request, sum};

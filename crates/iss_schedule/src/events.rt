@@ -1,5 +1,5 @@
 //! The lines of events.
-ghost use Rattle.std.specs.Prelude.{◌≡◌, ◌≢◌, ◌<◌, ◌≤◌, ◌^◌, ◌+◌, ℕ, List, [], ◌∷◌, IfOk, IfSome, IfNone, IsTrue, ◌↔◌, decimal, option_map};
+ghost use Rattle.std.specs.Prelude.{◌≡◌, ◌≢◌, ◌<◌, ◌≤◌, ◌^◌, ◌+◌, ℕ, List, [], ◌∷◌, IfOk, IfSome, IfNone, IsTrue, ◌↔◌, decimal};
 ghost use Rattle.hex.specs.Hex.{IsBytes};
 ghost use Rattle.iss_request.specs.Setup.{IsGoodSetup};
 ghost use Rattle.iss_schedule.specs.Cores.{cores_of};

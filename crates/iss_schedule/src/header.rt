@@ -1,5 +1,5 @@
 //! The header of a schedule.
-ghost use Rattle.std.specs.Prelude.{◌≡◌, ◌≢◌, ◌↔◌, ◌<◌, ◌≤◌, ◌+◌, suc, [], ◌∷◌, ◌++◌, ℕ, List, length, IsTrue, IfOk, IfErr, IfSome, IfNone, OnOk};
+ghost use Rattle.std.specs.Prelude.{◌≡◌, ◌<◌, ◌≤◌, ◌+◌, suc, [], ◌∷◌, ◌++◌, ℕ, List, length, IfOk, IfErr, OnOk};
 ghost use Rattle.sha2.specs.Sha256.{sha256};
 ghost use Rattle.iss_schedule.specs.BadLines.{IsFirstBad};
 ghost use Rattle.iss_schedule.specs.Headers.{OneOf, Number, AreValues, header_fields, lines_of, lines_of_rows, module_rows, next_field, policy_at, policy_lines, row_at, see, setup_of_row, setup_with, value};

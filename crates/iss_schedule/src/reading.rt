@@ -1,5 +1,5 @@
 //! Reading a schedule's text.
-ghost use Rattle.std.specs.Prelude.{◌≡◌, ◌↔◌, ◌≤◌, ◌<◌, ◌+◌, ◌-◌, ◌^◌, ◌++◌, [], ℕ, List, IsTrue, IfOk, IfErr, OnOk, length, map};
+ghost use Rattle.std.specs.Prelude.{◌≡◌, ◌≤◌, ◌<◌, ◌+◌, ◌-◌, ◌^◌, ◌++◌, ℕ, List, IfOk, IfErr, OnOk, length, map};
 ghost use Rattle.iss_request.specs.Setup.{IsGoodSetup};
 ghost use Rattle.iss_schedule.specs.BadLines.{IsInHeader, IsRefused, IsNoText};
 ghost use Rattle.iss_schedule.specs.Events.{spell_event, IsInRange, AreInRange};
