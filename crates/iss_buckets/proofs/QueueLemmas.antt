@@ -1,6 +1,7 @@
 -- The queues hold the numbers of their buckets' requests when a request is added or removed.
-use Rattle.std.proofs.Common.{◌≡◌, ◌⊎◌, ⊎_elim, ℕ, zero, suc, ◌+◌, ◌<◌, ◌≤◌, Bool, true, false, cond, ◌&&◌, eqb, ◌==◌, List, [], ◌∷◌, ◌++◌, length, refl, sym, ap, ◌∙◌, arith, Option, Some, None, is_some, get_or, replicate, slice_set}
-use Rattle.std.proofs.lemmas.List.{get_or-set_same, get_or-set_other, length-set}
+use Rattle.std.proofs.Common.{◌≡◌, ◌⊎◌, ⊎_elim, ℕ, zero, suc, ◌+◌, ◌<◌, ◌≤◌, Bool, true, false, cond, ◌&&◌, eqb, ◌==◌, List, [], ◌∷◌, ◌++◌, length, refl, sym, ap, ◌∙◌, arith, Option, Some, None, is_some, get_or, replicate, slice_set, map, subst}
+use Rattle.std.proofs.lemmas.List.{get_or-map, get_or-set_same, get_or-set_other, length-map, length-set, map-set}
+use Rattle.std.specs.BTreeSet.{BTreeSet}
 use Rattle.std.specs.List.{list_any}
 use Rattle.std.specs.Ordering.{is_eq, nat_cmp}
 use Rattle.iss_base.specs.Lists.{first_of}
@@ -43,7 +44,7 @@ pub queued_more : (es : List (ℕ × Request)) (old new : List (List ℕ)) (n : 
 queued_more es old new n q h none set = λ b k lt.
     let low : b < length old = omega (arith, lt, set.size) in
     let size : (o : Option Request) → is_in_bucket (length old) b o ≡ is_in_bucket (length new) b o = λ o. ap (λ (m : ℕ). is_in_bucket m b o) (sym set.size) in
-    set.at b k
+    set.at b k lt
     ∙ more_at (eqb b (bucket_of_id (length old) q.id)) (eqb k n) (has_number old b k) (kept_at es k) (eqb (bucket_of_id (length old) q.id) b) (length old) b q
     (λ at. ap (λ (j : ℕ). kept_at es j) (is-eq k n at) ∙ none) refl (flip b (bucket_of_id (length old) q.id)) (h b k low)
     ∙ ap (λ (o : Option Request). is_in_bucket (length old) b o) (sym (kept_more es n q k)) ∙ size (kept_at (es ++ (n, q) ∷ []) k)
@@ -61,7 +62,7 @@ pub queued_less : (es : List (ℕ × Request)) (old new : List (List ℕ)) (n : 
     → IsSetAt old new (bucket_of_id (length old) q.id) n false → AreQueued (without n es) new
 queued_less es old new n q filed h is set = λ b k lt.
     let low : b < length old = omega (arith, lt, set.size) in
-    set.at b k
+    set.at b k lt
     ∙ less_at (eqb b (bucket_of_id (length old) q.id)) (eqb k n) (has_number old b k) (kept_at es k) (length old) b q
     (λ at. ap (λ (j : ℕ). kept_at es j) (is-eq k n at) ∙ is) (flip b (bucket_of_id (length old) q.id)) (h b k low)
     ∙ ap (λ (o : Option Request). is_in_bucket (length old) b o) (sym (kept_less 0 es n k filed)) ∙ ap (λ (m : ℕ). is_in_bucket m b (kept_at (without n es) k)) (sym set.size)
@@ -166,16 +167,12 @@ queued-absent es queues n filed h none = λ b k lt. h b k lt ∙ ap (λ (o : Opt
     same : (k : ℕ) → kept_at es k ≡ kept_at (without n es) k
     same k = go k (eqb k n) refl ∙ sym (kept_less 0 es n k filed)
 
-pub queued-forgotten : (es : List (ℕ × Request)) (old new : List (List ℕ)) (n : ℕ) (q : Request) → AreFiled 0 es → AreQueued es old → kept_at es n ≡ Some q → length new ≡ length old
-    → (1 ≤ length old → IsSetAt old new (bucket_of_id (length old) q.id) n false) → AreQueued (without n es) new
-queued-forgotten es old new n q filed h is count set = λ b k lt. queued_less es old new n q filed h is (set (omega (arith, lt, count))) b k lt
-
 -- a queue is changed at one number
 pub set-number : (qs : List (List ℕ)) (b number : ℕ) (ks : List ℕ) (has : Bool) → b < length qs
     → ((k : ℕ) → list_any (λ j. is_eq (nat_cmp k j)) ks ≡ cond (is_eq (nat_cmp number k)) has (list_any (λ j. is_eq (nat_cmp k j)) (get_or qs b []))) → IsSetAt qs (slice_set qs b ks) b number has
 set-number qs b number ks has within h = record {
   size = length-set qs b ks;
-  at = λ c k. ⊎_elim
+  at = λ c k _. ⊎_elim
       (λ (e : c ≡ b).
       let here : get_or (slice_set qs b ks) c [] ≡ ks = ap (λ (j : ℕ). get_or (slice_set qs b ks) j []) e ∙ get_or-set_same qs b ks [] within in
       ap (λ (xs : List ℕ). list_any (λ j. is_eq (nat_cmp k j)) xs) here ∙ h k
@@ -186,3 +183,22 @@ set-number qs b number ks has within h = record {
       ∙ ap (λ (t : Bool). cond (t && eqb k number) has (has_number qs c k)) (sym (eqb-other c b ne)))
       (same_or c b);
 }
+
+-- one of several sets is changed at one number
+pub set-in : (sets : List (BTreeSet ℕ)) (old : List (List ℕ)) (b number : ℕ) (before after : BTreeSet ℕ) (has : Bool) → map (λ s. s.keys) sets ≡ old → b < length sets → before ≡ get_or sets b before
+    → ((k : ℕ) → list_any (λ j. is_eq (nat_cmp k j)) after.keys ≡ cond (is_eq (nat_cmp number k)) has (list_any (λ j. is_eq (nat_cmp k j)) before.keys))
+    → IsSetAt old (map (λ s. s.keys) (slice_set sets b after)) b number has
+set-in sets old b number before after has view inside here change =
+    let keys = λ (s : BTreeSet ℕ). s.keys in
+    let within : b < length (map keys sets) = let size : length (map keys sets) ≡ length sets = length-map sets keys in omega (arith, inside, size) in
+    let was : get_or (map keys sets) b [] ≡ before.keys = get_or-map keys sets b before [] inside ∙ ap keys (sym here) in
+    let changed = set-number (map keys sets) b number after.keys has within
+    (λ k. change k ∙ ap (λ (xs : List ℕ). cond (is_eq (nat_cmp number k)) has (list_any (λ j. is_eq (nat_cmp k j)) xs)) (sym was)) in
+    subst (λ (now : List (List ℕ)). IsSetAt now (map keys (slice_set sets b after)) b number has) view
+    (subst (λ (now : List (List ℕ)). IsSetAt (map keys sets) now b number has) (sym (map-set keys sets b after)) changed)
+
+-- the bucket of an identity among several sets
+pub place-in : (sets : List (BTreeSet ℕ)) (old : List (List ℕ)) (count b : ℕ) (id : ReqId) → map (λ s. s.keys) sets ≡ old → length sets ≡ count → b ≡ bucket_of_id count id → b ≡ bucket_of_id (length old) id
+place-in sets old count b id view size is =
+    let long : count ≡ length old = sym size ∙ sym (length-map sets (λ s. s.keys)) ∙ ap length view in
+    is ∙ ap (λ (n : ℕ). bucket_of_id n id) long

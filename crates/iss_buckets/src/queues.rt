@@ -51,22 +51,28 @@ impl Queues {
         self.all.len()
     }
 
-    /// Adds a number to a queue.
-    pub(crate) fn add(&mut self, bucket: usize, number: u64) -> Result<(), NoMemory>
-        requires { bucket < length self.old }
-        ensures ok { OnOk result (IsSetAt self.old self.new bucket number true) }
+    /// Adds a number to the queue of an identity's bucket, if there are queues.
+    pub(crate) fn add(&mut self, id: ReqId, number: u64) -> Result<(), NoMemory>
+        ensures ok { OnOk result (IsSetAt self.old self.new (bucket_of_id (length self.old) id) number true) }
         ensures err { OnErr result (self.new ≡ self.old) }
     {
-        self.all[bucket].insert(number)?;
+        let count = self.all.len();
+        if count == 0 {
+            return Ok(());
+        }
+        self.all[bucket_of(id, count)].insert(number)?;
         Ok(())
     }
 
-    /// Removes a number from a queue.
-    pub(crate) fn remove(&mut self, bucket: usize, number: u64)
-        requires { bucket < length self.old }
-        ensures { IsSetAt self.old self.new bucket number false }
+    /// Removes a number from the queue of an identity's bucket, if there are queues.
+    pub(crate) fn remove(&mut self, id: ReqId, number: u64)
+        ensures { IsSetAt self.old self.new (bucket_of_id (length self.old) id) number false }
     {
-        self.all[bucket].remove(&number);
+        let count = self.all.len();
+        if count == 0 {
+            return;
+        }
+        self.all[bucket_of(id, count)].remove(&number);
     }
 
     /// Discards all queues.
@@ -99,8 +105,8 @@ fn first_from(set: &BTreeSet<u64>, from: u64) -> Option<u64>
     }
 }
 
-/// The bucket of an identity, given the number of buckets.
-pub(crate) fn bucket_of(id: ReqId, buckets: usize) -> usize
+// The bucket of an identity, given the number of buckets.
+fn bucket_of(id: ReqId, buckets: usize) -> usize
     requires { 1 ≤ buckets }
     ensures value { result ≡ bucket_of_id buckets id }
     ensures below { result < buckets }

@@ -1,13 +1,12 @@
 //! Requests by arrival number.
-ghost use Rattle.std.specs.Prelude.{◌≡◌, ◌++◌, ◌∷◌, [], ◌<◌, ◌≤◌, ◌+◌, ◌^◌, None, length, replicate, is_some, if◌then◌else◌, IfOk, IfSome, OnOk, OnErr};
+ghost use Rattle.std.specs.Prelude.{◌≡◌, ◌++◌, ◌∷◌, [], ◌<◌, ◌+◌, ◌^◌, None, length, is_some, if◌then◌else◌, IfOk, IfSome, OnErr};
 ghost use Rattle.std.specs.Map.{remove_entry, values_of};
 ghost use Rattle.std.specs.Option.{option_copied};
 ghost use Rattle.std.specs.Ordering.{is_eq, nat_cmp};
 ghost use Rattle.iss_request.specs.Log.{ids};
 ghost use Rattle.iss_buckets.specs.Internal.Filed.{AreFiled, AreQueued, kept_at, number_of};
-ghost use Rattle.iss_buckets.specs.Waiting.{waits};
 
-use crate::queues::{Queues, bucket_of};
+use crate::queues::Queues;
 use iss_request::{NoMemory, ReqId, Request, sum};
 use std::alloc::Global;
 use std::collections::{BTreeMap, HashMap};
@@ -98,18 +97,16 @@ impl Shelf {
         Some(request)
     }
 
-    /// Adds each arrival number to the queue of its bucket. The queues must be empty.
-    pub(crate) fn file_in(&self, queues: &mut Queues) -> Result<(), NoMemory>
-        requires some { 1 ≤ length queues.old }
-        requires empty { queues.old ≡ replicate (length queues.old) [] }
-        ensures count { OnOk result (length queues.new ≡ length queues.old) }
-        ensures queued { OnOk result (AreQueued self.now queues.new) }
+    /// Queues for this number of buckets, with each arrival number in the queue of its bucket.
+    pub(crate) fn queued(&self, alloc: Global, buckets: usize) -> Result<Queues, NoMemory>
+        ensures count { IfOk result (λ queues. length queues ≡ buckets) }
+        ensures queued { IfOk result (AreQueued self.now) }
     {
-        let count = queues.count();
+        let mut queues = Queues::empty(alloc, buckets)?;
         for (number, request) in self.requests.iter() {
-            queues.add(bucket_of(request.id, count), *number)?;
+            queues.add(request.id, *number)?;
         }
-        Ok(())
+        Ok(queues)
     }
 
     /// The identities in order of arrival.

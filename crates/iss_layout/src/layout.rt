@@ -1,9 +1,9 @@
 //! The division of one epoch.
 ghost use Rattle.std.specs.Prelude.{◌≡◌, ◌+◌, ◌%◌, ◌^◌, ◌<◌, ◌≤◌, List, length, take, slice_get, IfOk, Some};
-ghost use Rattle.std.specs.List.{filter};
 ghost use Rattle.iss_request.specs.Setup.{IsGoodSetup};
-ghost use Rattle.iss_layout.specs.Layout.{Ended, first_slot, IsSlotOf, IsStanding, carried, conduct_of, leaders_by, may_lead, nodes_below, plan_by, slot_leader, leads, bucket_owner, bucket_of, segment};
+ghost use Rattle.iss_layout.specs.Layout.{Ended, first_slot, IsSlotOf, IsStanding, carried, conduct_of, plan_by, slot_leader, leads, bucket_owner, bucket_of, segment};
 
+use crate::candidates::Candidates;
 use crate::standing::{MOST_NODES, Standing};
 use iss_request::{Epoch, NoMemory, NodeId, ReqId, Seq, Setup, Slot};
 use std::alloc::Global;
@@ -59,7 +59,7 @@ impl Layout {
         ensures past { (past : List Ended) → IsStanding setup.now past standing.now →
             result ≡ plan_by setup.now epoch.0 start (conduct_of past) }
     {
-        let (leaders, count) = leaders_by(setup, standing);
+        let (leaders, count) = Candidates { setup, standing }.leaders();
         Layout {
             epoch: epoch.0,
             start,
@@ -121,11 +121,11 @@ impl Layout {
         requires { bucket < self.now.buckets }
         ensures { bucket_owner self.now bucket ≡ Some result }
     {
-        let home = NodeId(rotated(bucket, self.epoch, self.nodes as u64) as u8);
+        let home = NodeId(rotated(bucket, self.epoch, self.nodes) as u8);
         if self.leads(home) {
             home
         } else {
-            self.at_turn(rotated(bucket, self.epoch, self.count as u64))
+            self.at_turn(rotated(bucket, self.epoch, self.count as u32))
         }
     }
 
@@ -163,55 +163,11 @@ impl Layout {
 }
 
 // `(bucket + epoch) % count`, without overflow of the sum.
-fn rotated(bucket: u32, epoch: u64, count: u64) -> u64
-    requires some { 1 ≤ count }
-    requires few { count ≤ 10 }
+fn rotated(bucket: u32, epoch: u64, count: u32) -> u64
+    requires { 1 ≤ count }
     ensures value { result ≡ (bucket + epoch) % count }
     ensures below { result < count }
 {
+    let count = count as u64;
     (bucket as u64 % count + epoch % count) % count
-}
-
-// The leaders by the policy, ascending, and their number.
-fn leaders_by(setup: &Setup, standing: &Standing) -> ([NodeId; MOST_NODES], usize)
-    requires good { IsGoodSetup setup.now }
-    ensures leaders { take result.1 result.0 ≡ leaders_by setup.now (carried standing.now) }
-    ensures count { result.1 ≡ length (leaders_by setup.now (carried standing.now)) }
-{
-    let (leaders, count) = allowed(setup, standing);
-    if count == 0 {
-        return (all_nodes(setup.n), setup.n as usize);
-    }
-    (leaders, count)
-}
-
-// The nodes that the policy allows to lead, ascending, and their number.
-fn allowed(setup: &Setup, standing: &Standing) -> ([NodeId; MOST_NODES], usize)
-    requires good { IsGoodSetup setup.now }
-    ensures leaders { take result.1 result.0 ≡ filter (may_lead setup.now.policy setup.now (carried standing.now))
-        (nodes_below setup.now.n) }
-    ensures count { result.1 ≡ length (filter (may_lead setup.now.policy setup.now (carried standing.now))
-        (nodes_below setup.now.n)) }
-{
-    let mut leaders = [NodeId(0); MOST_NODES];
-    let mut count = 0;
-    for i in 0..setup.n {
-        let node = NodeId(i as u8);
-        if standing.may_lead(setup, node) {
-            leaders[count] = node;
-            count += 1;
-        }
-    }
-    (leaders, count)
-}
-
-fn all_nodes(nodes: u32) -> [NodeId; MOST_NODES]
-    requires { nodes ≤ 10 }
-    ensures { take nodes result ≡ nodes_below nodes }
-{
-    let mut all = [NodeId(0); MOST_NODES];
-    for i in 0..nodes {
-        all[i as usize] = NodeId(i as u8);
-    }
-    all
 }

@@ -3,6 +3,7 @@
 //! same requests for ever).
 #![tactic(auto)]
 
+mod candidates;
 pub mod laws;
 pub mod layout;
 pub mod standing;

@@ -1,13 +1,14 @@
 //! What the leader policies carry from epoch to epoch in place of the log.
 ghost use Rattle.std.specs.Prelude.{◌≡◌, ◌<◌, ◌≤◌, ◌∷◌, ◌-◌, [], ℕ, suc, List, length, map, max, nat_le};
-ghost use Rattle.std.specs.List.{All, count_by, filter};
+ghost use Rattle.std.specs.List.{All, filter};
+ghost use Rattle.std.proofs.Props.{props};
 ghost use Rattle.iss_request.specs.Setup.{IsGoodSetup};
 ghost use Rattle.iss_request.specs.declared.setups.Setup.{Setup};
-ghost use Rattle.iss_layout.specs.Layout.{Ended, IsSlotOf, IsStanding, carried, doubled, is_listed, is_slot_of_leader, leads, may_lead, nodes_below, past_all};
+ghost use Rattle.iss_layout.specs.Layout.{Ended, IsSlotOf, IsStanding, carried, doubled, is_slot_of_leader, leads, past_all};
 ghost use Rattle.iss_layout.specs.Internal.Standings.{behind, changed, shown};
 
 use crate::layout::Layout;
-use iss_request::{NodeId, Policy, Setup, Slot};
+use iss_request::{NodeId, Setup, Slot};
 use std::marker::Model;
 
 /// The most nodes of a good set-up: 3f+1 with f at most 3.
@@ -17,8 +18,8 @@ pub const MOST_NODES: usize = 10;
 #[derive(Clone, Copy, Debug)]
 pub(crate) struct Record {
     weight: u32,
-    ban: u32,
-    worst: Option<Slot>,
+    pub(crate) ban: u32,
+    pub(crate) worst: Option<Slot>,
 }
 
 /// What the ended epochs show of each node. Contracts see it as the list of the nodes' conducts.
@@ -60,54 +61,20 @@ impl Standing {
         ensures { (past : List Ended) → IsStanding setup.now past self.old →
             IsStanding setup.now (record { plan = layout.now; nils = nil_slots.now } ∷ past) self.new }
     {
-        change_all(&mut self.nodes, setup.n, layout, nil_slots);
+        change_all(&mut self.nodes, setup.n, &Outcome { layout, nil_slots });
     }
 
-    // Whether the policy allows the node to lead.
-    pub(crate) fn may_lead(&self, setup: &Setup, node: NodeId) -> bool
-        requires good { IsGoodSetup setup.now }
-        requires node { node.0 < setup.now.n }
-        ensures { result ≡ may_lead setup.now.policy setup.now (carried self.now) node }
+    /// What is known of a node.
+    pub(crate) fn known(&self, node: NodeId) -> Record
+        requires { node.0 < 10 }
+        ensures { shown result ≡ carried self.now node.0 }
     {
-        match setup.policy {
-            Policy::Simple => true,
-            Policy::Backoff => self.nodes[node.0 as usize].ban == 0,
-            Policy::Blacklist => !self.is_listed(setup, node),
-        }
-    }
-
-    // Whether the blacklist excludes the node: a slot became nil under it, and at most f nodes have one as late.
-    // rule: Layout: The blacklist leaves out the at most f nodes with the greatest nil slots
-    fn is_listed(&self, setup: &Setup, node: NodeId) -> bool
-        requires good { IsGoodSetup setup.now }
-        requires node { node.0 < setup.now.n }
-        ensures { result ≡ is_listed setup.now (carried self.now) node }
-    {
-        let Some(worst) = self.nodes[node.0 as usize].worst else {
-            return false;
-        };
-        as_bad(&self.nodes, setup.n, worst) <= setup.f
+        self.nodes[node.0 as usize]
     }
 }
 
-// The number of nodes that have a nil slot at `worst` or later.
-fn as_bad(nodes: &[Record; MOST_NODES], count: u32, worst: Slot) -> u32
-    requires size { length nodes.now ≡ 10 }
-    requires few { count ≤ 10 }
-    ensures { result ≡ count_by (λ j. nat_le (suc worst.0) (carried (map shown nodes.now) j.0).worst)
-        (nodes_below count) }
-{
-    let mut found = 0;
-    for i in 0..count {
-        if is_past(nodes[i as usize].worst, worst) {
-            found += 1;
-        }
-    }
-    found
-}
-
-// Whether there is a slot `worst`, and it is not before `slot`.
-fn is_past(worst: Option<Slot>, slot: Slot) -> bool
+/// Whether there is a slot `worst`, and it is not before `slot`.
+pub(crate) fn is_past(worst: Option<Slot>, slot: Slot) -> bool
     ensures { result ≡ nat_le (suc slot.0) (behind worst) }
 {
     match worst {
@@ -127,18 +94,28 @@ fn later(worst: Option<Slot>, slot: Slot) -> Option<Slot>
     }
 }
 
-// The greatest nil slot under the node in this epoch.
-fn worst_under(layout: &Layout, node: NodeId, nil_slots: &[Slot]) -> Option<Slot>
-    requires { All (λ s. IsSlotOf layout.now s.0) nil_slots.now }
-    ensures { behind result ≡ past_all (filter (is_slot_of_leader layout.now node.0) nil_slots.now) }
-{
-    let mut worst = None;
-    for slot in nil_slots {
-        if layout.segment_of(*slot) == node {
-            worst = later(worst, *slot);
+// An epoch that has ended, and its slots that became nil.
+#[derive(Drop)]
+struct Outcome<'a> {
+    layout: &'a Layout,
+    nil_slots: &'a [Slot],
+    ghost inside: { All (λ s. IsSlotOf layout.now s.0) nil_slots.now } by { Prim.hlevel props },
+}
+
+impl<'a> Outcome<'a> {
+    // The greatest nil slot under the node.
+    fn worst_under(&self, node: NodeId) -> Option<Slot>
+        ensures { behind result ≡
+            past_all (filter (is_slot_of_leader self.now.layout.now node.0) self.now.nil_slots.now) }
+    {
+        let mut worst = None;
+        for slot in self.nil_slots {
+            if self.layout.segment_of(*slot) == node {
+                worst = later(worst, *slot);
+            }
         }
+        worst
     }
-    worst
 }
 
 fn doubled(weight: u32) -> u32
@@ -190,19 +167,19 @@ fn less(count: u32) -> u32
     if count == 0 { 0 } else { count - 1 }
 }
 
-fn change_all(nodes: &mut [Record; MOST_NODES], count: u32, layout: &Layout, nil_slots: &[Slot])
+// Takes into account how an epoch ended for each of the first `count` nodes.
+fn change_all(nodes: &mut [Record; MOST_NODES], count: u32, ended: &Outcome)
     requires size { length nodes.old ≡ 10 }
     requires few { count ≤ 10 }
-    requires nil_slots { All (λ s. IsSlotOf layout.now s.0) nil_slots.now }
     ensures size { length nodes.new ≡ 10 }
     ensures changed { (i : ℕ) → i < count → carried (map shown nodes.new) i ≡
-        changed (carried (map shown nodes.old) i) (leads layout.now i)
-        (past_all (filter (is_slot_of_leader layout.now i) nil_slots.now)) }
+        changed (carried (map shown nodes.old) i) (leads ended.now.layout.now i)
+        (past_all (filter (is_slot_of_leader ended.now.layout.now i) ended.now.nil_slots.now)) }
 {
     for i in 0..count {
         let node = NodeId(i as u8);
-        let led = layout.leads(node);
-        let worst = worst_under(layout, node, nil_slots);
+        let led = ended.layout.leads(node);
+        let worst = ended.worst_under(node);
         let known = nodes[i as usize];
         nodes[i as usize] = changed(known, led, worst);
     }

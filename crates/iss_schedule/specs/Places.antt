@@ -27,7 +27,7 @@ pub record GoesPast (line : List ℕ) (old new : Place) : Type 0 where
   pub text : old.rest ≡ line ++ 10 ∷ new.rest
   pub whole : Lacks 10 line
 
--- what is wrong with a line of a header that should have this form and range
+-- what is wrong with the rest of a header, whose next line should have this form and range
 abbrev pub IsLineFault : (List ℕ → Type 0) → (List ℕ → Type 0) → List ℕ → LineFault → Type 0
 IsLineFault IsFormed IsGood rest Cut = Lacks 10 rest
 IsLineFault IsFormed IsGood rest Form = (line : List ℕ) × (IsNext line rest × ¬ IsFormed line)
@@ -39,10 +39,15 @@ IsLineFault IsFormed IsGood rest Size = ⊥
 abbrev pub IsFieldFault : HeaderField → List ℕ → List ℕ → LineFault → Type 0
 IsFieldFault f above rest why = IsLineFault (IsFieldFormed f) (IsGoodLine f above) rest why
 
--- the reader consumed a line that encodes a value in range, or says what is wrong with the line
-abbrev pub ReadsField : HeaderField → List ℕ → Place → Place → Result ℕ LineFault → Type 0
-ReadsField f above old new (Ok v) = GoesPast (spell_value f v) old new × IsValue f above v
-ReadsField f above old new (Err why) = IsFieldFault f above old.rest why
+-- what was read of a line: the value in range that it encodes, or what is wrong with it
+abbrev pub ReadsLine : HeaderField → List ℕ → List ℕ → Result ℕ LineFault → Type 0
+ReadsLine f above line (Ok v) = (line ≡ spell_value f v) × IsValue f above v
+ReadsLine f above line (Err Cut) = ⊥
+ReadsLine f above line (Err Form) = ¬ IsFieldFormed f line
+ReadsLine f above line (Err Range) = IsFieldFormed f line × ¬ IsGoodLine f above line
+ReadsLine f above line (Err Faulty) = ⊥
+ReadsLine f above line (Err Injected) = ⊥
+ReadsLine f above line (Err Size) = ⊥
 
 -- at most `most` nodes, strictly ascending, with numbers below n
 abbrev pub AreFew : ℕ → ℕ → List NodeId → Type 0

@@ -1,5 +1,5 @@
 //! The lines of events.
-ghost use Rattle.std.specs.Prelude.{◌≡◌, ◌≢◌, ◌<◌, ◌≤◌, ◌^◌, ◌+◌, ℕ, List, [], ◌∷◌, IfOk, IfSome, IfNone, IsTrue, ◌↔◌, decimal, option_map};
+ghost use Rattle.std.specs.Prelude.{◌≡◌, ◌≢◌, ◌<◌, ◌≤◌, ◌^◌, ◌+◌, ℕ, List, [], ◌∷◌, IfOk, IfSome, IfNone, IsTrue, ◌↔◌, decimal};
 ghost use Rattle.hex.specs.Hex.{IsBytes};
 ghost use Rattle.iss_request.specs.Setup.{IsGoodSetup};
 ghost use Rattle.iss_schedule.specs.Cores.{cores_of};
@@ -16,6 +16,16 @@ use iss_request::errors::NoMemory;
 use iss_request::ids::NodeId;
 use iss_request::setups::{Kind, Setup};
 use std::alloc::Global;
+
+// A set-up in range, against which the numbers of an event's line are checked.
+#[derive(Drop)]
+struct Ranges<'a> {
+    setup: &'a Setup,
+    ghost cores: { cores_of setup.now ≤ 67 },
+    ghost nodes: { setup.now.n ≤ 64 },
+    ghost clients: { setup.now.clients ≤ 256 },
+    ghost keys: { setup.now.keys ≤ 20 },
+}
 
 // The number in the next word, if it is in range.
 fn number_in(words: &mut Words, low: u32, end: u32) -> Option<u32>
@@ -69,60 +79,11 @@ pub fn bytes_in(alloc: Global, words: &mut Words) -> Result<Option<Bytes>, NoMem
     }
 }
 
-// The number of cores of the cluster.
-// rule: Schedules: A faulty node has a second core, numbered after the nodes
-fn count_of_cores(setup: &Setup) -> u32
-    requires good { IsGoodSetup setup.now }
-    ensures { result ≡ cores_of setup.now }
-{
-    setup.n + setup.faulty.as_slice().len() as u32
-}
-
-// The core in the last word.
-fn core_in(setup: &Setup, words: &mut Words) -> Option<u32>
-    requires good { IsGoodSetup setup.now }
-    ensures { Reads last_number (λ core. core < cores_of setup.now) words.old result }
-{
-    last_number_in(words, 0, count_of_cores(setup))
-}
-
 // The number of pumps in the last word.
 fn pumps_in(words: &mut Words) -> Option<u32>
     ensures { Reads last_number (λ pumps. (1 ≤ pumps) × (pumps ≤ 1000)) words.old result }
 {
     last_number_in(words, 1, 1001)
-}
-
-// The core and the node in the last two words.
-fn core_and_node_in(setup: &Setup, words: &mut Words) -> Option<(u32, NodeId)>
-    requires good { IsGoodSetup setup.now }
-    ensures some { IfSome result (λ pair. words.old ≡ decimal pair.0 ∷ decimal pair.1.0 ∷ []) }
-    ensures range { IfSome result (λ pair. (pair.0 < cores_of setup.now) × (pair.1.0 < setup.now.n)) }
-    ensures none { IfNone result ((core node : ℕ) → core < cores_of setup.now → node < setup.now.n →
-        words.old ≢ decimal core ∷ decimal node ∷ []) }
-{
-    let core = number_in(words, 0, count_of_cores(setup))?;
-    let node = last_number_in(words, 0, setup.n)?;
-    Some((core, NodeId(node as u8)))
-}
-
-// The arguments of a timeout.
-fn timeout_in(setup: &Setup, words: &mut Words) -> Option<Event>
-    requires good { IsGoodSetup setup.now }
-    ensures { Reads event_words (IsInRange setup.now) (text_of_name Name.Timeout ∷ words.old) result }
-{
-    let (core, leader) = core_and_node_in(setup, words)?;
-    Some(Event::Timeout { core, leader })
-}
-
-// The arguments of an ask.
-// rule: Schedules: An ask names one of the cores and one of the nodes
-fn ask_in(setup: &Setup, words: &mut Words) -> Option<Event>
-    requires good { IsGoodSetup setup.now }
-    ensures { Reads event_words (IsInRange setup.now) (text_of_name Name.Ask ∷ words.old) result }
-{
-    let (core, peer) = core_and_node_in(setup, words)?;
-    Some(Event::Ask { core, peer })
 }
 
 // The number of disk calls in the last word that still succeed.
@@ -131,16 +92,6 @@ fn calls_in(words: &mut Words) -> Option<u32>
     ensures { Reads last_number (λ calls. calls ≤ 1000) words.old result }
 {
     last_number_in(words, 0, 1001)
-}
-
-// The arguments of a crash.
-fn crash_in(setup: &Setup, words: &mut Words) -> Option<Event>
-    requires good { IsGoodSetup setup.now }
-    ensures { Reads event_words (IsInRange setup.now) (text_of_name Name.Crash ∷ words.old) result }
-{
-    let core = number_in(words, 0, count_of_cores(setup))?;
-    let calls = calls_in(words)?;
-    Some(Event::Crash { core, calls })
 }
 
 // The payload in the last word.
@@ -157,48 +108,6 @@ fn payload_in(alloc: Global, words: &mut Words) -> Result<Option<Bytes>, NoMemor
     }
 }
 
-// The arguments of a request.
-fn request_in(alloc: Global, setup: &Setup, words: &mut Words) -> Result<Option<Event>, NoMemory>
-    requires good { IsGoodSetup setup.now }
-    ensures { IfOk result (Reads event_words (IsInRange setup.now) (text_of_name Name.Request ∷ words.old)) }
-{
-    let Some(core) = number_in(words, 0, count_of_cores(setup)) else {
-        return Ok(None);
-    };
-    let Some(client) = number_in(words, 0, setup.clients) else {
-        return Ok(None);
-    };
-    let Some(number) = number_in(words, 0, 1 << setup.keys) else {
-        return Ok(None);
-    };
-    let Some(payload) = payload_in(alloc, words)? else {
-        return Ok(None);
-    };
-    Ok(Some(Event::Request {
-        core,
-        client: client as u8,
-        number,
-        payload,
-    }))
-}
-
-// The arguments of an injection of bytes.
-fn injection_in(alloc: Global, setup: &Setup, words: &mut Words) -> Result<Option<Event>, NoMemory>
-    requires good { IsGoodSetup setup.now }
-    ensures { IfOk result (Reads event_words (IsInRange setup.now) (text_of_name Name.Bytes ∷ words.old)) }
-{
-    if is_stopping(setup) {
-        return Ok(None);
-    }
-    let Some(core) = number_in(words, 0, count_of_cores(setup)) else {
-        return Ok(None);
-    };
-    let Some(bytes) = bytes_in(alloc, words)? else {
-        return Ok(None);
-    };
-    Ok(Some(Event::Bytes { core, bytes }))
-}
-
 /// Whether the set-up's module is in the crash model.
 pub fn is_stopping(setup: &Setup) -> bool
     ensures { IsTrue result ↔ (setup.now.kind ≡ Kind.Stopping) }
@@ -209,32 +118,130 @@ pub fn is_stopping(setup: &Setup) -> bool
     }
 }
 
-// The event with this name and these words as arguments.
-fn event_in(
-    alloc: Global,
-    setup: &Setup,
-    name: Name,
-    words: &mut Words,
-) -> Result<Option<Event>, NoMemory>
-    requires good { IsGoodSetup setup.now }
-    ensures { IfOk result (Reads event_words (IsInRange setup.now) (text_of_name name ∷ words.old)) }
-{
-    Ok(match name {
-        Name::Request => request_in(alloc, setup, words)?,
-        Name::Propose => core_in(setup, words).map(|core| Event::Propose { core }),
-        Name::Timeout => timeout_in(setup, words),
-        Name::Ask => ask_in(setup, words),
-        Name::Deliver => packet_in(words).map(|packet| Event::Deliver { packet }),
-        Name::Lose => packet_in(words).map(|packet| Event::Lose { packet }),
-        Name::Pump => words.is_done().then_some(Event::Pump),
-        Name::Calm => pumps_in(words).map(|pumps| Event::Calm { pumps }),
-        Name::Hold => core_in(setup, words).map(|core| Event::Hold { core }),
-        Name::Free => core_in(setup, words).map(|core| Event::Free { core }),
-        Name::Drop => core_in(setup, words).map(|core| Event::Drop { core }),
-        Name::Restart => core_in(setup, words).map(|core| Event::Restart { core }),
-        Name::Crash => crash_in(setup, words),
-        Name::Bytes => injection_in(alloc, setup, words)?,
-    })
+impl<'a> Ranges<'a> {
+    // The number of cores of the cluster.
+    // rule: Schedules: A faulty node has a second core, numbered after the nodes
+    fn cores(&self) -> u32
+        ensures { result ≡ cores_of self.now.setup.now }
+    {
+        self.setup.n + self.setup.faulty.as_slice().len() as u32
+    }
+
+    // The core in the last word.
+    fn core_in(&self, words: &mut Words) -> Option<u32>
+        ensures { Reads last_number (λ core. core < cores_of self.now.setup.now) words.old result }
+    {
+        last_number_in(words, 0, self.cores())
+    }
+
+    // The core and the node in the last two words.
+    fn core_and_node_in(&self, words: &mut Words) -> Option<(u32, NodeId)>
+        ensures some { IfSome result (λ pair. words.old ≡ decimal pair.0 ∷ decimal pair.1.0 ∷ []) }
+        ensures range { IfSome result (λ pair.
+            (pair.0 < cores_of self.now.setup.now) × (pair.1.0 < self.now.setup.now.n)) }
+        ensures none { IfNone result ((core node : ℕ) → core < cores_of self.now.setup.now →
+            node < self.now.setup.now.n → words.old ≢ decimal core ∷ decimal node ∷ []) }
+    {
+        let core = number_in(words, 0, self.cores())?;
+        let node = last_number_in(words, 0, self.setup.n)?;
+        Some((core, NodeId(node as u8)))
+    }
+
+    // The arguments of a timeout.
+    fn timeout_in(&self, words: &mut Words) -> Option<Event>
+        ensures { Reads event_words (IsInRange self.now.setup.now) (text_of_name Name.Timeout ∷ words.old) result }
+    {
+        let (core, leader) = self.core_and_node_in(words)?;
+        Some(Event::Timeout { core, leader })
+    }
+
+    // The arguments of an ask.
+    // rule: Schedules: An ask names one of the cores and one of the nodes
+    fn ask_in(&self, words: &mut Words) -> Option<Event>
+        ensures { Reads event_words (IsInRange self.now.setup.now) (text_of_name Name.Ask ∷ words.old) result }
+    {
+        let (core, peer) = self.core_and_node_in(words)?;
+        Some(Event::Ask { core, peer })
+    }
+
+    // The arguments of a crash.
+    fn crash_in(&self, words: &mut Words) -> Option<Event>
+        ensures { Reads event_words (IsInRange self.now.setup.now) (text_of_name Name.Crash ∷ words.old) result }
+    {
+        let core = number_in(words, 0, self.cores())?;
+        let calls = calls_in(words)?;
+        Some(Event::Crash { core, calls })
+    }
+
+    // The arguments of a request.
+    fn request_in(&self, alloc: Global, words: &mut Words) -> Result<Option<Event>, NoMemory>
+        ensures { IfOk result (Reads event_words (IsInRange self.now.setup.now)
+            (text_of_name Name.Request ∷ words.old)) }
+    {
+        let Some(core) = number_in(words, 0, self.cores()) else {
+            return Ok(None);
+        };
+        let Some(client) = number_in(words, 0, self.setup.clients) else {
+            return Ok(None);
+        };
+        let Some(number) = number_in(words, 0, 1 << self.setup.keys) else {
+            return Ok(None);
+        };
+        let Some(payload) = payload_in(alloc, words)? else {
+            return Ok(None);
+        };
+        Ok(Some(Event::Request {
+            core,
+            client: client as u8,
+            number,
+            payload,
+        }))
+    }
+
+    // The arguments of an injection of bytes.
+    fn injection_in(&self, alloc: Global, words: &mut Words) -> Result<Option<Event>, NoMemory>
+        ensures { IfOk result (Reads event_words (IsInRange self.now.setup.now)
+            (text_of_name Name.Bytes ∷ words.old)) }
+    {
+        if is_stopping(self.setup) {
+            return Ok(None);
+        }
+        let Some(core) = number_in(words, 0, self.cores()) else {
+            return Ok(None);
+        };
+        let Some(bytes) = bytes_in(alloc, words)? else {
+            return Ok(None);
+        };
+        Ok(Some(Event::Bytes { core, bytes }))
+    }
+
+    // The event with this name and these words as arguments.
+    fn event_in(
+        &self,
+        alloc: Global,
+        name: Name,
+        words: &mut Words,
+    ) -> Result<Option<Event>, NoMemory>
+        ensures { IfOk result (Reads event_words (IsInRange self.now.setup.now)
+            (text_of_name name ∷ words.old)) }
+    {
+        Ok(match name {
+            Name::Request => self.request_in(alloc, words)?,
+            Name::Propose => self.core_in(words).map(|core| Event::Propose { core }),
+            Name::Timeout => self.timeout_in(words),
+            Name::Ask => self.ask_in(words),
+            Name::Deliver => packet_in(words).map(|packet| Event::Deliver { packet }),
+            Name::Lose => packet_in(words).map(|packet| Event::Lose { packet }),
+            Name::Pump => words.is_done().then_some(Event::Pump),
+            Name::Calm => pumps_in(words).map(|pumps| Event::Calm { pumps }),
+            Name::Hold => self.core_in(words).map(|core| Event::Hold { core }),
+            Name::Free => self.core_in(words).map(|core| Event::Free { core }),
+            Name::Drop => self.core_in(words).map(|core| Event::Drop { core }),
+            Name::Restart => self.core_in(words).map(|core| Event::Restart { core }),
+            Name::Crash => self.crash_in(words),
+            Name::Bytes => self.injection_in(alloc, words)?,
+        })
+    }
 }
 
 /// The event that a line encodes, if it is in range.
@@ -249,5 +256,5 @@ pub fn event_of(alloc: Global, setup: &Setup, line: &[u8]) -> Result<Option<Even
     let Some(name) = name_of(word) else {
         return Ok(None);
     };
-    event_in(alloc, setup, name, &mut words)
+    Ranges { setup }.event_in(alloc, name, &mut words)
 }

@@ -14,6 +14,15 @@ use iss_request::ids::NodeId;
 use iss_request::setups::Nodes;
 use std::alloc::Global;
 
+/// How many nodes of a cluster may be faulty, and how many nodes it has.
+#[derive(Clone, Copy)]
+pub struct Bounds {
+    pub most: u32,
+    pub n: u32,
+    ghost few: { most < 256 },
+    ghost bytes: { n ≤ 256 },
+}
+
 // Whether the words are numbers.
 fn are_numbers(words: &mut Words) -> bool
     ensures { IsTrue result ↔ AreNumbers words.old }
@@ -50,20 +59,18 @@ fn is_formed(line: &[u8]) -> bool
     is_same(line, b"faulty none") || names_faulty(line)
 }
 
-// The nodes in the words: at most `most`, strictly ascending, with numbers below n.
-fn nodes_in(alloc: Global, words: &mut Words, most: u32, n: u32) -> Result<Option<Nodes>, NoMemory>
-    requires few { most < 256 }
-    requires bytes { n ≤ 256 }
-    ensures { IfOk result (Reads node_words (AreFew most n) words.old) }
+// The nodes in the words: strictly ascending, and within the bounds.
+fn nodes_in(alloc: Global, words: &mut Words, bounds: Bounds) -> Result<Option<Nodes>, NoMemory>
+    ensures { IfOk result (Reads node_words (AreFew bounds.most bounds.n) words.old) }
 {
     let mut nodes = Nodes::new(alloc);
     let mut from = 0u32;
-    let mut left = most;
+    let mut left = bounds.most;
     while let Some(word) = words.next() {
         if left == 0 {
             return Ok(None);
         }
-        let Some(number) = number_within(word, from, n) else {
+        let Some(number) = number_within(word, from, bounds.n) else {
             return Ok(None);
         };
         nodes.push(NodeId(number as u8))?;
@@ -74,10 +81,8 @@ fn nodes_in(alloc: Global, words: &mut Words, most: u32, n: u32) -> Result<Optio
 }
 
 // The faulty nodes in a line.
-fn nodes_of(alloc: Global, line: &[u8], most: u32, n: u32) -> Result<Option<Nodes>, NoMemory>
-    requires few { most < 256 }
-    requires bytes { n ≤ 256 }
-    ensures { IfOk result (Reads faulty_line (AreFew most n) line.now) }
+fn nodes_of(alloc: Global, line: &[u8], bounds: Bounds) -> Result<Option<Nodes>, NoMemory>
+    ensures { IfOk result (Reads faulty_line (AreFew bounds.most bounds.n) line.now) }
 {
     if is_same(line, b"faulty none") {
         return Ok(Some(Nodes::new(alloc)));
@@ -92,7 +97,7 @@ fn nodes_of(alloc: Global, line: &[u8], most: u32, n: u32) -> Result<Option<Node
     if words.is_done() {
         return Ok(None);
     }
-    nodes_in(alloc, &mut words, most, n)
+    nodes_in(alloc, &mut words, bounds)
 }
 
 // What is wrong with a line that should name faulty nodes.
@@ -108,22 +113,20 @@ fn fault_of(line: &[u8]) -> LineFault
     }
 }
 
-/// Reads the line that names the faulty nodes: at most `most`, strictly ascending, with numbers below n.
+/// Reads the line that names the faulty nodes: strictly ascending, and within the bounds.
 // rule: Schedules: Faulty nodes are strictly ascending, at most f, and none where nodes only crash
-pub fn read_faulty(alloc: Global, lines: &mut Lines, most: u32, n: u32) -> Result<Nodes, ReadError>
+pub fn read_faulty(alloc: Global, lines: &mut Lines, bounds: Bounds) -> Result<Nodes, ReadError>
     requires read { lines.old.read ≡ 10 }
-    requires few { most < 256 }
-    requires bytes { n ≤ 256 }
     ensures ok { IfOk result (λ nodes. GoesPast (faulty_line nodes) lines.old lines.new) }
-    ensures few { IfOk result (AreFew most n) }
+    ensures few { IfOk result (AreFew bounds.most bounds.n) }
     ensures count { OnOk result (lines.new.read ≡ 11) }
-    ensures bad { IfErr result (IsFaultyRefused most n lines.old) }
+    ensures bad { IfErr result (IsFaultyRefused bounds.most bounds.n lines.old) }
 {
     let line = match lines.next() {
         Ok(line) => line,
         Err(why) => return Err(bad_line(lines, why)),
     };
-    match nodes_of(alloc, line, most, n)? {
+    match nodes_of(alloc, line, bounds)? {
         Some(nodes) => Ok(nodes),
         None => Err(bad_line(lines, fault_of(line))),
     }

@@ -1,9 +1,9 @@
 //! The header of a schedule.
-ghost use Rattle.std.specs.Prelude.{◌≡◌, ◌≢◌, ◌↔◌, ◌<◌, ◌≤◌, ◌+◌, suc, [], ◌∷◌, ◌++◌, ℕ, List, length, IsTrue, IfOk, IfErr, IfSome, IfNone, OnOk};
+ghost use Rattle.std.specs.Prelude.{◌≡◌, ◌<◌, ◌≤◌, ◌+◌, suc, [], ◌∷◌, ◌++◌, ℕ, List, length, IfOk, IfErr, OnOk};
 ghost use Rattle.sha2.specs.Sha256.{sha256};
 ghost use Rattle.iss_schedule.specs.BadLines.{IsFirstBad};
 ghost use Rattle.iss_schedule.specs.Headers.{OneOf, Number, AreValues, header_fields, lines_of, lines_of_rows, module_rows, next_field, policy_at, policy_lines, row_at, see, setup_of_row, setup_with, value};
-ghost use Rattle.iss_schedule.specs.Places.{ReadsField, most_faulty as faults_of_kind};
+ghost use Rattle.iss_schedule.specs.Places.{ReadsLine, most_faulty as faults_of_kind};
 ghost use Rattle.iss_schedule.specs.Words.{Lacks, ended};
 
 use crate::errors::LineFault;
@@ -21,13 +21,10 @@ const RELAY: u8 = 1;
 /// How many lines of a header have a value.
 pub const FIELDS: usize = 10;
 
-// Consumes a line that must be this text, the only one of its field.
-fn expect(lines: &mut Lines, text: &[u8]) -> Result<u32, LineFault>
-    requires { lines.old.read < 11 }
-    ensures read { lines.new.read ≡ lines.old.read + 1 }
-    ensures reads { (above : List ℕ) → ReadsField (OneOf (text.now ∷ [])) above lines.old lines.new result }
+// The value of a line that must be this text, the only one of its field.
+fn expect(line: &[u8], text: &[u8]) -> Result<u32, LineFault>
+    ensures { (above : List ℕ) → ReadsLine (OneOf (text.now ∷ [])) above line.now result }
 {
-    let line = lines.next()?;
     if is_same(line, text) {
         Ok(0)
     } else {
@@ -35,13 +32,10 @@ fn expect(lines: &mut Lines, text: &[u8]) -> Result<u32, LineFault>
     }
 }
 
-// Consumes a line that must name a module.
-fn module(lines: &mut Lines) -> Result<u32, LineFault>
-    requires { lines.old.read < 11 }
-    ensures read { lines.new.read ≡ lines.old.read + 1 }
-    ensures reads { (above : List ℕ) → ReadsField (OneOf (lines_of_rows module_rows)) above lines.old lines.new result }
+// The value of a line that must name a module.
+fn module(line: &[u8]) -> Result<u32, LineFault>
+    ensures { (above : List ℕ) → ReadsLine (OneOf (lines_of_rows module_rows)) above line.now result }
 {
-    let line = lines.next()?;
     match place_of(line) {
         Some(place) => Ok(place),
         None => Err(LineFault::Form),
@@ -55,74 +49,71 @@ fn too_many(place: u32) -> u32
     module_at(place).most_faults + 1
 }
 
-// The number of nodes of a module for `f` faults; the relay has three.
-fn nodes_for(row: &Module, f: u32) -> u32
-    requires { f < 4 }
-    ensures nodes { result ≡ (setup_of_row (see row.now) (0 ∷ 0 ∷ f ∷ []) [] []).n }
-    ensures few { result ≤ 10 }
-{
-    if row.number == RELAY {
-        return 3;
+/// A module and a number of faults.
+#[derive(Clone, Copy)]
+pub struct Cluster {
+    row: &'static Module,
+    f: u32,
+    ghost few: { f < 4 },
+}
+
+impl Cluster {
+    /// Of the header that has these values.
+    pub fn of(values: &[u32]) -> Cluster
+        requires long { 2 < length values.now }
+        requires few { value values.now 2 < 4 }
+        ensures row { see result.row.now ≡ row_at (value values.now 1) }
+        ensures faults { result.f ≡ value values.now 2 }
+    {
+        Cluster {
+            row: module_at(values[1]),
+            f: values[2],
+        }
     }
-    match row.kind {
-        Kind::Byzantine => 3 * f + 1,
-        Kind::Stopping => 2 * f + 1,
+
+    /// The number of nodes; the relay has three.
+    pub fn nodes(self) -> u32
+        ensures nodes { result ≡ (setup_of_row (see self.row.now) (0 ∷ 0 ∷ self.f ∷ []) [] []).n }
+        ensures few { result ≤ 10 }
+    {
+        if self.row.number == RELAY {
+            return 3;
+        }
+        match self.row.kind {
+            Kind::Byzantine => 3 * self.f + 1,
+            Kind::Stopping => 2 * self.f + 1,
+        }
+    }
+
+    // The size of a quorum; for the relay it is two.
+    fn quorum(self) -> u32
+        ensures { result ≡ (setup_of_row (see self.row.now) (0 ∷ 0 ∷ self.f ∷ []) [] []).quorum }
+    {
+        if self.row.number == RELAY {
+            return 2;
+        }
+        match self.row.kind {
+            Kind::Byzantine => 2 * self.f + 1,
+            Kind::Stopping => self.f + 1,
+        }
+    }
+
+    /// How many of the nodes may be faulty.
+    pub fn most_faulty(self) -> u32
+        ensures few { result < 4 }
+        ensures most { result ≡ faults_of_kind (see self.row.now).kind self.f }
+    {
+        match self.row.kind {
+            Kind::Byzantine => self.f,
+            Kind::Stopping => 0,
+        }
     }
 }
 
-// The size of a quorum; for the relay it is two.
-fn quorum_for(row: &Module, f: u32) -> u32
-    requires { f < 4 }
-    ensures { result ≡ (setup_of_row (see row.now) (0 ∷ 0 ∷ f ∷ []) [] []).quorum }
+// The value of a line that must name a policy.
+fn policy(line: &[u8]) -> Result<u32, LineFault>
+    ensures { (above : List ℕ) → ReadsLine (OneOf policy_lines) above line.now result }
 {
-    if row.number == RELAY {
-        return 2;
-    }
-    match row.kind {
-        Kind::Byzantine => 2 * f + 1,
-        Kind::Stopping => f + 1,
-    }
-}
-
-/// The number of nodes of the cluster whose header has these values.
-pub fn nodes_of(values: &[u32]) -> u32
-    requires long { 2 < length values.now }
-    requires few { value values.now 2 < 4 }
-    ensures nodes { result ≡ (setup_with values.now [] []).n }
-    ensures few { result ≤ 10 }
-{
-    nodes_for(module_at(values[1]), values[2])
-}
-
-// The size of a quorum of that cluster.
-fn quorum_of(values: &[u32]) -> u32
-    requires long { 2 < length values.now }
-    requires few { value values.now 2 < 4 }
-    ensures { result ≡ (setup_with values.now [] []).quorum }
-{
-    quorum_for(module_at(values[1]), values[2])
-}
-
-/// How many of its nodes may be faulty.
-pub fn most_faulty(values: &[u32]) -> u32
-    requires long { 2 < length values.now }
-    requires few { value values.now 2 < 4 }
-    ensures few { result < 4 }
-    ensures most { result ≡ faults_of_kind (row_at (value values.now 1)).kind (value values.now 2) }
-{
-    match module_at(values[1]).kind {
-        Kind::Byzantine => values[2],
-        Kind::Stopping => 0,
-    }
-}
-
-// Consumes a line that must name a policy.
-fn policy(lines: &mut Lines) -> Result<u32, LineFault>
-    requires { lines.old.read < 11 }
-    ensures read { lines.new.read ≡ lines.old.read + 1 }
-    ensures reads { (above : List ℕ) → ReadsField (OneOf policy_lines) above lines.old lines.new result }
-{
-    let line = lines.next()?;
     if is_same(line, b"policy simple") {
         Ok(0)
     } else if is_same(line, b"policy backoff") {
@@ -134,15 +125,11 @@ fn policy(lines: &mut Lines) -> Result<u32, LineFault>
     }
 }
 
-// Consumes a line that must be this name and a number that is at least `low` and below `end`.
-fn number(lines: &mut Lines, name: &[u8], low: u32, end: u32) -> Result<u32, LineFault>
-    requires few { lines.old.read < 11 }
-    requires name { Lacks 32 name.now }
-    ensures read { lines.new.read ≡ lines.old.read + 1 }
-    ensures reads { (above : List ℕ) →
-        ReadsField (Number name.now (λ _. low) (λ _. end)) above lines.old lines.new result }
+// The value of a line that must be this name and a number that is at least `low` and below `end`.
+fn number(line: &[u8], name: &[u8], low: u32, end: u32) -> Result<u32, LineFault>
+    requires { Lacks 32 name.now }
+    ensures { (above : List ℕ) → ReadsLine (Number name.now (λ _. low) (λ _. end)) above line.now result }
 {
-    let line = lines.next()?;
     let Some(word) = behind(line, name) else {
         return Err(LineFault::Form);
     };
@@ -156,26 +143,24 @@ fn number(lines: &mut Lines, name: &[u8], low: u32, end: u32) -> Result<u32, Lin
     }
 }
 
-// Reads the line after these values. This is the table of a header, with one field a line.
+// The value of the line after these values. This is the table of a header, with one field a line.
 // rule: Schedules: A header line is one of its field's texts, or a name and a number in range
-fn read_field(lines: &mut Lines, above: &[u32]) -> Result<u32, LineFault>
-    requires lines { lines.old.read < 11 }
+fn value_of(line: &[u8], above: &[u32]) -> Result<u32, LineFault>
     requires few { length above.now < 10 }
     requires faults { value above.now 2 < 4 }
-    ensures read { lines.new.read ≡ lines.old.read + 1 }
-    ensures reads { ReadsField (next_field above.now) above.now lines.old lines.new result }
+    ensures { ReadsLine (next_field above.now) above.now line.now result }
 {
     match above.len() {
-        0 => expect(lines, b"iss 1"),
-        1 => module(lines),
-        2 => number(lines, b"f", 0, too_many(above[1])),
-        3 => number(lines, b"epoch", nodes_of(above), 65),
-        4 => number(lines, b"buckets", 1, 257),
-        5 => number(lines, b"batch", 1, 33),
-        6 => number(lines, b"window", 1, 65),
-        7 => policy(lines),
-        8 => number(lines, b"clients", 1, 257),
-        _ => number(lines, b"keys", 2, 21),
+        0 => expect(line, b"iss 1"),
+        1 => module(line),
+        2 => number(line, b"f", 0, too_many(above[1])),
+        3 => number(line, b"epoch", Cluster::of(above).nodes(), 65),
+        4 => number(line, b"buckets", 1, 257),
+        5 => number(line, b"batch", 1, 33),
+        6 => number(line, b"window", 1, 65),
+        7 => policy(line),
+        8 => number(line, b"clients", 1, 257),
+        _ => number(line, b"keys", 2, 21),
     }
 }
 
@@ -191,7 +176,8 @@ pub fn read_header(lines: &mut Lines) -> Result<[u32; 10], LineFault>
 {
     let mut values = [0u32; FIELDS];
     for place in 0..FIELDS {
-        let value = read_field(lines, &values[..place])?;
+        let line = lines.next()?;
+        let value = value_of(line, &values[..place])?;
         values[place] = value;
     }
     Ok(values)
@@ -226,10 +212,10 @@ pub fn setup_of(values: &[u32], faulty: Nodes, text: &[u8]) -> Setup
     requires range { AreValues header_fields [] values.now }
     ensures { result ≡ setup_with values.now faulty (sha256 (0x43 ∷ text.now)) }
 {
-    let module = module_at(values[1]);
+    let cluster = Cluster::of(values);
     Setup {
         version: FIRST,
-        module: module.number,
+        module: cluster.row.number,
         f: values[2],
         epoch: u64::from(values[3]),
         buckets: values[4],
@@ -239,9 +225,9 @@ pub fn setup_of(values: &[u32], faulty: Nodes, text: &[u8]) -> Setup
         clients: values[8],
         keys: values[9],
         faulty,
-        n: nodes_of(values),
-        quorum: quorum_of(values),
-        kind: module.kind,
+        n: cluster.nodes(),
+        quorum: cluster.quorum(),
+        kind: cluster.row.kind,
         tag: tag_of(text),
     }
 }

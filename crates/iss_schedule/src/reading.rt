@@ -1,5 +1,5 @@
 //! Reading a schedule's text.
-ghost use Rattle.std.specs.Prelude.{◌≡◌, ◌↔◌, ◌≤◌, ◌<◌, ◌+◌, ◌-◌, ◌^◌, ◌++◌, [], ℕ, List, IsTrue, IfOk, IfErr, OnOk, length, map};
+ghost use Rattle.std.specs.Prelude.{◌≡◌, ◌≤◌, ◌<◌, ◌+◌, ◌-◌, ◌^◌, ◌++◌, ℕ, List, IfOk, IfErr, OnOk, length, map};
 ghost use Rattle.iss_request.specs.Setup.{IsGoodSetup};
 ghost use Rattle.iss_schedule.specs.BadLines.{IsInHeader, IsRefused, IsNoText};
 ghost use Rattle.iss_schedule.specs.Events.{spell_event, IsInRange, AreInRange};
@@ -10,9 +10,9 @@ ghost use Rattle.iss_schedule.specs.declared.schedules.Schedule.{Schedule};
 
 use crate::errors::{LineFault, ReadError, bad_line};
 use crate::events::event_of;
-use crate::faulty::read_faulty;
+use crate::faulty::{Bounds, read_faulty};
 use crate::forms::fault_of;
-use crate::header::{most_faulty, nodes_of, read_header, setup_of};
+use crate::header::{Cluster, read_header, setup_of};
 use crate::laws::texts_and_schedules;
 use crate::lines::Lines;
 use crate::schedules::{Event, Schedule};
@@ -99,7 +99,12 @@ pub fn read_setup(alloc: Global, bytes: &[u8], lines: &mut Lines) -> Result<Setu
         Ok(values) => values,
         Err(why) => return Err(bad_line(lines, why)),
     };
-    let faulty = read_faulty(alloc, lines, most_faulty(&values), nodes_of(&values))?;
+    let cluster = Cluster::of(&values);
+    let bounds = Bounds {
+        most: cluster.most_faulty(),
+        n: cluster.nodes(),
+    };
+    let faulty = read_faulty(alloc, lines, bounds)?;
     Ok(setup_of(&values, faulty, front(bytes, lines.rest())))
 }
 

@@ -1,6 +1,8 @@
 -- How the code keeps waiting requests: each under the number of its arrival, and for each bucket the strictly
 -- ascending numbers of its requests. The next request of a bucket is the first from a number on that passes a test.
 use Rattle.std.specs.Prelude.{◌≡◌, ℕ, suc, min, not, ◌+◌, ◌%◌, ◌<◌, ◌≤◌, ◌==◌, ◌&&◌, Bool, true, false, if◌then◌else◌, List, [], ◌∷◌, length, get_or, Option, Some, None}
+use mathlib.Core.HLevel.{×₃_prop}
+use Rattle.std.specs.Coded.{Coded-set, coded_ℕ, coded_option, Unit-prop, le_prop}
 use Rattle.std.specs.List.{list_any}
 use Rattle.std.specs.Map.{lookup}
 use Rattle.std.specs.Ordering.{is_eq, nat_cmp}
@@ -21,16 +23,22 @@ abbrev pub AreFiled : ℕ → List (ℕ × Request) → Type 0
 AreFiled from [] = Unit {0}
 AreFiled from (e ∷ es) = (from ≤ e.0) × (number_of es e.1.id ≡ None) × AreFiled (suc e.0) es
 
+-- this has at most one proof, so that a type may have the fact as its invariant
+pub filed_prop : (from : ℕ) (es : List (ℕ × Request)) → IsProp (AreFiled from es)
+filed_prop from [] = Unit-prop
+filed_prop from (e ∷ es) =
+    ×₃_prop le_prop (Coded-set (coded_option coded_ℕ) (number_of es e.1.id) None) (filed_prop (suc e.0) es)
+
 -- ---- queues of numbers, one for each bucket
 
 -- whether queue b holds arrival number k
 abbrev pub has_number : List (List ℕ) → ℕ → ℕ → Bool
 has_number queues b k = list_any (λ j. is_eq (nat_cmp k j)) (get_or queues b [])
 
--- one queue holds a number, or does not, and all else is unchanged
+-- the queue of this bucket, if it is there, holds a number, or does not, and all else is unchanged
 pub record IsSetAt (old new : List (List ℕ)) (bucket number : ℕ) (has : Bool) : Type 0 where
   pub size : length new ≡ length old
-  pub at : (b k : ℕ) → has_number new b k ≡ (if (b == bucket) && (k == number) then has else has_number old b k)
+  pub at : (b k : ℕ) → b < length new → has_number new b k ≡ (if (b == bucket) && (k == number) then has else has_number old b k)
 
 abbrev pub bucket_of_id : ℕ → ReqId → ℕ
 bucket_of_id buckets id = (id.client + id.number) % buckets

@@ -1,5 +1,5 @@
 -- Texts and the lines that are a prefix of them.
-use Rattle.std.proofs.Common.{◌≡◌, ℕ, zero, suc, ◌+◌, ◌<◌, ◌≤◌, List, [], ◌∷◌, ◌++◌, length, take, drop, set, get_or, map, codes, Option, Some, None, Result, refl, sym, ap, subst, ◌∙◌, arith, append_assoc, length-append, inl, inr}
+use Rattle.std.proofs.Common.{◌≡◌, ℕ, zero, suc, ◌+◌, ◌<◌, ◌≤◌, List, [], ◌∷◌, ◌++◌, length, take, drop, set, get_or, map, codes, Option, Some, None, Result, Err, refl, sym, ap, subst, ◌∙◌, arith, append_assoc, length-append, inl, inr}
 use Rattle.std.proofs.Math.Seq.{drop-cons}
 use Rattle.std.proofs.lemmas.List.{length-take-le, take_more_set}
 use Rattle.sha2.specs.Sha256.{sha256}
@@ -16,8 +16,8 @@ use Rattle.iss_schedule.specs.BadLines.{Begins, IsBadRest, IsFirstBad, IsRefused
 use Rattle.iss_schedule.specs.declared.schedules.Event.{Event}
 use Rattle.iss_schedule.specs.Events.{spell_event, IsInRange, AreInRange}
 use Rattle.iss_schedule.specs.Forms.{Field, HasForm, IsFieldFormed, IsFaultyFormed, IsFormed, LineForm, forms_of}
-use Rattle.iss_schedule.specs.Headers.{HeaderField, OneOf, header_fields, AreValues, IsGoodLine, IsValue, faulty_line, lines_of, next_field, row_at, setup_with, spell_value, value, values_of}
-use Rattle.iss_schedule.specs.Places.{AreFew, Place, IsFieldFault, IsLineFault, IsFaultyLineFault, IsFaultyRefused, ReadsField, most_faulty}
+use Rattle.iss_schedule.specs.Headers.{HeaderField, ModuleRow, OneOf, header_fields, AreValues, IsGoodLine, IsValue, faulty_line, lines_of, next_field, row_at, setup_of_row, setup_with, spell_value, value, values_of}
+use Rattle.iss_schedule.specs.Places.{AreFew, GoesPast, Place, IsFieldFault, IsLineFault, IsFaultyLineFault, IsFaultyRefused, ReadsLine, most_faulty}
 use Rattle.iss_schedule.specs.Schedules.{header_lines, schedule_lines, cluster_tag, IsKnown, IsFine, IsSchedule, most_events, most_bytes}
 use Rattle.iss_schedule.specs.Words.{ended}
 use Rattle.iss_schedule.proofs.HeaderTable.FieldsDetermineValues.{AreSome, all_some, field_behind, front_of, gone_on, length_lines, length_some, lines_more, next_good, some_more}
@@ -148,11 +148,36 @@ next_is all place size lt =
     (sym (length-take-le place all (omega (arith, size, lt))))
 
 -- what was read as the field of this place was read as the next one
-pub read_at : (above : List ℕ) (old new : Place) (r : Result ℕ LineFault) (k : ℕ) (f : HeaderField) → length above ≡ k →
-    f ≡ get_or header_fields k (OneOf []) → ReadsField f above old new r → ReadsField (next_field above) above old new r
-read_at above old new r k f e is h =
-    subst (λ (z : HeaderField). ReadsField z above old new r) (is
+pub read_at : (above line : List ℕ) (r : Result ℕ LineFault) (k : ℕ) (f : HeaderField) → length above ≡ k →
+    f ≡ get_or header_fields k (OneOf []) → ReadsLine f above line r → ReadsLine (next_field above) above line r
+read_at above line r k f e is h =
+    subst (λ (z : HeaderField). ReadsLine z above line r) (is
     ∙ ap (λ n. get_or header_fields n (OneOf [])) (sym e)) h
+
+-- what is wrong with the next line is wrong with the rest
+pub amiss : (f : HeaderField) (above line : List ℕ) (old new : Place) (why : LineFault) → GoesPast line old new →
+    ReadsLine f above line (Err why) → IsFieldFault f above old.rest why
+amiss f above line old new Cut next x = absurd x
+amiss f above line old new Form next x =
+    (line, (record { more = new.rest; text = next.text; whole = next.whole }, x))
+amiss f above line old new Range next x =
+    (line, (record { more = new.rest; text = next.text; whole = next.whole }, x.0, x.1))
+amiss f above line old new Faulty next x = absurd x
+amiss f above line old new Injected next x = absurd x
+amiss f above line old new Size next x = absurd x
+
+-- the nodes of a cluster with these values, counted by its row and its faults alone
+pub nodes_are : (vs : List ℕ) (f : ℕ) (r : ModuleRow) (n : ℕ) → r ≡ row_at (value vs 1) → f ≡ value vs 2 →
+    n ≡ (setup_of_row r (0 ∷ 0 ∷ f ∷ []) [] []).n → n ≡ (setup_with vs [] []).n
+nodes_are vs f r n row faults is =
+    is ∙ ap (λ (k : ℕ). (setup_of_row r (0 ∷ 0 ∷ k ∷ []) [] []).n) faults
+    ∙ ap (λ (q : ModuleRow). (setup_of_row q (0 ∷ 0 ∷ value vs 2 ∷ []) [] []).n) row
+
+-- how many of them may be faulty
+pub most_are : (vs : List ℕ) (f : ℕ) (r : ModuleRow) (most : ℕ) → r ≡ row_at (value vs 1) → f ≡ value vs 2 →
+    most ≡ most_faulty r.kind f → most ≡ most_faulty (row_at (value vs 1)).kind (value vs 2)
+most_are vs f r most row faults is =
+    is ∙ ap (λ (k : ℕ). most_faulty r.kind k) faults ∙ ap (λ (q : ModuleRow). most_faulty q.kind (value vs 2)) row
 
 -- one more value
 pub one_more : (text all new : List ℕ) (place v : ℕ) (rest left : List ℕ) → length all ≡ 10 → place < 10 →

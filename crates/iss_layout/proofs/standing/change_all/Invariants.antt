@@ -7,6 +7,6 @@ use Rattle.iss_layout.proofs.standing.change_all.Given as goal
 abbrev pub invariant-loop-i : goal.invariant-loop-i
 invariant-loop-i l = record {
   size : length l.nodes ≡ 10;
-  done : (j : ℕ) → j < l.i → carried (map shown l.nodes) j ≡ changed (carried (map shown l.fn.nodes) j) (leads l.layout j) (past_all (filter (is_slot_of_leader l.layout j) l.nil_slots));
+  done : (j : ℕ) → j < l.i → carried (map shown l.nodes) j ≡ changed (carried (map shown l.fn.nodes) j) (leads l.ended.layout.now j) (past_all (filter (is_slot_of_leader l.ended.layout.now j) l.ended.nil_slots.now));
   left : (j : ℕ) → l.i ≤ j → carried (map shown l.nodes) j ≡ carried (map shown l.fn.nodes) j;
 }

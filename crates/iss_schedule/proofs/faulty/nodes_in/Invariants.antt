@@ -7,9 +7,9 @@ use Rattle.iss_schedule.proofs.faulty.nodes_in.Given as goal
 abbrev pub invariant-loop-word : goal.invariant-loop-word
 invariant-loop-word l = record {
   text : l.initial.words ≡ node_words l.nodes ++ l.words;
-  ascending : AreAscendingBelow 0 l.n l.nodes;
+  ascending : AreAscendingBelow 0 l.bounds.n l.nodes;
   from : l.from ≡ after 0 l.nodes;
-  left : l.left + length l.nodes ≡ l.most;
+  left : l.left + length l.nodes ≡ l.bounds.most;
 }
 
 abbrev pub decreases-loop-word : goal.decreases-loop-word

@@ -1,22 +1,14 @@
-use Rattle.std.proofs.Common.{◌≡◌, ◌<◌, ◌∙◌, ap, sym, subst, false, List, [], ℕ, length, map, get_or, slice_set, cond, arith}
-use Rattle.std.specs.List.{list_any}
-use Rattle.std.specs.Ordering.{is_eq, nat_cmp}
-use Rattle.std.proofs.lemmas.List.{get_or-map, length-map, map-set}
-use Rattle.std.specs.BTreeSet.{BTreeSet}
+use Rattle.std.proofs.Common.{◌<◌, subst, false, ℕ, length, map, slice_set, arith, rules, ◌≡◌}
 use Rattle.iss_buckets.specs.Internal.Filed.{IsSetAt}
-use Rattle.iss_buckets.proofs.QueueLemmas.{set-number}
+use Rattle.iss_buckets.proofs.QueueLemmas.{place-in, set-in}
 use Rattle.iss_buckets.proofs.queues.Queues.remove.Goals as goal
 
 pub returns : goal.returns
 returns c =
-    let keys = λ (s : BTreeSet ℕ). s.keys in
-    let items = c.self.inside.all.items in
-    let long : length (map keys items) ≡ length c.args.self.now = ap length c.self.view_is in
-    let size : length (map keys items) ≡ length items = length-map items keys in
-    let inside : c.args.bucket < length items = omega (arith, c.requires, long, size) in
-    let within : c.args.bucket < length (map keys items) = omega (arith, c.requires, long) in
-    let old : get_or (map keys items) c.args.bucket [] ≡ c.index_mut.result.now.keys = get_or-map keys items c.args.bucket c.index_mut.result.now [] inside ∙ ap keys (sym c.index_mut.ensures.value) in
-    let changed = set-number (map keys items) c.args.bucket c.args.number c.remove.new.self.keys false within
-    (λ k. c.remove.ensures.updates.0 k ∙ ap (λ (xs : List ℕ). cond (is_eq (nat_cmp c.args.number k)) false (list_any (λ j. is_eq (nat_cmp k j)) xs)) (sym old)) in
-    subst (λ (now : List (List ℕ)). IsSetAt now (map keys (slice_set items c.args.bucket c.remove.new.self)) c.args.bucket c.args.number false) c.self.view_is
-    (subst (λ (now : List (List ℕ)). IsSetAt (map keys items) now c.args.bucket c.args.number false) (sym (map-set keys items c.args.bucket c.remove.new.self)) changed)
+    let sets = c.self.inside.all.items in
+    let size : length sets ≡ c.len-count.result = search rules in
+    let inside : c.bucket_of.result < length sets = omega (arith, c.bucket_of.ensures.below, size) in
+    subst (λ (b : ℕ). IsSetAt c.args.self.now (map (λ s. s.keys) (slice_set sets c.bucket_of.result c.remove.new.self)) b c.args.number false)
+    (place-in sets c.args.self.now c.len-count.result c.bucket_of.result c.args.id c.self.view_is size c.bucket_of.ensures.value)
+    (set-in sets c.args.self.now c.bucket_of.result c.args.number c.index_mut.result.now c.remove.new.self false
+    c.self.view_is inside c.index_mut.ensures.value c.remove.ensures.updates.0)
