@@ -3,6 +3,7 @@ use Rattle.iss_model.specs.Courses.{begin_machines}
 use Rattle.iss_request.specs.declared.setups.Setup.{Setup}
 use Rattle.iss_rules.specs.Setups.{IsSetupOf}
 use Rattle.iss_world.specs.Refines.{RefinesMachines}
+use Rattle.iss_world.specs.State.{SimulationState}
 use Rattle.iss_world.proofs.CoreLemmas.{fresh-running, fresh-runs}
 use Rattle.iss_world.proofs.simulation.Simulation.start.Goals as goal
 
@@ -17,6 +18,13 @@ invariant_of-result g c =
 
 pub returns-clause-refines : goal.returns-clause-refines
 returns-clause-refines g c =
-    subst (λ (s : Setup). RefinesMachines g.M.Sequenced.spec g.M.Sequenced.refines c.result.0 (begin_machines s)) c.in_ok-members.ensures
+    let v : SimulationState g.row.M.Denot g.row.M-Msg.Denot = record {
+      setup = c.in_ok-members.members;
+      nodes = c.in_ok-start_cores.field-0.items;
+      network = c.in_ok-new.field-0;
+      signed = c.new-2.result;
+      hashed = c.in_ok-new-2.field-0;
+    } in
+    subst (λ (s : Setup). RefinesMachines g.M.Sequenced.spec g.M.Sequenced.refines v (begin_machines s)) c.in_ok-members.ensures
     (fresh-runs g.M.Sequenced.spec g.M.Sequenced.refines c.in_ok-members.members c.in_ok-members.members c.in_ok-start_cores.field-0.items c.in_ok-new.field-0 c.new-2.result c.in_ok-new-2.field-0
     c.cores.result c.cores.ensures c.in_ok-start_cores.ensures c.in_ok-new.ensures c.new-2.ensures c.in_ok-new-2.ensures)
