@@ -5,13 +5,13 @@ use Rattle.iss_disk.specs.Calls.{IfTold, Moves}
 use Rattle.iss_journal.specs.Frames.{frames, holds, max_entry, Reads, version_1}
 use Rattle.iss_journal.specs.Internal.Additions.{RestsWith}
 use Rattle.iss_journal.specs.Promises.{EndsClosed, LeavesWithOrWithout, OnlyLeaves, RestsOn, Shows}
-use Rattle.iss_journal.specs.RetainedViews.{IsSame, Retains, gates_over, shown_in}
+use Rattle.iss_journal.specs.RetainedViews.{Retains, gates_over, shown_in}
 use Rattle.iss_journal.specs.Sound.{IsRead, RestsOver}
 use Rattle.iss_journal.specs.declared.retained.Retained.{Retained}
 use Rattle.iss_journal.proofs.Crash.{body}
 use Rattle.iss_journal.proofs.FrameLemmas.{short-push}
 use Rattle.iss_journal.proofs.Reading.{rests_durable, rests_start, told_so}
-use Rattle.iss_journal.proofs.RetainedLemmas.{gates_are, same_retains}
+use Rattle.iss_journal.proofs.RetainedLemmas.{gates_are}
 use Rattle.iss_journal.proofs.Steps.{Appended, Interrupted, exit1, exit2, exit3, exit4, finish, first_within, same_write, second_within, untold}
 
 -- what is promised if a call fails

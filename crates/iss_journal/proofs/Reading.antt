@@ -5,7 +5,7 @@ use Rattle.iss_disk.specs.Calls.{Device, IfTold, EachState, Moves, Place, Stays,
 use Rattle.iss_journal.specs.Frames.{ClosesAfter, frames, holds, Reading, Reads, version_1}
 use Rattle.iss_journal.specs.Promises.{OnlyLeaves, LeavesOnly, LeavesReading, LosesNothing, HoldsFirst, HoldsWithOrWithout, RestsOn, ComesToRest}
 use Rattle.iss_journal.proofs.Crash.{only_settled, reads_closed}
-use Rattle.iss_journal.specs.RetainedViews.{HasGrown, IsSame, TakesMore}
+use Rattle.iss_journal.specs.RetainedViews.{HasGrown, IsSame}
 use Rattle.iss_journal.specs.declared.retained.Retained.{Retained}
 use Rattle.iss_journal.specs.Sound.{HasRoom}
 use Rattle.iss_journal.specs.declared.reserved.Reserved.{Reserved}

@@ -43,7 +43,7 @@ returns c =
     let now = c.args.self.now in
     record {
       entries = (first now.bytes.items c.truncate.new.self.items now.count now.last c.args.count
-      c.gate_before-gate.result
+          c.gate_before-gate.result
           now.book c.requires c.gate_before-gate.ensures c.truncate.ensures.items).found;
       bytes = search rules;
       marks = search rules;
