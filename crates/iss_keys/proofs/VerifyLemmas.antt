@@ -16,7 +16,7 @@ use Rattle.iss_base.proofs.HeightLemmas.{digests_of_one_tree, digests_of_two_lev
 use Rattle.iss_keys.specs.Pieces.{join_below}
 use Rattle.iss_keys.specs.Chains.{chain_start, chain_step, steps, chain_end, leaf_value, nibble, checksum, digit, statement_digest}
 use Rattle.iss_keys.specs.Trees.{KeyTree, node, tree_root, parent_of, beside, path_node}
-use Rattle.iss_keys.specs.Levels.{bottom_secret, bottom_tree, by_top, root_in, root_of, root_statement, signings, top_secret, top_tree}
+use Rattle.iss_keys.specs.Levels.{bottom_secret, bottom_tree, by_top, root_in, root_of, root_statement, signings, top_tree}
 use Rattle.iss_keys.specs.Signatures.{leaf_number, value_at, sibling_at, end_from, climb, part_root, bottom_root, top_root, root_of_parts, part_by, part_of, parts_of, Verifies, signed_value, signature_of}
 
 -- ---- lengths

@@ -1,11 +1,9 @@
 -- What is appended for a signature is its parts.
-use Rattle.std.proofs.Common.{◌≡◌, ℕ, ◌+◌, ◌-◌, ◌*◌, ◌/◌, ◌%◌, ◌^◌, ◌<◌, ◌≤◌, List, [], ◌∷◌, ◌++◌, refl, sym, ap, subst, ◌∙◌, arith, append_assoc, pow-add, inl, inr}
-use Rattle.std.proofs.lemmas.Bool.{cases_lt, le-ltb, lt-ltb}
-use Rattle.std.proofs.lemmas.List.{append-nil}
-use Rattle.std.proofs.Math.Nat.{div-lt_iff_lt-mul}
+use Rattle.std.proofs.Common.{◌≡◌, ℕ, ◌/◌, ◌%◌, ◌^◌, ◌<◌, ◌≤◌, List, ◌++◌, ap, ◌∙◌, arith, inl, inr}
+use Rattle.std.proofs.lemmas.Bool.{cases_lt}
 use Rattle.iss_keys.specs.Chains.{statement_digest}
 use Rattle.iss_keys.specs.Trees.{KeyTree}
-use Rattle.iss_keys.specs.Levels.{bottom_secret, by_top, signings, top_secret, top_tree}
+use Rattle.iss_keys.specs.Levels.{bottom_secret, by_top, top_tree}
 use Rattle.iss_keys.specs.Signatures.{part_by, part_of, parts_of}
 use Rattle.iss_keys.specs.Internal.Bottoms.{BottomView}
 use Rattle.iss_keys.proofs.VerifyLemmas.{one_appended, parts_appended, top_height, top_leaf, top_of_one}

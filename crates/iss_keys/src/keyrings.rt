@@ -3,7 +3,6 @@
 
 ghost use Rattle.std.specs.Prelude.{◌≡◌, ℕ, List, [], ◌∷◌, ◌^◌, ◌<◌, ◌≤◌, length, map, slice_get, IfOk, IfSome, IsTrue};
 ghost use Rattle.sha2.specs.Sha256.{sha256};
-ghost use Rattle.iss_base.specs.Heights.{IsHeight};
 ghost use Rattle.iss_keys.specs.Levels.{root_of};
 ghost use Rattle.iss_keys.specs.KeyStates.{PublicKeyView, public_of};
 ghost use Rattle.iss_keys.specs.Directories.{VerifiesBy, public_keys_of};

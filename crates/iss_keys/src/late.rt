@@ -1,7 +1,7 @@
 //! Trees that are computed when they are first needed, and then kept. All owners of a shared tree see what was
 //! computed.
 
-ghost use Rattle.std.specs.Prelude.{◌≡◌, ◌≤◌, IfOk, IfSome};
+ghost use Rattle.std.specs.Prelude.{◌≡◌, IfOk, IfSome};
 ghost use Rattle.iss_keys.specs.Trees.{tree_root, KeyTree};
 
 use crate::heights::TreeHeight;

@@ -2,7 +2,7 @@
 //! The bottom tree is kept until another is needed, which is then computed in its memory. With it the part of a
 //! signature by the top tree is kept, which is the same for all leaves of the bottom tree.
 
-ghost use Rattle.std.specs.Prelude.{◌≡◌, ◌+◌, ◌*◌, ◌^◌, ◌/◌, ◌%◌, ◌<◌, ◌≤◌, ◌++◌, IfOk, IsTrue, OnOk, Some};
+ghost use Rattle.std.specs.Prelude.{◌≡◌, ◌+◌, ◌*◌, ◌^◌, ◌/◌, ◌%◌, ◌<◌, ◌++◌, IfOk, IsTrue, OnOk, Some};
 ghost use Rattle.iss_base.specs.Heights.{IsHeight};
 ghost use Rattle.iss_keys.specs.Trees.{tree_root};
 ghost use Rattle.iss_keys.specs.Levels.{top_secret, bottom_secret, top_tree, by_top, root_statement, root_of};

@@ -1,6 +1,6 @@
 //! A computed tree, and the parts of signatures by its leaves.
 
-ghost use Rattle.std.specs.Prelude.{◌≡◌, ◌^◌, ◌<◌, ◌≤◌, ◌++◌, IfOk, IfSome, OnOk};
+ghost use Rattle.std.specs.Prelude.{◌≡◌, ◌^◌, ◌<◌, ◌++◌, IfOk, IfSome, OnOk};
 ghost use Rattle.iss_keys.specs.Trees.{tree_root, path_node, KeyTree, AreNodesOf};
 ghost use Rattle.iss_keys.specs.Pieces.{join_below};
 ghost use Rattle.iss_keys.specs.Signatures.{part_of};

@@ -2,8 +2,7 @@
 //! leaves again, and a node's signatures are checked by others that share its directory. Each signature is computed
 //! once; it is then found by its leaf and all bytes of its statement.
 
-ghost use Rattle.std.specs.Prelude.{◌≡◌, ◌^◌, ◌<◌, ◌≤◌, IfOk, IfSome, IsSome, IsTrue};
-ghost use Rattle.iss_base.specs.Heights.{IsHeight};
+ghost use Rattle.std.specs.Prelude.{◌≡◌, ◌^◌, ◌<◌, ◌≤◌, IfSome, IsSome, IsTrue};
 ghost use Rattle.iss_keys.specs.Levels.{root_of};
 ghost use Rattle.iss_keys.specs.Signatures.{signature_of, Verifies};
 ghost use Rattle.iss_keys.specs.Internal.Remembered.{IsMade};

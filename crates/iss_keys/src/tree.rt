@@ -1,9 +1,8 @@
 //! The Merkle tree over the leaves. In memory it is one array: the root at place 1, and the children of place `i` at
 //! places `2 * i` and `2 * i + 1`.
 
-ghost use Rattle.std.specs.Prelude.{◌≡◌, ℕ, List, ◌+◌, ◌*◌, ◌^◌, ◌<◌, ◌≤◌, ◌++◌, length, IfOk, OnOk};
-ghost use Rattle.iss_keys.specs.Pieces.{join_below};
-ghost use Rattle.iss_keys.specs.Trees.{inner, node, tree_root, beside, path_node, HasNodesFrom};
+ghost use Rattle.std.specs.Prelude.{◌≡◌, ◌+◌, ◌*◌, ◌^◌, ◌<◌, ◌≤◌, ◌++◌, length, IfOk, OnOk};
+ghost use Rattle.iss_keys.specs.Trees.{inner, node, tree_root, beside, HasNodesFrom};
 ghost use Rattle.iss_keys.specs.Signatures.{climb};
 
 use crate::chain::{piece_at, value_of_leaf};

@@ -1,6 +1,6 @@
 //! Public keys, and whether a signature is valid.
 
-ghost use Rattle.std.specs.Prelude.{◌≡◌, ◌↔◌, ◌+◌, ◌*◌, ◌/◌, ◌^◌, ◌<◌, ◌≤◌, length, drop, IsTrue};
+ghost use Rattle.std.specs.Prelude.{◌≡◌, ◌↔◌, ◌+◌, ◌*◌, ◌/◌, ◌^◌, ◌≤◌, length, drop, IsTrue};
 ghost use Rattle.iss_base.specs.Heights.{IsHeight, digests_of_height, signature_length};
 ghost use Rattle.iss_keys.specs.Signatures.{bottom_root, part_root, root_of_parts, top_root, Verifies};
 ghost use Rattle.iss_keys.specs.KeyStates.{PublicKeyView};

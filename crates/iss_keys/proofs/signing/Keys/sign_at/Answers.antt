@@ -1,6 +1,4 @@
-use Rattle.std.proofs.Common.{◌^◌, ◌<◌, ◌∙◌, sym, subst}
 use Rattle.std.proofs.lemmas.Result.{IfOk-weaker}
-use Rattle.iss_keys.specs.Levels.{KeySeed}
 use Rattle.iss_keys.proofs.VerifyLemmas.{made_verifies}
 use Rattle.iss_keys.proofs.signing.Keys.sign_at.Goals as goal
 
