@@ -11,7 +11,7 @@ use Rattle.iss_loops.proofs.CutLemmas.{Reaches, cut-behind, frames-reach, goes-o
 use Rattle.iss_loops.proofs.LoopLemmas.{take-more}
 use Rattle.iss_loops.specs.Loop.{packet_at, peer_of}
 use Rattle.iss_loops.specs.NodeBehavior.{IsOpen, NodeBehavior}
-use Rattle.iss_loops.specs.NodeLoop.{Goes, GrowsTo, HasGone, IsAt, NodeState, arrives, asks, proposes, receives, rests, takes, times_out, turn, wakes}
+use Rattle.iss_loops.specs.NodeLoop.{Goes, GrowsTo, HasGone, HasLooped, IsAt, NodeState, arrives, asks, begins, node_loop_of, proposes, receives, rests, takes, times_out, turn, turns, wakes}
 use Rattle.iss_loops.specs.NodeSteps.{Does, NodeSeen}
 use Rattle.iss_loops.specs.declared.errors.NodeError.{NodeError}
 use Rattle.iss_loops.specs.declared.errors.NodeError.TheVariants.{DiskFault, LinksFault}
@@ -270,3 +270,32 @@ rests-wakes patience a b r idle enough d =
         let still : w.idle ≡ true = sym at.idle ∙ idle in
         let all : (w.idle_turns + 1 == patience) ≡ true = eq-eqb (w.idle_turns + 1) patience (ap (λ (n : ℕ). n + 1) (sym at.idle_turns) ∙ enough) in
         sym (rw (still, all) refl)
+
+-- ---- the whole loop
+
+pub turns-more : (frames patience n : ℕ) (a b c : NodeSeen) → Done n (λ B. turns B frames patience n) a b → Done 1 (λ B. turn B frames patience) b c → Done (n + 1) (λ B. turns B frames patience (n + 1)) a c
+turns-more frames patience n a b c before more =
+    let next : suc n ≡ n + 1 = omega arith in
+    let d = done-then n 1 (λ B. turns B frames patience n) (λ B. turn B frames patience) a b c before more in
+    done-as (n + 1) (λ B w. turn B frames patience (turns B frames patience n w)) (λ B. turns B frames patience (n + 1)) a c
+    (λ B events has w at. ap (λ (k : ℕ). turns B frames patience k w) next)
+    (λ B w. subst (λ (k : ℕ). Reaches B w (turns B frames patience k w)) next (d.reaches B w)) d
+
+pub looped : (frames patience n : ℕ) (a b : NodeSeen) → a.progress ≡ record { count = 0; idle = true; idle_turns = 0 } → Done n (λ B. turns B frames patience n) a b
+    → (B : NodeBehavior) (events : List NodeEvent) → a.has B events → HasLooped events (b.has B) a.ends b.ends (node_loop_of B frames patience n events)
+looped frames patience n a b is d B events has =
+    let h = d.goes B events has in
+    record {
+      later = h.later;
+      there = h.there;
+      grown = h.grown;
+      loops = λ told same.
+          let at = h.goes (begins events told) (record {
+            events_are = refl;
+            ends_are = same;
+            count = ap (λ (p : NodeProgress). p.count) is;
+            idle = ap (λ (p : NodeProgress). p.idle) is;
+            idle_turns = ap (λ (p : NodeProgress). p.idle_turns) is;
+          }) in
+          record { events_are = at.events_are; ends_are = at.ends_are };
+    }

@@ -26,7 +26,8 @@ pub(crate) fn nodes_of<C: TracedCluster>(cluster: &C) -> u32
 // Whether the loop has ended.
 // rule: Loopback: A loop ends after an event that shows evidence, and before one that would pass a trace's limits
 pub(crate) fn has_ended<C: TracedCluster>(cluster: &C, progress: &Progress) -> bool
-    ensures { result ≡ (progress.now.full || is_over (C.behavior cluster.now) (C.events cluster.now) (C.stale cluster.now)) }
+    ensures { result ≡ (progress.now.full ||
+        is_over (C.behavior cluster.now) (C.events cluster.now) (C.stale cluster.now)) }
 {
     progress.full || cluster.is_over()
 }

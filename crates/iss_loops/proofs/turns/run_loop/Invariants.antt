@@ -1,4 +1,4 @@
-use Rattle.std.proofs.Common.{◌≡◌}
+use Rattle.std.proofs.Common.{◌≡◌, false, true}
 use Rattle.iss_loops.specs.Loop.{each_below, hands_out, turn_at}
 use Rattle.iss_loops.specs.Plans.{plan_of}
 use Rattle.iss_loops.specs.Progress.{Goes, seen}
