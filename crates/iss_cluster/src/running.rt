@@ -119,7 +119,10 @@ impl<M: Sequenced> TracedCluster for Running<M> {
         Ok(())
     }
 
-    fn has_evidence(&self) -> bool {
+    fn is_over(&self) -> bool {
+        if self.stale {
+            return true;
+        }
         self.report.ended.is_some()
     }
 

@@ -1,13 +1,13 @@
-use Rattle.std.proofs.Common.{◌∙◌, sym, refl}
-use Rattle.std.proofs.lemmas.Result.{on_ok_weaker}
-use Rattle.iss_loops.proofs.CutLemmas.{cut-idle}
-use Rattle.iss_loops.proofs.NodeLemmas.{proposed-gone}
+use Rattle.iss_loops.proofs.PartLemmas.{does-as, does-then, idles, proposed}
+use Rattle.iss_loops.specs.NodeLoop.{proposes, takes}
+use Rattle.iss_loops.specs.NodeSteps.{seen}
+use Rattle.iss_rules.specs.declared.events.NodeEvent.TheVariants.{Propose}
 use Rattle.iss_loops.proofs.node_loop.propose.Goals as goal
+use Rattle.std.proofs.Common.{false}
 
-pub returns-clause-goes : goal.returns-clause-goes
-returns-clause-goes g c =
-    on_ok_weaker c.take.result (λ h. λ B events has. proposed-gone B events (g.N.JournaledNode.has c.take.new.node B) (g.L.Links.ends c.args.links.now) (g.L.Links.ends c.take.new.links) c.args.progress.now _ c.take.new.progress
-    (sym (c.castable.ensures B events has) ∙ c.if-not-castable.false) refl (h B events has)) c.take.ensures.goes
-
-pub returns-clause-cut : goal.returns-clause-cut
-returns-clause-cut g c = λ q. λ B events has. cut-idle B (g.N.JournaledNode.leaves c.take.new.node B) events (g.L.Links.ends c.args.links.now) (g.L.Links.ends c.take.new.links) c.args.progress.now _ refl (c.take.ensures.cut q B events has)
+pub returns : goal.returns
+returns g c =
+    let here = seen g.N.JournaledNode.has g.N.JournaledNode.leaves g.N.JournaledNode.nodes g.N.JournaledNode.place g.N.JournaledNode.faults g.L.Links.ends g.L.Links.faults c.args.node.now c.args.links.now c.args.progress.now in
+    does-as 0 (λ B w. takes B Propose (record w { idle = false })) (λ B. proposes B) _ _ c.take.result
+    (proposed c.castable.result here (λ B events has. c.castable.ensures B events has) c.if-not-castable.false)
+    (does-then 0 0 (λ B w. record w { idle = false }) (λ B. takes B Propose) _ _ _ c.take.result (idles false _) c.take.ensures)

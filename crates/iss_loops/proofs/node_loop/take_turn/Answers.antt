@@ -1,52 +1,46 @@
-use Rattle.std.proofs.Common.{refl, true}
-use Rattle.std.proofs.lemmas.Result.{err_from_is_err_and, on_ok_weaker}
-use Rattle.iss_loops.proofs.CutLemmas.{cut-behind, cut-idle, passed, proposes-reaches, receives-reaches}
-use Rattle.iss_loops.proofs.NodeLemmas.{open-on, turned}
-use Rattle.iss_loops.specs.NodeLoop.{NodeState, proposes, receives}
-use Rattle.iss_loops.specs.declared.errors.NodeError.TheVariants.{DiskFault}
+use Rattle.std.proofs.Common.{true}
+use Rattle.std.proofs.lemmas.Result.{err_from_is_err_and}
+use Rattle.iss_loops.proofs.CutLemmas.{proposes-reaches, receives-reaches}
+use Rattle.iss_loops.proofs.PartLemmas.{does-of, does-then, done-of, done-then, fails, idles, rests-busy, rests-idle, rests-wakes}
+use Rattle.iss_loops.specs.NodeLoop.{proposes, receives, rests, turn}
+use Rattle.iss_loops.specs.NodeSteps.{seen}
 use Rattle.iss_loops.proofs.node_loop.take_turn.Goals as goal
 
-pub receive-requires : goal.receive-requires
-receive-requires g c =
-    open-on (g.N.JournaledNode.has c.args.node.now) (g.N.JournaledNode.has c.propose.new.node) (g.L.Links.ends c.args.links.now) (g.L.Links.ends c.propose.new.links) (record c.args.progress.now { idle = true }) c.propose.new.progress
-    (λ B. proposes B) c.requires.open c.in_ok-propose.ensures.goes
-
-pub rest-requires-clause-open : goal.rest-requires-clause-open
-rest-requires-clause-open g c =
-    open-on (g.N.JournaledNode.has c.propose.new.node) (g.N.JournaledNode.has c.receive.new.node) (g.L.Links.ends c.propose.new.links) (g.L.Links.ends c.receive.new.links) c.propose.new.progress c.receive.new.progress
-    (λ B. receives B c.args.frames)
-    (open-on (g.N.JournaledNode.has c.args.node.now) (g.N.JournaledNode.has c.propose.new.node) (g.L.Links.ends c.args.links.now) (g.L.Links.ends c.propose.new.links) (record c.args.progress.now { idle = true }) c.propose.new.progress
-    (λ B. proposes B) c.requires.open c.in_ok-propose.ensures.goes) c.in_ok-receive.ensures.goes
-
-pub returns-clause-goes : goal.returns-clause-goes
-returns-clause-goes g c =
-    on_ok_weaker c.rest.result (λ h. λ B events has. turned B c.args.frames c.args.patience events (g.N.JournaledNode.has c.propose.new.node B) (g.N.JournaledNode.has c.receive.new.node B) (g.N.JournaledNode.has c.rest.new.node B)
-    (g.L.Links.ends c.args.links.now) (g.L.Links.ends c.propose.new.links) (g.L.Links.ends c.receive.new.links) (g.L.Links.ends c.rest.new.links)
-    c.args.progress.now _ c.propose.new.progress c.receive.new.progress c.rest.new.progress refl (c.in_ok-propose.ensures.goes B events has) (λ es there. c.in_ok-receive.ensures.goes B es there) (λ es there. h B es there)) c.rest.ensures.goes
-
-pub returns-in_err-propose-clause-cut : goal.returns-in_err-propose-clause-cut
-returns-in_err-propose-clause-cut g c =
+pub returns-in_err-propose : goal.returns-in_err-propose
+returns-in_err-propose g c =
+    let here = seen g.N.JournaledNode.has g.N.JournaledNode.leaves g.N.JournaledNode.nodes g.N.JournaledNode.place g.N.JournaledNode.faults g.L.Links.ends g.L.Links.faults c.args.node.now c.args.links.now c.args.progress.now in
     let p = err_from_is_err_and c.from_residual.result c.from_residual.ensures.1 in
     rw (p.1, p.2)
-    (passed _ c.propose.result _ DiskFault c.in_err-propose.was
-    (λ q. λ B events has. cut-idle B (g.N.JournaledNode.leaves c.propose.new.node B) events (g.L.Links.ends c.args.links.now) (g.L.Links.ends c.propose.new.links) c.args.progress.now _ refl (c.propose.ensures.cut q B events has)))
+    (fails 0 1 (λ B w. proposes B (record w { idle = true })) (λ B. turn B c.args.frames c.args.patience) here _ c.propose.result _ c.in_err-propose.was
+    (does-then 0 0 (λ B w. record w { idle = true }) (λ B. proposes B) here _ _ c.propose.result (idles true here) c.propose.ensures))
 
-pub returns-in_err-receive-clause-cut : goal.returns-in_err-receive-clause-cut
-returns-in_err-receive-clause-cut g c =
+pub returns-in_err-receive : goal.returns-in_err-receive
+returns-in_err-receive g c =
+    let here = seen g.N.JournaledNode.has g.N.JournaledNode.leaves g.N.JournaledNode.nodes g.N.JournaledNode.place g.N.JournaledNode.faults g.L.Links.ends g.L.Links.faults c.args.node.now c.args.links.now c.args.progress.now in
+    let first = done-then 0 0 (λ B w. record w { idle = true }) (λ B. proposes B) here _ _ (idles true here) (done-of 0 (λ B. proposes B) _ _ c.propose.result _ c.in_ok-propose.was (λ B w. proposes-reaches B w) c.propose.ensures) in
     let p = err_from_is_err_and c.from_residual-in_err-receive.result c.from_residual-in_err-receive.ensures.1 in
     rw (p.1, p.2)
-    (passed _ c.receive.result _ DiskFault c.in_err-receive.was
-    (λ q. λ B events has. cut-idle B (g.N.JournaledNode.leaves c.receive.new.node B) events (g.L.Links.ends c.args.links.now) (g.L.Links.ends c.receive.new.links) c.args.progress.now (record c.args.progress.now { idle = true }) refl
-    (cut-behind B (g.N.JournaledNode.leaves c.receive.new.node B) events (g.N.JournaledNode.has c.propose.new.node B)
-    (g.L.Links.ends c.args.links.now) (g.L.Links.ends c.propose.new.links) (g.L.Links.ends c.receive.new.links) (record c.args.progress.now { idle = true }) c.propose.new.progress
-    (λ (w : NodeState). proposes B w) (proposes-reaches B) (c.in_ok-propose.ensures.goes B events has) (λ es there. c.receive.ensures.cut q B es there))))
+    (fails 0 1 (λ B w. receives B c.args.frames (proposes B (record w { idle = true }))) (λ B. turn B c.args.frames c.args.patience) here _ c.receive.result _ c.in_err-receive.was
+    (does-then 0 0 (λ B w. proposes B (record w { idle = true })) (λ B. receives B c.args.frames) here _ _ c.receive.result first c.receive.ensures))
 
-pub returns-clause-cut : goal.returns-clause-cut
-returns-clause-cut g c = λ q. λ B events has.
-    cut-idle B (g.N.JournaledNode.leaves c.rest.new.node B) events (g.L.Links.ends c.args.links.now) (g.L.Links.ends c.rest.new.links) c.args.progress.now (record c.args.progress.now { idle = true }) refl
-    (cut-behind B (g.N.JournaledNode.leaves c.rest.new.node B) events (g.N.JournaledNode.has c.propose.new.node B)
-    (g.L.Links.ends c.args.links.now) (g.L.Links.ends c.propose.new.links) (g.L.Links.ends c.rest.new.links) (record c.args.progress.now { idle = true }) c.propose.new.progress
-    (λ (w : NodeState). proposes B w) (proposes-reaches B) (c.in_ok-propose.ensures.goes B events has)
-    (λ es there. cut-behind B (g.N.JournaledNode.leaves c.rest.new.node B) es (g.N.JournaledNode.has c.receive.new.node B)
-    (g.L.Links.ends c.propose.new.links) (g.L.Links.ends c.receive.new.links) (g.L.Links.ends c.rest.new.links) c.propose.new.progress c.receive.new.progress
-    (λ (w : NodeState). receives B c.args.frames w) (receives-reaches B c.args.frames) (c.in_ok-receive.ensures.goes B es there) (λ fs here. c.rest.ensures.cut q B fs here)))
+pub returns-then-not-progress : goal.returns-then-not-progress
+returns-then-not-progress g c =
+    let here = seen g.N.JournaledNode.has g.N.JournaledNode.leaves g.N.JournaledNode.nodes g.N.JournaledNode.place g.N.JournaledNode.faults g.L.Links.ends g.L.Links.faults c.args.node.now c.args.links.now c.args.progress.now in
+    let first = done-then 0 0 (λ B w. record w { idle = true }) (λ B. proposes B) here _ _ (idles true here) (done-of 0 (λ B. proposes B) _ _ c.propose.result _ c.in_ok-propose.was (λ B w. proposes-reaches B w) c.propose.ensures) in
+    let second = done-then 0 0 (λ B w. proposes B (record w { idle = true })) (λ B. receives B c.args.frames) here _ _ first (done-of 0 (λ B. receives B c.args.frames) _ _ c.receive.result _ c.in_ok-receive.was (λ B w. receives-reaches B c.args.frames w) c.receive.ensures) in
+    does-of 1 (λ B. turn B c.args.frames c.args.patience) here _ _ (done-then 0 1 (λ B w. receives B c.args.frames (proposes B (record w { idle = true }))) (λ B. rests B c.args.patience) here _ _ second (rests-busy c.args.patience _ c.if-not-progress.true))
+
+pub returns-then-progress-patience : goal.returns-then-progress-patience
+returns-then-progress-patience g c =
+    let here = seen g.N.JournaledNode.has g.N.JournaledNode.leaves g.N.JournaledNode.nodes g.N.JournaledNode.place g.N.JournaledNode.faults g.L.Links.ends g.L.Links.faults c.args.node.now c.args.links.now c.args.progress.now in
+    let first = done-then 0 0 (λ B w. record w { idle = true }) (λ B. proposes B) here _ _ (idles true here) (done-of 0 (λ B. proposes B) _ _ c.propose.result _ c.in_ok-propose.was (λ B w. proposes-reaches B w) c.propose.ensures) in
+    let second = done-then 0 0 (λ B w. proposes B (record w { idle = true })) (λ B. receives B c.args.frames) here _ _ first (done-of 0 (λ B. receives B c.args.frames) _ _ c.receive.result _ c.in_ok-receive.was (λ B w. receives-reaches B c.args.frames w) c.receive.ensures) in
+    does-of 1 (λ B. turn B c.args.frames c.args.patience) here _ _ (done-then 0 1 (λ B w. receives B c.args.frames (proposes B (record w { idle = true }))) (λ B. rests B c.args.patience) here _ _ second (rests-idle c.args.patience _ c.if-not-progress.false c.if-progress-patience.true))
+
+pub returns : goal.returns
+returns g c =
+    let here = seen g.N.JournaledNode.has g.N.JournaledNode.leaves g.N.JournaledNode.nodes g.N.JournaledNode.place g.N.JournaledNode.faults g.L.Links.ends g.L.Links.faults c.args.node.now c.args.links.now c.args.progress.now in
+    let first = done-then 0 0 (λ B w. record w { idle = true }) (λ B. proposes B) here _ _ (idles true here) (done-of 0 (λ B. proposes B) _ _ c.propose.result _ c.in_ok-propose.was (λ B w. proposes-reaches B w) c.propose.ensures) in
+    let second = done-then 0 0 (λ B w. proposes B (record w { idle = true })) (λ B. receives B c.args.frames) here _ _ first (done-of 0 (λ B. receives B c.args.frames) _ _ c.receive.result _ c.in_ok-receive.was (λ B w. receives-reaches B c.args.frames w) c.receive.ensures) in
+    does-then 0 1 (λ B w. receives B c.args.frames (proposes B (record w { idle = true }))) (λ B. rests B c.args.patience) here _ _ c.wake.result second
+    (rests-wakes c.args.patience _ _ c.wake.result c.if-not-progress.false c.if-progress-patience.false c.wake.ensures)

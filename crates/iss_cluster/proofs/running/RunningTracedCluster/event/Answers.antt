@@ -8,7 +8,7 @@ follow-requires-clause-cluster g c = c.self.invariant.cluster
 
 pub follow-requires-clause-next : goal.follow-requires-clause-next
 follow-requires-clause-next g c =
-    next-is g.M.Sequenced.spec g.M.Sequenced.refines _ _ c.args.event c.self.view_is c.requires.range c.requires.kind c.requires.limits c.requires.no_evidence
+    next-is g.M.Sequenced.spec g.M.Sequenced.refines _ _ c.args.event c.self.view_is c.requires.next
 
 pub invariant_of-self : goal.invariant_of-self
 invariant_of-self g c =
