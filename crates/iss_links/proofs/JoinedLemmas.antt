@@ -1,12 +1,12 @@
 -- Partial packets represent the fragments that were taken.
-use Rattle.std.proofs.Common.{◌≡◌, ℕ, zero, suc, ◌+◌, ◌<◌, ◌≤◌, ◌==◌, ◌&&◌, ◌⊎◌, Bool, true, false, cond, List, [], ◌∷◌, ◌++◌, length, get_or, take, drop, map, Option, Some, None, is_some, unwrap_or, refl, ap, sym, ◌∙◌, subst, arith, inl, inr, nat_lt}
+use Rattle.std.proofs.Common.{◌≡◌, ℕ, suc, ◌+◌, ◌<◌, ◌≤◌, ◌==◌, ◌⊎◌, Bool, true, false, cond, List, [], ◌∷◌, ◌++◌, length, get_or, take, drop, map, Option, Some, None, is_some, unwrap_or, refl, ap, sym, ◌∙◌, arith, inl, inr, nat_lt}
 use Rattle.std.proofs.lemmas.Bool.{cases_Bool, false≢true, eq-eqb, eqb-true}
 use Rattle.std.specs.List.{concat}
-use Rattle.iss_base.specs.Lists.{In, below, first_of}
+use Rattle.iss_base.specs.Lists.{In, first_of}
 use Rattle.iss_links.specs.Frames.{Fragment}
-use Rattle.iss_links.specs.Reassembly.{Partial, empty_partial, has_part, belongs, is_complete, payload, updated, partials_after, latest_64, index_of, completed_by, add_fragment, add_part, insert_part}
+use Rattle.iss_links.specs.Reassembly.{Partial, empty_partial, has_part, belongs, is_complete, payload, updated, partials_after, latest_64, index_of, completed_by, add_fragment, add_part}
 use Rattle.iss_links.specs.Joined.{AreWithin, IsJoined, first_part, is_kept, partials_of}
-use Rattle.iss_links.proofs.PartLemmas.{Parts, Ascending, all-counted, below-range, part_at, range, there, ascending-insert, looked, full-parts, full-there}
+use Rattle.iss_links.proofs.PartLemmas.{Ascending, all-counted, below-range, part_at, there, ascending-insert, looked, full-parts, full-there}
 
 -- P holds of each element
 abbrev pub Each : {A : Type 0} → (A → Type 0) → List A → Type 0

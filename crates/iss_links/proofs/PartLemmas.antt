@@ -1,9 +1,8 @@
 -- The received parts of a packet, in order of their indices.
-use Rattle.std.proofs.Common.{◌≡◌, ℕ, zero, suc, ◌+◌, ◌<◌, ◌≤◌, ◌==◌, ◌&&◌, ◌||◌, ◌⊎◌, Bool, true, false, nat_lt, cond, List, [], ◌∷◌, ◌++◌, length, map, Option, Some, None, is_some, unwrap_or, refl, ap, sym, ◌∙◌, subst, rules, arith, inl, inr}
+use Rattle.std.proofs.Common.{◌≡◌, ℕ, zero, suc, ◌+◌, ◌<◌, ◌≤◌, ◌==◌, ◌||◌, ◌⊎◌, Bool, true, false, nat_lt, cond, List, [], ◌∷◌, ◌++◌, length, map, Option, Some, None, is_some, unwrap_or, refl, ap, sym, ◌∙◌, subst, arith, inl, inr}
 use Rattle.std.proofs.lemmas.Bool.{cases_Bool, cases_lt, false≢true, lt-ltb, le-ltb, eqb-true, eq-eqb}
-use Rattle.std.specs.List.{concat}
-use Rattle.iss_base.specs.Lists.{below, first_of}
-use Rattle.iss_links.specs.Reassembly.{has_part, add_part, insert_part}
+use Rattle.iss_base.specs.Lists.{below}
+use Rattle.iss_links.specs.Reassembly.{has_part, insert_part}
 
 -- n numbers, from lo on
 abbrev pub range : ℕ → ℕ → List ℕ

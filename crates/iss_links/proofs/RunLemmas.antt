@@ -1,12 +1,12 @@
 -- What an end has taken after any calls, and that its packets are joined of that.
-use Rattle.std.proofs.Common.{◌≡◌, ◌≢◌, ℕ, zero, suc, ◌+◌, ◌<◌, ◌≤◌, ◌==◌, ◌⊎◌, Bool, true, false, cond, List, [], ◌∷◌, ◌++◌, length, get_or, set, take, map, Option, Some, None, refl, ap, sym, ◌∙◌, subst, arith, inl, inr, nat_le}
+use Rattle.std.proofs.Common.{◌≡◌, ◌≢◌, ℕ, zero, suc, ◌<◌, ◌≤◌, ◌==◌, ◌⊎◌, true, false, cond, List, [], ◌∷◌, ◌++◌, length, take, map, Option, Some, None, refl, ap, sym, ◌∙◌, subst, arith, inl, inr, nat_le}
 use Rattle.std.proofs.lemmas.Bool.{cases_Bool, cases_lt, eq-eqb, eqb-true, false≢true}
 use Rattle.std.proofs.lemmas.List.{get_or-set_same, get_or-set_other, get_or_past, map-append, set_past}
 use Rattle.iss_base.specs.Lists.{In, below}
 use Rattle.iss_links.specs.Frames.{Fragment, fragments, part_of, parts_of}
 use Rattle.iss_links.specs.Reassembly.{IsOutcome, completed_by, partials_after}
 use Rattle.iss_links.specs.Ends.{End, IsArrival, IsFirst, after_send, after_take, empty_end, end_at, first_taken, with_packet}
-use Rattle.iss_links.specs.Joined.{AreWithin, IsJoined, partials_of}
+use Rattle.iss_links.specs.Joined.{partials_of}
 use Rattle.iss_links.specs.Internal.Runs.{IsTakenAndJoined, LinkCall, ends_after, sends, taken_at, takes}
 use Rattle.iss_links.specs.declared.links.Arrival.{Arrival}
 use Rattle.iss_links.specs.declared.links.Arrival.TheVariants.{Got, Part, Nothing}

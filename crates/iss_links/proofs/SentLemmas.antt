@@ -1,9 +1,9 @@
 -- A packet that arrives is the packet that was sent.
-use Rattle.std.proofs.Common.{◌≡◌, ℕ, zero, suc, ◌+◌, ◌*◌, ◌/◌, ◌<◌, ◌≤◌, ◌==◌, ◌&&◌, ◌⊎◌, Bool, true, false, cond, List, [], ◌∷◌, ◌++◌, length, take, drop, map, Option, Some, None, is_some, unwrap_or, refl, ap, sym, ◌∙◌, arith, inl, inr, drop-drop}
+use Rattle.std.proofs.Common.{◌≡◌, ℕ, zero, suc, ◌+◌, ◌*◌, ◌/◌, ◌<◌, ◌≤◌, ◌==◌, ◌&&◌, ◌⊎◌, true, false, cond, List, [], ◌∷◌, ◌++◌, length, take, drop, map, Option, Some, None, is_some, unwrap_or, refl, ap, sym, ◌∙◌, arith, inl, inr, drop-drop}
 use Rattle.std.proofs.lemmas.Bool.{cases_Bool, false≢true, eqb-true}
 use Rattle.std.proofs.lemmas.List.{take-append-drop, drop_all}
 use Rattle.std.specs.List.{concat}
-use Rattle.iss_base.specs.Lists.{below, first_of}
+use Rattle.iss_base.specs.Lists.{first_of}
 use Rattle.iss_links.specs.Frames.{Fragment, part_of, parts_of}
 use Rattle.iss_links.specs.Reassembly.{empty_partial, belongs, completed_by}
 use Rattle.iss_links.specs.Joined.{AreFragmentsOf, AreWithin, first_part, partials_of}

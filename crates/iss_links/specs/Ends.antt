@@ -1,10 +1,10 @@
 -- The ends of links that record their frames: the frames that wait at each, and its partial packets. Frames are taken
 -- in the order sent.
-use Rattle.std.specs.Prelude.{◌≡◌, ◌⊎◌, ℕ, List, [], ◌∷◌, ◌++◌, get_or, set}
+use Rattle.std.specs.Prelude.{◌≡◌, ℕ, List, [], ◌∷◌, ◌++◌, get_or, set}
 use Rattle.iss_links.specs.Frames.{Fragment, fragments}
 use Rattle.iss_links.specs.Reassembly.{Partial, IsOutcome, completed_by, partials_after}
 use Rattle.iss_links.specs.declared.links.Arrival.{Arrival}
-use Rattle.iss_links.specs.declared.links.Arrival.TheVariants.{Got, Part, Nothing}
+use Rattle.iss_links.specs.declared.links.Arrival.TheVariants.{Nothing}
 
 pub record End : Type 0 where
   -- the fragments sent to it and not taken, in the order sent

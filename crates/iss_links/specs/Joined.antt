@@ -1,6 +1,6 @@
 -- What a complete packet is made of: the first of each of its parts that were taken since the end had none of them. So
 -- it is the packet that was sent, if all fragments under its sender, number and count of parts are of that packet.
-use Rattle.std.specs.Prelude.{◌≡◌, ℕ, zero, suc, ◌<◌, ◌==◌, ◌&&◌, ◌||◌, Bool, true, false, List, [], ◌∷◌, ◌++◌, length, map, Option, Some, None, is_some, unwrap_or, if◌then◌else◌}
+use Rattle.std.specs.Prelude.{◌≡◌, ℕ, ◌<◌, ◌==◌, ◌&&◌, ◌||◌, Bool, true, false, List, [], ◌∷◌, ◌++◌, map, Option, Some, None, is_some, unwrap_or, if◌then◌else◌}
 use Rattle.std.specs.List.{concat}
 use Rattle.iss_base.specs.Lists.{In, below, first_of}
 use Rattle.iss_links.specs.Frames.{Fragment, part_of}

@@ -1,7 +1,7 @@
 -- Reassembly of packets from the frames that an end takes, in any order, repeated or incomplete. Fragments with equal
 -- sender, number and count of parts belong to one packet. Of each part the first fragment counts. A packet is complete
 -- once it has all its parts, and is then kept no more. An end keeps at most 64 partial packets.
-use Rattle.std.specs.Prelude.{◌≡◌, ℕ, suc, ◌+◌, ◌-◌, ◌==◌, ◌&&◌, ◌||◌, Bool, false, nat_lt, List, [], ◌∷◌, ◌++◌, length, take, drop, map, get_or, Option, Some, None, if◌then◌else◌}
+use Rattle.std.specs.Prelude.{◌≡◌, ℕ, suc, ◌==◌, ◌&&◌, ◌||◌, Bool, false, nat_lt, List, [], ◌∷◌, ◌++◌, length, take, drop, map, get_or, Option, Some, None, if◌then◌else◌}
 use Rattle.std.specs.List.{concat}
 use Rattle.iss_links.specs.Frames.{Fragment, IsFrame}
 use Rattle.iss_links.specs.declared.links.Arrival.{Arrival}

@@ -45,45 +45,54 @@ impl Model for Frame {
     } };
 }
 
-// How many parts a packet of this length has.
-pub(crate) fn parts_of(len: usize) -> u32
-    requires { len ≤ 200000016 }
-    ensures { result ≡ parts_of len }
-{
-    ((len + (PART - 1)) / PART) as u32
+/// A packet that is not too long to be sent.
+#[derive(Drop)]
+pub(crate) struct Packet<'a> {
+    pub(crate) bytes: &'a [u8],
+    ghost short: { length bytes.now ≤ 200000016 },
 }
 
-// The bytes of one part of a packet.
-pub(crate) fn part_bytes(packet: &[u8], part: u32) -> &[u8]
-    requires part { 1024 * part < length packet.now }
-    requires packet { length packet.now ≤ 200000016 }
-    ensures { result.now ≡ (part_of 0 0 packet.now part).bytes }
-{
-    let first = part as usize * PART;
-    let end = packet.len().min(first + PART);
-    &packet[first..end]
+impl<'a> Packet<'a> {
+    /// How many parts it has.
+    pub(crate) fn parts(&self) -> u32
+        ensures { result ≡ parts_of (length self.now.bytes.now) }
+    {
+        ((self.bytes.len() + (PART - 1)) / PART) as u32
+    }
 }
 
-// One part of a packet as a frame.
-// rule: Links: A packet of 1 to 200,000,016 bytes is sent as parts of 1,024 bytes, in order; any other is not sent
-pub(crate) fn frame_of(
-    alloc: Global,
-    from: u8,
-    number: u64,
-    packet: &[u8],
-    part: u32,
-) -> Result<Frame, NoMemory>
-    requires part { 1024 * part < length packet.now }
-    requires packet { length packet.now ≤ 200000016 }
-    ensures { IfOk result (λ f. f ≡ part_of from number packet.now part) }
-{
-    Ok(Frame {
-        from,
-        number,
-        part,
-        parts: parts_of(packet.len()),
-        bytes: Vec::from_slice(alloc, part_bytes(packet, part))?,
-    })
+/// One part of a packet, and its index from 0.
+#[derive(Drop)]
+pub(crate) struct Part<'a> {
+    pub(crate) packet: &'a Packet<'a>,
+    pub(crate) index: u32,
+    ghost within: { 1024 * index < length packet.now.bytes.now },
+}
+
+impl<'a> Part<'a> {
+    // Its bytes.
+    fn bytes(&self) -> &'a [u8]
+        ensures { result.now ≡ (part_of 0 0 self.now.packet.now.bytes.now self.now.index).bytes }
+    {
+        let bytes = self.packet.bytes;
+        let first = self.index as usize * PART;
+        let end = bytes.len().min(first + PART);
+        &bytes[first..end]
+    }
+
+    /// The part as a frame.
+    // rule: Links: A packet of 1 to 200,000,016 bytes is sent as parts of 1,024 bytes, in order; any other is not sent
+    pub(crate) fn frame(&self, alloc: Global, from: u8, number: u64) -> Result<Frame, NoMemory>
+        ensures { IfOk result (λ f. f ≡ part_of from number self.now.packet.now.bytes.now self.now.index) }
+    {
+        Ok(Frame {
+            from,
+            number,
+            part: self.index,
+            parts: self.packet.parts(),
+            bytes: Vec::from_slice(alloc, self.bytes())?,
+        })
+    }
 }
 
 /// The bytes of a frame.

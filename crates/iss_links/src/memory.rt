@@ -3,7 +3,7 @@ ghost use Rattle.std.specs.Prelude.{◌≡◌, ◌<◌, ℕ, length, ◌++◌, I
 ghost use Rattle.iss_links.specs.Ends.{IsFirst, empty_end, end_at, first_taken, with_packet};
 ghost use Rattle.iss_links.specs.Frames.{fragments};
 
-use crate::frames::{Frame, PACKET_MAX, frame_of, parts_of};
+use crate::frames::{Frame, PACKET_MAX, Packet, Part};
 use crate::{Arrival, EndError, Links, NoMemory, Reassembly};
 use std::alloc::Global;
 use std::collections::VecDeque;
@@ -45,8 +45,13 @@ impl MemoryEnd {
         if packet.len() > PACKET_MAX {
             return Ok(());
         }
-        for part in 0..parts_of(packet.len()) {
-            let frame = frame_of(alloc, from, number, packet, part)?;
+        let whole = Packet { bytes: packet };
+        for part in 0..whole.parts() {
+            let frame = Part {
+                packet: &whole,
+                index: part,
+            }
+            .frame(alloc, from, number)?;
             self.waiting.push_back(frame)?;
         }
         Ok(())

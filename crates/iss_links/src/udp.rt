@@ -2,7 +2,7 @@
 ghost use Rattle.std.specs.Prelude.{◌≡◌, ◌≤◌, ◌<◌, ◌+◌, ◌*◌, Ok, IfOk, IsErr, IfSome, length};
 ghost use Rattle.iss_links.specs.Calls.{HasCause};
 
-use crate::frames::{PACKET_MAX, frame_of, parts_of, write_frame};
+use crate::frames::{PACKET_MAX, Packet, Part, write_frame};
 use crate::{Arrival, EndError, Failed, Links, NoMemory, Reassembly};
 use std::alloc::Global;
 use std::io;
@@ -94,20 +94,31 @@ fn open_end<R: Net>(
     })
 }
 
-// The ends `first` to `first + count - 1`, or the first refusal of the system.
-fn open_all<R: Net>(
-    net: &R,
-    alloc: Global,
+// Ends by number: `first` to `first + count - 1`. End i is at port `port + i`.
+#[derive(Drop)]
+struct Ports {
     port: u16,
     first: u32,
     count: u32,
-) -> Result<io::Result<Vec<UdpEnd>>, NoMemory>
-    requires port { port ≤ 65000 }
-    requires ends { first + count ≤ 256 }
-{
+    ghost low: { port ≤ 65000 },
+    ghost few: { first + count ≤ 256 },
+}
+
+// The ends at these ports, or the first refusal of the system.
+fn open_all<R: Net>(
+    net: &R,
+    alloc: Global,
+    ports: &Ports,
+) -> Result<io::Result<Vec<UdpEnd>>, NoMemory> {
     let mut ends = Vec::new(alloc);
-    for number in first..first + count {
-        match open_end(net, alloc, port + number as u16, number, count == 1) {
+    for number in ports.first..ports.first + ports.count {
+        match open_end(
+            net,
+            alloc,
+            ports.port + number as u16,
+            number,
+            ports.count == 1,
+        ) {
             Ok(end) => ends.push(end)?,
             Err(error) => return Ok(Err(error)),
         }
@@ -157,17 +168,8 @@ fn receive(socket: &UdpSocket, into: &mut [u8]) -> io::Result<Option<usize>>
 }
 
 // The datagram of a part of a packet.
-fn datagram_of(
-    alloc: Global,
-    from: u8,
-    number: u64,
-    packet: &[u8],
-    part: u32,
-) -> Result<Vec<u8>, NoMemory>
-    requires part { 1024 * part < length packet.now }
-    requires packet { length packet.now ≤ 200000016 }
-{
-    let frame = frame_of(alloc, from, number, packet, part)?;
+fn datagram_of(alloc: Global, from: u8, number: u64, part: &Part) -> Result<Vec<u8>, NoMemory> {
+    let frame = part.frame(alloc, from, number)?;
     write_frame(alloc, &frame)
 }
 
@@ -179,12 +181,14 @@ impl UdpEnd {
         port: u16,
         from: u8,
         number: u64,
-        packet: &[u8],
-    ) -> Result<io::Result<()>, NoMemory>
-        requires { length packet.now ≤ 200000016 }
-    {
-        for part in 0..parts_of(packet.len()) {
-            let datagram = datagram_of(alloc, from, number, packet, part)?;
+        packet: &Packet,
+    ) -> Result<io::Result<()>, NoMemory> {
+        for index in 0..packet.parts() {
+            let part = Part {
+                packet: &*packet,
+                index,
+            };
+            let datagram = datagram_of(alloc, from, number, &part)?;
             let sent = send_datagram(&self.socket, port, &datagram);
             if sent.is_err() {
                 return Ok(sent);
@@ -213,7 +217,8 @@ impl<R: Net> Links for UdpLinks<R> {
 
     fn attach(&mut self, port: u16, first: u32, count: u32) -> Result<(), EndError> {
         self.ends = Vec::new(self.alloc);
-        let opened = open_all(&self.net, self.alloc, port, first, count)?;
+        let ports = Ports { port, first, count };
+        let opened = open_all(&self.net, self.alloc, &ports)?;
         self.ends = count_fault(opened, &mut self.faults)?;
         self.port = port;
         Ok(())
@@ -225,7 +230,8 @@ impl<R: Net> Links for UdpLinks<R> {
             return Ok(());
         }
         let port = self.port + to as u16;
-        let sent = self.ends[i].send_parts(self.alloc, port, from as u8, number, packet)?;
+        let whole = Packet { bytes: packet };
+        let sent = self.ends[i].send_parts(self.alloc, port, from as u8, number, &whole)?;
         Ok(count_fault(sent, &mut self.faults)?)
     }
 

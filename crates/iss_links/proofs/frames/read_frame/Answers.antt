@@ -1,4 +1,4 @@
-use Rattle.std.proofs.Common.{rules, ◌≡◌, ◌∙◌, sym, ap, true, arith, List, ℕ, length, take, drop, ◌-◌}
+use Rattle.std.proofs.Common.{rules, ◌≡◌, ◌∙◌, sym, ap, List, ℕ, length, take, drop, ◌-◌}
 use Rattle.iss_links.specs.Frames.{is_part}
 use Rattle.iss_links.proofs.FrameLemmas.{no-frame, some-frame}
 use Rattle.iss_links.proofs.frames.read_frame.Goals as goal

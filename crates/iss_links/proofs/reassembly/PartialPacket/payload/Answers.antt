@@ -1,9 +1,8 @@
 use Rattle.std.proofs.Common.{rules, ◌≡◌, ◌∙◌, ◌++◌, ap, sym, map, List, [], Vec, ℕ, Global}
 use Rattle.std.specs.BTreeMap.{values}
 use Rattle.std.specs.List.{concat}
-use Rattle.std.specs.Map.Iter.{deref}
 use Rattle.std.proofs.lemmas.List.{append-nil}
-use Rattle.iss_links.specs.Reassembly.{Partial, payload}
+use Rattle.iss_links.specs.Reassembly.{payload}
 use Rattle.iss_links.proofs.MapLemmas.{joined-values, joined-more}
 use Rattle.iss_links.proofs.reassembly.PartialPacket.payload.Goals as goal
 

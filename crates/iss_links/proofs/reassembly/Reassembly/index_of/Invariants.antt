@@ -1,4 +1,4 @@
-use Rattle.std.proofs.Common.{◌≡◌, ◌≤◌, ◌+◌, length, drop}
+use Rattle.std.proofs.Common.{◌≡◌, ◌+◌, drop}
 use Rattle.iss_links.specs.Reassembly.{index_of}
 use Rattle.iss_links.proofs.reassembly.Reassembly.index_of.Given as goal
 
