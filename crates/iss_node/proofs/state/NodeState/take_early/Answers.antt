@@ -17,20 +17,20 @@ use Rattle.iss_node.proofs.state.NodeState.take_early.Goals.{then-is_complete+in
 
 pub try_step-requires : goal.try_step-requires
 try_step-requires g c =
-    read-message g.M.Sequenced.spec g.M.Sequenced.refines c.args.self.now c.args.message.from c.args.message.leader c.args.message.msg c.in_ok-claims.claims c.requires.from c.in_ok-claims.ensures
+    read-message g.M.Sequenced.spec g.M.Sequenced.refines c.args.self.now c.args.message.from c.args.message.leader c.args.message.msg c.as_slice.result.now c.requires.from (λ past tied. c.as_slice.ensures ∙ c.in_ok-claims.ensures past tied)
 
 pub returns-clause-turn : goal.returns-clause-turn
 returns-clause-turn g c =
     let m = g.M.Sequenced.spec in
     let v = c.args.self.now in
     let x = c.args.message in
-    let went : IsTurnOf m g.M.Sequenced.refines v (λ F R me d. or_unchanged d (try_step F R m me d x.leader.0 (Receive x.from x.msg))) c.try_step.new.self c.or_nothing.result =
-    tried-so m g.M.Sequenced.refines v c.try_step.new.self (λ F R me d. try_step F R m me d x.leader.0 (Receive x.from x.msg)) c.in_ok-step.step c.or_nothing.result c.or_nothing.ensures c.in_ok-step.ensures.answer in
+    let went : IsTurnOf m g.M.Sequenced.refines v (λ F R me d. or_unchanged d (try_step F R m me d x.leader.0 (Receive x.from x.msg))) c.try_step.new.self c.or_nothing-outcome.result =
+    tried-so m g.M.Sequenced.refines v c.try_step.new.self (λ F R me d. try_step F R m me d x.leader.0 (Receive x.from x.msg)) c.in_ok-step.step c.or_nothing-outcome.result c.or_nothing-outcome.ensures c.in_ok-step.ensures.answer in
     elim c.if-is_complete.branch [
-      | then-is_complete+in_ok-vote+in_ok-append_outcome w ↦ early-goes m g.M.Sequenced.refines v c.try_step.new.self c.in_ok-step.ensures.later x c.or_nothing.result c.is_complete.result c.is_complete.ensures went c.in_ok-claims.claims c.in_ok-claims.ensures c.with_early.result
+      | then-is_complete+in_ok-vote+in_ok-append_outcome w ↦ early-goes m g.M.Sequenced.refines v c.try_step.new.self c.in_ok-step.ensures.later x c.or_nothing-outcome.result c.is_complete.result c.is_complete.ensures went c.in_ok-claims.claims c.in_ok-claims.ensures c.with_early.result
           w.end_epoch.new.self c.if-is_complete.self w.self-is w.if-is_complete.true w.in_ok-vote.vote _ w.in_ok-vote.ensures.ended w.in_ok-vote.ensures.later
           (c.with_early.ensures ∙ ap (λ (z : Outcome). let o : Outcome = record z { early = c.in_ok-claims.claims } in o) (w.outcome-is ∙ w.in_ok-append_outcome.ensures))
-      | else-is_complete w ↦ early-stays m g.M.Sequenced.refines v c.try_step.new.self c.in_ok-step.ensures.later x c.or_nothing.result c.is_complete.result c.is_complete.ensures went c.in_ok-claims.claims c.in_ok-claims.ensures c.with_early.result
+      | else-is_complete w ↦ early-stays m g.M.Sequenced.refines v c.try_step.new.self c.in_ok-step.ensures.later x c.or_nothing-outcome.result c.is_complete.result c.is_complete.ensures went c.in_ok-claims.claims c.in_ok-claims.ensures c.with_early.result
           c.if-is_complete.self w.self-is w.if-is_complete.false
           (c.with_early.ensures ∙ ap (λ (z : Outcome). let o : Outcome = record z { early = c.in_ok-claims.claims } in o) w.outcome-is)
     ]

@@ -1,3 +1,4 @@
+use Rattle.std.proofs.Common.{◌∙◌}
 use Rattle.iss_model.specs.Node.{try_step}
 use Rattle.iss_node.proofs.EpochEnd.LeafIsKept.{to-complete}
 use Rattle.iss_node.proofs.Wire.ClaimsAgree.{read-message}
@@ -9,7 +10,7 @@ use Rattle.iss_node.proofs.state.NodeState.take_now.Goals as goal
 
 pub try_step-requires : goal.try_step-requires
 try_step-requires g c =
-    read-message g.M.Sequenced.spec g.M.Sequenced.refines c.args.self.now c.args.message.from c.args.message.leader c.args.message.msg c.in_ok-claims.claims c.requires.from c.in_ok-claims.ensures
+    read-message g.M.Sequenced.spec g.M.Sequenced.refines c.args.self.now c.args.message.from c.args.message.leader c.args.message.msg c.as_slice.result.now c.requires.from (λ past tied. c.as_slice.ensures ∙ c.in_ok-claims.ensures past tied)
 
 pub finish_step-requires : goal.finish_step-requires
 finish_step-requires g c =
