@@ -26,9 +26,10 @@ use Rattle.iss_sb.specs.declared.content.Content.TheVariants.{Nil, Holds, Mark}
 use Rattle.hs_tree.specs.declared.certificates.Certificate.{Certificate}
 use Rattle.hs_tree.specs.declared.certificates.Certificate.TheVariants.{Root}
 use Rattle.hs_tree.specs.declared.messages.Message.{Message}
-use Rattle.hs_tree.specs.declared.messages.Message.TheVariants.{Prepare}
+use Rattle.hs_tree.specs.declared.messages.Body.TheVariants.{Prepare}
+use Rattle.hs_tree.specs.Messages.{signed}
 use Rattle.hs_tree.specs.Certificates.{root_row}
-use Rattle.hs_tree.specs.Statements.{own_statement}
+use Rattle.hs_tree.specs.Statements.{stated}
 use Rattle.hs_tree.specs.Tree.{plain_string, root}
 use Rattle.hs_tree.proofs.MessageGrammar.{spelled-read}
 use Rattle.hs_views.proofs.SmallWorlds.{IsOneOf, all_differ, one-takes, separate-by, starts, two-takes, world, zero-takes}
@@ -84,10 +85,10 @@ d_v = 231 ∷ 154 ∷ 65 ∷ 83 ∷ 189 ∷ 51 ∷ 199 ∷ 235 ∷ 191 ∷ 41 �
 -- ---- The messages
 
 abbrev own : ℕ → Content → Certificate → List ℕ
-own view what just = own_statement viewless q (Prepare view what just [])
+own view what just = stated viewless q (Prepare view what just)
 
 abbrev proposal : ℕ → Content → Certificate → Message
-proposal view what just = Prepare view what just (signature q 3 0 (own view what just))
+proposal view what just = signed (Prepare view what just) (signature q 3 0 (own view what just))
 
 abbrev c_h : Certificate
 c_h = shown 1 d_h 1 0 2 0
@@ -272,37 +273,37 @@ abbrev IsRead : Message → Type 0
 IsRead msg = IsReadMessage without_views q msg
 
 read-h : IsRead m_h
-read-h = spelled-read 1 1 m_h _ (record { view_fits = omega arith; behind = batch_held.0; what_is = batch_held.1; certificate = root_row; spelled = refl; signed = signature-shape without_views q good 3 0 (own 1 (Holds b) Root); row = refl })
+read-h = spelled-read 1 1 m_h _ (record { view_fits = omega arith; behind = batch_held.0; what_is = batch_held.1; certificate = root_row; spelled = refl; row = refl }) (signature-shape without_views q good 3 0 (own 1 (Holds b) Root))
 
 read-z : IsRead m_z
-read-z = spelled-read 1 1 m_z _ (record { view_fits = omega arith; behind = _; what_is = refl; certificate = root_row; spelled = refl; signed = signature-shape without_views q good 3 0 (own 262145 Nil Root); row = refl })
+read-z = spelled-read 1 1 m_z _ (record { view_fits = omega arith; behind = _; what_is = refl; certificate = root_row; spelled = refl; row = refl }) (signature-shape without_views q good 3 0 (own 262145 Nil Root))
 
 read-u : IsRead m_u
-read-u = spelled-read 1 1 m_u _ (record { view_fits = omega arith; behind = _; what_is = refl; certificate = _; spelled = shown-spelled 1 d_h 1 0 2 0 (omega arith) (omega arith) refl (omega arith) (omega arith); signed = signature-shape without_views q good 3 0 (own 262146 Nil c_h); row = refl })
+read-u = spelled-read 1 1 m_u _ (record { view_fits = omega arith; behind = _; what_is = refl; certificate = _; spelled = shown-spelled 1 d_h 1 0 2 0 (omega arith) (omega arith) refl (omega arith) (omega arith); row = refl }) (signature-shape without_views q good 3 0 (own 262146 Nil c_h))
 
 read-z2 : IsRead m_z2
-read-z2 = spelled-read 1 1 m_z2 _ (record { view_fits = omega arith; behind = _; what_is = refl; certificate = root_row; spelled = refl; signed = signature-shape without_views q good 3 0 (own 262147 Nil Root); row = refl })
+read-z2 = spelled-read 1 1 m_z2 _ (record { view_fits = omega arith; behind = _; what_is = refl; certificate = root_row; spelled = refl; row = refl }) (signature-shape without_views q good 3 0 (own 262147 Nil Root))
 
 read-y : IsRead m_y
-read-y = spelled-read 1 1 m_y _ (record { view_fits = omega arith; behind = _; what_is = refl; certificate = _; spelled = shown-spelled 262145 d_z 1 1 2 1 (omega arith) (omega arith) refl (omega arith) (omega arith); signed = signature-shape without_views q good 3 0 (own 262148 Nil c_z); row = refl })
+read-y = spelled-read 1 1 m_y _ (record { view_fits = omega arith; behind = _; what_is = refl; certificate = _; spelled = shown-spelled 262145 d_z 1 1 2 1 (omega arith) (omega arith) refl (omega arith) (omega arith); row = refl }) (signature-shape without_views q good 3 0 (own 262148 Nil c_z))
 
 read-x : IsRead m_x
-read-x = spelled-read 1 1 m_x _ (record { view_fits = omega arith; behind = _; what_is = refl; certificate = _; spelled = shown-spelled 262148 d_y 0 3 1 3 (omega arith) (omega arith) refl (omega arith) (omega arith); signed = signature-shape without_views q good 3 0 (own 262149 Mark c_y); row = refl })
+read-x = spelled-read 1 1 m_x _ (record { view_fits = omega arith; behind = _; what_is = refl; certificate = _; spelled = shown-spelled 262148 d_y 0 3 1 3 (omega arith) (omega arith) refl (omega arith) (omega arith); row = refl }) (signature-shape without_views q good 3 0 (own 262149 Mark c_y))
 
 read-a : IsRead m_a
-read-a = spelled-read 1 1 m_a _ (record { view_fits = omega arith; behind = _; what_is = refl; certificate = _; spelled = shown-spelled 262149 d_x 0 4 1 4 (omega arith) (omega arith) refl (omega arith) (omega arith); signed = signature-shape without_views q good 3 0 (own 262150 Mark c_x); row = refl })
+read-a = spelled-read 1 1 m_a _ (record { view_fits = omega arith; behind = _; what_is = refl; certificate = _; spelled = shown-spelled 262149 d_x 0 4 1 4 (omega arith) (omega arith) refl (omega arith) (omega arith); row = refl }) (signature-shape without_views q good 3 0 (own 262150 Mark c_x))
 
 read-u2 : IsRead m_u2
-read-u2 = spelled-read 1 1 m_u2 _ (record { view_fits = omega arith; behind = _; what_is = refl; certificate = _; spelled = shown-spelled 1 d_h 1 0 2 0 (omega arith) (omega arith) refl (omega arith) (omega arith); signed = signature-shape without_views q good 3 0 (own 262151 Nil c_h); row = refl })
+read-u2 = spelled-read 1 1 m_u2 _ (record { view_fits = omega arith; behind = _; what_is = refl; certificate = _; spelled = shown-spelled 1 d_h 1 0 2 0 (omega arith) (omega arith) refl (omega arith) (omega arith); row = refl }) (signature-shape without_views q good 3 0 (own 262151 Nil c_h))
 
 read-s : IsRead m_s
-read-s = spelled-read 1 1 m_s _ (record { view_fits = omega arith; behind = _; what_is = refl; certificate = _; spelled = shown-spelled 262146 d_u 0 1 1 2 (omega arith) (omega arith) refl (omega arith) (omega arith); signed = signature-shape without_views q good 3 0 (own 262152 Mark c_u); row = refl })
+read-s = spelled-read 1 1 m_s _ (record { view_fits = omega arith; behind = _; what_is = refl; certificate = _; spelled = shown-spelled 262146 d_u 0 1 1 2 (omega arith) (omega arith) refl (omega arith) (omega arith); row = refl }) (signature-shape without_views q good 3 0 (own 262152 Mark c_u))
 
 read-t : IsRead m_t
-read-t = spelled-read 1 1 m_t _ (record { view_fits = omega arith; behind = _; what_is = refl; certificate = _; spelled = shown-spelled 262152 d_s 1 5 2 3 (omega arith) (omega arith) refl (omega arith) (omega arith); signed = signature-shape without_views q good 3 0 (own 262153 Mark c_s); row = refl })
+read-t = spelled-read 1 1 m_t _ (record { view_fits = omega arith; behind = _; what_is = refl; certificate = _; spelled = shown-spelled 262152 d_s 1 5 2 3 (omega arith) (omega arith) refl (omega arith) (omega arith); row = refl }) (signature-shape without_views q good 3 0 (own 262153 Mark c_s))
 
 read-v : IsRead m_v
-read-v = spelled-read 1 1 m_v _ (record { view_fits = omega arith; behind = _; what_is = refl; certificate = _; spelled = shown-spelled 262153 d_t 1 6 2 4 (omega arith) (omega arith) refl (omega arith) (omega arith); signed = signature-shape without_views q good 3 0 (own 262154 Mark c_t); row = refl })
+read-v = spelled-read 1 1 m_v _ (record { view_fits = omega arith; behind = _; what_is = refl; certificate = _; spelled = shown-spelled 262153 d_t 1 6 2 4 (omega arith) (omega arith) refl (omega arith) (omega arith); row = refl }) (signature-shape without_views q good 3 0 (own 262154 Mark c_t))
 
 abbrev Comes : World Message → Message → Type 0
 Comes w msg = IsCredible without_views q (Verifies q) (IsSigned without_views q w) 3 msg

@@ -22,9 +22,11 @@ use Rattle.iss_sb.proofs.Signatures.{signature-shape, signature-verifies}
 use Rattle.hs_tree.specs.declared.certificates.Certificate.{Certificate}
 use Rattle.hs_tree.specs.declared.certificates.Certificate.TheVariants.{Root, Votes}
 use Rattle.hs_tree.specs.declared.messages.Message.{Message}
-use Rattle.hs_tree.specs.declared.messages.Message.TheVariants.{Prepare, PreCommit, Commit, Decide, Vote}
+use Rattle.hs_tree.specs.declared.messages.Body.{Body}
+use Rattle.hs_tree.specs.declared.messages.Body.TheVariants.{Prepare, PreCommit, Commit, Decide, Vote}
+use Rattle.hs_tree.specs.Messages.{signed}
 use Rattle.hs_tree.specs.Certificates.{IsSpelledCertificate, root_row, votes_row}
-use Rattle.hs_tree.specs.Statements.{claims, own_statement, vote_statement, with_signature}
+use Rattle.hs_tree.specs.Statements.{claims, stated, vote_statement}
 use Rattle.hs_tree.specs.Tree.{basic}
 use Rattle.hs_tree.proofs.MessageGrammar.{spelled-read}
 use Rattle.hs_views.proofs.SmallWorlds.{IsFair, comes, sent-alone}
@@ -60,8 +62,8 @@ abbrev signs : ℕ → ℕ → List ℕ → Claim
 signs k leaf statement = claim k statement (signature q k leaf statement)
 
 -- the message, signed by replica 3
-abbrev pub by : Message → Message
-by msg = with_signature (signature q 3 0 (own_statement basic q msg)) msg
+abbrev pub by : Body → Message
+by body = signed body (signature q 3 0 (stated basic q body))
 
 -- The votes for a node in a view: by replica 3, with leaf 0, and by two correct replicas. In phase k each of these uses
 -- the k-th leaf behind a given one.
@@ -88,17 +90,17 @@ abbrev shown : Poll → ℕ → Certificate
 shown r phase = Votes r.view phase r.digest (votes r phase)
 
 abbrev pub pre_commit : Poll → Message
-pre_commit r = by (PreCommit r.view (shown r 1) [])
+pre_commit r = by (PreCommit r.view (shown r 1))
 
 abbrev pub commit : Poll → Message
-commit r = by (Commit r.view (shown r 2) [])
+commit r = by (Commit r.view (shown r 2))
 
 abbrev pub decide : Poll → Message
-decide r = by (Decide r.view (shown r 3) [])
+decide r = by (Decide r.view (shown r 3))
 
 -- replica k sends its vote
 abbrev pub sent : Poll → ℕ → ℕ → ℕ → List (To × Message)
-sent r phase leaf k = (To_one (node 3), Vote phase r.view r.digest (signature q k leaf (states r phase))) ∷ []
+sent r phase leaf k = (To_one (node 3), signed (Vote phase r.view r.digest) (signature q k leaf (states r phase))) ∷ []
 
 pub record IsPoll (r : Poll) : Type 0 where
   pub low : 1 ≤ r.view
@@ -128,18 +130,18 @@ shown-spelled r phase is low high =
     }
 
 -- on the root
-pub prepare-read : (view : ℕ) (what : Content) (held : List ℕ) → view < 2 ^ 32 → IsSpelledContent 1 what held → IsReadMessage loose q (by (Prepare view what Root []))
-prepare-read view what held fits h = spelled-read 3 1 (by (Prepare view what Root [])) _ (record { view_fits = fits; behind = held; what_is = h; certificate = root_row; spelled = refl; signed = signature-shape loose q good 3 0 _; row = refl })
+pub prepare-read : (view : ℕ) (what : Content) (held : List ℕ) → view < 2 ^ 32 → IsSpelledContent 1 what held → IsReadMessage loose q (by (Prepare view what Root))
+prepare-read view what held fits h = spelled-read 3 1 (by (Prepare view what Root)) _ (record { view_fits = fits; behind = held; what_is = h; certificate = root_row; spelled = refl; row = refl }) (signature-shape loose q good 3 0 _)
 
 module _ (r : Poll) (is : IsPoll r) where
   pre-commit-read : IsReadMessage loose q (pre_commit r)
-  pre-commit-read = spelled-read 3 1 (pre_commit r) _ (record { three = refl; view_fits = is.high; certificate = _; spelled = shown-spelled r 1 is (omega arith) (omega arith); signed = signature-shape loose q good 3 0 _; row = refl })
+  pre-commit-read = spelled-read 3 1 (pre_commit r) _ (record { three = refl; view_fits = is.high; certificate = _; spelled = shown-spelled r 1 is (omega arith) (omega arith); row = refl }) (signature-shape loose q good 3 0 _)
 
   commit-read : IsReadMessage loose q (commit r)
-  commit-read = spelled-read 3 1 (commit r) _ (record { three = refl; view_fits = is.high; certificate = _; spelled = shown-spelled r 2 is (omega arith) (omega arith); signed = signature-shape loose q good 3 0 _; row = refl })
+  commit-read = spelled-read 3 1 (commit r) _ (record { three = refl; view_fits = is.high; certificate = _; spelled = shown-spelled r 2 is (omega arith) (omega arith); row = refl }) (signature-shape loose q good 3 0 _)
 
   decide-read : IsReadMessage loose q (decide r)
-  decide-read = spelled-read 3 1 (decide r) _ (record { three = refl; view_fits = is.high; certificate = _; spelled = shown-spelled r 3 is (omega arith) (omega arith); signed = signature-shape loose q good 3 0 _; row = refl })
+  decide-read = spelled-read 3 1 (decide r) _ (record { three = refl; view_fits = is.high; certificate = _; spelled = shown-spelled r 3 is (omega arith) (omega arith); row = refl }) (signature-shape loose q good 3 0 _)
 
 -- ---- Messages that may arrive
 
@@ -166,16 +168,16 @@ module _ (w : World Message) where
   honest k leaf st is few h = record { valid = signature-verifies loose q good k leaf st is few; signed = λ c. h }
 
   -- a message without votes
-  pub alone : (msg : Message) → IsReadMessage loose q msg → claims basic q 3 msg ≡ signs 3 0 (own_statement basic q msg) ∷ [] → Arrives msg
-  alone msg read e = comes loose q w 3 msg (signs 3 0 (own_statement basic q msg) ∷ []) (omega arith) read e (liar (own_statement basic q msg), tt)
+  pub alone : (msg : Message) → IsReadMessage loose q msg → claims basic q 3 msg ≡ signs 3 0 (stated basic q msg.body) ∷ [] → Arrives msg
+  alone msg read e = comes loose q w 3 msg (signs 3 0 (stated basic q msg.body) ∷ []) (omega arith) read e (liar (stated basic q msg.body), tt)
 
   -- a message with a certificate
-  cites : (msg : Message) (r : Poll) (phase : ℕ) → IsPoll r → phase ≤ 3 → IsReadMessage loose q msg → claims basic q 3 msg ≡ and_own r phase (signs 3 0 (own_statement basic q msg)) → AreCast w r phase → Arrives msg
+  cites : (msg : Message) (r : Poll) (phase : ℕ) → IsPoll r → phase ≤ 3 → IsReadMessage loose q msg → claims basic q 3 msg ≡ and_own r phase (signs 3 0 (stated basic q msg.body)) → AreCast w r phase → Arrives msg
   cites msg r phase is high read e h =
       let st = states r phase in
       let one = honest r.one (r.one_behind + phase) st (omega (arith, is.ascending, is.few)) (omega (arith, is.one_left, high)) h.one_did in
       let other = honest r.other (r.other_behind + phase) st (omega (arith, is.few)) (omega (arith, is.other_left, high)) h.other_did in
-      comes loose q w 3 msg _ (omega arith) read e (one, (other, (liar st, (liar (own_statement basic q msg), tt))))
+      comes loose q w 3 msg _ (omega arith) read e (one, (other, (liar st, (liar (stated basic q msg.body), tt))))
 
   pub pre-commit-comes : (r : Poll) → IsPoll r → AreCast w r 1 → Arrives (pre_commit r)
   pre-commit-comes r is h = cites (pre_commit r) r 1 is (omega arith) (pre-commit-read r is) refl h
@@ -189,4 +191,4 @@ module _ (w : World Message) where
   -- replica k cast a vote in a step that sent nothing else
   pub voted : (r : Poll) (phase leaf k : ℕ) (x : Item Message) → In x (w k) → x.made.sends ≡ sent r phase leaf k → IsSigned loose q w k (states r phase)
   voted r phase leaf k x h e =
-      sent-alone loose q w k x (To_one (node 3)) (Vote phase r.view r.digest (signature q k leaf (states r phase))) (signs k leaf (states r phase)) h e (inl refl) refl
+      sent-alone loose q w k x (To_one (node 3)) (signed (Vote phase r.view r.digest) (signature q k leaf (states r phase))) (signs k leaf (states r phase)) h e (inl refl) refl

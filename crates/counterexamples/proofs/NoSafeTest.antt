@@ -20,7 +20,7 @@ use Rattle.iss_sb.specs.Evidence.{Item, World, IsReached, IsReadMessage, IsStrin
 use Rattle.iss_sb.specs.Laws.{IsBroadcast}
 use Rattle.hs_tree.specs.declared.certificates.Certificate.TheVariants.{Root}
 use Rattle.hs_tree.specs.declared.messages.Message.{Message}
-use Rattle.hs_tree.specs.declared.messages.Message.TheVariants.{Prepare}
+use Rattle.hs_tree.specs.declared.messages.Body.TheVariants.{Prepare}
 use Rattle.hs_tree.specs.Tree.{plain_string, root}
 use Rattle.hs_views.proofs.SmallWorlds.{IsOneOf, all_differ, each-of, one-takes, separate-by, starts, two-takes, world, zero-takes}
 use Rattle.hs_views.proofs.Tests.{AreStrings, each-string}
@@ -45,7 +45,7 @@ first-is : IsPoll first
 first-is = record { low = omega arith; high = omega arith; long = length-sha256 _; ascending = omega arith; few = omega arith; one_left = omega arith; other_left = omega arith }
 
 abbrev proposal : Message
-proposal = by (Prepare 1 (Holds b) Root [])
+proposal = by (Prepare 1 (Holds b) Root)
 
 proposal-read : IsReadMessage loose q proposal
 proposal-read = prepare-read 1 (Holds b) batch_held.0 (omega arith) batch_held.1
@@ -62,7 +62,7 @@ second-is : IsPoll second
 second-is = record { low = omega arith; high = omega arith; long = length-sha256 _; ascending = omega arith; few = omega arith; one_left = omega arith; other_left = omega arith }
 
 abbrev against : Message
-against = by (Prepare 262145 Nil Root [])
+against = by (Prepare 262145 Nil Root)
 
 against-read : IsReadMessage loose q against
 against-read = prepare-read 262145 Nil _ (omega arith) refl

@@ -14,7 +14,8 @@ use Rattle.iss_sb.specs.declared.effects.To.{To}
 use Rattle.iss_sb.specs.Evidence.{Item, Made, Module, accepts}
 use Rattle.hs_tree.specs.declared.certificates.Certificate.{Certificate}
 use Rattle.hs_tree.specs.declared.messages.Message.{Message}
-use Rattle.hs_tree.specs.declared.messages.Message.TheVariants.{NewView, Prepare, PreCommit, Commit, Decide, Vote}
+use Rattle.hs_tree.specs.declared.messages.Body.{Body}
+use Rattle.hs_tree.specs.declared.messages.Body.TheVariants.{NewView, Prepare, Vote}
 use Rattle.hs_tree.specs.Certificates.{digest_of, view_of}
 use Rattle.hs_tree.specs.Statements.{claims, node_digest, node_string}
 use Rattle.hs_tree.specs.Tree.{Form, chained as viewed, extends, plain_string, strings_of, value_of}
@@ -56,20 +57,18 @@ with_node p s view what just = record s {
 
 -- ---- The state after an input
 
-abbrev pub heard : Params → ℕ → State → ℕ → Message → State
-heard p me s from (NewView round high sig) =
+abbrev pub heard : Params → ℕ → State → ℕ → Body → List ℕ → State
+heard p me s from (NewView round high) sig =
     if keeps_news p me s from round high then with_news s from round high else s
-heard p me s from (Prepare view what just sig) =
+heard p me s from (Prepare view what just) sig =
     if may_prepare p s from view what just then with_node p s view what just else s
-heard p me s from (PreCommit view shown sig) = s
-heard p me s from (Commit view shown sig) = s
-heard p me s from (Decide view shown sig) = s
-heard p me s from (Vote phase view d sig) =
+heard p me s from (Vote phase view d) sig =
     if keeps_vote p s from phase view d then with_vote s from view d sig else s
+heard p me s from other sig = s
 
 abbrev pub taken : Params → ℕ → State → Input Message → State
 taken p me s (Cast slot batch) = if may_cast p me s slot.0 then with_cast s batch else s
-taken p me s (Receive from msg) = heard p me s from.0 msg
+taken p me s (Receive from msg) = heard p me s from.0 msg.body msg.sig
 taken p me s Timeout = if may_end s then with_round s else s
 
 abbrev pub kept : Params → ℕ → State → Input Message → State
@@ -92,55 +91,43 @@ state p me (x ∷ xs) = after p me (state p me xs) x.input
 
 -- ---- Accepted batches
 
-abbrev pub asked_by : Params → State → List (Slot × Batch) → ℕ → Message → Option (Slot × Batch)
-asked_by p s old from (NewView round high sig) = None
-asked_by p s old from (Prepare view what just sig) =
+abbrev pub asked_by : Params → State → List (Slot × Batch) → ℕ → Body → Option (Slot × Batch)
+asked_by p s old from (Prepare view what just) =
     if may_prepare p s from view what just then offered p s old what just else None
-asked_by p s old from (PreCommit view shown sig) = None
-asked_by p s old from (Commit view shown sig) = None
-asked_by p s old from (Decide view shown sig) = None
-asked_by p s old from (Vote phase view d sig) = None
+asked_by p s old from other = None
 
 abbrev pub asks : Params → ℕ → List (Item Message) → Input Message → Option (Slot × Batch)
 asks p me xs (Cast slot batch) = if may_cast p me (state p me xs) slot.0 then Some (slot, batch) else None
-asks p me xs (Receive from msg) = asked_by p (state p me xs) (accepts xs) from.0 msg
+asks p me xs (Receive from msg) = asked_by p (state p me xs) (accepts xs) from.0 msg.body
 asks p me xs Timeout = None
 
 -- ---- Messages and strings
 
-abbrev pub answers_heard : Params → State → ℕ → Message → List (To × Message)
-answers_heard p s from (NewView round high sig) = []
-answers_heard p s from (Prepare view what just sig) =
+abbrev pub answers_heard : Params → State → ℕ → Body → List (To × Body)
+answers_heard p s from (Prepare view what just) =
     if may_prepare p s from view what just then voted p view (node_digest viewless p view what just) else []
-answers_heard p s from (PreCommit view shown sig) = []
-answers_heard p s from (Commit view shown sig) = []
-answers_heard p s from (Decide view shown sig) = []
-answers_heard p s from (Vote phase view d sig) = []
+answers_heard p s from other = []
 
-abbrev pub answers : Params → State → Input Message → List (To × Message)
+abbrev pub answers : Params → State → Input Message → List (To × Body)
 answers p s (Cast slot batch) = []
-answers p s (Receive from msg) = answers_heard p s from.0 msg
+answers p s (Receive from msg) = answers_heard p s from.0 msg.body
 answers p s Timeout = Chained.answers p s Timeout
 
-abbrev pub drafts : Params → ℕ → State → Input Message → List (To × Message)
+abbrev pub drafts : Params → ℕ → State → Input Message → List (To × Body)
 drafts p me s i = answers p s i ++ proposals (proposed p me s (kept p me s i) i)
 
 abbrev pub strings_at : Params → ℕ → Content → Certificate → List (List ℕ)
 strings_at p view what just =
     strings_of p.setup.version (value_of what) ++ node_string viewless p view what just ∷ []
 
-abbrev pub taken_strings : Params → State → ℕ → Message → List (List ℕ)
-taken_strings p s from (NewView round high sig) = []
-taken_strings p s from (Prepare view what just sig) =
+abbrev pub taken_strings : Params → State → ℕ → Body → List (List ℕ)
+taken_strings p s from (Prepare view what just) =
     if may_prepare p s from view what just then strings_at p view what just else []
-taken_strings p s from (PreCommit view shown sig) = []
-taken_strings p s from (Commit view shown sig) = []
-taken_strings p s from (Decide view shown sig) = []
-taken_strings p s from (Vote phase view d sig) = []
+taken_strings p s from other = []
 
 abbrev pub taken_of : Params → State → Input Message → List (List ℕ)
 taken_of p s (Cast slot batch) = []
-taken_of p s (Receive from msg) = taken_strings p s from.0 msg
+taken_of p s (Receive from msg) = taken_strings p s from.0 msg.body
 taken_of p s Timeout = []
 
 abbrev pub turn_strings : Params → Option Turn → List (List ℕ)

@@ -13,7 +13,8 @@ use Rattle.iss_sb.specs.declared.effects.To.{To}
 use Rattle.iss_sb.specs.Evidence.{Item, Made, Module, accepts}
 use Rattle.hs_tree.specs.declared.certificates.Certificate.{Certificate}
 use Rattle.hs_tree.specs.declared.messages.Message.{Message}
-use Rattle.hs_tree.specs.declared.messages.Message.TheVariants.{Prepare}
+use Rattle.hs_tree.specs.declared.messages.Body.{Body}
+use Rattle.hs_tree.specs.declared.messages.Body.TheVariants.{Prepare}
 use Rattle.hs_tree.specs.Certificates.{digest_of}
 use Rattle.hs_tree.specs.Tree.{is_known}
 use Rattle.hs_views.specs.Views.{round_of}
@@ -30,13 +31,13 @@ may_prepare p s from view what just =
 
 -- ---- The state after an input
 
-abbrev pub heard : Params → ℕ → State → ℕ → Message → State
-heard p me s from (Prepare view what just sig) =
+abbrev pub heard : Params → ℕ → State → ℕ → Body → List ℕ → State
+heard p me s from (Prepare view what just) sig =
     if may_prepare p s from view what just then with_node p s view what just else s
-heard p me s from msg = Rules.heard p me s from msg
+heard p me s from other sig = Rules.heard p me s from other sig
 
 abbrev pub kept : Params → ℕ → State → Input Message → State
-kept p me s (Receive from msg) = heard p me s from.0 msg
+kept p me s (Receive from msg) = heard p me s from.0 msg.body msg.sig
 kept p me s i = Rules.kept p me s i
 
 abbrev pub after : Params → ℕ → State → Input Message → State
@@ -48,35 +49,35 @@ state p me (x ∷ xs) = after p me (state p me xs) x.input
 
 -- ---- Accepted batches, messages and strings
 
-abbrev pub asked_by : Params → State → List (Slot × Batch) → ℕ → Message → Option (Slot × Batch)
-asked_by p s old from (Prepare view what just sig) =
+abbrev pub asked_by : Params → State → List (Slot × Batch) → ℕ → Body → Option (Slot × Batch)
+asked_by p s old from (Prepare view what just) =
     if may_prepare p s from view what just then offered p s old what just else None
-asked_by p s old from msg = None
+asked_by p s old from other = None
 
 abbrev pub asks : Params → ℕ → List (Item Message) → Input Message → Option (Slot × Batch)
 asks p me xs (Cast slot batch) = if may_cast p me (state p me xs) slot.0 then Some (slot, batch) else None
-asks p me xs (Receive from msg) = asked_by p (state p me xs) (accepts xs) from.0 msg
+asks p me xs (Receive from msg) = asked_by p (state p me xs) (accepts xs) from.0 msg.body
 asks p me xs Timeout = None
 
-abbrev pub answers_heard : Params → State → State → ℕ → Message → List (To × Message)
-answers_heard p s k from (Prepare view what just sig) =
+abbrev pub answers_heard : Params → State → State → ℕ → Body → List (To × Body)
+answers_heard p s k from (Prepare view what just) =
     if may_prepare p s from view what just then voted p 1 view (node_digest p view what just) else []
-answers_heard p s k from msg = HotStuff.answers_heard p s k from msg
+answers_heard p s k from other = HotStuff.answers_heard p s k from other
 
-abbrev pub answers : Params → State → State → Input Message → List (To × Message)
-answers p s k (Receive from msg) = answers_heard p s k from.0 msg
+abbrev pub answers : Params → State → State → Input Message → List (To × Body)
+answers p s k (Receive from msg) = answers_heard p s k from.0 msg.body
 answers p s k i = HotStuff.answers p s k i
 
-abbrev pub drafts : Params → ℕ → State → Input Message → List (To × Message)
+abbrev pub drafts : Params → ℕ → State → Input Message → List (To × Body)
 drafts p me s i = answers p s (kept p me s i) i ++ proposals (proposed p me s (kept p me s i) i)
 
-abbrev pub taken_strings : Params → State → ℕ → Message → List (List ℕ)
-taken_strings p s from (Prepare view what just sig) =
+abbrev pub taken_strings : Params → State → ℕ → Body → List (List ℕ)
+taken_strings p s from (Prepare view what just) =
     if may_prepare p s from view what just then strings_at p view what just else []
-taken_strings p s from msg = []
+taken_strings p s from other = []
 
 abbrev pub taken_of : Params → State → Input Message → List (List ℕ)
-taken_of p s (Receive from msg) = taken_strings p s from.0 msg
+taken_of p s (Receive from msg) = taken_strings p s from.0 msg.body
 taken_of p s i = []
 
 abbrev pub strings : Params → ℕ → State → Input Message → List (List ℕ)

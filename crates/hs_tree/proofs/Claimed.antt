@@ -1,5 +1,4 @@
--- What holds of messages of both protocols: claims name their instance, a signature leaves the rest as it was, and a
--- node's digest has 32 bytes.
+-- What holds of messages of both protocols: claims name their instance, and a node's digest has 32 bytes.
 use Rattle.std.proofs.Common.{◌≡◌, ℕ, List, [], ◌∷◌, ◌++◌, length, refl, ap, ◌∙◌, inl, inr}
 use Rattle.sha2.proofs.Facts256.{length-sha256}
 use Rattle.iss_base.specs.Lists.{In}
@@ -13,9 +12,10 @@ use Rattle.iss_sb.specs.Statements.{claim, four_bytes, statement_head}
 use Rattle.hs_tree.specs.declared.certificates.Certificate.{Certificate}
 use Rattle.hs_tree.specs.declared.certificates.Certificate.TheVariants.{Root, Votes}
 use Rattle.hs_tree.specs.declared.messages.Message.{Message}
-use Rattle.hs_tree.specs.declared.messages.Message.TheVariants.{NewView, Prepare, PreCommit, Commit, Decide, Vote}
+use Rattle.hs_tree.specs.declared.messages.Body.{Body}
+use Rattle.hs_tree.specs.declared.messages.Body.TheVariants.{NewView, Prepare, PreCommit, Commit, Decide, Vote}
 use Rattle.hs_tree.specs.Certificates.{digest_of}
-use Rattle.hs_tree.specs.Statements.{certificate_claims, claims, inside, node_digest, own_statement, signature_of, vote_claims, with_signature}
+use Rattle.hs_tree.specs.Statements.{certificate_claims, claims, inside, node_digest, stated, vote_claims}
 use Rattle.hs_tree.specs.Tree.{Form}
 
 pub digest-long : (form : Form) (p : Params) (view : ℕ) (what : Content) (just : Certificate) → length (node_digest form p view what just) ≡ 32
@@ -30,13 +30,13 @@ digest-long form p view what just = long (form.string p.setup.version view (dige
 abbrev pub Names : Form → Params → List ℕ → Type 0
 Names form p s = (rest : List ℕ) × (s ≡ statement_head p form.tag ++ rest)
 
-own-names : (form : Form) (p : Params) (msg : Message) → Names form p (own_statement form p msg)
-own-names form p (NewView round high sig) = (_, refl)
-own-names form p (Prepare view what just sig) = (_, refl)
-own-names form p (PreCommit view shown sig) = (_, refl)
-own-names form p (Commit view shown sig) = (_, refl)
-own-names form p (Decide view shown sig) = (_, refl)
-own-names form p (Vote phase view d sig) = (_, refl)
+own-names : (form : Form) (p : Params) (body : Body) → Names form p (stated form p body)
+own-names form p (NewView round high) = (_, refl)
+own-names form p (Prepare view what just) = (_, refl)
+own-names form p (PreCommit view shown) = (_, refl)
+own-names form p (Commit view shown) = (_, refl)
+own-names form p (Decide view shown) = (_, refl)
+own-names form p (Vote phase view d) = (_, refl)
 
 vote-is : (s : List ℕ) (vs : List Signed) (c : Claim) → In c (vote_claims s vs) → c.statement ≡ s
 vote-is s [] c h = absurd h
@@ -48,21 +48,11 @@ certificate-names form p Root c h = absurd h
 certificate-names form p (Votes view phase d votes) c h = (6 ∷ (phase ∷ four_bytes view ++ d), vote-is _ votes c h)
 
 pub named : (form : Form) (p : Params) (from : ℕ) (msg : Message) (c : Claim) → In c (claims form p from msg) → Names form p c.statement
-named form p from msg c h = elim (in_append c (certificate_claims form p (inside msg)) _ h) [
-  | inl k ↦ certificate-names form p (inside msg) c k
+named form p from msg c h = elim (in_append c (certificate_claims form p (inside msg.body)) _ h) [
+  | inl k ↦ certificate-names form p (inside msg.body) c k
   | inr k ↦ own k
 ]
   where
-    own : In c (claim from (own_statement form p msg) (signature_of msg) ∷ []) → Names form p c.statement
-    own (inl e) = let n = own-names form p msg in (n.0, ap (λ (z : Claim). z.statement) e ∙ n.1)
+    own : In c (claim from (stated form p msg.body) msg.sig ∷ []) → Names form p c.statement
+    own (inl e) = let n = own-names form p msg.body in (n.0, ap (λ (z : Claim). z.statement) e ∙ n.1)
     own (inr k) = absurd k
-
--- ---- What is signed is a proposal only if it was one before
-
-pub prepare-unsigned : (s t : List ℕ) (msg : Message) (view : ℕ) (what : Content) (just : Certificate) → Prepare view what just s ≡ with_signature t msg → (sig : List ℕ) × (msg ≡ Prepare view what just sig)
-prepare-unsigned s t (NewView round high old) view what just h = absurd cc
-prepare-unsigned s t (PreCommit v shown old) view what just h = absurd cc
-prepare-unsigned s t (Commit v shown old) view what just h = absurd cc
-prepare-unsigned s t (Decide v shown old) view what just h = absurd cc
-prepare-unsigned s t (Vote q v e old) view what just h = absurd cc
-prepare-unsigned s t (Prepare v c j old) view what just h = (old, (let a : v ≡ view = cc in let b : c ≡ what = cc in let d : j ≡ just = cc in cc))

@@ -21,10 +21,10 @@ use Rattle.hs_tree.specs.declared.certificates.Certificate.TheVariants.{Root, Vo
 use Rattle.iss_sb.specs.declared.signers.Signed.{Signed}
 use Rattle.iss_sb.specs.Ascending.{ascending}
 use Rattle.iss_sb.specs.Signers.{parse_signed}
-use Rattle.hs_tree.specs.declared.messages.Message.TheVariants.{NewView, Prepare, PreCommit, Commit, Decide, Vote}
+use Rattle.hs_tree.specs.declared.messages.Body.TheVariants.{NewView, Prepare, PreCommit, Commit, Decide, Vote}
 use Rattle.hs_tree.specs.Certificates.{is_quorum, parse_certificate, parse_votes, spell_certificate}
-use Rattle.hs_tree.specs.Messages.{parse, parse_prepare, parse_vote, spell}
-use Rattle.hs_tree.specs.Statements.{claims, own_statement}
+use Rattle.hs_tree.specs.Messages.{parse, parse_body, parse_prepare, parse_vote, signed, spell}
+use Rattle.hs_tree.specs.Statements.{claims, stated}
 use Rattle.hs_tree.specs.Tree.{Node, basic, branch, chained, extends, filled, is_known, plain_string, root, value_at, value_at_slot, viewed_string}
 
 abbrev node : ℕ → NodeId
@@ -91,46 +91,46 @@ not_of_the_second = refl
 
 -- ---- Messages
 
-vote_spelled : spell 3 1 (Vote 2 258 d blank) ≡ 6 ∷ 2 ∷ 0 ∷ 0 ∷ 1 ∷ 2 ∷ (d ++ blank)
+vote_spelled : spell 3 1 (signed (Vote 2 258 d) blank) ≡ 6 ∷ 2 ∷ 0 ∷ 0 ∷ 1 ∷ 2 ∷ (d ++ blank)
 unfolding digests_of_height
 vote_spelled = refl
 
-vote_read : parse 3 1 (6 ∷ 2 ∷ 0 ∷ 0 ∷ 1 ∷ 2 ∷ (d ++ (blank ++ (7 ∷ [])))) ≡ Good (Vote 2 258 d blank) (7 ∷ [])
-unfolding parse parse_vote parse_signature such_that byte number block digests done ◌>>=◌ digests_of_height
+vote_read : parse 3 1 (6 ∷ 2 ∷ 0 ∷ 0 ∷ 1 ∷ 2 ∷ (d ++ (blank ++ (7 ∷ [])))) ≡ Good (signed (Vote 2 258 d) blank) (7 ∷ [])
+unfolding parse parse_body parse_vote parse_signature such_that byte number block digests done ◌>>=◌ digests_of_height
 vote_read = refl
 
-new_view_spelled : spell 3 1 (NewView 259 Root blank) ≡ 1 ∷ 1 ∷ 3 ∷ 0 ∷ 0 ∷ 0 ∷ 0 ∷ blank
+new_view_spelled : spell 3 1 (signed (NewView 259 Root) blank) ≡ 1 ∷ 1 ∷ 3 ∷ 0 ∷ 0 ∷ 0 ∷ 0 ∷ blank
 unfolding digests_of_height
 new_view_spelled = refl
 
 -- the empty batch in either version, and a mark
-prepare_spelled : spell 3 1 (Prepare 1 (Holds []) Root blank) ≡ 2 ∷ 0 ∷ 0 ∷ 0 ∷ 1 ∷ 1 ∷ 1 ∷ 0 ∷ 0 ∷ 0 ∷ 0 ∷ 0 ∷ blank
+prepare_spelled : spell 3 1 (signed (Prepare 1 (Holds []) Root) blank) ≡ 2 ∷ 0 ∷ 0 ∷ 0 ∷ 1 ∷ 1 ∷ 1 ∷ 0 ∷ 0 ∷ 0 ∷ 0 ∷ 0 ∷ blank
 unfolding spell_value spell_batch spell_count digests_of_height
 prepare_spelled = refl
 
-second_spelled : spell 3 2 (Prepare 1 (Holds []) Root blank) ≡ 2 ∷ 0 ∷ 0 ∷ 0 ∷ 1 ∷ 1 ∷ 2 ∷ 0 ∷ 0 ∷ 0 ∷ 0 ∷ 0 ∷ 0 ∷ blank
+second_spelled : spell 3 2 (signed (Prepare 1 (Holds []) Root) blank) ≡ 2 ∷ 0 ∷ 0 ∷ 0 ∷ 1 ∷ 1 ∷ 2 ∷ 0 ∷ 0 ∷ 0 ∷ 0 ∷ 0 ∷ 0 ∷ blank
 unfolding spell_value spell_batch spell_count digests_of_height
 second_spelled = refl
 
-mark_read : parse 3 1 (2 ∷ 0 ∷ 0 ∷ 0 ∷ 1 ∷ 2 ∷ 0 ∷ 0 ∷ 0 ∷ 0 ∷ blank) ≡ Good (Prepare 1 Mark Root blank) []
-unfolding parse parse_prepare parse_content parse_certificate parse_votes parse_signature such_that byte number block digests done ◌>>=◌ digests_of_height
+mark_read : parse 3 1 (2 ∷ 0 ∷ 0 ∷ 0 ∷ 1 ∷ 2 ∷ 0 ∷ 0 ∷ 0 ∷ 0 ∷ blank) ≡ Good (signed (Prepare 1 Mark Root) blank) []
+unfolding parse parse_body parse_prepare parse_content parse_certificate parse_votes parse_signature such_that byte number block digests done ◌>>=◌ digests_of_height
 mark_read = refl
 
-shows_spelled : (spell 3 1 (PreCommit 1 Root blank) ≡ 3 ∷ 0 ∷ 0 ∷ 0 ∷ 1 ∷ 0 ∷ 0 ∷ 0 ∷ 0 ∷ blank) × (spell 3 1 (Commit 1 Root blank) ≡ 4 ∷ 0 ∷ 0 ∷ 0 ∷ 1 ∷ 0 ∷ 0 ∷ 0 ∷ 0 ∷ blank) × (spell 3 1 (Decide 1 Root blank) ≡ 5 ∷ 0 ∷ 0 ∷ 0 ∷ 1 ∷ 0 ∷ 0 ∷ 0 ∷ 0 ∷ blank)
+shows_spelled : (spell 3 1 (signed (PreCommit 1 Root) blank) ≡ 3 ∷ 0 ∷ 0 ∷ 0 ∷ 1 ∷ 0 ∷ 0 ∷ 0 ∷ 0 ∷ blank) × (spell 3 1 (signed (Commit 1 Root) blank) ≡ 4 ∷ 0 ∷ 0 ∷ 0 ∷ 1 ∷ 0 ∷ 0 ∷ 0 ∷ 0 ∷ blank) × (spell 3 1 (signed (Decide 1 Root) blank) ≡ 5 ∷ 0 ∷ 0 ∷ 0 ∷ 1 ∷ 0 ∷ 0 ∷ 0 ∷ 0 ∷ blank)
 unfolding digests_of_height
 shows_spelled = (refl, refl, refl)
 
 -- with one phase there are no Decide and no pre-commit votes
-no_decide : (spell 1 1 (Decide 1 Root blank) ≡ 0 ∷ []) × (parse 1 1 (5 ∷ 0 ∷ 0 ∷ 0 ∷ 1 ∷ 0 ∷ 0 ∷ 0 ∷ 0 ∷ blank) ≡ Bad 0)
-unfolding parse such_that byte ◌>>=◌ digests_of_height
+no_decide : (spell 1 1 (signed (Decide 1 Root) blank) ≡ 0 ∷ blank) × (parse 1 1 (5 ∷ 0 ∷ 0 ∷ 0 ∷ 1 ∷ 0 ∷ 0 ∷ 0 ∷ 0 ∷ blank) ≡ Bad 0)
+unfolding parse parse_body such_that byte ◌>>=◌ digests_of_height
 no_decide = (refl, refl)
 
-no_second_vote : (spell 1 1 (Vote 2 258 d blank) ≡ 0 ∷ []) × (parse 1 1 (6 ∷ 2 ∷ []) ≡ Bad 1)
-unfolding parse parse_vote such_that byte ◌>>=◌ digests_of_height
+no_second_vote : (spell 1 1 (signed (Vote 2 258 d) blank) ≡ 0 ∷ blank) × (parse 1 1 (6 ∷ 2 ∷ []) ≡ Bad 1)
+unfolding parse parse_body parse_vote such_that byte ◌>>=◌ digests_of_height
 no_second_vote = (refl, refl)
 
 no_number : (parse 3 1 (0 ∷ blank) ≡ Bad 0) × (parse 3 1 (7 ∷ blank) ≡ Bad 0)
-unfolding parse such_that byte ◌>>=◌ digests_of_height
+unfolding parse parse_body such_that byte ◌>>=◌ digests_of_height
 no_number = (refl, refl)
 
 -- ---- Statements and claims
@@ -161,24 +161,24 @@ p = record { setup = setup; epoch = record { 0 = 2 }; leader = node 0; slots = s
 abbrev head : List ℕ
 head = replicate 32 7 ++ (0 ∷ 0 ∷ 0 ∷ 0 ∷ 0 ∷ 0 ∷ 0 ∷ 2 ∷ 0 ∷ [])
 
-states_a_vote : own_statement basic p (Vote 2 258 d blank) ≡ head ++ (4 ∷ 6 ∷ 2 ∷ 0 ∷ 0 ∷ 1 ∷ 2 ∷ d)
+states_a_vote : stated basic p (Vote 2 258 d) ≡ head ++ (4 ∷ 6 ∷ 2 ∷ 0 ∷ 0 ∷ 1 ∷ 2 ∷ d)
 unfolding wide_bytes digests_of_height
 states_a_vote = refl
 
 -- chained HotStuff has its own tag
-states_chained : own_statement chained p (Vote 1 258 d blank) ≡ head ++ (5 ∷ 6 ∷ 1 ∷ 0 ∷ 0 ∷ 1 ∷ 2 ∷ d)
+states_chained : stated chained p (Vote 1 258 d) ≡ head ++ (5 ∷ 6 ∷ 1 ∷ 0 ∷ 0 ∷ 1 ∷ 2 ∷ d)
 unfolding wide_bytes digests_of_height
 states_chained = refl
 
-states_a_round : own_statement basic p (NewView 259 shown blank) ≡ head ++ (4 ∷ 1 ∷ 1 ∷ 3 ∷ 0 ∷ 1 ∷ 0 ∷ 1 ∷ [])
+states_a_round : stated basic p (NewView 259 shown) ≡ head ++ (4 ∷ 1 ∷ 1 ∷ 3 ∷ 0 ∷ 1 ∷ 0 ∷ 1 ∷ [])
 unfolding wide_bytes digests_of_height
 states_a_round = refl
 
 -- first the votes of the certificate, each with a vote's statement; then the sender's own signature
-claims_in_order : claims basic p 2 (Commit 65537 shown blank) ≡
-    record { by = node 0; statement = own_statement basic p (Vote 1 65537 d blank); sig = blank } ∷
-    record { by = node 3; statement = own_statement basic p (Vote 1 65537 d blank); sig = blank } ∷
-    record { by = node 2; statement = own_statement basic p (Commit 65537 shown blank); sig = blank } ∷ []
+claims_in_order : claims basic p 2 (signed (Commit 65537 shown) blank) ≡
+    record { by = node 0; statement = stated basic p (Vote 1 65537 d); sig = blank } ∷
+    record { by = node 3; statement = stated basic p (Vote 1 65537 d); sig = blank } ∷
+    record { by = node 2; statement = stated basic p (Commit 65537 shown); sig = blank } ∷ []
 unfolding digests_of_height
 claims_in_order = refl
 

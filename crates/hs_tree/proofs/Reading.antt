@@ -7,9 +7,9 @@ use Rattle.iss_request.proofs.Readings.{read_done, read_passed, read_then, unrea
 use Rattle.std.specs.Int.{w32}
 use Rattle.hs_tree.specs.declared.certificates.Certificate.{Certificate}
 use Rattle.hs_tree.specs.declared.certificates.Certificate.TheVariants.{Root}
-use Rattle.hs_tree.specs.declared.messages.Message.{Message}
+use Rattle.hs_tree.specs.declared.messages.Body.{Body}
 use Rattle.hs_tree.specs.Certificates.{is_phase, parse_certificate, parse_votes}
-use Rattle.hs_tree.specs.Messages.{fields_of, is_message, parse, parse_vote}
+use Rattle.hs_tree.specs.Messages.{fields_of, is_message, parse_body, parse_vote}
 use Rattle.hs_tree.proofs.CertificateGrammar.{after_phase, parse_certificate-is, parse_root-is, parse_votes-is}
 
 -- two parsers that are equal
@@ -41,26 +41,26 @@ module _ (phases : ℕ) where
   pub votes-unread : {a b : Reading} (view : ℕ) {at : ℕ} → IsRead (number w32) a b view → IsUnreadable (parse_votes phases view) b at → IsUnreadable (parse_certificate phases) a at
   votes-unread view h k = un-same (parse_certificate phases) (number w32 >>= parse_votes phases) (parse_certificate-is phases) (unread_then (number w32) (parse_votes phases) h k)
 
--- ---- Messages
+-- ---- Bodies
 
 module _ (phases v : ℕ) where
-  pub number-unread : {a : Reading} {at : ℕ} → IsUnreadable byte a at → IsUnreadable (parse phases v) a at
-  unfolding parse
+  pub number-unread : {a : Reading} {at : ℕ} → IsUnreadable byte a at → IsUnreadable (parse_body phases v) a at
+  unfolding parse_body
   number-unread h = unread_first (such_that (is_message phases) byte) (fields_of phases v) (unread_tested (is_message phases) byte h)
 
-  pub unknown-unread : {a b : Reading} (n : ℕ) → is_message phases n ≡ false → IsRead byte a b n → IsUnreadable (parse phases v) a a.at
-  unfolding parse
+  pub unknown-unread : {a b : Reading} (n : ℕ) → is_message phases n ≡ false → IsRead byte a b n → IsUnreadable (parse_body phases v) a a.at
+  unfolding parse_body
   unknown-unread n k h = unread_first (such_that (is_message phases) byte) (fields_of phases v) (unread_failed (is_message phases) byte h k)
 
-  pub fields-read : {a b c : Reading} (n : ℕ) (m : Message) (q : Parser Message) → fields_of phases v n ≡ q → is_message phases n ≡ true → IsRead byte a b n → IsRead q b c m → IsRead (parse phases v) a c m
-  unfolding parse
-  fields-read n m q e t h r = read_then (such_that (is_message phases) byte) (fields_of phases v) (read_passed (is_message phases) byte h t) (by-same (fields_of phases v n) q e r)
+  pub fields-read : {a b c : Reading} (n : ℕ) (x : Body) (q : Parser Body) → fields_of phases v n ≡ q → is_message phases n ≡ true → IsRead byte a b n → IsRead q b c x → IsRead (parse_body phases v) a c x
+  unfolding parse_body
+  fields-read n x q e t h r = read_then (such_that (is_message phases) byte) (fields_of phases v) (read_passed (is_message phases) byte h t) (by-same (fields_of phases v n) q e r)
 
-  pub fields-unread : {a b : Reading} (n : ℕ) {at : ℕ} (q : Parser Message) → fields_of phases v n ≡ q → is_message phases n ≡ true → IsRead byte a b n → IsUnreadable q b at → IsUnreadable (parse phases v) a at
-  unfolding parse
+  pub fields-unread : {a b : Reading} (n : ℕ) {at : ℕ} (q : Parser Body) → fields_of phases v n ≡ q → is_message phases n ≡ true → IsRead byte a b n → IsUnreadable q b at → IsUnreadable (parse_body phases v) a at
+  unfolding parse_body
   fields-unread n q e t h r = unread_then (such_that (is_message phases) byte) (fields_of phases v) (read_passed (is_message phases) byte h t) (un-same (fields_of phases v n) q e r)
 
-  -- if the number is none of the others, the message is a vote
+  -- if the number is none of the others, the body is a vote
   pub vote-fields : (n : ℕ) → n ≢ 1 → n ≢ 2 → n ≢ 3 → n ≢ 4 → n ≢ 5 → fields_of phases v n ≡ parse_vote phases
   vote-fields n a b c d e =
       let one = eqb-other n 1 a in

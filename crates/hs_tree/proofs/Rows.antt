@@ -80,6 +80,10 @@ fate-fate false behind p q a b x y h g = first-never p q a b h
 pub last-again : {A B : Type 0} (p : Parser A) (make : A → B) (a : List ℕ) (x : A) → Again a p x → Again a (p >>= λ z. done (make z)) (make x)
 last-again p make a x h rest = then_good p (λ z. done (make z)) (a ++ rest) rest rest x (make x) (h rest) (done_good (make x) rest)
 
+pub last-fate : {A B : Type 0} (read : Bool) (p : Parser A) (make : A → B) (a : List ℕ) (x : A) → Fate read a p x → Fate read a (p >>= λ z. done (make z)) (make x)
+last-fate true p make a x h = last-again p make a x h
+last-fate false p make a x h = λ rest. let k = h rest in (k.0, first_bad p (λ z. done (make z)) (a ++ rest) k.0 k.1)
+
 -- ---- Single fields
 
 pub number-field : (w : Width) (limit : ℕ) → IsWide w limit → (n : ℕ) → n < limit → Again (to_be_bytes w n) (number w) n

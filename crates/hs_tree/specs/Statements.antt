@@ -10,7 +10,8 @@ use Rattle.hs_tree.specs.declared.certificates.Certificate.{Certificate}
 use Rattle.hs_tree.specs.declared.certificates.Certificate.TheVariants.{Root, Votes}
 use Rattle.iss_sb.specs.declared.signers.Signed.{Signed}
 use Rattle.hs_tree.specs.declared.messages.Message.{Message}
-use Rattle.hs_tree.specs.declared.messages.Message.TheVariants.{NewView, Prepare, PreCommit, Commit, Decide, Vote}
+use Rattle.hs_tree.specs.declared.messages.Body.{Body}
+use Rattle.hs_tree.specs.declared.messages.Body.TheVariants.{NewView, Prepare, PreCommit, Commit, Decide, Vote}
 use Rattle.hs_tree.specs.Certificates.{digest_of, view_of}
 use Rattle.hs_tree.specs.Tree.{Form}
 
@@ -29,42 +30,23 @@ statement form p kind fields = statement_head p form.tag ++ kind ∷ fields
 abbrev pub vote_statement : Form → Params → ℕ → ℕ → List ℕ → List ℕ
 vote_statement form p phase view d = statement form p 6 (phase ∷ four_bytes view ++ d)
 
--- the statement that the sender of a message signs
-abbrev pub own_statement : Form → Params → Message → List ℕ
-own_statement form p (NewView round high sig) = statement form p 1 (two_bytes round ++ four_bytes (view_of high))
-own_statement form p (Prepare view what just sig) =
-    statement form p 2 (four_bytes view ++ node_digest form p view what just)
-own_statement form p (PreCommit view shown sig) = statement form p 3 (four_bytes view ++ digest_of shown)
-own_statement form p (Commit view shown sig) = statement form p 4 (four_bytes view ++ digest_of shown)
-own_statement form p (Decide view shown sig) = statement form p 5 (four_bytes view ++ digest_of shown)
-own_statement form p (Vote phase view d sig) = vote_statement form p phase view d
+-- the statement of a body, which its sender signs
+abbrev pub stated : Form → Params → Body → List ℕ
+stated form p (NewView round high) = statement form p 1 (two_bytes round ++ four_bytes (view_of high))
+stated form p (Prepare view what just) = statement form p 2 (four_bytes view ++ node_digest form p view what just)
+stated form p (PreCommit view shown) = statement form p 3 (four_bytes view ++ digest_of shown)
+stated form p (Commit view shown) = statement form p 4 (four_bytes view ++ digest_of shown)
+stated form p (Decide view shown) = statement form p 5 (four_bytes view ++ digest_of shown)
+stated form p (Vote phase view d) = vote_statement form p phase view d
 
--- the sender's signature
-abbrev pub signature_of : Message → List ℕ
-signature_of (NewView round high sig) = sig
-signature_of (Prepare view what just sig) = sig
-signature_of (PreCommit view shown sig) = sig
-signature_of (Commit view shown sig) = sig
-signature_of (Decide view shown sig) = sig
-signature_of (Vote phase view d sig) = sig
-
--- the message with this signature instead of its own
-abbrev pub with_signature : List ℕ → Message → Message
-with_signature sig (NewView round high old) = NewView round high sig
-with_signature sig (Prepare view what just old) = Prepare view what just sig
-with_signature sig (PreCommit view shown old) = PreCommit view shown sig
-with_signature sig (Commit view shown old) = Commit view shown sig
-with_signature sig (Decide view shown old) = Decide view shown sig
-with_signature sig (Vote phase view d old) = Vote phase view d sig
-
--- the certificate in the message, the root's if there is none
-abbrev pub inside : Message → Certificate
-inside (NewView round high sig) = high
-inside (Prepare view what just sig) = just
-inside (PreCommit view shown sig) = shown
-inside (Commit view shown sig) = shown
-inside (Decide view shown sig) = shown
-inside (Vote phase view d sig) = Root
+-- the certificate in a body, the root's if there is none
+abbrev pub inside : Body → Certificate
+inside (NewView round high) = high
+inside (Prepare view what just) = just
+inside (PreCommit view shown) = shown
+inside (Commit view shown) = shown
+inside (Decide view shown) = shown
+inside (Vote phase view d) = Root
 
 -- ---- Claims, in the order of the bytes
 
@@ -78,8 +60,8 @@ abbrev pub certificate_claims : Form → Params → Certificate → List Claim
 certificate_claims form p Root = []
 certificate_claims form p (Votes view phase d votes) = vote_claims (vote_statement form p phase view d) votes
 
--- the votes of the certificate in the message, then the sender's own signature
+-- the votes of the certificate in the body, then the sender's own signature
 -- rule: HotStuff: A message claims the votes of its certificate, then its sender's signature
 abbrev pub claims : Form → Params → ℕ → Message → List Claim
 claims form p from msg =
-    certificate_claims form p (inside msg) ++ claim from (own_statement form p msg) (signature_of msg) ∷ []
+    certificate_claims form p (inside msg.body) ++ claim from (stated form p msg.body) msg.sig ∷ []

@@ -2,9 +2,9 @@
 ghost use Rattle.std.specs.Prelude.{◌≡◌, ◌++◌, IfOk, OnOk};
 ghost use Rattle.iss_sb.specs.Statements.{claim};
 ghost use Rattle.hs_tree.specs.Protocols.{form_of};
-ghost use Rattle.hs_tree.specs.Statements.{certificate_claims, claims, inside, own_statement, signature_of, with_signature};
+ghost use Rattle.hs_tree.specs.Statements.{certificate_claims, claims, inside, stated};
 
-use crate::messages::{Message, Poll};
+use crate::messages::{Body, Message, Poll};
 use crate::protocols::Protocol;
 use crate::signing::{
     hash_node, node_statement, put_certificate_claims, round_statement, start_statement,
@@ -15,89 +15,33 @@ use iss_request::{Bytes, NoMemory, NodeId, Seq};
 use iss_sb::{Claim, Params};
 use std::alloc::Global;
 
-/// The message with this signature instead of its own.
-pub fn with_signature(msg: Message, new: Bytes) -> Message
-    ensures { result ≡ with_signature new msg }
-{
-    match msg {
-        Message::NewView { round, high, .. } => Message::NewView {
-            round,
-            high,
-            sig: new,
-        },
-        Message::Prepare {
-            view,
-            what,
-            just,
-            ..
-        } => Message::Prepare {
-            view,
-            what,
-            just,
-            sig: new,
-        },
-        Message::PreCommit { view, shown, .. } => Message::PreCommit {
-            view,
-            shown,
-            sig: new,
-        },
-        Message::Commit { view, shown, .. } => Message::Commit {
-            view,
-            shown,
-            sig: new,
-        },
-        Message::Decide { view, shown, .. } => Message::Decide {
-            view,
-            shown,
-            sig: new,
-        },
-        Message::Vote {
-            phase,
-            view,
-            digest,
-            ..
-        } => Message::Vote {
-            phase,
-            view,
-            digest,
-            sig: new,
-        },
-    }
-}
-
-// The statement that the sender of the message signs.
-fn own_statement(
+// The statement of a body, which its sender signs.
+fn body_statement(
     alloc: Global,
     protocol: Protocol,
     p: &Params,
-    m: &Message,
+    body: &Body,
 ) -> Result<Bytes, NoMemory>
-    ensures { IfOk result (λ s. s ≡ own_statement (form_of protocol) p.now m.now) }
+    ensures { IfOk result (λ s. s ≡ stated (form_of protocol) p.now body.now) }
 {
     let tag = protocol.tag();
     let out = start_statement(alloc, p, tag)?;
-    match m {
-        Message::NewView { round, high, .. } => round_statement(out, *round, high.view()),
-        Message::Prepare {
-            view,
-            what,
-            just,
-            ..
-        } => {
+    match body {
+        Body::NewView { round, high } => round_statement(out, *round, high.view()),
+        Body::Prepare { view, what, just } => {
             let shown = protocol.shown_view(*view);
             let node = hash_node(alloc, p, shown, &just.digest(), what)?;
             node_statement(out, PREPARE, *view, &node.digest)
         }
-        Message::PreCommit { view, shown, .. } => {
+        Body::PreCommit { view, shown } => {
             node_statement(out, PRE_COMMIT, *view, &shown.digest())
         }
-        Message::Commit { view, shown, .. } => node_statement(out, COMMIT, *view, &shown.digest()),
-        Message::Decide { view, shown, .. } => node_statement(out, DECIDE, *view, &shown.digest()),
-        Message::Vote {
+        Body::Commit { view, shown } => node_statement(out, COMMIT, *view, &shown.digest()),
+        Body::Decide { view, shown } => node_statement(out, DECIDE, *view, &shown.digest()),
+        Body::Vote {
             phase,
             view,
             digest,
-            ..
         } => {
             let poll = Poll {
                 phase: *phase,
@@ -109,38 +53,24 @@ fn own_statement(
     }
 }
 
-// The sender's signature.
-fn signature_of(m: &Message) -> &Bytes
-    ensures { result.now ≡ signature_of m.now }
-{
-    match m {
-        Message::NewView { sig, .. } => sig,
-        Message::Prepare { sig, .. } => sig,
-        Message::PreCommit { sig, .. } => sig,
-        Message::Commit { sig, .. } => sig,
-        Message::Decide { sig, .. } => sig,
-        Message::Vote { sig, .. } => sig,
-    }
-}
-
-// Appends the claims of the certificate in the message.
+// Appends the claims of the certificate in the body.
 fn put_inside(
     alloc: Global,
     protocol: Protocol,
     p: &Params,
-    m: &Message,
+    body: &Body,
     all: &mut Seq<Claim>,
 ) -> Result<(), NoMemory>
-    ensures { OnOk result (all.new ≡ all.old ++ certificate_claims (form_of protocol) p.now (inside m.now)) }
+    ensures { OnOk result (all.new ≡ all.old ++ certificate_claims (form_of protocol) p.now (inside body.now)) }
 {
     let tag = protocol.tag();
-    match m {
-        Message::NewView { high, .. } => put_certificate_claims(alloc, p, tag, high, all),
-        Message::Prepare { just, .. } => put_certificate_claims(alloc, p, tag, just, all),
-        Message::PreCommit { shown, .. } => put_certificate_claims(alloc, p, tag, shown, all),
-        Message::Commit { shown, .. } => put_certificate_claims(alloc, p, tag, shown, all),
-        Message::Decide { shown, .. } => put_certificate_claims(alloc, p, tag, shown, all),
-        Message::Vote { .. } => Ok(()),
+    match body {
+        Body::NewView { high, .. } => put_certificate_claims(alloc, p, tag, high, all),
+        Body::Prepare { just, .. } => put_certificate_claims(alloc, p, tag, just, all),
+        Body::PreCommit { shown, .. } => put_certificate_claims(alloc, p, tag, shown, all),
+        Body::Commit { shown, .. } => put_certificate_claims(alloc, p, tag, shown, all),
+        Body::Decide { shown, .. } => put_certificate_claims(alloc, p, tag, shown, all),
+        Body::Vote { .. } => Ok(()),
     }
 }
 
@@ -152,10 +82,10 @@ fn own_claim(
     from: NodeId,
     m: &Message,
 ) -> Result<Claim, NoMemory>
-    ensures { IfOk result (λ c. c ≡ claim from.0 (own_statement (form_of protocol) p.now m.now) (signature_of m.now)) }
+    ensures { IfOk result (λ c. c ≡ claim from.0 (stated (form_of protocol) p.now m.now.body) m.now.sig) }
 {
-    let statement = own_statement(alloc, protocol, p, m)?;
-    let sig = signature_of(m).copy()?;
+    let statement = body_statement(alloc, protocol, p, &m.body)?;
+    let sig = m.sig.copy()?;
     Ok(Claim {
         by: from,
         statement,
@@ -176,7 +106,7 @@ pub fn claims(
     ensures { IfOk result (λ all. all ≡ claims (form_of protocol) p.now from.0 m.now) }
 {
     let mut all = Seq::new(alloc);
-    put_inside(alloc, protocol, p, m, &mut all)?;
+    put_inside(alloc, protocol, p, &m.body, &mut all)?;
     let own = own_claim(alloc, protocol, p, from, m)?;
     all.push(own)?;
     Ok(all)

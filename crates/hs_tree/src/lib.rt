@@ -13,9 +13,9 @@ pub mod tree;
 pub mod wire;
 
 pub use certificates::Certificate;
-pub use claiming::{claims, with_signature};
+pub use claiming::claims;
 pub use laws::{certificates_count_nodes, messages_are_exact, one_digest_one_branch};
-pub use messages::{Message, Poll};
+pub use messages::{Body, Message, Poll};
 pub use protocols::Protocol;
 pub use tree::Tree;
 pub use wire::{read, write};

@@ -11,41 +11,42 @@ pub struct Poll {
     pub digest: [u8; 32],
 }
 
-/// The messages of HotStuff, each with its sender's signature. `NewView` starts a round with the sender's highest
-/// prepareQC. `Prepare` proposes a node, whose parent is the one that `just` certifies. `PreCommit`, `Commit` and
-/// `Decide` broadcast the certificates of the three phases. `Vote` is a vote of a phase.
+/// The body of a message. `NewView` starts a round with the sender's highest prepareQC. `Prepare` proposes a node, whose
+/// parent is the one that `just` certifies. `PreCommit`, `Commit` and `Decide` broadcast the certificates of the three
+/// phases. `Vote` is a vote of a phase.
 #[derive(Drop)]
-pub enum Message {
+pub enum Body {
     NewView {
         round: u16,
         high: Certificate,
-        sig: Bytes,
     },
     Prepare {
         view: u32,
         what: Content,
         just: Certificate,
-        sig: Bytes,
     },
     PreCommit {
         view: u32,
         shown: Certificate,
-        sig: Bytes,
     },
     Commit {
         view: u32,
         shown: Certificate,
-        sig: Bytes,
     },
     Decide {
         view: u32,
         shown: Certificate,
-        sig: Bytes,
     },
     Vote {
         phase: u8,
         view: u32,
         digest: [u8; 32],
-        sig: Bytes,
     },
+}
+
+/// A message of HotStuff: its body, and its sender's signature of the body's statement.
+#[derive(Drop)]
+pub struct Message {
+    pub body: Body,
+    pub sig: Bytes,
 }

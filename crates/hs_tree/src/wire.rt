@@ -1,13 +1,14 @@
 //! The bytes of the messages.
-ghost use Rattle.std.specs.Prelude.{◌≡◌, ℕ, List, IfOk, OnOk, Err};
+ghost use Rattle.std.specs.Prelude.{◌≡◌, ℕ, IfOk, OnOk, Err};
 ghost use Rattle.iss_request.specs.Fields.{IsRead, IsUnreadable, and_bytes};
 ghost use Rattle.hs_tree.specs.declared.certificates.Certificate.{Certificate};
-ghost use Rattle.hs_tree.specs.declared.messages.Message.{Message};
-ghost use Rattle.hs_tree.specs.Messages.{is_message, parse, parse_new_view, parse_prepare, parse_shown, parse_vote, spell, spell_shown};
+ghost use Rattle.hs_tree.specs.declared.messages.Body.{Body};
+ghost use Rattle.hs_tree.specs.declared.messages.Body.TheVariants.{NewView, Prepare, Vote};
+ghost use Rattle.hs_tree.specs.Messages.{is_message, parse, parse_body, parse_new_view, parse_prepare, parse_shown, parse_vote, spell, spell_body, spell_shown};
 
 use crate::certificates::{Certificate, is_phase, read_certificate, read_phase, write_certificate};
-use crate::messages::{Message, Poll};
-use iss_request::{Bytes, DecodeError, Fields, NoMemory, Writer, has_shape, read_signature};
+use crate::messages::{Body, Message};
+use iss_request::{DecodeError, Fields, NoMemory, Writer, has_shape, read_signature};
 use iss_sb::{Content, read_content, write_content};
 use std::alloc::Global;
 
@@ -33,42 +34,34 @@ pub const VOTE: u8 = 6;
 
 // ---- writing
 
-/// Writes a message of a protocol with this many phases: its number, its fields, its signature. One without an encoding
-/// is written as bytes that no reader accepts. The only error is out of memory.
+/// Writes a message of a protocol with this many phases: its body, its signature. One without an encoding is written as
+/// bytes that no reader accepts. The only error is out of memory.
 // rule: HotStuff: A message has one encoding for its number of phases and version
 pub fn write(phases: u8, msg: &Message, out: &mut Writer) -> Result<(), NoMemory>
     ensures { OnOk result (out.new ≡ and_bytes out.old (spell phases out.old.version msg.now)) }
 {
-    match msg {
-        Message::NewView { round, high, sig } => write_new_view(phases, *round, high, sig, out),
-        Message::Prepare {
-            view,
-            what,
-            just,
-            sig,
-        } => write_prepare(phases, *view, what, just, sig, out),
-        Message::PreCommit { view, shown, sig } => {
-            write_shown(phases, PRE_COMMIT, *view, shown, sig, out)
-        }
-        Message::Commit { view, shown, sig } => {
-            write_shown(phases, COMMIT, *view, shown, sig, out)
-        }
-        Message::Decide { view, shown, sig } => {
-            write_shown(phases, DECIDE, *view, shown, sig, out)
-        }
-        Message::Vote {
+    let sig = msg.sig.as_slice();
+    if !has_shape(sig) {
+        return out.put_u8(NO_MESSAGE);
+    }
+    write_body(phases, &msg.body, out)?;
+    out.put_bytes(sig)
+}
+
+fn write_body(phases: u8, body: &Body, out: &mut Writer) -> Result<(), NoMemory>
+    ensures { OnOk result (out.new ≡ and_bytes out.old (spell_body phases out.old.version body.now)) }
+{
+    match body {
+        Body::NewView { round, high } => write_new_view(phases, *round, high, out),
+        Body::Prepare { view, what, just } => write_prepare(phases, *view, what, just, out),
+        Body::PreCommit { view, shown } => write_shown(phases, PRE_COMMIT, *view, shown, out),
+        Body::Commit { view, shown } => write_shown(phases, COMMIT, *view, shown, out),
+        Body::Decide { view, shown } => write_shown(phases, DECIDE, *view, shown, out),
+        Body::Vote {
             phase,
             view,
             digest,
-            sig,
-        } => {
-            let poll = Poll {
-                phase: *phase,
-                view: *view,
-                digest: *digest,
-            };
-            write_vote(phases, &poll, sig, out)
-        }
+        } => write_vote(phases, *phase, *view, digest, out),
     }
 }
 
@@ -76,20 +69,13 @@ fn write_new_view(
     phases: u8,
     round: u16,
     high: &Certificate,
-    sig: &Bytes,
     out: &mut Writer,
 ) -> Result<(), NoMemory>
-    ensures { OnOk result (out.new ≡ and_bytes out.old
-        (spell phases out.old.version (Message.NewView round high.now sig.now))) }
+    ensures { OnOk result (out.new ≡ and_bytes out.old (spell_body phases out.old.version (NewView round high.now))) }
 {
-    let sig = sig.as_slice();
-    if !has_shape(sig) {
-        return out.put_u8(NO_MESSAGE);
-    }
     out.put_u8(NEW_VIEW)?;
     out.put_u16(round)?;
-    write_certificate(phases, high, out)?;
-    out.put_bytes(sig)
+    write_certificate(phases, high, out)
 }
 
 fn write_prepare(
@@ -97,21 +83,15 @@ fn write_prepare(
     view: u32,
     what: &Content,
     just: &Certificate,
-    sig: &Bytes,
     out: &mut Writer,
 ) -> Result<(), NoMemory>
     ensures { OnOk result (out.new ≡ and_bytes out.old
-        (spell phases out.old.version (Message.Prepare view what.now just.now sig.now))) }
+        (spell_body phases out.old.version (Prepare view what.now just.now))) }
 {
-    let sig = sig.as_slice();
-    if !has_shape(sig) {
-        return out.put_u8(NO_MESSAGE);
-    }
     out.put_u8(PREPARE)?;
     out.put_u32(view)?;
     write_content(what, out)?;
-    write_certificate(phases, just, out)?;
-    out.put_bytes(sig)
+    write_certificate(phases, just, out)
 }
 
 // Writes a PreCommit, Commit or Decide, which exist only with three phases.
@@ -120,34 +100,35 @@ fn write_shown(
     kind: u8,
     view: u32,
     shown: &Certificate,
-    sig: &Bytes,
     out: &mut Writer,
 ) -> Result<(), NoMemory>
-    ensures { OnOk result (out.new ≡ and_bytes out.old (spell_shown phases kind view shown.now sig.now)) }
+    ensures { OnOk result (out.new ≡ and_bytes out.old (spell_shown phases kind view shown.now)) }
 {
-    let sig = sig.as_slice();
-    if phases != 3 || !has_shape(sig) {
+    if phases != 3 {
         return out.put_u8(NO_MESSAGE);
     }
     out.put_u8(kind)?;
     out.put_u32(view)?;
-    write_certificate(phases, shown, out)?;
-    out.put_bytes(sig)
+    write_certificate(phases, shown, out)
 }
 
-fn write_vote(phases: u8, poll: &Poll, sig: &Bytes, out: &mut Writer) -> Result<(), NoMemory>
+fn write_vote(
+    phases: u8,
+    phase: u8,
+    view: u32,
+    digest: &[u8; 32],
+    out: &mut Writer,
+) -> Result<(), NoMemory>
     ensures { OnOk result (out.new ≡ and_bytes out.old
-        (spell phases out.old.version (Message.Vote poll.now.phase poll.now.view poll.now.digest sig.now))) }
+        (spell_body phases out.old.version (Vote phase view digest.now))) }
 {
-    let sig = sig.as_slice();
-    if !is_phase(phases, poll.phase) || !has_shape(sig) {
+    if !is_phase(phases, phase) {
         return out.put_u8(NO_MESSAGE);
     }
     out.put_u8(VOTE)?;
-    out.put_u8(poll.phase)?;
-    out.put_u32(poll.view)?;
-    out.put_bytes(&poll.digest)?;
-    out.put_bytes(sig)
+    out.put_u8(phase)?;
+    out.put_u32(view)?;
+    out.put_bytes(digest)
 }
 
 // ---- reading
@@ -169,6 +150,16 @@ pub fn read(alloc: Global, phases: u8, f: &mut Fields) -> Result<Message, Decode
     ensures bad { (at : ℕ) → result ≡ Err (DecodeError.BadField at) →
         IsUnreadable (parse phases f.old.version) f.old at }
 {
+    let body = read_body(alloc, phases, f)?;
+    let sig = read_signature(alloc, f)?;
+    Ok(Message { body, sig })
+}
+
+fn read_body(alloc: Global, phases: u8, f: &mut Fields) -> Result<Body, DecodeError>
+    ensures ok { IfOk result (λ b. IsRead (parse_body phases f.old.version) f.old f.new b) }
+    ensures bad { (at : ℕ) → result ≡ Err (DecodeError.BadField at) →
+        IsUnreadable (parse_body phases f.old.version) f.old at }
+{
     let no_message = f.bad_field();
     let number = f.read_u8()?;
     if !is_message(phases, number) {
@@ -179,57 +170,47 @@ pub fn read(alloc: Global, phases: u8, f: &mut Fields) -> Result<Message, Decode
         PREPARE => read_prepare(alloc, phases, f),
         PRE_COMMIT => {
             let s = read_shown(alloc, phases, f)?;
-            Ok(Message::PreCommit {
+            Ok(Body::PreCommit {
                 view: s.view,
                 shown: s.shown,
-                sig: s.sig,
             })
         }
         COMMIT => {
             let s = read_shown(alloc, phases, f)?;
-            Ok(Message::Commit {
+            Ok(Body::Commit {
                 view: s.view,
                 shown: s.shown,
-                sig: s.sig,
             })
         }
         DECIDE => {
             let s = read_shown(alloc, phases, f)?;
-            Ok(Message::Decide {
+            Ok(Body::Decide {
                 view: s.view,
                 shown: s.shown,
-                sig: s.sig,
             })
         }
-        _ => read_vote(alloc, phases, f),
+        _ => read_vote(phases, f),
     }
 }
 
-fn read_new_view(alloc: Global, phases: u8, f: &mut Fields) -> Result<Message, DecodeError>
-    ensures ok { IfOk result (λ m. IsRead (parse_new_view phases) f.old f.new m) }
+fn read_new_view(alloc: Global, phases: u8, f: &mut Fields) -> Result<Body, DecodeError>
+    ensures ok { IfOk result (λ b. IsRead (parse_new_view phases) f.old f.new b) }
     ensures bad { (at : ℕ) → result ≡ Err (DecodeError.BadField at) → IsUnreadable (parse_new_view phases) f.old at }
 {
     let round = f.read_u16()?;
     let high = read_certificate(alloc, phases, f)?;
-    let sig = read_signature(alloc, f)?;
-    Ok(Message::NewView { round, high, sig })
+    Ok(Body::NewView { round, high })
 }
 
-fn read_prepare(alloc: Global, phases: u8, f: &mut Fields) -> Result<Message, DecodeError>
-    ensures ok { IfOk result (λ m. IsRead (parse_prepare phases f.old.version) f.old f.new m) }
+fn read_prepare(alloc: Global, phases: u8, f: &mut Fields) -> Result<Body, DecodeError>
+    ensures ok { IfOk result (λ b. IsRead (parse_prepare phases f.old.version) f.old f.new b) }
     ensures bad { (at : ℕ) → result ≡ Err (DecodeError.BadField at) →
         IsUnreadable (parse_prepare phases f.old.version) f.old at }
 {
     let view = f.read_u32()?;
     let what = read_content(alloc, f)?;
     let just = read_certificate(alloc, phases, f)?;
-    let sig = read_signature(alloc, f)?;
-    Ok(Message::Prepare {
-        view,
-        what,
-        just,
-        sig,
-    })
+    Ok(Body::Prepare { view, what, just })
 }
 
 // The fields of a PreCommit, Commit or Decide.
@@ -237,33 +218,29 @@ fn read_prepare(alloc: Global, phases: u8, f: &mut Fields) -> Result<Message, De
 struct Shown {
     view: u32,
     shown: Certificate,
-    sig: Bytes,
 }
 
 fn read_shown(alloc: Global, phases: u8, f: &mut Fields) -> Result<Shown, DecodeError>
-    ensures ok { (message : ℕ → Certificate → List ℕ → Message)
-        → IfOk result (λ s. IsRead (parse_shown phases message) f.old f.new (message s.view s.shown s.sig)) }
-    ensures bad { (message : ℕ → Certificate → List ℕ → Message) (at : ℕ)
-        → result ≡ Err (DecodeError.BadField at) → IsUnreadable (parse_shown phases message) f.old at }
+    ensures ok { (body : ℕ → Certificate → Body)
+        → IfOk result (λ s. IsRead (parse_shown phases body) f.old f.new (body s.view s.shown)) }
+    ensures bad { (body : ℕ → Certificate → Body) (at : ℕ)
+        → result ≡ Err (DecodeError.BadField at) → IsUnreadable (parse_shown phases body) f.old at }
 {
     let view = f.read_u32()?;
     let shown = read_certificate(alloc, phases, f)?;
-    let sig = read_signature(alloc, f)?;
-    Ok(Shown { view, shown, sig })
+    Ok(Shown { view, shown })
 }
 
-fn read_vote(alloc: Global, phases: u8, f: &mut Fields) -> Result<Message, DecodeError>
-    ensures ok { IfOk result (λ m. IsRead (parse_vote phases) f.old f.new m) }
+fn read_vote(phases: u8, f: &mut Fields) -> Result<Body, DecodeError>
+    ensures ok { IfOk result (λ b. IsRead (parse_vote phases) f.old f.new b) }
     ensures bad { (at : ℕ) → result ≡ Err (DecodeError.BadField at) → IsUnreadable (parse_vote phases) f.old at }
 {
     let phase = read_phase(phases, f)?;
     let view = f.read_u32()?;
     let digest = f.read_digest()?;
-    let sig = read_signature(alloc, f)?;
-    Ok(Message::Vote {
+    Ok(Body::Vote {
         phase,
         view,
         digest,
-        sig,
     })
 }

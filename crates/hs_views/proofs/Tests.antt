@@ -1,16 +1,21 @@
 -- Tests as records, options by cases, and lists that grow.
-use Rattle.std.proofs.Common.{◌≡◌, ℕ, zero, suc, ◌==◌, ◌&&◌, Bool, true, false, if◌then◌else◌, List, [], ◌∷◌, ◌++◌, length, Option, Some, None, refl, sym, subst, inl, inr, true≢false}
+use Rattle.std.proofs.Common.{◌≡◌, ℕ, zero, suc, ◌==◌, ◌&&◌, Bool, true, false, if◌then◌else◌, List, [], ◌∷◌, ◌++◌, length, Option, Some, None, refl, sym, ap, subst, inl, inr, true≢false}
 use Rattle.iss_base.specs.Lists.{In, nth}
 use Rattle.iss_base.proofs.Lists.{and-true}
 use Rattle.std.proofs.lemmas.Bool.Decides.{Decides-eqb}
+use Rattle.iss_request.specs.declared.ids.NodeId.{NodeId}
 use Rattle.iss_request.specs.declared.ids.Slot.{Slot}
 use Rattle.iss_request.specs.declared.requests.Batch.{Batch}
 use Rattle.iss_request.specs.declared.requests.Value.{Value}
+use Rattle.iss_sb.specs.declared.effects.Input.{Input}
+use Rattle.iss_sb.specs.declared.effects.Input.TheVariants.{Cast, Receive, Timeout}
 use Rattle.iss_sb.specs.Calls.{AllIn, slots_of}
 use Rattle.iss_sb.specs.Evidence.{Item}
 use Rattle.hs_tree.specs.declared.certificates.Certificate.{Certificate}
 use Rattle.hs_tree.specs.declared.certificates.Certificate.TheVariants.{Root, Votes}
 use Rattle.hs_tree.specs.Certificates.{is_quorum, view_of}
+use Rattle.hs_tree.specs.declared.messages.Body.{Body}
+use Rattle.hs_tree.specs.declared.messages.Message.{Message}
 
 pub by-if : {A : Type 0} (P : A → Type 0) (t : Bool) (a b : A) → P a → P b → P (if t then a else b)
 by-if P true a b h g = h
@@ -77,3 +82,13 @@ pub each-string : {M : Type 0} (Is : List ℕ → Type 0) (xs : List (Item M)) (
 each-string {M} Is [] x s all k h = absurd k
 each-string {M} Is (y ∷ ys) x s all (inl e) h = all.0 s (subst (λ (z : Item M). In s z.made.strings) e h)
 each-string {M} Is (y ∷ ys) x s all (inr k) h = each-string Is ys x s all.1 k h
+
+-- ---- The body of a received message
+
+abbrev body_in : Body → Input Message → Body
+body_in other (Cast slot batch) = other
+body_in other (Receive from msg) = msg.body
+body_in other Timeout = other
+
+pub same-body : (from who : NodeId) (m n : Message) → Receive from m ≡ Receive who n → m.body ≡ n.body
+same-body from who m n h = ap (λ (i : Input Message). body_in m.body i) h

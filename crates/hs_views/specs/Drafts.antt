@@ -3,8 +3,8 @@ use Rattle.std.specs.Prelude.{◌≡◌, ℕ, List, [], ◌∷◌, Option, Some,
 use Rattle.iss_sb.specs.declared.effects.Params.{Params}
 use Rattle.iss_sb.specs.declared.effects.To.{To}
 use Rattle.iss_sb.specs.declared.effects.To.TheVariants.{All as To_all}
-use Rattle.hs_tree.specs.declared.messages.Message.{Message}
-use Rattle.hs_tree.specs.Statements.{own_statement}
+use Rattle.hs_tree.specs.declared.messages.Body.{Body}
+use Rattle.hs_tree.specs.Statements.{stated}
 use Rattle.hs_tree.specs.Tree.{Form}
 use Rattle.hs_views.specs.declared.drafts.Draft.{Draft}
 use Rattle.hs_views.specs.declared.drafts.Recipient.{Recipient}
@@ -21,12 +21,12 @@ abbrev pub count_of : Option Draft → ℕ
 count_of None = 0
 count_of (Some d) = 1
 
--- the draft is this one message with its recipient, and has the statement that its sender signs
-pub record IsDraft (form : Form) (p : Params) (d : Draft) (xs : List (To × Message)) : Type 0 where
-  pub message : xs ≡ (to_nodes p d.to, d.msg) ∷ []
-  pub statement : d.statement ≡ own_statement form p d.msg
+-- the draft is this one body with its recipient, and has its statement
+pub record IsDraft (form : Form) (p : Params) (d : Draft) (xs : List (To × Body)) : Type 0 where
+  pub message : xs ≡ (to_nodes p d.to, d.body) ∷ []
+  pub statement : d.statement ≡ stated form p d.body
 
--- the optional draft is this list of unsigned messages, which has at most one
-abbrev pub AreDrafts : Form → Params → Option Draft → List (To × Message) → Type 0
+-- the optional draft is this list of bodies, which has at most one
+abbrev pub AreDrafts : Form → Params → Option Draft → List (To × Body) → Type 0
 AreDrafts form p None xs = xs ≡ []
 AreDrafts form p (Some d) xs = IsDraft form p d xs

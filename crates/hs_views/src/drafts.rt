@@ -5,8 +5,8 @@ ghost use Rattle.iss_keys.specs.KeyStates.{left_of};
 ghost use Rattle.iss_sb.specs.Calls.{AreToNodes, IsToNode};
 ghost use Rattle.iss_sb.specs.declared.effects.To.{To};
 ghost use Rattle.iss_sb.specs.declared.effects.To.TheVariants.{All as To_all};
-ghost use Rattle.hs_tree.specs.declared.messages.Message.{Message};
-ghost use Rattle.hs_tree.specs.declared.messages.Message.TheVariants.{NewView, Prepare};
+ghost use Rattle.hs_tree.specs.declared.messages.Body.TheVariants.{NewView, Prepare};
+ghost use Rattle.hs_tree.specs.declared.messages.Body.{Body};
 ghost use Rattle.hs_tree.specs.Protocols.{form_of};
 ghost use Rattle.hs_tree.specs.Statements.{node_digest};
 ghost use Rattle.hs_tree.specs.Tree.{Form};
@@ -17,7 +17,7 @@ use crate::fields::Proposal;
 use crate::views::{leader_of, round_of};
 use hs_tree::signing::{node_statement, round_statement, start_statement, vote_statement};
 use hs_tree::wire::PREPARE;
-use hs_tree::{Certificate, Message, Poll, Protocol, with_signature};
+use hs_tree::{Body, Certificate, Message, Poll, Protocol};
 use iss_keys::Keys;
 use iss_request::{Bytes, NoMemory, Seq};
 use iss_sb::{Params, To, sign};
@@ -30,11 +30,11 @@ pub enum Recipient {
     Leader(u16),
 }
 
-/// An unsigned message, with its recipient and the statement that its sender signs.
+/// The body of a message, with its recipient and the statement that its sender signs.
 #[derive(Drop)]
 pub struct Draft {
     pub to: Recipient,
-    pub msg: Message,
+    pub body: Body,
     pub statement: Bytes,
 }
 
@@ -65,14 +65,12 @@ pub fn vote_draft(
     let out = start_statement(alloc, p, tag)?;
     let statement = vote_statement(out, &poll)?;
     let round = round_of(poll.view);
-    let sig = Bytes::new(alloc);
     Ok(Draft {
         to: Recipient::Leader(round),
-        msg: Message::Vote {
+        body: Body::Vote {
             phase: poll.phase,
             view: poll.view,
             digest: poll.digest,
-            sig,
         },
         statement,
     })
@@ -89,23 +87,17 @@ pub fn proposal_draft(
     ensures { IfOk result (λ d.
         digest.now ≡ node_digest (form_of protocol) p.now proposal.view proposal.what proposal.just →
         AreDrafts (form_of protocol) p.now (Some d)
-        ((To_all, Prepare proposal.view proposal.what proposal.just []) ∷ [])) }
+        ((To_all, Prepare proposal.view proposal.what proposal.just) ∷ [])) }
 {
     let tag = protocol.tag();
     let view = proposal.view;
     let out = start_statement(alloc, p, tag)?;
     let statement = node_statement(out, PREPARE, view, digest)?;
-    let sig = Bytes::new(alloc);
     let what = proposal.what;
     let just = proposal.just;
     Ok(Draft {
         to: Recipient::All,
-        msg: Message::Prepare {
-            view,
-            what,
-            just,
-            sig,
-        },
+        body: Body::Prepare { view, what, just },
         statement,
     })
 }
@@ -119,15 +111,14 @@ pub fn round_draft(
     high: Certificate,
 ) -> Result<Draft, NoMemory>
     ensures { IfOk result (λ d. AreDrafts (form_of protocol) p.now (Some d)
-        ((to_leader p.now round, NewView round high []) ∷ [])) }
+        ((to_leader p.now round, NewView round high) ∷ [])) }
 {
     let tag = protocol.tag();
     let out = start_statement(alloc, p, tag)?;
     let statement = round_statement(out, round, high.view())?;
-    let sig = Bytes::new(alloc);
     Ok(Draft {
         to: Recipient::Leader(round),
-        msg: Message::NewView { round, high, sig },
+        body: Body::NewView { round, high },
         statement,
     })
 }
@@ -142,7 +133,7 @@ pub fn send(
     requires some { 1 ≤ p.now.setup.n }
     requires few { p.now.setup.n ≤ 255 }
     requires left { 0 < left_of keys.old }
-    ensures sends { OnOk result ((form : Form) (me : ℕ) (xs : List (To × Message)) →
+    ensures sends { OnOk result ((form : Form) (me : ℕ) (xs : List (To × Body)) →
         AreKeysOf me p.now.setup.keys keys.old → AreDrafts form p.now draft xs →
         sends.new ≡ sends.old ++ signed_from form p.now me keys.old.used xs) }
     ensures used { OnOk result (keys.new ≡ record keys.old { used = keys.old.used + count_of draft }) }
@@ -153,6 +144,6 @@ pub fn send(
     };
     let to = to_nodes(p, draft.to);
     let sig = sign(&draft.statement, keys)?;
-    let msg = with_signature(draft.msg, sig);
-    sends.push((to, msg))
+    let body = draft.body;
+    sends.push((to, Message { body, sig }))
 }

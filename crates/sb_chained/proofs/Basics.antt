@@ -8,10 +8,10 @@ use Rattle.iss_sb.specs.Statements.{four_bytes, statement_head}
 use Rattle.iss_sb.proofs.Statements.{head-same, wide-same}
 use Rattle.iss_sb.specs.declared.content.Content.{Content}
 use Rattle.hs_tree.specs.declared.certificates.Certificate.{Certificate}
-use Rattle.hs_tree.specs.declared.messages.Message.{Message}
-use Rattle.hs_tree.specs.declared.messages.Message.TheVariants.{NewView, Prepare, PreCommit, Commit, Decide, Vote}
+use Rattle.hs_tree.specs.declared.messages.Body.{Body}
+use Rattle.hs_tree.specs.declared.messages.Body.TheVariants.{NewView, Prepare, PreCommit, Commit, Decide, Vote}
 use Rattle.hs_tree.specs.Certificates.{is_quorum, view_of}
-use Rattle.hs_tree.specs.Statements.{own_statement, vote_statement}
+use Rattle.hs_tree.specs.Statements.{stated, vote_statement}
 use Rattle.hs_tree.specs.Tree.{chained as form}
 use Rattle.sb_chained.specs.Rules.{is_good, node_digest}
 use Rattle.hs_views.specs.Views.{turn_of}
@@ -52,40 +52,35 @@ vote-same p phase view d q v e h =
     let b = wide-same 3 view v d e rest in
     record { phase_is = phases; view_is = b.0; digest_is = b.1 }
 
--- a message whose own statement is a vote's is that vote
-pub record IsVote (msg : Message) (phase view : ℕ) (d : List ℕ) : Type 0 where
-  pub sig : List ℕ
-  pub is : msg ≡ Vote phase view d sig
-
-pub own-vote : (p : Params) (msg : Message) (phase view : ℕ) (d : List ℕ) → own_statement form p msg ≡ vote_statement form p phase view d → IsVote msg phase view d
-own-vote p (NewView round high sig) phase view d h = let k = behind p 1 6 _ _ h in absurd cc
-own-vote p (Prepare v what just sig) phase view d h = let k = behind p 2 6 _ _ h in absurd cc
-own-vote p (PreCommit v shown sig) phase view d h = let k = behind p 3 6 _ _ h in absurd cc
-own-vote p (Commit v shown sig) phase view d h = let k = behind p 4 6 _ _ h in absurd cc
-own-vote p (Decide v shown sig) phase view d h = let k = behind p 5 6 _ _ h in absurd cc
-own-vote p (Vote q v e sig) phase view d h =
+-- a body whose statement is a vote's is that vote
+pub own-vote : (p : Params) (body : Body) (phase view : ℕ) (d : List ℕ) → stated form p body ≡ vote_statement form p phase view d → body ≡ Vote phase view d
+own-vote p (NewView round high) phase view d h = let k = behind p 1 6 _ _ h in absurd cc
+own-vote p (Prepare v what just) phase view d h = let k = behind p 2 6 _ _ h in absurd cc
+own-vote p (PreCommit v shown) phase view d h = let k = behind p 3 6 _ _ h in absurd cc
+own-vote p (Commit v shown) phase view d h = let k = behind p 4 6 _ _ h in absurd cc
+own-vote p (Decide v shown) phase view d h = let k = behind p 5 6 _ _ h in absurd cc
+own-vote p (Vote q v e) phase view d h =
     let s = vote-same p q v e phase view d h in
     let x = s.phase_is in
     let y = s.view_is in
     let z = s.digest_is in
-    record { sig = sig; is = cc }
+    cc
 
--- a message whose own statement is a proposal's is a proposal of that view and node
-pub record IsProposal (p : Params) (msg : Message) (view : ℕ) (d : List ℕ) : Type 0 where
+-- a body whose statement is a proposal's is a proposal of that view and node
+pub record IsProposal (p : Params) (body : Body) (view : ℕ) (d : List ℕ) : Type 0 where
   pub what : Content
   pub just : Certificate
-  pub sig : List ℕ
-  pub is : msg ≡ Prepare view what just sig
+  pub is : body ≡ Prepare view what just
   pub digest_is : node_digest p view what just ≡ d
 
-pub own-proposal : (p : Params) (msg : Message) (view : ℕ) (d : List ℕ) → own_statement form p msg ≡ statement_head p 5 ++ (2 ∷ (four_bytes view ++ d)) → IsProposal p msg view d
-own-proposal p (NewView round high sig) view d h = let k = behind p 1 2 _ _ h in absurd cc
-own-proposal p (PreCommit v shown sig) view d h = let k = behind p 3 2 _ _ h in absurd cc
-own-proposal p (Commit v shown sig) view d h = let k = behind p 4 2 _ _ h in absurd cc
-own-proposal p (Decide v shown sig) view d h = let k = behind p 5 2 _ _ h in absurd cc
-own-proposal p (Vote q v e sig) view d h = let k = behind p 6 2 _ _ h in absurd cc
-own-proposal p (Prepare v what just sig) view d h =
+pub own-proposal : (p : Params) (body : Body) (view : ℕ) (d : List ℕ) → stated form p body ≡ statement_head p 5 ++ (2 ∷ (four_bytes view ++ d)) → IsProposal p body view d
+own-proposal p (NewView round high) view d h = let k = behind p 1 2 _ _ h in absurd cc
+own-proposal p (PreCommit v shown) view d h = let k = behind p 3 2 _ _ h in absurd cc
+own-proposal p (Commit v shown) view d h = let k = behind p 4 2 _ _ h in absurd cc
+own-proposal p (Decide v shown) view d h = let k = behind p 5 2 _ _ h in absurd cc
+own-proposal p (Vote q v e) view d h = let k = behind p 6 2 _ _ h in absurd cc
+own-proposal p (Prepare v what just) view d h =
     let k = behind p 2 2 (four_bytes v ++ node_digest p v what just) (four_bytes view ++ d) h in
     let rest : four_bytes v ++ node_digest p v what just ≡ four_bytes view ++ d = cc in
     let b = wide-same 3 v view (node_digest p v what just) d rest in
-    subst (λ (z : ℕ). IsProposal p (Prepare v what just sig) z d) b.0 (record { what = what; just = just; sig = sig; is = refl; digest_is = b.1 })
+    subst (λ (z : ℕ). IsProposal p (Prepare v what just) z d) b.0 (record { what = what; just = just; is = refl; digest_is = b.1 })

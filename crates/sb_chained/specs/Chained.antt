@@ -16,7 +16,8 @@ use Rattle.iss_sb.specs.Evidence.{Item, Made, Module, accepts}
 use Rattle.iss_sb.specs.declared.content.Content.{Content}
 use Rattle.hs_tree.specs.declared.certificates.Certificate.{Certificate}
 use Rattle.hs_tree.specs.declared.messages.Message.{Message}
-use Rattle.hs_tree.specs.declared.messages.Message.TheVariants.{NewView, Prepare, PreCommit, Commit, Decide, Vote}
+use Rattle.hs_tree.specs.declared.messages.Body.{Body}
+use Rattle.hs_tree.specs.declared.messages.Body.TheVariants.{NewView, Prepare}
 use Rattle.hs_tree.specs.Messages.{parse, spell}
 use Rattle.hs_tree.specs.Statements.{claims, node_string}
 use Rattle.hs_tree.specs.Tree.{Node, branch, chained as form, strings_of, value_at_slot, value_of}
@@ -37,56 +38,48 @@ abbrev pub offered : Params → State → List (Slot × Batch) → Content → C
 offered p s old what just = offered_at p old what (slots_below s just)
 
 -- the batch that the replica accepts with a message
-abbrev pub asked_by : Params → State → List (Slot × Batch) → ℕ → Message → Option (Slot × Batch)
-asked_by p s old from (NewView round high sig) = None
-asked_by p s old from (Prepare view what just sig) =
+abbrev pub asked_by : Params → State → List (Slot × Batch) → ℕ → Body → Option (Slot × Batch)
+asked_by p s old from (Prepare view what just) =
     if may_prepare p s from view what just then offered p s old what just else None
-asked_by p s old from (PreCommit view shown sig) = None
-asked_by p s old from (Commit view shown sig) = None
-asked_by p s old from (Decide view shown sig) = None
-asked_by p s old from (Vote phase view d sig) = None
+asked_by p s old from other = None
 
 -- the batch that the replica accepts with an input
 abbrev pub asks : Params → ℕ → List (Item Message) → Input Message → Option (Slot × Batch)
 asks p me xs (Cast slot batch) = if may_cast p me (state p me xs) slot.0 then Some (slot, batch) else None
-asks p me xs (Receive from msg) = asked_by p (state p me xs) (accepts xs) from.0 msg
+asks p me xs (Receive from msg) = asked_by p (state p me xs) (accepts xs) from.0 msg.body
 asks p me xs Timeout = None
 
--- ---- Unsigned messages: first the answer, then the proposal that the input triggers; a step has at most one of both
+-- ---- Bodies that are sent: first the answer, then the proposal that the input triggers; a step has at most one of both
 
 -- a vote, to the leader of the view's round
-abbrev pub voted : Params → ℕ → List ℕ → List (To × Message)
+abbrev pub voted : Params → ℕ → List ℕ → List (To × Body)
 voted p view d = vote_for p 1 view d
 
 -- the answer to a message: a vote for a proposal that is taken
-abbrev pub answers_heard : Params → State → ℕ → Message → List (To × Message)
-answers_heard p s from (NewView round high sig) = []
-answers_heard p s from (Prepare view what just sig) =
+abbrev pub answers_heard : Params → State → ℕ → Body → List (To × Body)
+answers_heard p s from (Prepare view what just) =
     if may_prepare p s from view what just then voted p view (node_digest p view what just) else []
-answers_heard p s from (PreCommit view shown sig) = []
-answers_heard p s from (Commit view shown sig) = []
-answers_heard p s from (Decide view shown sig) = []
-answers_heard p s from (Vote phase view d sig) = []
+answers_heard p s from other = []
 
 -- the answer to an input
 -- rule: Chained HotStuff: A timeout enters the next round and tells its leader the highest certificate
-abbrev pub answers : Params → State → Input Message → List (To × Message)
+abbrev pub answers : Params → State → Input Message → List (To × Body)
 answers p s (Cast slot batch) = []
-answers p s (Receive from msg) = answers_heard p s from.0 msg
+answers p s (Receive from msg) = answers_heard p s from.0 msg.body
 answers p s Timeout =
-    if may_end s then (to_leader p (suc (round_of s.view)), NewView (suc (round_of s.view)) s.high []) ∷ [] else []
+    if may_end s then (to_leader p (suc (round_of s.view)), NewView (suc (round_of s.view)) s.high) ∷ [] else []
 
--- the Prepare message of a turn
-abbrev pub proposals : Option Turn → List (To × Message)
+-- the Prepare of a turn
+abbrev pub proposals : Option Turn → List (To × Body)
 proposals None = []
-proposals (Some t) = (To_all, Prepare t.view t.what t.just []) ∷ []
+proposals (Some t) = (To_all, Prepare t.view t.what t.just) ∷ []
 
--- all unsigned messages of a step
-abbrev pub drafts : Params → ℕ → State → Input Message → List (To × Message)
+-- all bodies that a step sends
+abbrev pub drafts : Params → ℕ → State → Input Message → List (To × Body)
 drafts p me s i = answers p s i ++ proposals (proposed p me s (kept p me s i) i)
 
--- signs each message with the next leaf, from this one on
-abbrev pub sign_all : Params → ℕ → ℕ → List (To × Message) → List (To × Message)
+-- signs each body with the next leaf, from this one on
+abbrev pub sign_all : Params → ℕ → ℕ → List (To × Body) → List (To × Message)
 sign_all p me leaf xs = signed_from form p me leaf xs
 
 -- ---- Hashed strings: for a node that is taken or proposed, its value's string and its own
@@ -94,18 +87,14 @@ sign_all p me leaf xs = signed_from form p me leaf xs
 abbrev pub strings_at : Params → ℕ → Content → Certificate → List (List ℕ)
 strings_at p view what just = strings_of p.setup.version (value_of what) ++ node_string form p view what just ∷ []
 
-abbrev pub taken_strings : Params → State → ℕ → Message → List (List ℕ)
-taken_strings p s from (NewView round high sig) = []
-taken_strings p s from (Prepare view what just sig) =
+abbrev pub taken_strings : Params → State → ℕ → Body → List (List ℕ)
+taken_strings p s from (Prepare view what just) =
     if may_prepare p s from view what just then strings_at p view what just else []
-taken_strings p s from (PreCommit view shown sig) = []
-taken_strings p s from (Commit view shown sig) = []
-taken_strings p s from (Decide view shown sig) = []
-taken_strings p s from (Vote phase view d sig) = []
+taken_strings p s from other = []
 
 abbrev pub taken_of : Params → State → Input Message → List (List ℕ)
 taken_of p s (Cast slot batch) = []
-taken_of p s (Receive from msg) = taken_strings p s from.0 msg
+taken_of p s (Receive from msg) = taken_strings p s from.0 msg.body
 taken_of p s Timeout = []
 
 abbrev pub turn_strings : Params → Option Turn → List (List ℕ)

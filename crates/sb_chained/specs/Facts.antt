@@ -18,7 +18,8 @@ use Rattle.iss_sb.specs.Legal.{Front}
 use Rattle.iss_sb.specs.declared.content.Content.{Content}
 use Rattle.iss_sb.specs.declared.content.Content.TheVariants.{Holds}
 use Rattle.hs_tree.specs.declared.messages.Message.{Message}
-use Rattle.hs_tree.specs.declared.messages.Message.TheVariants.{Vote}
+use Rattle.hs_tree.specs.declared.messages.Body.TheVariants.{Vote}
+use Rattle.hs_tree.specs.Messages.{signed}
 use Rattle.hs_tree.specs.Certificates.{digest_of}
 use Rattle.hs_tree.specs.Statements.{inside}
 use Rattle.hs_tree.specs.Tree.{root, value_at_slot}
@@ -33,7 +34,7 @@ use Rattle.hs_views.specs.Views.{leader_of, round_of}
 pub record VotedIn (x : Item Message) (view : ℕ) (d : List ℕ) : Type 0 where
   pub to : To
   pub sig : List ℕ
-  pub sent : In {A = To × Message} (to, Vote 1 view d sig) x.made.sends
+  pub sent : In {A = To × Message} (to, signed (Vote 1 view d) sig) x.made.sends
 
 -- replica i sent the vote
 pub record IsVoted (w : World Message) (i view : ℕ) (d : List ℕ) : Type 0 where
@@ -59,7 +60,7 @@ pub record IsCertified (p : Params) (w : World Message) (view : ℕ) (d : List �
 -- The certificate in each message that a replica received, if it is valid, is votes of a quorum.
 abbrev pub AreCertified : Params → World Message → Type 0
 AreCertified p w = (i view : ℕ) (x : Item Message) (from : NodeId) (msg : Message) → In x (w i) →
-    x.input ≡ Receive from msg → is_good p view (inside msg) ≡ true → IsCertified p w view (digest_of (inside msg))
+    x.input ≡ Receive from msg → is_good p view (inside msg.body) ≡ true → IsCertified p w view (digest_of (inside msg.body))
 
 -- ---- Nodes and branches whose strings were hashed
 

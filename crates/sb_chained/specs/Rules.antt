@@ -15,7 +15,8 @@ use Rattle.iss_sb.specs.declared.content.Content.TheVariants.{Nil, Holds, Mark}
 use Rattle.hs_tree.specs.declared.certificates.Certificate.{Certificate}
 use Rattle.hs_tree.specs.declared.certificates.Certificate.TheVariants.{Root, Votes}
 use Rattle.hs_tree.specs.declared.messages.Message.{Message}
-use Rattle.hs_tree.specs.declared.messages.Message.TheVariants.{NewView, Prepare, PreCommit, Commit, Decide, Vote}
+use Rattle.hs_tree.specs.declared.messages.Body.{Body}
+use Rattle.hs_tree.specs.declared.messages.Body.TheVariants.{NewView, Prepare, Vote}
 use Rattle.hs_tree.specs.Certificates.{digest_of, is_quorum, view_of}
 use Rattle.hs_tree.specs.Statements as Statements
 use Rattle.sb_chained.specs.declared.links.Lock.{Lock}
@@ -222,39 +223,35 @@ with_round s = record s { view = suc (round_of s.view) * 65536 }
 
 -- ---- The state after an input, without the certificate that it shows and the turn that it triggers
 
-abbrev pub heard : Params → ℕ → State → ℕ → Message → State
-heard p me s from (NewView round high sig) =
+abbrev pub heard : Params → ℕ → State → ℕ → Body → List ℕ → State
+heard p me s from (NewView round high) sig =
     if keeps_news p me s from round high then with_news s from round high else s
-heard p me s from (Prepare view what just sig) =
+heard p me s from (Prepare view what just) sig =
     if may_prepare p s from view what just then with_node p s view what just else s
-heard p me s from (PreCommit view shown sig) = s
-heard p me s from (Commit view shown sig) = s
-heard p me s from (Decide view shown sig) = s
-heard p me s from (Vote phase view d sig) =
+heard p me s from (Vote phase view d) sig =
     if keeps_vote p s from phase view d then with_vote s from view d sig else s
+heard p me s from other sig = s
 
 abbrev pub taken : Params → ℕ → State → Input Message → State
 taken p me s (Cast slot batch) = if may_cast p me s slot.0 then with_cast s batch else s
-taken p me s (Receive from msg) = heard p me s from.0 msg
+taken p me s (Receive from msg) = heard p me s from.0 msg.body msg.sig
 taken p me s Timeout = if may_end s then with_round s else s
 
 -- ---- The certificate that an input shows; k is the state after the input without it. A proposal shows its
 -- justification, even if it is not taken; the last vote of a quorum shows the quorum's certificate; the last NewView of
 -- a quorum the highest one
 
-abbrev pub shows_on : Params → ℕ → State → State → ℕ → Message → Option Certificate
-shows_on p me s k from (NewView round high sig) =
+abbrev pub shows_on : Params → ℕ → State → State → ℕ → Body → Option Certificate
+shows_on p me s k from (NewView round high) =
     if keeps_news p me s from round high then first_high p k round else None
-shows_on p me s k from (Prepare view what just sig) = if is_usable p s from view just then Some just else None
-shows_on p me s k from (PreCommit view shown sig) = None
-shows_on p me s k from (Commit view shown sig) = None
-shows_on p me s k from (Decide view shown sig) = None
-shows_on p me s k from (Vote phase view d sig) =
+shows_on p me s k from (Prepare view what just) = if is_usable p s from view just then Some just else None
+shows_on p me s k from (Vote phase view d) =
     if keeps_vote p s from phase view d && is_reached p k view d then Some (certificate p k view d) else None
+shows_on p me s k from other = None
 
 abbrev pub shows : Params → ℕ → State → State → Input Message → Option Certificate
 shows p me s k (Cast slot batch) = None
-shows p me s k (Receive from msg) = shows_on p me s k from.0 msg
+shows p me s k (Receive from msg) = shows_on p me s k from.0 msg.body
 shows p me s k Timeout = None
 
 -- the state after an input, without the turn that it triggers
@@ -321,19 +318,16 @@ turn_on p s round (Some high) =
 
 -- ---- The turn that an input triggers; k is the state after the input without that turn
 
-abbrev pub proposed_on : Params → ℕ → State → State → ℕ → Message → Option Turn
-proposed_on p me s k from (NewView round high sig) =
+abbrev pub proposed_on : Params → ℕ → State → State → ℕ → Body → Option Turn
+proposed_on p me s k from (NewView round high) =
     if keeps_news p me s from round high then turn_on p k round (first_high p k round) else None
-proposed_on p me s k from (Prepare view what just sig) = None
-proposed_on p me s k from (PreCommit view shown sig) = None
-proposed_on p me s k from (Commit view shown sig) = None
-proposed_on p me s k from (Decide view shown sig) = None
-proposed_on p me s k from (Vote phase view d sig) =
+proposed_on p me s k from (Vote phase view d) =
     if keeps_vote p s from phase view d && is_reached p k view d then next_turn p k k.turns else None
+proposed_on p me s k from other = None
 
 abbrev pub proposed : Params → ℕ → State → State → Input Message → Option Turn
 proposed p me s k (Cast slot batch) = if may_cast p me s slot.0 then next_turn p k k.turns else None
-proposed p me s k (Receive from msg) = proposed_on p me s k from.0 msg
+proposed p me s k (Receive from msg) = proposed_on p me s k from.0 msg.body
 proposed p me s k Timeout = None
 
 -- the node of a turn: a leader knows the nodes that it proposes

@@ -5,7 +5,8 @@ ghost use Rattle.iss_request.specs.declared.ids.NodeId.{NodeId};
 ghost use Rattle.iss_request.specs.declared.ids.Slot.{Slot};
 ghost use Rattle.iss_request.specs.declared.requests.Batch.{Batch};
 ghost use Rattle.iss_sb.specs.Calls.{AllIn, IsGoodInput, IsGoodParams, IsTrueStep, named, slots_of};
-ghost use Rattle.hs_tree.specs.declared.messages.Message.TheVariants.{NewView, Prepare, Vote};
+ghost use Rattle.hs_tree.specs.declared.messages.Body.TheVariants.{NewView, Prepare, Vote};
+ghost use Rattle.hs_tree.specs.Messages.{signed};
 ghost use Rattle.hs_views.specs.Accepted.{AreAccepted};
 ghost use Rattle.sb_chained.specs.Chained.{asked_by, chained, offered};
 ghost use Rattle.sb_chained.specs.Internal.Instances.{IsDeciding, IsShown, Refines, Takes};
@@ -16,7 +17,7 @@ ghost use Rattle.sb_chained.specs.Refines.{RefinesState};
 use crate::accepting::{cast_slot, offered_slot};
 use crate::outcomes::{Outcome, Taken};
 use crate::state::{Node, PHASE};
-use hs_tree::{Certificate, Message, Poll, Protocol, claims};
+use hs_tree::{Body, Certificate, Message, Poll, Protocol, claims};
 use hs_views::{Accepted, Proposal, SignedVote, keep_at, keep_what, pair};
 use iss_keys::Keys;
 use iss_request::{
@@ -70,15 +71,10 @@ impl Chained {
         requires { IsGoodParams chained p.now }
         ensures { (s : State) (old : List (Slot × Batch)) → RefinesState p.now self.now.node s →
             AreAccepted self.now.accepted old →
-            named result ≡ asked_by p.now s old from.0 msg.now }
+            named result ≡ asked_by p.now s old from.0 msg.now.body }
     {
-        match msg {
-            Message::Prepare {
-                view,
-                what,
-                just,
-                ..
-            } => self.offered(p, from, *view, what, just),
+        match &msg.body {
+            Body::Prepare { view, what, just } => self.offered(p, from, *view, what, just),
             _ => None,
         }
     }
@@ -172,7 +168,7 @@ impl Chained {
         proposal: Proposal,
     ) -> Result<Taken, NoMemory>
         ensures { IfOk result (λ t. (sig : List ℕ) → Takes context.now.p.now self.old self.new
-            (Input.Receive from (Prepare proposal.view proposal.what proposal.just sig)) t) }
+            (Input.Receive from (signed (Prepare proposal.view proposal.what proposal.just) sig)) t) }
     {
         let view = proposal.view;
         let what = proposal.what;
@@ -207,7 +203,7 @@ impl Chained {
         vote: SignedVote,
     ) -> Result<Taken, NoMemory>
         ensures { IfOk result (λ t. Takes context.now.p.now self.old self.new
-            (Input.Receive from (Vote vote.poll.phase vote.poll.view vote.poll.digest vote.sig)) t) }
+            (Input.Receive from (signed (Vote vote.poll.phase vote.poll.view vote.poll.digest) vote.sig)) t) }
     {
         let view = vote.poll.view;
         let digest = vote.poll.digest;
@@ -243,7 +239,7 @@ impl Chained {
         high: Certificate,
     ) -> Result<Taken, NoMemory>
         ensures { IfOk result (λ t. (sig : List ℕ) →
-            Takes context.now.p.now self.old self.new (Input.Receive from (NewView round high sig)) t) }
+            Takes context.now.p.now self.old self.new (Input.Receive from (signed (NewView round high) sig)) t) }
     {
         if round == 0 {
             return Ok(Taken::of(context.alloc, Outcome::nothing(context.alloc)));
@@ -274,19 +270,19 @@ impl Chained {
     ) -> Result<Taken, NoMemory>
         ensures { IfOk result (λ t. Takes context.now.p.now self.old self.new (Input.Receive from msg) t) }
     {
-        match msg {
-            Message::NewView { round, high, .. } => self.new_view(context, from, round, high),
-            Message::Prepare {
-                view,
-                what,
-                just,
-                ..
-            } => self.prepare(context, from, Proposal { view, what, just }),
-            Message::Vote {
+        let sig = msg.sig;
+        let body = msg.body;
+        match body {
+            Body::NewView { round, high } => self.new_view(context, from, round, high),
+            Body::Prepare { view, what, just } => self.prepare(
+                context,
+                from,
+                Proposal { view, what, just },
+            ),
+            Body::Vote {
                 phase,
                 view,
                 digest,
-                sig,
             } => {
                 let poll = Poll {
                     phase,
@@ -296,12 +292,9 @@ impl Chained {
                 let vote = SignedVote { poll, sig };
                 self.vote(context, from, vote)
             }
-            Message::PreCommit { .. } => Ok(Taken::of(
-                context.alloc,
-                Outcome::nothing(context.alloc),
-            )),
-            Message::Commit { .. } => Ok(Taken::of(context.alloc, Outcome::nothing(context.alloc))),
-            Message::Decide { .. } => Ok(Taken::of(context.alloc, Outcome::nothing(context.alloc))),
+            Body::PreCommit { .. } => Ok(Taken::of(context.alloc, Outcome::nothing(context.alloc))),
+            Body::Commit { .. } => Ok(Taken::of(context.alloc, Outcome::nothing(context.alloc))),
+            Body::Decide { .. } => Ok(Taken::of(context.alloc, Outcome::nothing(context.alloc))),
         }
     }
 

@@ -18,7 +18,8 @@ use Rattle.iss_sb.specs.Legal.{Front}
 use Rattle.iss_sb.specs.declared.content.Content.{Content}
 use Rattle.iss_sb.specs.declared.content.Content.TheVariants.{Holds}
 use Rattle.hs_tree.specs.declared.messages.Message.{Message}
-use Rattle.hs_tree.specs.declared.messages.Message.TheVariants.{Vote}
+use Rattle.hs_tree.specs.declared.messages.Body.TheVariants.{Vote}
+use Rattle.hs_tree.specs.Messages.{signed}
 use Rattle.hs_tree.specs.Certificates.{digest_of, is_phase}
 use Rattle.hs_tree.specs.Paths.{Has, Path, hash}
 use Rattle.hs_tree.specs.Statements.{inside}
@@ -31,7 +32,7 @@ use Rattle.sb_hotstuff.specs.Rules.{is_good}
 pub record VotedIn (x : Item Message) (phase view : ℕ) (d : List ℕ) : Type 0 where
   pub to : To
   pub sig : List ℕ
-  pub sent : In {A = To × Message} (to, Vote phase view d sig) x.made.sends
+  pub sent : In {A = To × Message} (to, signed (Vote phase view d) sig) x.made.sends
 
 -- replica i sent the vote
 pub record IsVoted (w : World Message) (i phase view : ℕ) (d : List ℕ) : Type 0 where
@@ -58,8 +59,8 @@ pub record IsCertified (p : Params) (w : World Message) (phase view : ℕ) (d : 
 -- The certificate in each message that a replica received, if it is valid, is votes of a quorum.
 abbrev pub AreCertified : Params → World Message → Type 0
 AreCertified p w = (i phase view : ℕ) (x : Item Message) (from : NodeId) (msg : Message) → In x (w i) →
-    x.input ≡ Receive from msg → is_good p phase view (inside msg) ≡ true →
-    IsCertified p w phase view (digest_of (inside msg))
+    x.input ≡ Receive from msg → is_good p phase view (inside msg.body) ≡ true →
+    IsCertified p w phase view (digest_of (inside msg.body))
 
 -- A pre-commit vote implies a prepareQC for its node in its view, and a commit vote implies a precommitQC.
 pub record AreRested (p : Params) (w : World Message) : Type 0 where

@@ -16,7 +16,8 @@ use Rattle.iss_sb.specs.Evidence.{Item, Made, Module, accepts}
 use Rattle.iss_sb.specs.declared.content.Content.{Content}
 use Rattle.hs_tree.specs.declared.certificates.Certificate.{Certificate}
 use Rattle.hs_tree.specs.declared.messages.Message.{Message}
-use Rattle.hs_tree.specs.declared.messages.Message.TheVariants.{NewView, Prepare, PreCommit, Commit, Decide, Vote}
+use Rattle.hs_tree.specs.declared.messages.Body.{Body}
+use Rattle.hs_tree.specs.declared.messages.Body.TheVariants.{NewView, Prepare, PreCommit, Commit, Decide, Vote}
 use Rattle.hs_tree.specs.Certificates.{digest_of}
 use Rattle.hs_tree.specs.Messages.{parse, spell}
 use Rattle.hs_tree.specs.Statements.{claims, node_string}
@@ -38,68 +39,61 @@ abbrev pub offered : Params → State → List (Slot × Batch) → Content → C
 offered p s old what just = offered_at p old what (slots_below s just)
 
 -- the batch that the replica accepts with a message
-abbrev pub asked_by : Params → State → List (Slot × Batch) → ℕ → Message → Option (Slot × Batch)
-asked_by p s old from (NewView round high sig) = None
-asked_by p s old from (Prepare view what just sig) =
+abbrev pub asked_by : Params → State → List (Slot × Batch) → ℕ → Body → Option (Slot × Batch)
+asked_by p s old from (Prepare view what just) =
     if may_prepare p s from view what just then offered p s old what just else None
-asked_by p s old from (PreCommit view shown sig) = None
-asked_by p s old from (Commit view shown sig) = None
-asked_by p s old from (Decide view shown sig) = None
-asked_by p s old from (Vote phase view d sig) = None
+asked_by p s old from other = None
 
 -- the batch that a replica in state s accepts with an input, after these batches
 abbrev pub asked_in : Params → ℕ → State → List (Slot × Batch) → Input Message → Option (Slot × Batch)
 asked_in p me s old (Cast slot batch) = if may_cast p me s slot.0 then Some (slot, batch) else None
-asked_in p me s old (Receive from msg) = asked_by p s old from.0 msg
+asked_in p me s old (Receive from msg) = asked_by p s old from.0 msg.body
 asked_in p me s old Timeout = None
 
 abbrev pub asks : Params → ℕ → List (Item Message) → Input Message → Option (Slot × Batch)
 asks p me xs i = asked_in p me (state p me xs) (accepts xs) i
 
--- ---- Unsigned messages: first the answer, then the proposal that the input triggers
+-- ---- Bodies that are sent: first the answer, then the proposal that the input triggers
 
 -- a vote, to the leader of the view's round
-abbrev pub voted : Params → ℕ → ℕ → List ℕ → List (To × Message)
+abbrev pub voted : Params → ℕ → ℕ → List ℕ → List (To × Body)
 voted p phase view d = vote_for p phase view d
 
--- the message that broadcasts a quorum certificate of a phase: PreCommit, Commit or Decide
-abbrev pub shows : ℕ → ℕ → Certificate → Message
+-- what broadcasts a quorum certificate of a phase: PreCommit, Commit or Decide
+abbrev pub shows : ℕ → ℕ → Certificate → Body
 shows phase view c =
-    if phase == 1 then PreCommit view c [] else (if phase == 2 then Commit view c [] else Decide view c [])
+    if phase == 1 then PreCommit view c else (if phase == 2 then Commit view c else Decide view c)
 
 -- the answer to a message: a vote, a new certificate, or nothing
-abbrev pub answers_heard : Params → State → State → ℕ → Message → List (To × Message)
-answers_heard p s k from (NewView round high sig) = []
-answers_heard p s k from (Prepare view what just sig) =
+abbrev pub answers_heard : Params → State → State → ℕ → Body → List (To × Body)
+answers_heard p s k from (Prepare view what just) =
     if may_prepare p s from view what just then voted p 1 view (node_digest p view what just) else []
-answers_heard p s k from (PreCommit view shown sig) =
-    if may_second p s view shown then voted p 2 view (digest_of shown) else []
-answers_heard p s k from (Commit view shown sig) =
-    if may_third p s view shown then voted p 3 view (digest_of shown) else []
-answers_heard p s k from (Decide view shown sig) = []
-answers_heard p s k from (Vote phase view d sig) =
+answers_heard p s k from (PreCommit view shown) = if may_second p s view shown then voted p 2 view (digest_of shown) else []
+answers_heard p s k from (Commit view shown) = if may_third p s view shown then voted p 3 view (digest_of shown) else []
+answers_heard p s k from (Vote phase view d) =
     if keeps_vote p s from phase view d && is_reached p k phase view d
     then (To_all, shows phase view (certificate p k phase view d)) ∷ [] else []
+answers_heard p s k from other = []
 
 -- the answer to an input
 -- rule: HotStuff: A timeout enters the next round and tells its leader the highest certificate
-abbrev pub answers : Params → State → State → Input Message → List (To × Message)
+abbrev pub answers : Params → State → State → Input Message → List (To × Body)
 answers p s k (Cast slot batch) = []
-answers p s k (Receive from msg) = answers_heard p s k from.0 msg
+answers p s k (Receive from msg) = answers_heard p s k from.0 msg.body
 answers p s k Timeout =
-    if may_end s then (to_leader p (suc (round_of s.view)), NewView (suc (round_of s.view)) s.high []) ∷ [] else []
+    if may_end s then (to_leader p (suc (round_of s.view)), NewView (suc (round_of s.view)) s.high) ∷ [] else []
 
--- the Prepare message of a turn
-abbrev pub proposals : Option Turn → List (To × Message)
+-- the Prepare of a turn
+abbrev pub proposals : Option Turn → List (To × Body)
 proposals None = []
-proposals (Some t) = (To_all, Prepare t.view t.what t.just []) ∷ []
+proposals (Some t) = (To_all, Prepare t.view t.what t.just) ∷ []
 
--- all unsigned messages of a step
-abbrev pub drafts : Params → ℕ → State → Input Message → List (To × Message)
+-- all bodies that a step sends
+abbrev pub drafts : Params → ℕ → State → Input Message → List (To × Body)
 drafts p me s i = answers p s (kept p me s i) i ++ proposals (proposed p me s (kept p me s i) i)
 
--- signs each message with the next leaf, from this one on
-abbrev pub sign_all : Params → ℕ → ℕ → List (To × Message) → List (To × Message)
+-- signs each body with the next leaf, from this one on
+abbrev pub sign_all : Params → ℕ → ℕ → List (To × Body) → List (To × Message)
 sign_all p me leaf xs = signed_from basic p me leaf xs
 
 -- ---- Hashed strings: for a node that is taken or proposed, its value's string and its own
@@ -107,18 +101,14 @@ sign_all p me leaf xs = signed_from basic p me leaf xs
 abbrev pub strings_at : Params → ℕ → Content → Certificate → List (List ℕ)
 strings_at p view what just = strings_of p.setup.version (value_of what) ++ node_string basic p view what just ∷ []
 
-abbrev pub taken_strings : Params → State → ℕ → Message → List (List ℕ)
-taken_strings p s from (NewView round high sig) = []
-taken_strings p s from (Prepare view what just sig) =
+abbrev pub taken_strings : Params → State → ℕ → Body → List (List ℕ)
+taken_strings p s from (Prepare view what just) =
     if may_prepare p s from view what just then strings_at p view what just else []
-taken_strings p s from (PreCommit view shown sig) = []
-taken_strings p s from (Commit view shown sig) = []
-taken_strings p s from (Decide view shown sig) = []
-taken_strings p s from (Vote phase view d sig) = []
+taken_strings p s from other = []
 
 abbrev pub taken_of : Params → State → Input Message → List (List ℕ)
 taken_of p s (Cast slot batch) = []
-taken_of p s (Receive from msg) = taken_strings p s from.0 msg
+taken_of p s (Receive from msg) = taken_strings p s from.0 msg.body
 taken_of p s Timeout = []
 
 abbrev pub turn_strings : Params → Option Turn → List (List ℕ)
@@ -139,21 +129,17 @@ makes p me xs input leaf = record {
 -- ---- Decisions: a valid commitQC of a known node decides its branch
 
 -- the value that a message decides at slot n
-abbrev pub decides_heard : Params → State → Message → ℕ → Option Value
-decides_heard p s (NewView round high sig) n = None
-decides_heard p s (Prepare view what just sig) n = None
-decides_heard p s (PreCommit view shown sig) n = None
-decides_heard p s (Commit view shown sig) n = None
-decides_heard p s (Decide view shown sig) n =
+abbrev pub decides_heard : Params → State → Body → ℕ → Option Value
+decides_heard p s (Decide view shown) n =
     if is_good p 3 view shown && is_known s.tree (digest_of shown)
     then value_at_slot (branch s.tree (digest_of shown)) 0 p.slots n else None
-decides_heard p s (Vote phase view d sig) n = None
+decides_heard p s other n = None
 
 -- the value that an input decides at slot n
 -- rule: HotStuff: A certificate of the third phase delivers its node's branch, each slot once
 abbrev pub decides : Params → State → Input Message → ℕ → Option Value
 decides p s (Cast slot batch) n = None
-decides p s (Receive from msg) n = decides_heard p s msg n
+decides p s (Receive from msg) n = decides_heard p s msg.body n
 decides p s Timeout n = None
 
 -- the value at slot n that was decided first

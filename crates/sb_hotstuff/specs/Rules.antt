@@ -14,7 +14,8 @@ use Rattle.iss_sb.specs.declared.content.Content.TheVariants.{Nil, Holds, Mark}
 use Rattle.hs_tree.specs.declared.certificates.Certificate.{Certificate}
 use Rattle.hs_tree.specs.declared.certificates.Certificate.TheVariants.{Root, Votes}
 use Rattle.hs_tree.specs.declared.messages.Message.{Message}
-use Rattle.hs_tree.specs.declared.messages.Message.TheVariants.{NewView, Prepare, PreCommit, Commit, Decide, Vote}
+use Rattle.hs_tree.specs.declared.messages.Body.{Body}
+use Rattle.hs_tree.specs.declared.messages.Body.TheVariants.{NewView, Prepare, PreCommit, Commit, Decide, Vote}
 use Rattle.hs_tree.specs.Certificates.{digest_of, is_phase, is_quorum, view_of}
 use Rattle.hs_tree.specs.Statements as Statements
 use Rattle.hs_tree.specs.Tree.{Node, basic, branch, extends, filled, is_known, weight}
@@ -178,22 +179,22 @@ with_round s = record s { view = suc (round_of s.view) * 65536; second = false; 
 -- ---- The state after an input, without the turn that it triggers
 
 -- rule: HotStuff: Only a certificate of the second phase becomes the lock, which never decreases
-abbrev pub heard : Params → ℕ → State → ℕ → Message → State
-heard p me s from (NewView round high sig) =
+abbrev pub heard : Params → ℕ → State → ℕ → Body → List ℕ → State
+heard p me s from (NewView round high) sig =
     if keeps_news p me s from round high then with_news s from round high else s
-heard p me s from (Prepare view what just sig) =
+heard p me s from (Prepare view what just) sig =
     if may_prepare p s from view what just then with_node p s view what just else s
-heard p me s from (PreCommit view shown sig) =
+heard p me s from (PreCommit view shown) sig =
     if may_second p s view shown then record s { high = shown; second = true } else s
-heard p me s from (Commit view shown sig) =
+heard p me s from (Commit view shown) sig =
     if may_third p s view shown then record s { lock = shown; third = true } else s
-heard p me s from (Decide view shown sig) = s
-heard p me s from (Vote phase view d sig) =
+heard p me s from (Decide view shown) sig = s
+heard p me s from (Vote phase view d) sig =
     if keeps_vote p s from phase view d then with_vote s from phase view d sig else s
 
 abbrev pub kept : Params → ℕ → State → Input Message → State
 kept p me s (Cast slot batch) = if may_cast p me s slot.0 then with_cast s batch else s
-kept p me s (Receive from msg) = heard p me s from.0 msg
+kept p me s (Receive from msg) = heard p me s from.0 msg.body msg.sig
 kept p me s Timeout = if may_end s then with_round s else s
 
 -- ---- The leader's next turn, which extends its last one by that one's prepareQC
@@ -248,20 +249,17 @@ first_turn p s round =
 
 -- ---- The turn that an input triggers; k is the state after the input without that turn
 
-abbrev pub proposed_on : Params → ℕ → State → State → ℕ → Message → Option Turn
-proposed_on p me s k from (NewView round high sig) =
+abbrev pub proposed_on : Params → ℕ → State → State → ℕ → Body → Option Turn
+proposed_on p me s k from (NewView round high) =
     if keeps_news p me s from round high then first_turn p k round else None
-proposed_on p me s k from (Prepare view what just sig) = None
-proposed_on p me s k from (PreCommit view shown sig) = None
-proposed_on p me s k from (Commit view shown sig) = None
-proposed_on p me s k from (Decide view shown sig) = None
-proposed_on p me s k from (Vote phase view d sig) =
+proposed_on p me s k from (Vote phase view d) =
     if keeps_vote p s from phase view d && (is_reached p k phase view d && not (phase == 2))
     then next_turn p k k.turns else None
+proposed_on p me s k from other = None
 
 abbrev pub proposed : Params → ℕ → State → State → Input Message → Option Turn
 proposed p me s k (Cast slot batch) = if may_cast p me s slot.0 then next_turn p k k.turns else None
-proposed p me s k (Receive from msg) = proposed_on p me s k from.0 msg
+proposed p me s k (Receive from msg) = proposed_on p me s k from.0 msg.body
 proposed p me s k Timeout = None
 
 abbrev pub with_turn : State → Option Turn → State

@@ -4,7 +4,8 @@ ghost use Rattle.iss_keys.specs.KeyStates.{left_of};
 ghost use Rattle.iss_request.specs.declared.ids.Slot.{Slot};
 ghost use Rattle.iss_request.specs.declared.requests.Batch.{Batch};
 ghost use Rattle.iss_sb.specs.Calls.{IsGoodInput, IsGoodParams, IsTrueStep, named};
-ghost use Rattle.hs_tree.specs.declared.messages.Message.TheVariants.{Prepare, Decide};
+ghost use Rattle.hs_tree.specs.declared.messages.Body.TheVariants.{Prepare, Decide};
+ghost use Rattle.hs_tree.specs.Messages.{signed};
 ghost use Rattle.hs_views.specs.Accepted.{AreAccepted};
 ghost use Rattle.sb_hotstuff.specs.HotStuff.{asked_by, hotstuff, offered};
 ghost use Rattle.sb_hotstuff.specs.Internal.Instances.{Refines, Takes};
@@ -14,7 +15,7 @@ ghost use Rattle.sb_hotstuff.specs.Refines.{RefinesState};
 use crate::accepting::{cast_slot, offered_slot};
 use crate::outcomes::{Outcome, Taken};
 use crate::state::{Node, PHASES};
-use hs_tree::{Certificate, Message, Poll, Protocol, claims};
+use hs_tree::{Body, Certificate, Message, Poll, Protocol, claims};
 use hs_views::{Accepted, Proposal, SignedVote, keep_at, keep_what, pair};
 use iss_keys::Keys;
 use iss_request::{
@@ -67,15 +68,10 @@ impl HotStuff {
         requires { IsGoodParams hotstuff p.now }
         ensures { (s : State) (old : List (Slot × Batch)) → RefinesState self.now.node s →
             AreAccepted self.now.accepted old →
-            named result ≡ asked_by p.now s old from.0 msg.now }
+            named result ≡ asked_by p.now s old from.0 msg.now.body }
     {
-        match msg {
-            Message::Prepare {
-                view,
-                what,
-                just,
-                ..
-            } => self.offered(p, from, *view, what, just),
+        match &msg.body {
+            Body::Prepare { view, what, just } => self.offered(p, from, *view, what, just),
             _ => None,
         }
     }
@@ -108,7 +104,7 @@ impl HotStuff {
         proposal: Proposal,
     ) -> Result<Taken, NoMemory>
         ensures { IfOk result (λ t. (sig : List ℕ) → Takes context.now.p.now self.old self.new
-            (Input.Receive from (Prepare proposal.view proposal.what proposal.just sig)) t) }
+            (Input.Receive from (signed (Prepare proposal.view proposal.what proposal.just) sig)) t) }
     {
         let view = proposal.view;
         let what = proposal.what;
@@ -137,7 +133,7 @@ impl HotStuff {
         shown: Certificate,
     ) -> Result<Taken, NoMemory>
         ensures { IfOk result (λ t. (from : NodeId) (sig : List ℕ) →
-            Takes context.now.p.now self.old self.new (Input.Receive from (Decide view shown sig)) t) }
+            Takes context.now.p.now self.old self.new (Input.Receive from (signed (Decide view shown) sig)) t) }
     {
         let mut taken = Taken::of(context.alloc, Outcome::nothing(context.alloc));
         if !self.node.may_deliver(context.p, view, &shown) {
@@ -171,31 +167,31 @@ impl HotStuff {
     ) -> Result<Taken, NoMemory>
         ensures { IfOk result (λ t. Takes context.now.p.now self.old self.new (Input.Receive from msg) t) }
     {
-        match msg {
-            Message::NewView { round, high, .. } => {
+        let sig = msg.sig;
+        let body = msg.body;
+        match body {
+            Body::NewView { round, high } => {
                 let outcome = self.node.count_new_view(context, from, round, high)?;
                 Ok(Taken::of(context.alloc, outcome))
             }
-            Message::Prepare {
-                view,
-                what,
-                just,
-                ..
-            } => self.accept_proposal(context, from, Proposal { view, what, just }),
-            Message::PreCommit { view, shown, .. } => {
+            Body::Prepare { view, what, just } => self.accept_proposal(
+                context,
+                from,
+                Proposal { view, what, just },
+            ),
+            Body::PreCommit { view, shown } => {
                 let outcome = self.node.vote_pre_commit(context, view, shown)?;
                 Ok(Taken::of(context.alloc, outcome))
             }
-            Message::Commit { view, shown, .. } => {
+            Body::Commit { view, shown } => {
                 let outcome = self.node.vote_commit(context, view, shown)?;
                 Ok(Taken::of(context.alloc, outcome))
             }
-            Message::Decide { view, shown, .. } => self.deliver(context, view, shown),
-            Message::Vote {
+            Body::Decide { view, shown } => self.deliver(context, view, shown),
+            Body::Vote {
                 phase,
                 view,
                 digest,
-                sig,
             } => {
                 let poll = Poll {
                     phase,

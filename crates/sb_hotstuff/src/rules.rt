@@ -1,7 +1,8 @@
 //! The rules of HotStuff, one function each: the next state, and what is sent.
 ghost use Rattle.std.specs.Prelude.{◌≡◌, List, ℕ, true, IfOk};
 ghost use Rattle.iss_request.specs.declared.ids.NodeId.{NodeId};
-ghost use Rattle.hs_tree.specs.declared.messages.Message.TheVariants.{NewView, Prepare, PreCommit, Commit, Vote};
+ghost use Rattle.hs_tree.specs.declared.messages.Body.TheVariants.{NewView, Prepare, PreCommit, Commit, Vote};
+ghost use Rattle.hs_tree.specs.Messages.{signed};
 ghost use Rattle.sb_hotstuff.specs.Rules.{State, may_prepare};
 ghost use Rattle.sb_hotstuff.specs.Refines.{RefinesState};
 ghost use Rattle.sb_hotstuff.specs.Steps.{Does};
@@ -50,7 +51,7 @@ impl Node {
     ) -> Result<Outcome, NoMemory>
         ensures { IfOk result (λ o. (s : State) (from : NodeId) (sig : List ℕ) → RefinesState self.old s →
             may_prepare context.now.p.now s from.0 view what just.now ≡ true →
-            Does context.now.p.now self.old self.new s (Input.Receive from (Prepare view what just.now sig)) o) }
+            Does context.now.p.now self.old self.new s (Input.Receive from (signed (Prepare view what just.now) sig)) o) }
     {
         let parent = just.digest();
         let node = hash_node(context.alloc, context.p, None, &parent, &what)?;
@@ -81,7 +82,7 @@ impl Node {
         shown: Certificate,
     ) -> Result<Outcome, NoMemory>
         ensures { IfOk result (λ o. (s : State) (from : NodeId) (sig : List ℕ) → RefinesState self.old s →
-            Does context.now.p.now self.old self.new s (Input.Receive from (PreCommit view shown sig)) o) }
+            Does context.now.p.now self.old self.new s (Input.Receive from (signed (PreCommit view shown) sig)) o) }
     {
         if !self.may_second(context.p, view, &shown) {
             return Ok(Outcome::nothing(context.alloc));
@@ -108,7 +109,7 @@ impl Node {
         shown: Certificate,
     ) -> Result<Outcome, NoMemory>
         ensures { IfOk result (λ o. (s : State) (from : NodeId) (sig : List ℕ) → RefinesState self.old s →
-            Does context.now.p.now self.old self.new s (Input.Receive from (Commit view shown sig)) o) }
+            Does context.now.p.now self.old self.new s (Input.Receive from (signed (Commit view shown) sig)) o) }
     {
         if !self.may_third(context.p, view, &shown) {
             return Ok(Outcome::nothing(context.alloc));
@@ -135,7 +136,7 @@ impl Node {
     ) -> Result<Outcome, NoMemory>
         ensures { IfOk result (λ o. (s : State) → RefinesState self.old s →
             Does context.now.p.now self.old self.new s
-            (Input.Receive from (Vote vote.poll.phase vote.poll.view vote.poll.digest vote.sig)) o) }
+            (Input.Receive from (signed (Vote vote.poll.phase vote.poll.view vote.poll.digest) vote.sig)) o) }
     {
         let poll = vote.poll;
         let phase = poll.phase;
@@ -167,7 +168,7 @@ impl Node {
         high: Certificate,
     ) -> Result<Outcome, NoMemory>
         ensures { IfOk result (λ o. (s : State) (sig : List ℕ) → RefinesState self.old s →
-            Does context.now.p.now self.old self.new s (Input.Receive from (NewView round high sig)) o) }
+            Does context.now.p.now self.old self.new s (Input.Receive from (signed (NewView round high) sig)) o) }
     {
         if round == 0 {
             return Ok(Outcome::nothing(context.alloc));

@@ -6,21 +6,20 @@ ghost use Rattle.sb_hotstuff.specs.HotStuff.{shows};
 
 use hs_tree::signing::{node_statement, start_statement};
 use hs_tree::wire::{COMMIT, DECIDE, PRE_COMMIT};
-use hs_tree::{Certificate, Message, Protocol};
+use hs_tree::{Body, Certificate, Protocol};
 use hs_views::{Draft, Recipient};
-use iss_request::{Bytes, NoMemory};
+use iss_request::NoMemory;
 use iss_sb::Params;
 use std::alloc::Global;
 
-// The message that broadcasts a certificate of this phase, not yet signed.
-fn shown_message(alloc: Global, phase: u8, view: u32, shown: Certificate) -> Message
+// The message that broadcasts a certificate of this phase.
+fn shown_body(phase: u8, view: u32, shown: Certificate) -> Body
     ensures { result ≡ shows phase view shown }
 {
-    let sig = Bytes::new(alloc);
     match phase {
-        1 => Message::PreCommit { view, shown, sig },
-        2 => Message::Commit { view, shown, sig },
-        _ => Message::Decide { view, shown, sig },
+        1 => Body::PreCommit { view, shown },
+        2 => Body::Commit { view, shown },
+        _ => Body::Decide { view, shown },
     }
 }
 
@@ -49,10 +48,10 @@ pub fn shown_draft(
     let digest = shown.digest();
     let out = start_statement(alloc, p, tag)?;
     let statement = node_statement(out, shown_kind(phase), view, &digest)?;
-    let msg = shown_message(alloc, phase, view, shown);
+    let body = shown_body(phase, view, shown);
     Ok(Draft {
         to: Recipient::All,
-        msg,
+        body,
         statement,
     })
 }

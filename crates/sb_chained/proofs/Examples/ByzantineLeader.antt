@@ -23,9 +23,11 @@ use Rattle.iss_sb.proofs.Signatures.{signature-shape, signature-verifies}
 use Rattle.hs_tree.specs.declared.certificates.Certificate.{Certificate}
 use Rattle.hs_tree.specs.declared.certificates.Certificate.TheVariants.{Votes}
 use Rattle.hs_tree.specs.declared.messages.Message.{Message}
-use Rattle.hs_tree.specs.declared.messages.Message.TheVariants.{Vote}
+use Rattle.hs_tree.specs.declared.messages.Body.{Body}
+use Rattle.hs_tree.specs.declared.messages.Body.TheVariants.{Vote}
+use Rattle.hs_tree.specs.Messages.{signed}
 use Rattle.hs_tree.specs.Certificates.{IsSpelledCertificate, votes_row}
-use Rattle.hs_tree.specs.Statements.{own_statement, vote_statement, with_signature}
+use Rattle.hs_tree.specs.Statements.{stated, vote_statement}
 use Rattle.hs_tree.specs.Tree.{chained as form}
 use Rattle.hs_views.proofs.SmallWorlds.{IsFair, comes, sent-alone}
 use Rattle.sb_chained.specs.Chained.{chained}
@@ -69,7 +71,7 @@ told msg = Receive (node 3) msg
 
 -- the message of a vote
 abbrev pub sent : ℕ → ℕ → List ℕ → ℕ → List (To × Message)
-sent me view d leaf = (To_one (node 3), Vote 1 view d (signature q me leaf (states view d))) ∷ []
+sent me view d leaf = (To_one (node 3), signed (Vote 1 view d) (signature q me leaf (states view d))) ∷ []
 
 pub shown-spelled : (view : ℕ) (d : List ℕ) (i at j other : ℕ) → 1 ≤ view → view < 2 ^ 32 → length d ≡ 32 → i < j → j < 3 →
     IsSpelledCertificate 1 (shown view d i at j other) (votes_row view 1 d (vote view d at i ∷ vote view d other j ∷ vote view d 0 3 ∷ []))
@@ -90,8 +92,8 @@ batch_held = batch-table 1 b (batch-read 1 b (omega arith) (λ r h. absurd h))
 -- ---- Messages that may arrive
 
 -- the message, signed by replica k with this leaf
-abbrev pub by : ℕ → ℕ → Message → Message
-by k leaf msg = with_signature (signature q k leaf (own_statement form q msg)) msg
+abbrev pub by : ℕ → ℕ → Body → Message
+by k leaf body = signed body (signature q k leaf (stated form q body))
 
 abbrev pub signs : ℕ → ℕ → List ℕ → Claim
 signs k leaf statement = claim k statement (signature q k leaf statement)
@@ -123,5 +125,5 @@ module _ (m : Module Message) (w : World Message) where
       comes m q w k msg (and_own view d i at j other own) few read e (honest i at (states view d) li la si, (honest j other (states view d) lj lo sj, (liar (states view d), (fair, tt))))
 
   -- replica k cast a vote in a step that sent nothing else
-  pub voted : (k view : ℕ) (d : List ℕ) (leaf : ℕ) (x : Item Message) → In x (w k) → x.made.sends ≡ sent k view d leaf → In (signs k leaf (states view d)) (m.claims q k (Vote 1 view d (signature q k leaf (states view d)))) → IsSigned m q w k (states view d)
-  voted k view d leaf x h e c = sent-alone m q w k x (To_one (node 3)) (Vote 1 view d (signature q k leaf (states view d))) (signs k leaf (states view d)) h e c refl
+  pub voted : (k view : ℕ) (d : List ℕ) (leaf : ℕ) (x : Item Message) → In x (w k) → x.made.sends ≡ sent k view d leaf → In (signs k leaf (states view d)) (m.claims q k (signed (Vote 1 view d) (signature q k leaf (states view d)))) → IsSigned m q w k (states view d)
+  voted k view d leaf x h e c = sent-alone m q w k x (To_one (node 3)) (signed (Vote 1 view d) (signature q k leaf (states view d))) (signs k leaf (states view d)) h e c refl

@@ -24,9 +24,10 @@ use Rattle.iss_sb.proofs.Contents.{content-table}
 use Rattle.iss_sb.proofs.Signatures.{signature-shape}
 use Rattle.hs_tree.specs.declared.certificates.Certificate.TheVariants.{Root}
 use Rattle.hs_tree.specs.declared.messages.Message.{Message}
-use Rattle.hs_tree.specs.declared.messages.Message.TheVariants.{NewView, Prepare, Vote}
+use Rattle.hs_tree.specs.declared.messages.Body.TheVariants.{NewView, Prepare, Vote}
+use Rattle.hs_tree.specs.Messages.{signed}
 use Rattle.hs_tree.specs.Certificates.{root_row}
-use Rattle.hs_tree.specs.Statements.{own_statement}
+use Rattle.hs_tree.specs.Statements.{stated}
 use Rattle.hs_tree.specs.Tree.{chained as form, root}
 use Rattle.hs_tree.proofs.MessageGrammar.{spelled-read}
 use Rattle.hs_views.proofs.SmallWorlds.{AreAll, each-of, one-takes, sent-alone, separate-by, world, zero-takes}
@@ -45,37 +46,37 @@ abbrev d5 : List ℕ
 d5 = node_digest q 65537 Mark c3
 
 abbrev against : Message
-against = by 3 0 (Prepare 262145 Nil Root [])
+against = by 3 0 (Prepare 262145 Nil Root)
 
 abbrev ended0 : Message
-ended0 = by 0 5 (NewView 1 c3 [])
+ended0 = by 0 5 (NewView 1 c3)
 
 abbrev ended1 : Message
-ended1 = by 1 4 (NewView 1 c2 [])
+ended1 = by 1 4 (NewView 1 c2)
 
 abbrev blank : Message
-blank = by 3 0 (NewView 1 Root [])
+blank = by 3 0 (NewView 1 Root)
 
 abbrev again : Message
-again = by 0 6 (Prepare 65537 Mark c3 [])
+again = by 0 6 (Prepare 65537 Mark c3)
 
 abbrev IsRead : Message → Type 0
 IsRead msg = IsReadMessage chained q msg
 
 against-read : IsRead against
-against-read = spelled-read 1 1 against _ (record { view_fits = omega arith; behind = _; what_is = refl; certificate = root_row; spelled = refl; signed = signature-shape chained q good-q 3 0 _; row = refl })
+against-read = spelled-read 1 1 against _ (record { view_fits = omega arith; behind = _; what_is = refl; certificate = root_row; spelled = refl; row = refl }) (signature-shape chained q good-q 3 0 _)
 
 ended0-read : IsRead ended0
-ended0-read = spelled-read 1 1 ended0 _ (record { round_fits = omega arith; certificate = _; spelled = shown-spelled 3 d3 0 3 1 3 (omega arith) (omega arith) (length-sha256 _) (omega arith) (omega arith); signed = signature-shape chained q good-q 0 5 _; row = refl })
+ended0-read = spelled-read 1 1 ended0 _ (record { round_fits = omega arith; certificate = _; spelled = shown-spelled 3 d3 0 3 1 3 (omega arith) (omega arith) (length-sha256 _) (omega arith) (omega arith); row = refl }) (signature-shape chained q good-q 0 5 _)
 
 ended1-read : IsRead ended1
-ended1-read = spelled-read 1 1 ended1 _ (record { round_fits = omega arith; certificate = _; spelled = shown-spelled 2 d2 0 2 1 2 (omega arith) (omega arith) (length-sha256 _) (omega arith) (omega arith); signed = signature-shape chained q good-q 1 4 _; row = refl })
+ended1-read = spelled-read 1 1 ended1 _ (record { round_fits = omega arith; certificate = _; spelled = shown-spelled 2 d2 0 2 1 2 (omega arith) (omega arith) (length-sha256 _) (omega arith) (omega arith); row = refl }) (signature-shape chained q good-q 1 4 _)
 
 blank-read : IsRead blank
-blank-read = spelled-read 1 1 blank _ (record { round_fits = omega arith; certificate = root_row; spelled = refl; signed = signature-shape chained q good-q 3 0 _; row = refl })
+blank-read = spelled-read 1 1 blank _ (record { round_fits = omega arith; certificate = root_row; spelled = refl; row = refl }) (signature-shape chained q good-q 3 0 _)
 
 again-read : IsRead again
-again-read = spelled-read 1 1 again _ (record { view_fits = omega arith; behind = _; what_is = refl; certificate = _; spelled = shown-spelled 3 d3 0 3 1 3 (omega arith) (omega arith) (length-sha256 _) (omega arith) (omega arith); signed = signature-shape chained q good-q 0 6 _; row = refl })
+again-read = spelled-read 1 1 again _ (record { view_fits = omega arith; behind = _; what_is = refl; certificate = _; spelled = shown-spelled 3 d3 0 3 1 3 (omega arith) (omega arith) (length-sha256 _) (omega arith) (omega arith); row = refl }) (signature-shape chained q good-q 0 6 _)
 
 -- ---- What the replicas take and send
 
@@ -111,7 +112,7 @@ one6 = took 1 one5 0 again 5
 
 -- the vote for the mark, to replica 0
 abbrev late : ℕ → ℕ → List (To × Message)
-late me leaf = (To_one (node 0), Vote 1 65537 d5 (signature q me leaf (states 65537 d5))) ∷ []
+late me leaf = (To_one (node 0), signed (Vote 1 65537 d5) (signature q me leaf (states 65537 d5))) ∷ []
 
 zero-5 : (makes q 0 (list4 0) Timeout 5).sends ≡ (To_one (node 0), ended0) ∷ []
 unfolding sha256 digest_bytes hash_after compress rounds schedule first_words spell_batch spell_count spell_value wide_bytes
@@ -145,23 +146,23 @@ module _ (w : World Message) where
   vote-of k view d x h is = voted chained w k view d view x h is (inl refl)
 
   against-comes : Arrives chained w 3 against
-  against-comes = alone chained w 3 against (signs 3 0 (own_statement form q against)) (omega arith) against-read refl (liar chained w _)
+  against-comes = alone chained w 3 against (signs 3 0 (stated form q against.body)) (omega arith) against-read refl (liar chained w _)
 
   blank-comes : Arrives chained w 3 blank
-  blank-comes = alone chained w 3 blank (signs 3 0 (own_statement form q blank)) (omega arith) blank-read refl (liar chained w _)
+  blank-comes = alone chained w 3 blank (signs 3 0 (stated form q blank.body)) (omega arith) blank-read refl (liar chained w _)
 
   -- a message of replica k with its own signature as the last claim
-  signed : (k leaf : ℕ) (to : To) (msg : Message) (x : Item Message) → In x (w k) → x.made.sends ≡ (to, msg) ∷ [] → In (signs k leaf (own_statement form q msg)) (chained.claims q k msg) → IsSigned chained q w k (own_statement form q msg)
-  signed k leaf to msg x h is c = sent-alone chained q w k x to msg (signs k leaf (own_statement form q msg)) h is c refl
+  sole-signed : (k leaf : ℕ) (to : To) (msg : Message) (x : Item Message) → In x (w k) → x.made.sends ≡ (to, msg) ∷ [] → In (signs k leaf (stated form q msg.body)) (chained.claims q k msg) → IsSigned chained q w k (stated form q msg.body)
+  sole-signed k leaf to msg x h is c = sent-alone chained q w k x to msg (signs k leaf (stated form q msg.body)) h is c refl
 
-  ended0-comes : IsSigned chained q w 0 (states 3 d3) → IsSigned chained q w 1 (states 3 d3) → IsSigned chained q w 0 (own_statement form q ended0) → Arrives chained w 0 ended0
-  ended0-comes i j h = cites chained w 3 d3 0 3 1 3 (omega arith) (omega arith) (omega arith) (omega arith) i j 0 ended0 (signs 0 5 (own_statement form q ended0)) (omega arith) ended0-read refl (honest chained w 0 5 _ (omega arith) (omega arith) h)
+  ended0-comes : IsSigned chained q w 0 (states 3 d3) → IsSigned chained q w 1 (states 3 d3) → IsSigned chained q w 0 (stated form q ended0.body) → Arrives chained w 0 ended0
+  ended0-comes i j h = cites chained w 3 d3 0 3 1 3 (omega arith) (omega arith) (omega arith) (omega arith) i j 0 ended0 (signs 0 5 (stated form q ended0.body)) (omega arith) ended0-read refl (honest chained w 0 5 _ (omega arith) (omega arith) h)
 
-  ended1-comes : IsSigned chained q w 0 (states 2 d2) → IsSigned chained q w 1 (states 2 d2) → IsSigned chained q w 1 (own_statement form q ended1) → Arrives chained w 1 ended1
-  ended1-comes i j h = cites chained w 2 d2 0 2 1 2 (omega arith) (omega arith) (omega arith) (omega arith) i j 1 ended1 (signs 1 4 (own_statement form q ended1)) (omega arith) ended1-read refl (honest chained w 1 4 _ (omega arith) (omega arith) h)
+  ended1-comes : IsSigned chained q w 0 (states 2 d2) → IsSigned chained q w 1 (states 2 d2) → IsSigned chained q w 1 (stated form q ended1.body) → Arrives chained w 1 ended1
+  ended1-comes i j h = cites chained w 2 d2 0 2 1 2 (omega arith) (omega arith) (omega arith) (omega arith) i j 1 ended1 (signs 1 4 (stated form q ended1.body)) (omega arith) ended1-read refl (honest chained w 1 4 _ (omega arith) (omega arith) h)
 
-  again-comes : IsSigned chained q w 0 (states 3 d3) → IsSigned chained q w 1 (states 3 d3) → IsSigned chained q w 0 (own_statement form q again) → Arrives chained w 0 again
-  again-comes i j h = cites chained w 3 d3 0 3 1 3 (omega arith) (omega arith) (omega arith) (omega arith) i j 0 again (signs 0 6 (own_statement form q again)) (omega arith) again-read refl (honest chained w 0 6 _ (omega arith) (omega arith) h)
+  again-comes : IsSigned chained q w 0 (states 3 d3) → IsSigned chained q w 1 (states 3 d3) → IsSigned chained q w 0 (stated form q again.body) → Arrives chained w 0 again
+  again-comes i j h = cites chained w 3 d3 0 3 1 3 (omega arith) (omega arith) (omega arith) (omega arith) i j 0 again (signs 0 6 (stated form q again.body)) (omega arith) again-read refl (honest chained w 0 6 _ (omega arith) (omega arith) h)
 
 abbrev Reaches : Items → Items → Type 0
 Reaches xs ys = IsReached chained q (world xs ys [])
@@ -180,7 +181,7 @@ r11 =
     let w : World Message = world zero5 one5 [] in
     let zero_did = vote-of w 0 3 d3 _ (inr (inr (inl refl))) (third-vote 0) in
     let one_did = vote-of w 1 3 d3 _ (inr (inr (inl refl))) (third-vote 1) in
-    let own = signed w 0 5 (To_one (node 0)) ended0 _ (inl refl) zero-5 (inr (inr (inr (inl refl)))) in
+    let own = sole-signed w 0 5 (To_one (node 0)) ended0 _ (inl refl) zero-5 (inr (inr (inr (inl refl)))) in
     zero-takes chained q zero5 one5 [] r10 (Receive (node 0) ended0) 6 refl (ended0-comes w zero_did one_did own)
 
 r12 : Reaches zero7 one5
@@ -188,7 +189,7 @@ r12 =
     let w : World Message = world zero6 one5 [] in
     let zero_did = vote-of w 0 2 d2 _ (inr (inr (inr (inr (inl refl))))) (second-vote 0) in
     let one_did = vote-of w 1 2 d2 _ (inr (inr (inr (inl refl)))) (second-vote 1) in
-    let own = signed w 1 4 (To_one (node 0)) ended1 _ (inl refl) one-5 (inr (inr (inr (inl refl)))) in
+    let own = sole-signed w 1 4 (To_one (node 0)) ended1 _ (inl refl) one-5 (inr (inr (inr (inl refl)))) in
     zero-takes chained q zero6 one5 [] r11 (Receive (node 1) ended1) 6 refl (ended1-comes w zero_did one_did own)
 
 r13 : Reaches zero8 one5
@@ -199,7 +200,7 @@ r14 =
     let w : World Message = world zero8 one5 [] in
     let zero_did = vote-of w 0 3 d3 _ (inr (inr (inr (inr (inr (inl refl)))))) (third-vote 0) in
     let one_did = vote-of w 1 3 d3 _ (inr (inr (inl refl))) (third-vote 1) in
-    let own = signed w 0 6 To_all again _ (inl refl) zero-8 (inr (inr (inr (inl refl)))) in
+    let own = sole-signed w 0 6 To_all again _ (inl refl) zero-8 (inr (inr (inr (inl refl)))) in
     zero-takes chained q zero8 one5 [] r13 (Receive (node 0) again) 7 refl (again-comes w zero_did one_did own)
 
 abbrev last : World Message
@@ -210,7 +211,7 @@ reached =
     let w : World Message = world zero9 one5 [] in
     let zero_did = vote-of w 0 3 d3 _ (inr (inr (inr (inr (inr (inr (inl refl))))))) (third-vote 0) in
     let one_did = vote-of w 1 3 d3 _ (inr (inr (inl refl))) (third-vote 1) in
-    let own = signed w 0 6 To_all again _ (inr (inl refl)) zero-8 (inr (inr (inr (inl refl)))) in
+    let own = sole-signed w 0 6 To_all again _ (inr (inl refl)) zero-8 (inr (inr (inr (inl refl)))) in
     one-takes chained q zero9 one5 [] r14 (Receive (node 0) again) 5 refl (again-comes w zero_did one_did own)
 
 -- ---- SHA-256 does not collide on its strings
@@ -281,7 +282,7 @@ certified-by view d h g = record { test = voters; many = omega arith; each = eac
     each (suc (suc (suc zero))) t c = absurd (true≢false (sym c))
     each (suc (suc (suc (suc k)))) t c = absurd (true≢false (sym t))
 
-vote-in : (k view leaf leader : ℕ) (d : List ℕ) (x : Item Message) → In x (last k) → x.made.sends ≡ (To_one (node leader), Vote 1 view d (signature q k leaf (states view d))) ∷ [] → IsVoted last k view d
+vote-in : (k view leaf leader : ℕ) (d : List ℕ) (x : Item Message) → In x (last k) → x.made.sends ≡ (To_one (node leader), signed (Vote 1 view d) (signature q k leaf (states view d))) ∷ [] → IsVoted last k view d
 vote-in k view leaf leader d x h is = record { item = x; taken = h; vote = record { to = To_one (node leader); sig = signature q k leaf (states view d); sent = rw is (inl refl) } }
 
 third-of-zero : IsVoted last 0 3 d3

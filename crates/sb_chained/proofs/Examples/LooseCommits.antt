@@ -25,9 +25,10 @@ use Rattle.iss_sb.specs.declared.content.Content.TheVariants.{Nil, Holds, Mark}
 use Rattle.hs_tree.specs.declared.certificates.Certificate.{Certificate}
 use Rattle.hs_tree.specs.declared.certificates.Certificate.TheVariants.{Root}
 use Rattle.hs_tree.specs.declared.messages.Message.{Message}
-use Rattle.hs_tree.specs.declared.messages.Message.TheVariants.{Prepare}
+use Rattle.hs_tree.specs.declared.messages.Body.TheVariants.{Prepare}
+use Rattle.hs_tree.specs.Messages.{signed}
 use Rattle.hs_tree.specs.Certificates.{root_row}
-use Rattle.hs_tree.specs.Statements.{own_statement}
+use Rattle.hs_tree.specs.Statements.{stated}
 use Rattle.hs_tree.specs.Tree.{chained as form, root, viewed_string}
 use Rattle.hs_tree.proofs.MessageGrammar.{spelled-read}
 use Rattle.hs_views.proofs.SmallWorlds.{IsOneOf, all_differ, one-takes, separate-by, starts, two-takes, world, zero-takes}
@@ -79,10 +80,10 @@ d_v = 237 ∷ 231 ∷ 71 ∷ 188 ∷ 50 ∷ 226 ∷ 73 ∷ 214 ∷ 159 ∷ 81 �
 -- ---- The messages
 
 abbrev own : ℕ → Content → Certificate → List ℕ
-own view what just = own_statement form q (Prepare view what just [])
+own view what just = stated form q (Prepare view what just)
 
 abbrev proposal : ℕ → Content → Certificate → Message
-proposal view what just = Prepare view what just (signature q 3 0 (own view what just))
+proposal view what just = signed (Prepare view what just) (signature q 3 0 (own view what just))
 
 abbrev c_z : Certificate
 c_z = shown 1 d_z 0 0 1 0
@@ -235,28 +236,28 @@ abbrev IsRead : Message → Type 0
 IsRead msg = IsReadMessage loose q msg
 
 read-z : IsRead m_z
-read-z = spelled-read 1 1 m_z _ (record { view_fits = omega arith; behind = batch_held.0; what_is = batch_held.1; certificate = root_row; spelled = refl; signed = signature-shape loose q good 3 0 (own 1 (Holds b) Root); row = refl })
+read-z = spelled-read 1 1 m_z _ (record { view_fits = omega arith; behind = batch_held.0; what_is = batch_held.1; certificate = root_row; spelled = refl; row = refl }) (signature-shape loose q good 3 0 (own 1 (Holds b) Root))
 
 read-u : IsRead m_u
-read-u = spelled-read 1 1 m_u _ (record { view_fits = omega arith; behind = _; what_is = refl; certificate = root_row; spelled = refl; signed = signature-shape loose q good 3 0 (own 262145 Nil Root); row = refl })
+read-u = spelled-read 1 1 m_u _ (record { view_fits = omega arith; behind = _; what_is = refl; certificate = root_row; spelled = refl; row = refl }) (signature-shape loose q good 3 0 (own 262145 Nil Root))
 
 read-y : IsRead m_y
-read-y = spelled-read 1 1 m_y _ (record { view_fits = omega arith; behind = _; what_is = refl; certificate = _; spelled = shown-spelled 1 d_z 0 0 1 0 (omega arith) (omega arith) refl (omega arith) (omega arith); signed = signature-shape loose q good 3 0 (own 262146 Nil c_z); row = refl })
+read-y = spelled-read 1 1 m_y _ (record { view_fits = omega arith; behind = _; what_is = refl; certificate = _; spelled = shown-spelled 1 d_z 0 0 1 0 (omega arith) (omega arith) refl (omega arith) (omega arith); row = refl }) (signature-shape loose q good 3 0 (own 262146 Nil c_z))
 
 read-x : IsRead m_x
-read-x = spelled-read 1 1 m_x _ (record { view_fits = omega arith; behind = _; what_is = refl; certificate = _; spelled = shown-spelled 262146 d_y 0 2 1 2 (omega arith) (omega arith) refl (omega arith) (omega arith); signed = signature-shape loose q good 3 0 (own 262147 Mark c_y); row = refl })
+read-x = spelled-read 1 1 m_x _ (record { view_fits = omega arith; behind = _; what_is = refl; certificate = _; spelled = shown-spelled 262146 d_y 0 2 1 2 (omega arith) (omega arith) refl (omega arith) (omega arith); row = refl }) (signature-shape loose q good 3 0 (own 262147 Mark c_y))
 
 read-a : IsRead m_a
-read-a = spelled-read 1 1 m_a _ (record { view_fits = omega arith; behind = _; what_is = refl; certificate = _; spelled = shown-spelled 262147 d_x 0 3 1 3 (omega arith) (omega arith) refl (omega arith) (omega arith); signed = signature-shape loose q good 3 0 (own 262148 Mark c_x); row = refl })
+read-a = spelled-read 1 1 m_a _ (record { view_fits = omega arith; behind = _; what_is = refl; certificate = _; spelled = shown-spelled 262147 d_x 0 3 1 3 (omega arith) (omega arith) refl (omega arith) (omega arith); row = refl }) (signature-shape loose q good 3 0 (own 262148 Mark c_x))
 
 read-s : IsRead m_s
-read-s = spelled-read 1 1 m_s _ (record { view_fits = omega arith; behind = _; what_is = refl; certificate = _; spelled = shown-spelled 262145 d_u 1 1 2 0 (omega arith) (omega arith) refl (omega arith) (omega arith); signed = signature-shape loose q good 3 0 (own 262149 Nil c_u); row = refl })
+read-s = spelled-read 1 1 m_s _ (record { view_fits = omega arith; behind = _; what_is = refl; certificate = _; spelled = shown-spelled 262145 d_u 1 1 2 0 (omega arith) (omega arith) refl (omega arith) (omega arith); row = refl }) (signature-shape loose q good 3 0 (own 262149 Nil c_u))
 
 read-t : IsRead m_t
-read-t = spelled-read 1 1 m_t _ (record { view_fits = omega arith; behind = _; what_is = refl; certificate = _; spelled = shown-spelled 262149 d_s 1 4 2 1 (omega arith) (omega arith) refl (omega arith) (omega arith); signed = signature-shape loose q good 3 0 (own 262150 Mark c_s); row = refl })
+read-t = spelled-read 1 1 m_t _ (record { view_fits = omega arith; behind = _; what_is = refl; certificate = _; spelled = shown-spelled 262149 d_s 1 4 2 1 (omega arith) (omega arith) refl (omega arith) (omega arith); row = refl }) (signature-shape loose q good 3 0 (own 262150 Mark c_s))
 
 read-v : IsRead m_v
-read-v = spelled-read 1 1 m_v _ (record { view_fits = omega arith; behind = _; what_is = refl; certificate = _; spelled = shown-spelled 262150 d_t 1 5 2 2 (omega arith) (omega arith) refl (omega arith) (omega arith); signed = signature-shape loose q good 3 0 (own 262151 Mark c_t); row = refl })
+read-v = spelled-read 1 1 m_v _ (record { view_fits = omega arith; behind = _; what_is = refl; certificate = _; spelled = shown-spelled 262150 d_t 1 5 2 2 (omega arith) (omega arith) refl (omega arith) (omega arith); row = refl }) (signature-shape loose q good 3 0 (own 262151 Mark c_t))
 
 abbrev Comes : World Message → Message → Type 0
 Comes w msg = IsCredible loose q (Verifies q) (IsSigned loose q w) 3 msg

@@ -17,9 +17,9 @@ use Rattle.iss_sb.proofs.Signatures.{signature-shape}
 use Rattle.hs_tree.specs.declared.certificates.Certificate.{Certificate}
 use Rattle.hs_tree.specs.declared.certificates.Certificate.TheVariants.{Root}
 use Rattle.hs_tree.specs.declared.messages.Message.{Message}
-use Rattle.hs_tree.specs.declared.messages.Message.TheVariants.{Prepare}
+use Rattle.hs_tree.specs.declared.messages.Body.TheVariants.{Prepare}
 use Rattle.hs_tree.specs.Certificates.{root_row}
-use Rattle.hs_tree.specs.Statements.{own_statement}
+use Rattle.hs_tree.specs.Statements.{stated}
 use Rattle.hs_tree.specs.Tree.{chained as form, root, viewed_string}
 use Rattle.hs_tree.proofs.MessageGrammar.{spelled-read}
 use Rattle.hs_views.proofs.SmallWorlds.{AreAll, IsOneOf, all_differ, each-of, one-takes, separate-by, starts, world, zero-takes}
@@ -55,16 +55,16 @@ abbrev pub c3 : Certificate
 c3 = joint 3 d3
 
 abbrev m1 : Message
-m1 = by 3 0 (Prepare 1 (Holds b) Root [])
+m1 = by 3 0 (Prepare 1 (Holds b) Root)
 
 abbrev m2 : Message
-m2 = by 3 0 (Prepare 2 (Holds b) c1 [])
+m2 = by 3 0 (Prepare 2 (Holds b) c1)
 
 abbrev m3 : Message
-m3 = by 3 0 (Prepare 3 Mark c2 [])
+m3 = by 3 0 (Prepare 3 Mark c2)
 
 abbrev m4 : Message
-m4 = by 3 0 (Prepare 4 Mark c3 [])
+m4 = by 3 0 (Prepare 4 Mark c3)
 
 -- ---- What a replica takes, and its votes
 
@@ -102,16 +102,16 @@ abbrev IsRead : Message → Type 0
 IsRead msg = IsReadMessage chained q msg
 
 read1 : IsRead m1
-read1 = spelled-read 1 1 m1 _ (record { view_fits = omega arith; behind = batch_held.0; what_is = batch_held.1; certificate = root_row; spelled = refl; signed = signature-shape chained q good-q 3 0 _; row = refl })
+read1 = spelled-read 1 1 m1 _ (record { view_fits = omega arith; behind = batch_held.0; what_is = batch_held.1; certificate = root_row; spelled = refl; row = refl }) (signature-shape chained q good-q 3 0 _)
 
 read2 : IsRead m2
-read2 = spelled-read 1 1 m2 _ (record { view_fits = omega arith; behind = batch_held.0; what_is = batch_held.1; certificate = _; spelled = shown-spelled 1 d1 0 1 1 1 (omega arith) (omega arith) (length-sha256 _) (omega arith) (omega arith); signed = signature-shape chained q good-q 3 0 _; row = refl })
+read2 = spelled-read 1 1 m2 _ (record { view_fits = omega arith; behind = batch_held.0; what_is = batch_held.1; certificate = _; spelled = shown-spelled 1 d1 0 1 1 1 (omega arith) (omega arith) (length-sha256 _) (omega arith) (omega arith); row = refl }) (signature-shape chained q good-q 3 0 _)
 
 read3 : IsRead m3
-read3 = spelled-read 1 1 m3 _ (record { view_fits = omega arith; behind = _; what_is = refl; certificate = _; spelled = shown-spelled 2 d2 0 2 1 2 (omega arith) (omega arith) (length-sha256 _) (omega arith) (omega arith); signed = signature-shape chained q good-q 3 0 _; row = refl })
+read3 = spelled-read 1 1 m3 _ (record { view_fits = omega arith; behind = _; what_is = refl; certificate = _; spelled = shown-spelled 2 d2 0 2 1 2 (omega arith) (omega arith) (length-sha256 _) (omega arith) (omega arith); row = refl }) (signature-shape chained q good-q 3 0 _)
 
 read4 : IsRead m4
-read4 = spelled-read 1 1 m4 _ (record { view_fits = omega arith; behind = _; what_is = refl; certificate = _; spelled = shown-spelled 3 d3 0 3 1 3 (omega arith) (omega arith) (length-sha256 _) (omega arith) (omega arith); signed = signature-shape chained q good-q 3 0 _; row = refl })
+read4 = spelled-read 1 1 m4 _ (record { view_fits = omega arith; behind = _; what_is = refl; certificate = _; spelled = shown-spelled 3 d3 0 3 1 3 (omega arith) (omega arith) (length-sha256 _) (omega arith) (omega arith); row = refl }) (signature-shape chained q good-q 3 0 _)
 
 -- ---- The run
 
@@ -125,16 +125,16 @@ module _ (w : World Message) where
   vote-of k view d x h e = voted chained w k view d view x h e (inl refl)
 
   m1-comes : Arrives chained w 3 m1
-  m1-comes = alone chained w 3 m1 (signs 3 0 (own_statement form q m1)) (omega arith) read1 refl (liar chained w _)
+  m1-comes = alone chained w 3 m1 (signs 3 0 (stated form q m1.body)) (omega arith) read1 refl (liar chained w _)
 
   m2-comes : AreCast w 1 d1 → Arrives chained w 3 m2
-  m2-comes h = cites chained w 1 d1 0 1 1 1 (omega arith) (omega arith) (omega arith) (omega arith) h.zero_did h.one_did 3 m2 (signs 3 0 (own_statement form q m2)) (omega arith) read2 refl (liar chained w _)
+  m2-comes h = cites chained w 1 d1 0 1 1 1 (omega arith) (omega arith) (omega arith) (omega arith) h.zero_did h.one_did 3 m2 (signs 3 0 (stated form q m2.body)) (omega arith) read2 refl (liar chained w _)
 
   m3-comes : AreCast w 2 d2 → Arrives chained w 3 m3
-  m3-comes h = cites chained w 2 d2 0 2 1 2 (omega arith) (omega arith) (omega arith) (omega arith) h.zero_did h.one_did 3 m3 (signs 3 0 (own_statement form q m3)) (omega arith) read3 refl (liar chained w _)
+  m3-comes h = cites chained w 2 d2 0 2 1 2 (omega arith) (omega arith) (omega arith) (omega arith) h.zero_did h.one_did 3 m3 (signs 3 0 (stated form q m3.body)) (omega arith) read3 refl (liar chained w _)
 
   m4-comes : AreCast w 3 d3 → Arrives chained w 3 m4
-  m4-comes h = cites chained w 3 d3 0 3 1 3 (omega arith) (omega arith) (omega arith) (omega arith) h.zero_did h.one_did 3 m4 (signs 3 0 (own_statement form q m4)) (omega arith) read4 refl (liar chained w _)
+  m4-comes h = cites chained w 3 d3 0 3 1 3 (omega arith) (omega arith) (omega arith) (omega arith) h.zero_did h.one_did 3 m4 (signs 3 0 (stated form q m4.body)) (omega arith) read4 refl (liar chained w _)
 
 abbrev w1 : World Message
 w1 = world (list1 0) [] []

@@ -23,8 +23,10 @@ use Rattle.hs_tree.specs.declared.certificates.Certificate.{Certificate}
 use Rattle.hs_tree.specs.declared.certificates.Certificate.TheVariants.{Root, Votes}
 use Rattle.iss_sb.specs.declared.signers.Signed.{Signed}
 use Rattle.hs_tree.specs.declared.messages.Message.{Message}
-use Rattle.hs_tree.specs.declared.messages.Message.TheVariants.{NewView, Prepare, Vote}
-use Rattle.hs_tree.specs.Statements.{own_statement, with_signature}
+use Rattle.hs_tree.specs.declared.messages.Body.{Body}
+use Rattle.hs_tree.specs.declared.messages.Body.TheVariants.{NewView, Prepare, Vote}
+use Rattle.hs_tree.specs.Messages.{signed}
+use Rattle.hs_tree.specs.Statements.{stated}
 use Rattle.hs_tree.specs.Tree.{chained as form, root, viewed_string}
 use Rattle.sb_chained.specs.Chained.{asks, chained, makes, state}
 use Rattle.sb_chained.specs.Rules.{node_digest}
@@ -63,8 +65,8 @@ abbrev pub b : Batch
 b = []
 
 -- a message with the signature of node k by a leaf
-abbrev by : ℕ → ℕ → Message → Message
-by k leaf msg = with_signature (signature p k leaf (own_statement form p msg)) msg
+abbrev by : ℕ → ℕ → Body → Message
+by k leaf body = signed body (signature p k leaf (stated form p body))
 
 abbrev vote : ℕ → Signed
 vote k = record { by = node k; sig = k ∷ [] }
@@ -114,65 +116,65 @@ told from msg = Receive (node from) msg
 abbrev cast : List (Item Message)
 cast = take_in 0 (take_in 0 [] (Cast (slot 0) b) 5) (Cast (slot 4) b) 6
 
-casts : makes p 0 [] (Cast (slot 0) b) 5 ≡ record { sends = (To_all, by 0 5 (Prepare 1 (Holds b) Root [])) ∷ []; accepted = Some (slot 0, b); strings = value_string 1 (Value_batch b) ∷ viewed_string 1 1 root (Holds b) ∷ []; used = 1 }
+casts : makes p 0 [] (Cast (slot 0) b) 5 ≡ record { sends = (To_all, by 0 5 (Prepare 1 (Holds b) Root)) ∷ []; accepted = Some (slot 0, b); strings = value_string 1 (Value_batch b) ∷ viewed_string 1 1 root (Holds b) ∷ []; used = 1 }
 casts = refl
 
 casts_in_order : asks p 0 (take_in 0 [] (Cast (slot 0) b) 5) (Cast (slot 0) b) ≡ None
 casts_in_order = refl
 
 -- it votes for its own proposal
-votes_for_itself : makes p 0 cast (told 0 (Prepare 1 (Holds b) Root [])) 9 ≡ record { sends = (To_one (node 0), by 0 9 (Vote 1 1 d1 [])) ∷ []; accepted = None; strings = value_string 1 (Value_batch b) ∷ viewed_string 1 1 root (Holds b) ∷ []; used = 1 }
+votes_for_itself : makes p 0 cast (told 0 (signed (Prepare 1 (Holds b) Root) [])) 9 ≡ record { sends = (To_one (node 0), by 0 9 (Vote 1 1 d1)) ∷ []; accepted = None; strings = value_string 1 (Value_batch b) ∷ viewed_string 1 1 root (Holds b) ∷ []; used = 1 }
 unfolding sha256 digest_bytes hash_after compress rounds schedule first_words spell_batch spell_count spell_value wide_bytes
 votes_for_itself = refl
 
 abbrev votes_of : ℕ → List ℕ → List (Item Message) → List (Item Message)
-votes_of view d xs = hears 0 1 (Vote 1 view d (1 ∷ [])) (hears 0 0 (Vote 1 view d (0 ∷ [])) xs)
+votes_of view d xs = hears 0 1 (signed (Vote 1 view d) (1 ∷ [])) (hears 0 0 (signed (Vote 1 view d) (0 ∷ [])) xs)
 
-proposes_next : makes p 0 (votes_of 1 d1 cast) (told 2 (Vote 1 1 d1 (2 ∷ []))) 9 ≡
-    record { sends = (To_all, by 0 9 (Prepare 2 (Holds b) c1 [])) ∷ []; accepted = None; strings = value_string 1 (Value_batch b) ∷ viewed_string 1 2 d1 (Holds b) ∷ []; used = 1 }
+proposes_next : makes p 0 (votes_of 1 d1 cast) (told 2 (signed (Vote 1 1 d1) (2 ∷ []))) 9 ≡
+    record { sends = (To_all, by 0 9 (Prepare 2 (Holds b) c1)) ∷ []; accepted = None; strings = value_string 1 (Value_batch b) ∷ viewed_string 1 2 d1 (Holds b) ∷ []; used = 1 }
 unfolding sha256 digest_bytes hash_after compress rounds schedule first_words spell_batch spell_count spell_value wide_bytes
 proposes_next = refl
 
 -- the same node's vote once more makes no quorum
-not_twice : sends 0 (votes_of 1 d1 cast) (told 1 (Vote 1 1 d1 (7 ∷ []))) ≡ []
+not_twice : sends 0 (votes_of 1 d1 cast) (told 1 (signed (Vote 1 1 d1) (7 ∷ []))) ≡ []
 unfolding sha256 digest_bytes hash_after compress rounds schedule first_words spell_batch spell_count spell_value wide_bytes
 not_twice = refl
 
 abbrev second : List (Item Message)
-second = hears 0 2 (Vote 1 1 d1 (2 ∷ [])) (votes_of 1 d1 cast)
+second = hears 0 2 (signed (Vote 1 1 d1) (2 ∷ [])) (votes_of 1 d1 cast)
 
 -- both slots are filled: marks follow
-proposes_a_mark : makes p 0 (votes_of 2 d2 second) (told 2 (Vote 1 2 d2 (2 ∷ []))) 9 ≡
-    record { sends = (To_all, by 0 9 (Prepare 3 Mark c2 [])) ∷ []; accepted = None; strings = viewed_string 1 3 d2 Mark ∷ []; used = 1 }
+proposes_a_mark : makes p 0 (votes_of 2 d2 second) (told 2 (signed (Vote 1 2 d2) (2 ∷ []))) 9 ≡
+    record { sends = (To_all, by 0 9 (Prepare 3 Mark c2)) ∷ []; accepted = None; strings = viewed_string 1 3 d2 Mark ∷ []; used = 1 }
 unfolding sha256 digest_bytes hash_after compress rounds schedule first_words spell_batch spell_count spell_value wide_bytes
 proposes_a_mark = refl
 
 -- ---- another node: four proposals, four votes, and slot 0 is delivered with the third certificate
 
 abbrev first : List (Item Message)
-first = hears 1 0 (Prepare 1 (Holds b) Root []) []
+first = hears 1 0 (signed (Prepare 1 (Holds b) Root) []) []
 
 abbrev two : List (Item Message)
-two = hears 1 0 (Prepare 2 (Holds b) c1 []) first
+two = hears 1 0 (signed (Prepare 2 (Holds b) c1) []) first
 
 abbrev full : List (Item Message)
-full = hears 1 0 (Prepare 3 Mark c2 []) two
+full = hears 1 0 (signed (Prepare 3 Mark c2) []) two
 
 abbrev last : List (Item Message)
-last = hears 1 0 (Prepare 4 Mark c3 []) full
+last = hears 1 0 (signed (Prepare 4 Mark c3) []) full
 
-votes_first : makes p 1 [] (told 0 (Prepare 1 (Holds b) Root [])) 9 ≡
-    record { sends = (To_one (node 0), by 1 9 (Vote 1 1 d1 [])) ∷ []; accepted = Some (slot 0, b); strings = value_string 1 (Value_batch b) ∷ viewed_string 1 1 root (Holds b) ∷ []; used = 1 }
+votes_first : makes p 1 [] (told 0 (signed (Prepare 1 (Holds b) Root) [])) 9 ≡
+    record { sends = (To_one (node 0), by 1 9 (Vote 1 1 d1)) ∷ []; accepted = Some (slot 0, b); strings = value_string 1 (Value_batch b) ∷ viewed_string 1 1 root (Holds b) ∷ []; used = 1 }
 unfolding sha256 digest_bytes hash_after compress rounds schedule first_words spell_batch spell_count spell_value wide_bytes
 votes_first = refl
 
 -- neither a second proposal of the view nor one that is not its leader's gets a vote
-no_vote : (sends 1 first (told 0 (Prepare 1 (Holds b) Root [])) ≡ []) × (sends 1 [] (told 2 (Prepare 1 (Holds b) Root [])) ≡ [])
+no_vote : (sends 1 first (told 0 (signed (Prepare 1 (Holds b) Root) [])) ≡ []) × (sends 1 [] (told 2 (signed (Prepare 1 (Holds b) Root) [])) ≡ [])
 unfolding sha256 digest_bytes hash_after compress rounds schedule first_words spell_batch spell_count spell_value wide_bytes
 no_vote = (refl, refl)
 
 -- one vote short is no certificate
-no_quorum : sends 1 first (told 0 (Prepare 2 (Holds b) (Votes 1 1 d1 (vote 0 ∷ vote 1 ∷ [])) [])) ≡ []
+no_quorum : sends 1 first (told 0 (signed (Prepare 2 (Holds b) (Votes 1 1 d1 (vote 0 ∷ vote 1 ∷ []))) [])) ≡ []
 unfolding sha256 digest_bytes hash_after compress rounds schedule first_words spell_batch spell_count spell_value wide_bytes
 no_quorum = refl
 
@@ -194,7 +196,7 @@ unfolding sha256 digest_bytes hash_after compress rounds schedule first_words sp
 delivers = (refl, refl)
 
 -- the next certificate delivers the whole branch
-delivers_the_branch : delivered chained p 1 (hears 1 0 (Prepare 5 Mark c4 []) last) 4 ≡ Some (Value_batch b)
+delivers_the_branch : delivered chained p 1 (hears 1 0 (signed (Prepare 5 Mark c4) []) last) 4 ≡ Some (Value_batch b)
 unfolding sha256 digest_bytes hash_after compress rounds schedule first_words spell_batch spell_count spell_value wide_bytes
 delivers_the_branch = refl
 
@@ -203,15 +205,15 @@ delivers_the_branch = refl
 abbrev ended : List (Item Message)
 ended = take_in 1 full Timeout 9
 
-ends : sends 1 full Timeout ≡ (To_one (node 1), by 1 9 (NewView 1 c2 [])) ∷ []
+ends : sends 1 full Timeout ≡ (To_one (node 1), by 1 9 (NewView 1 c2)) ∷ []
 unfolding sha256 digest_bytes hash_after compress rounds schedule first_words spell_batch spell_count spell_value wide_bytes
 ends = refl
 
-late : sends 1 ended (told 0 (Prepare 4 Mark c3 [])) ≡ []
+late : sends 1 ended (told 0 (signed (Prepare 4 Mark c3) [])) ≡ []
 unfolding sha256 digest_bytes hash_after compress rounds schedule first_words spell_batch spell_count spell_value wide_bytes
 late = refl
 
-delivers_late : delivered chained p 1 (hears 1 0 (Prepare 4 Mark c3 []) ended) 0 ≡ Some (Value_batch b)
+delivers_late : delivered chained p 1 (hears 1 0 (signed (Prepare 4 Mark c3) []) ended) 0 ≡ Some (Value_batch b)
 unfolding sha256 digest_bytes hash_after compress rounds schedule first_words spell_batch spell_count spell_value wide_bytes
 delivers_late = refl
 
@@ -230,31 +232,31 @@ abbrev m2 : Certificate
 m2 = three 65538 n2
 
 abbrev gap : List (Item Message)
-gap = hears 1 1 (Prepare 65538 Mark m1 []) (hears 1 1 (Prepare 65537 Mark c2 []) ended)
+gap = hears 1 1 (signed (Prepare 65538 Mark m1) []) (hears 1 1 (signed (Prepare 65537 Mark c2) []) ended)
 
-takes_a_mark : sends 1 ended (told 1 (Prepare 65537 Mark c2 [])) ≡ (To_one (node 1), by 1 9 (Vote 1 65537 n1 [])) ∷ []
+takes_a_mark : sends 1 ended (told 1 (signed (Prepare 65537 Mark c2) [])) ≡ (To_one (node 1), by 1 9 (Vote 1 65537 n1)) ∷ []
 unfolding sha256 digest_bytes hash_after compress rounds schedule first_words spell_batch spell_count spell_value wide_bytes
 takes_a_mark = refl
 
-decides_nothing : delivered chained p 1 (hears 1 1 (Prepare 65539 Mark m2 []) gap) 0 ≡ None
+decides_nothing : delivered chained p 1 (hears 1 1 (signed (Prepare 65539 Mark m2) []) gap) 0 ≡ None
 unfolding sha256 digest_bytes hash_after compress rounds schedule first_words spell_batch spell_count spell_value wide_bytes
 decides_nothing = refl
 
 -- nor does a node vote below its lock for another branch
-not_safe : sends 1 ended (told 1 (Prepare 65537 Nil Root [])) ≡ []
+not_safe : sends 1 ended (told 1 (signed (Prepare 65537 Nil Root) [])) ≡ []
 unfolding sha256 digest_bytes hash_after compress rounds schedule first_words spell_batch spell_count spell_value wide_bytes
 not_safe = refl
 
-safe_on_the_lock : sends 1 ended (told 1 (Prepare 65537 Nil c1 [])) ≡ (To_one (node 1), by 1 9 (Vote 1 65537 (node_digest p 65537 Nil c1) [])) ∷ []
+safe_on_the_lock : sends 1 ended (told 1 (signed (Prepare 65537 Nil c1) [])) ≡ (To_one (node 1), by 1 9 (Vote 1 65537 (node_digest p 65537 Nil c1))) ∷ []
 unfolding sha256 digest_bytes hash_after compress rounds schedule first_words spell_batch spell_count spell_value wide_bytes
 safe_on_the_lock = refl
 
 -- the best of a quorum's words is taken before the round's first turn
 
 abbrev two_news : List (Item Message)
-two_news = hears 1 1 (NewView 1 c2 []) (hears 1 0 (NewView 1 Root []) (take_in 1 full Timeout 9))
+two_news = hears 1 1 (signed (NewView 1 c2) []) (hears 1 0 (signed (NewView 1 Root) []) (take_in 1 full Timeout 9))
 
-proposes_on_the_best : makes p 1 two_news (told 2 (NewView 1 c1 [])) 9 ≡
-    record { sends = (To_all, by 1 9 (Prepare 65537 Mark c2 [])) ∷ []; accepted = None; strings = viewed_string 1 65537 d2 Mark ∷ []; used = 1 }
+proposes_on_the_best : makes p 1 two_news (told 2 (signed (NewView 1 c1) [])) 9 ≡
+    record { sends = (To_all, by 1 9 (Prepare 65537 Mark c2)) ∷ []; accepted = None; strings = viewed_string 1 65537 d2 Mark ∷ []; used = 1 }
 unfolding sha256 digest_bytes hash_after compress rounds schedule first_words spell_batch spell_count spell_value wide_bytes
 proposes_on_the_best = refl

@@ -11,7 +11,8 @@ use Rattle.iss_sb.specs.Evidence.{Item}
 use Rattle.iss_sb.specs.Legal.{Front}
 use Rattle.hs_tree.specs.declared.certificates.Certificate.{Certificate}
 use Rattle.hs_tree.specs.declared.messages.Message.{Message}
-use Rattle.hs_tree.specs.declared.messages.Message.TheVariants.{NewView, Prepare, PreCommit, Commit, Decide, Vote}
+use Rattle.hs_tree.specs.declared.messages.Body.{Body}
+use Rattle.hs_tree.specs.declared.messages.Body.TheVariants.{NewView, Prepare, Vote}
 use Rattle.sb_chained.specs.Chained.{state}
 use Rattle.sb_chained.specs.Rules.{State, heard, keeps_news, keeps_vote, kept, may_cast, may_end, may_prepare, proposed, shows, taken, with_cast, with_news, with_node, with_round, with_shown, with_turn, with_vote}
 use Rattle.hs_views.specs.Views.{Turn}
@@ -22,13 +23,11 @@ abbrev pub Same : State → State → Type 0
 Same s t = (t.turns ≡ s.turns) × (t.casts ≡ s.casts)
 
 module _ (p : Params) (me : ℕ) where
-  heard-same : (s : State) (from : ℕ) (msg : Message) → Same s (heard p me s from msg)
-  heard-same s from (NewView round high sig) = by-if (Same s) (keeps_news p me s from round high) (with_news s from round high) s (refl, refl) (refl, refl)
-  heard-same s from (Prepare view what just sig) = by-if (Same s) (may_prepare p s from view what just) (with_node p s view what just) s (refl, refl) (refl, refl)
-  heard-same s from (PreCommit view shown sig) = (refl, refl)
-  heard-same s from (Commit view shown sig) = (refl, refl)
-  heard-same s from (Decide view shown sig) = (refl, refl)
-  heard-same s from (Vote phase view d sig) = by-if (Same s) (keeps_vote p s from phase view d) (with_vote s from view d sig) s (refl, refl) (refl, refl)
+  heard-same : (s : State) (from : ℕ) (body : Body) (sig : List ℕ) → Same s (heard p me s from body sig)
+  heard-same s from (NewView round high) sig = by-if (Same s) (keeps_news p me s from round high) (with_news s from round high) s (refl, refl) (refl, refl)
+  heard-same s from (Prepare view what just) sig = by-if (Same s) (may_prepare p s from view what just) (with_node p s view what just) s (refl, refl) (refl, refl)
+  heard-same s from (Vote phase view d) sig = by-if (Same s) (keeps_vote p s from phase view d) (with_vote s from view d sig) s (refl, refl) (refl, refl)
+  heard-same s from other sig = (refl, refl)
 
   -- a certificate that is shown changes neither
   pub shown-same : (s : State) (o : Option Certificate) → Same s (with_shown s o)
@@ -36,8 +35,8 @@ module _ (p : Params) (me : ℕ) where
 
   pub kept-same : (s : State) (from : NodeId) (msg : Message) → Same s (kept p me s (Receive from msg))
   kept-same s from msg =
-      let h = heard-same s from.0 msg in
-      let t = heard p me s from.0 msg in
+      let h = heard-same s from.0 msg.body msg.sig in
+      let t = heard p me s from.0 msg.body msg.sig in
       let g = shown-same t (shows p me s t (Receive from msg)) in
       (g.0 ∙ h.0, g.1 ∙ h.1)
 
@@ -46,7 +45,7 @@ module _ (p : Params) (me : ℕ) where
 
   taken-more : (s : State) (i : Input Message) (k : ℕ) (b : Batch) → IsAt s k b → IsAt (taken p me s i) k b
   taken-more s (Cast slot batch) k b e = by-if (λ (z : State). IsAt z k b) (may_cast p me s slot.0) (with_cast s batch) s (nth-first s.casts batch b k e) e
-  taken-more s (Receive from msg) k b e = ap (λ (cs : List Batch). nth cs k) (heard-same s from.0 msg).1 ∙ e
+  taken-more s (Receive from msg) k b e = ap (λ (cs : List Batch). nth cs k) (heard-same s from.0 msg.body msg.sig).1 ∙ e
   taken-more s Timeout k b e = by-if (λ (z : State). IsAt z k b) (may_end s) (with_round s) s e e
 
   kept-more : (s : State) (i : Input Message) (k : ℕ) (b : Batch) → IsAt s k b → IsAt (kept p me s i) k b

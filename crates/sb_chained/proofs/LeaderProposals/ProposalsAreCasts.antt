@@ -4,6 +4,7 @@ use Rattle.std.specs.Prelude.{nat_lt}
 use Rattle.std.proofs.lemmas.Bool.{eqb-false, leb-true}
 use Rattle.iss_base.specs.Lists.{In, nth}
 use Rattle.iss_base.proofs.Lists.{and-true, in_append}
+use Rattle.iss_request.specs.declared.ids.NodeId.{NodeId}
 use Rattle.iss_request.specs.declared.ids.Slot.{Slot}
 use Rattle.iss_request.specs.declared.requests.Batch.{Batch}
 use Rattle.iss_sb.specs.declared.effects.Input.{Input}
@@ -13,7 +14,6 @@ use Rattle.iss_sb.specs.declared.effects.To.{To}
 use Rattle.iss_sb.specs.declared.effects.To.TheVariants.{All as To_all}
 use Rattle.iss_sb.specs.Calls.{IsGoodParams, is_slot}
 use Rattle.iss_sb.specs.Evidence.{IsReached, IsString, Item, Made, Separate, World, accepts}
-use Rattle.iss_sb.specs.Statements.{signature}
 use Rattle.iss_sb.proofs.Legal.{accepts-front}
 use Rattle.iss_sb.proofs.Slots.{slot-some}
 use Rattle.iss_sb.proofs.Worlds.{accepts-new}
@@ -23,12 +23,13 @@ use Rattle.iss_sb.specs.declared.content.Content.TheVariants.{Nil, Holds, Mark}
 use Rattle.hs_tree.specs.declared.certificates.Certificate.{Certificate}
 use Rattle.hs_tree.specs.declared.certificates.Certificate.TheVariants.{Root}
 use Rattle.hs_tree.specs.declared.messages.Message.{Message}
-use Rattle.hs_tree.specs.declared.messages.Message.TheVariants.{NewView, Prepare, PreCommit, Commit, Decide, Vote}
+use Rattle.hs_tree.specs.declared.messages.Body.{Body}
+use Rattle.hs_tree.specs.declared.messages.Body.TheVariants.{NewView, Prepare, Vote}
+use Rattle.hs_tree.specs.Messages.{signed}
 use Rattle.hs_tree.specs.Certificates.{digest_of}
-use Rattle.hs_tree.specs.Statements.{own_statement}
-use Rattle.hs_tree.proofs.Claimed.{prepare-unsigned}
+use Rattle.hs_views.proofs.DraftsAgree.{sent-drafted}
 use Rattle.hs_tree.specs.Tree.{chained as form, filled, root, weight}
-use Rattle.sb_chained.specs.Chained.{answers, asks, chained, drafts, proposals, sign_all, state, voted}
+use Rattle.sb_chained.specs.Chained.{answers, asks, chained, drafts, proposals, state, voted}
 use Rattle.sb_chained.specs.Facts.{IsAt, Leads}
 use Rattle.sb_chained.specs.Rules.{State, cast_turn, certificate, first_high, full_turn, is_marked, is_ready, keeps_news, kept, may_cast, may_end, may_prepare, next_turn, nil_or_mark, node_digest, proposed, slots_below, turn, turn_after, turn_on, with_cast, with_round, with_turn}
 use Rattle.hs_views.specs.Views.{Turn, round_of}
@@ -37,16 +38,7 @@ use Rattle.sb_chained.proofs.Safety.KnownNodesStand.{MayAt, proposed-at}
 use Rattle.sb_chained.proofs.Safety.VotesHaveCauses.{Part, acc, front-older, part-made}
 use Rattle.hs_views.proofs.Tests.{by-if, by-test, is-same}
 
--- ---- Unsigned messages
-
-unsigned : (p : Params) (me leaf : ℕ) (ds : List (To × Message)) (to : To) (view : ℕ) (what : Content) (just : Certificate) (sig : List ℕ) → In {A = To × Message} (to, Prepare view what just sig) (sign_all p me leaf ds) →
-    (old : List ℕ) × In {A = To × Message} (to, Prepare view what just old) ds
-unsigned p me leaf [] to view what just sig h = absurd h
-unsigned p me leaf (x ∷ ds) to view what just sig (inl e) =
-    let r = prepare-unsigned sig (signature p me leaf (own_statement form p x.1)) x.1 view what just (ap (λ (z : To × Message). z.1) e) in
-    let goes : to ≡ x.0 = ap (λ (z : To × Message). z.0) e in
-    (r.0, inl (ap (λ (z : To). let y : To × Message = (z, Prepare view what just r.0) in y) goes ∙ ap (λ (z : Message). let y : To × Message = (x.0, z) in y) (sym r.1)))
-unsigned p me leaf (x ∷ ds) to view what just sig (inr k) = let r = unsigned p me (suc leaf) ds to view what just sig k in (r.0, inr r.1)
+-- ---- Drafts
 
 -- a proposal that is sent belongs to the turn that the input triggered
 pub record IsTurn (o : Option Turn) (view : ℕ) (what : Content) (just : Certificate) : Type 0 where
@@ -56,48 +48,47 @@ pub record IsTurn (o : Option Turn) (view : ℕ) (what : Content) (just : Certif
   pub what_is : turn.what ≡ what
   pub just_is : turn.just ≡ just
 
-module _ (p : Params) (to : To) (view : ℕ) (what : Content) (just : Certificate) (sig : List ℕ) where
-  abbrev Sent : List (To × Message) → Type 0
-  Sent ds = In {A = To × Message} (to, Prepare view what just sig) ds
+module _ (p : Params) (to : To) (view : ℕ) (what : Content) (just : Certificate) where
+  abbrev Sent : List (To × Body) → Type 0
+  Sent ds = In {A = To × Body} (to, Prepare view what just) ds
 
-  one-is : (a : To) (n : Message) → Sent ((a, n) ∷ []) → Prepare view what just sig ≡ n
-  one-is a n (inl e) = ap (λ (z : To × Message). z.1) e
+  one-is : (a : To) (n : Body) → Sent ((a, n) ∷ []) → Prepare view what just ≡ n
+  one-is a n (inl e) = ap (λ (z : To × Body). z.1) e
   one-is a n (inr h) = absurd h
 
-  none-if : (t : Bool) (ds : List (To × Message)) → (Sent ds → ⊥) → Sent (if t then ds else []) → ⊥
+  none-if : (t : Bool) (ds : List (To × Body)) → (Sent ds → ⊥) → Sent (if t then ds else []) → ⊥
   none-if true ds h k = h k
   none-if false ds h k = k
 
   none-voted : (v : ℕ) (e : List ℕ) → Sent (voted p v e) → ⊥
-  none-voted v e h = let m = one-is _ (Vote 1 v e []) h in cc
+  none-voted v e h = let m = one-is _ (Vote 1 v e) h in cc
+
+  none-answered-heard : (s : State) (from : NodeId) (body : Body) (sig : List ℕ) → Sent (answers p s (Receive from (signed body sig))) → ⊥
+  none-answered-heard s from (Prepare v c j) x h = none-if (may_prepare p s from.0 v c j) (voted p v (node_digest p v c j)) (none-voted v (node_digest p v c j)) h
+  none-answered-heard s from other x h = h
 
   none-answered : (s : State) (i : Input Message) → Sent (answers p s i) → ⊥
   none-answered s (Cast slot batch) h = h
-  none-answered s (Receive from (NewView round high x)) h = h
-  none-answered s (Receive from (Prepare v c j x)) h = none-if (may_prepare p s from.0 v c j) (voted p v (node_digest p v c j)) (none-voted v (node_digest p v c j)) h
-  none-answered s (Receive from (PreCommit v shown x)) h = h
-  none-answered s (Receive from (Commit v shown x)) h = h
-  none-answered s (Receive from (Decide v shown x)) h = h
-  none-answered s (Receive from (Vote q v e x)) h = h
-  none-answered s Timeout h = none-if (may_end s) _ (λ z. let m = one-is _ (NewView (suc (round_of s.view)) s.high []) z in cc) h
+  none-answered s (Receive from msg) h = none-answered-heard s from msg.body msg.sig h
+  none-answered s Timeout h = none-if (may_end s) _ (λ z. let m = one-is _ (NewView (suc (round_of s.view)) s.high) z in cc) h
 
   of-turn : (o : Option Turn) → Sent (proposals o) → IsTurn o view what just
   of-turn None h = absurd h
   of-turn (Some t) h =
-      let m = one-is To_all (Prepare t.view t.what t.just []) h in
+      let m = one-is To_all (Prepare t.view t.what t.just) h in
       let a : t.view ≡ view = cc in
       let b : t.what ≡ what = cc in
       let c : t.just ≡ just = cc in
       record { turn = t; is = refl; view_is = a; what_is = b; just_is = c }
 
--- a proposal among the unsigned messages is that of the step's turn
-pub proposal-turn : (p : Params) (me : ℕ) (s : State) (i : Input Message) (to : To) (view : ℕ) (what : Content) (just : Certificate) (sig : List ℕ) → In {A = To × Message} (to, Prepare view what just sig) (drafts p me s i) →
+-- a proposal among the drafts is that of the step's turn
+pub proposal-turn : (p : Params) (me : ℕ) (s : State) (i : Input Message) (to : To) (view : ℕ) (what : Content) (just : Certificate) → In {A = To × Body} (to, Prepare view what just) (drafts p me s i) →
     IsTurn (proposed p me s (kept p me s i) i) view what just
-proposal-turn p me s i to view what just sig h =
+proposal-turn p me s i to view what just h =
     let k = kept p me s i in
-    elim (in_append {A = To × Message} (to, Prepare view what just sig) (answers p s i) (proposals (proposed p me s k i)) h) [
-      | inl a ↦ absurd (none-answered p to view what just sig s i a)
-      | inr a ↦ of-turn p to view what just sig (proposed p me s k i) a
+    elim (in_append {A = To × Body} (to, Prepare view what just) (answers p s i) (proposals (proposed p me s k i)) h) [
+      | inl a ↦ absurd (none-answered p to view what just s i a)
+      | inr a ↦ of-turn p to view what just (proposed p me s k i) a
     ]
 
 -- ---- the turns of a list
@@ -207,16 +198,16 @@ module _ (p : Params) (w : World Message) (good : IsGoodParams chained p) (reach
       late : (r : ℕ) → 1 ≤ r → (r * 65536 + 1) / 65536 ≡ 0 → ⊥
       late r l e = omega (arith, l, e)
 
-  proposed-ok : (s k : State) (i : Input Message) → LeaderOk k → MayOk (proposed p me s k i)
-  proposed-ok s k (Cast slot batch) h = by-if MayOk (may_cast p me s slot.0) (next_turn p k k.turns) None (next-ok k k.turns h h.turns) tt
-  proposed-ok s k (Receive from (NewView round high sig)) h = by-test MayOk (keeps_news p me s from.0 round high) (turn_on p k round (first_high p k round)) None (λ q.
+  proposed-ok-heard : (s k : State) (from : NodeId) (body : Body) (sig : List ℕ) → LeaderOk k → MayOk (proposed p me s k (Receive from (signed body sig)))
+  proposed-ok-heard s k from (NewView round high) sig h = by-test MayOk (keeps_news p me s from.0 round high) (turn_on p k round (first_high p k round)) None (λ q.
       let a = and-true _ _ (and-true _ _ (and-true _ _ q).0).0 in
       first-ok k round (first_high p k round) (leb-true 1 round a.0)) tt
-  proposed-ok s k (Receive from (Prepare view what just sig)) h = tt
-  proposed-ok s k (Receive from (PreCommit view shown sig)) h = tt
-  proposed-ok s k (Receive from (Commit view shown sig)) h = tt
-  proposed-ok s k (Receive from (Decide view shown sig)) h = tt
-  proposed-ok s k (Receive from (Vote phase view d sig)) h = by-if MayOk _ (next_turn p k k.turns) None (next-ok k k.turns h h.turns) tt
+  proposed-ok-heard s k from (Vote phase view d) sig h = by-if MayOk _ (next_turn p k k.turns) None (next-ok k k.turns h h.turns) tt
+  proposed-ok-heard s k from other sig h = tt
+
+  proposed-ok : (s k : State) (i : Input Message) → LeaderOk k → MayOk (proposed p me s k i)
+  proposed-ok s k (Cast slot batch) h = by-if MayOk (may_cast p me s slot.0) (next_turn p k k.turns) None (next-ok k k.turns h h.turns) tt
+  proposed-ok s k (Receive from msg) h = proposed-ok-heard s k from msg.body msg.sig h
   proposed-ok s k Timeout h = tt
 
   -- ---- the state
@@ -281,13 +272,12 @@ module _ (p : Params) (w : World Message) (good : IsGoodParams chained p) (reach
       pub ok : TurnOk turn
       pub at : Proposed turn
 
-    pub proposal-why : (x : Item Message) (xs : List (Item Message)) (to : To) (view : ℕ) (what : Content) (just : Certificate) (sig : List ℕ) → P (x ∷ xs) → In {A = To × Message} (to, Prepare view what just sig) x.made.sends → IsProposed view what just
+    pub proposal-why : (x : Item Message) (xs : List (Item Message)) (to : To) (view : ℕ) (what : Content) (just : Certificate) (sig : List ℕ) → P (x ∷ xs) → In {A = To × Message} (to, signed (Prepare view what just) sig) x.made.sends → IsProposed view what just
     proposal-why x xs to view what just sig f sent =
         let s = state p me xs in
         let k = kept p me s x.input in
-        let made = subst (λ (z : Made Message). In {A = To × Message} (to, Prepare view what just sig) z.sends) (part-made p w good reached me (x ∷ xs) f).0 sent in
-        let r = unsigned p me x.leaf (drafts p me s x.input) to view what just sig made in
-        let t = proposal-turn p me s x.input to view what just r.0 r.1 in
+        let made = subst (λ (z : Made Message). In {A = To × Message} (to, signed (Prepare view what just) sig) z.sends) (part-made p w good reached me (x ∷ xs) f).0 sent in
+        let t = proposal-turn p me s x.input to view what just (sent-drafted form p me x.leaf (drafts p me s x.input) to (signed (Prepare view what just) sig) made) in
         let ok = subst MayOk t.is (proposed-ok s k x.input (step-ok x xs f (leader-ok xs (front-older x xs (w me) f)))) in
         let at = subst (λ (o : Option Turn). MayAt p w good reached me o) t.is (proposed-at p w good reached me sep x xs f) in
         record { turn = t.turn; view_is = t.view_is; what_is = t.what_is; just_is = t.just_is; ok = ok; at = at }

@@ -11,7 +11,9 @@ use Rattle.iss_sb.specs.Laws.{AreHeard, DecidesReadable}
 use Rattle.hs_tree.specs.declared.certificates.Certificate.{Certificate}
 use Rattle.hs_tree.specs.declared.certificates.Certificate.TheVariants.{Root, Votes}
 use Rattle.hs_tree.specs.declared.messages.Message.{Message}
-use Rattle.hs_tree.specs.declared.messages.Message.TheVariants.{NewView, Prepare, PreCommit, Commit, Decide, Vote}
+use Rattle.hs_tree.specs.declared.messages.Body.{Body}
+use Rattle.hs_tree.specs.declared.messages.Body.TheVariants.{NewView, Prepare, Vote}
+use Rattle.hs_tree.specs.Messages.{signed}
 use Rattle.hs_tree.specs.Tree.{Node}
 use Rattle.hs_tree.proofs.BranchesDecode.{Decodes, TreeEncodes, branch-decodes}
 use Rattle.hs_views.specs.Views.{Turn}
@@ -24,17 +26,15 @@ module _ (p : Params) (good : IsGoodParams chained p) where
   abbrev Encodes : State → Type 0
   Encodes s = TreeEncodes p.setup.version s.tree
 
-  heard-encodes : (me : ℕ) (s : State) (from : ℕ) (msg : Message) → Heard p good (Receive (record { 0 = from }) msg) → Encodes s → Encodes (heard p me s from msg)
-  heard-encodes me s from (NewView round high sig) m h = by-if Encodes (keeps_news p me s from round high) (with_news s from round high) s h h
-  heard-encodes me s from (Prepare view what just sig) m h = by-if Encodes (may_prepare p s from view what just) (with_node p s view what just) s ((m.1.behind, m.1.what_is), h) h
-  heard-encodes me s from (PreCommit view shown sig) m h = h
-  heard-encodes me s from (Commit view shown sig) m h = h
-  heard-encodes me s from (Decide view shown sig) m h = h
-  heard-encodes me s from (Vote phase view d sig) m h = by-if Encodes (keeps_vote p s from phase view d) (with_vote s from view d sig) s h h
+  heard-encodes : (me : ℕ) (s : State) (from : ℕ) (body : Body) (sig : List ℕ) → Heard p good (Receive (record { 0 = from }) (signed body sig)) → Encodes s → Encodes (heard p me s from body sig)
+  heard-encodes me s from (NewView round high) sig m h = by-if Encodes (keeps_news p me s from round high) (with_news s from round high) s h h
+  heard-encodes me s from (Prepare view what just) sig m h = by-if Encodes (may_prepare p s from view what just) (with_node p s view what just) s ((m.1.behind, m.1.what_is), h) h
+  heard-encodes me s from (Vote phase view d) sig m h = by-if Encodes (keeps_vote p s from phase view d) (with_vote s from view d sig) s h h
+  heard-encodes me s from other sig m h = h
 
   taken-encodes : (me : ℕ) (s : State) (i : Input Message) → Heard p good i → Encodes s → Encodes (taken p me s i)
   taken-encodes me s (Cast slot batch) m h = by-if Encodes (may_cast p me s slot.0) (with_cast s batch) s h h
-  taken-encodes me s (Receive from msg) m h = heard-encodes me s from.0 msg m h
+  taken-encodes me s (Receive from msg) m h = heard-encodes me s from.0 msg.body msg.sig m h
   taken-encodes me s Timeout m h = by-if Encodes (may_end s) (with_round s) s h h
 
   noted-encodes : (s : State) (q : Certificate) (o : Option Node) → Encodes s → Encodes (noted s q o)

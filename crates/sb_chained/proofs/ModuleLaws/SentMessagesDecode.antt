@@ -7,6 +7,7 @@ use Rattle.iss_base.specs.Lists.{In, nth, same_bytes}
 use Rattle.iss_base.proofs.Lists.{and-true, first-cases, in_append, none-some, nth-in}
 use Rattle.iss_request.specs.Formats.{is_signature}
 use Rattle.iss_request.specs.declared.requests.Batch.{Batch}
+use Rattle.iss_request.specs.declared.ids.NodeId.{NodeId}
 use Rattle.iss_sb.specs.declared.effects.Input.{Input}
 use Rattle.iss_sb.specs.declared.effects.Input.TheVariants.{Cast, Receive, Timeout}
 use Rattle.iss_sb.specs.declared.effects.Params.{Params}
@@ -24,11 +25,12 @@ use Rattle.hs_tree.specs.declared.certificates.Certificate.{Certificate}
 use Rattle.hs_tree.specs.declared.certificates.Certificate.TheVariants.{Root, Votes}
 use Rattle.iss_sb.specs.declared.signers.Signed.{Signed}
 use Rattle.hs_tree.specs.declared.messages.Message.{Message}
-use Rattle.hs_tree.specs.declared.messages.Message.TheVariants.{NewView, Prepare, PreCommit, Commit, Decide, Vote}
+use Rattle.hs_tree.specs.declared.messages.Body.{Body}
+use Rattle.hs_tree.specs.declared.messages.Body.TheVariants.{NewView, Prepare, Vote}
 use Rattle.iss_sb.specs.Signers.{AreSigners}
 use Rattle.hs_tree.specs.Certificates.{IsSpelledCertificate, digest_of, root_row, view_of, votes_row}
-use Rattle.hs_tree.specs.Messages.{IsSpelledMessage, spell}
-use Rattle.hs_tree.specs.Statements.{own_statement, with_signature}
+use Rattle.hs_tree.specs.Messages.{IsSpelledBody, signed}
+use Rattle.hs_tree.specs.Statements.{stated}
 use Rattle.hs_tree.specs.Tree.{Node, chained as form, is_known, weight}
 use Rattle.iss_sb.proofs.Contents.{batch-table}
 use Rattle.hs_tree.proofs.MessageGrammar.{read-spelled, spelled-read}
@@ -49,7 +51,7 @@ module _ (p : Params) (good : IsGoodParams chained p) where
   SpelledWhat what = (bytes : List ℕ) × IsSpelledContent p.setup.version what bytes
 
   abbrev SpelledAs : Message → Type 0
-  SpelledAs msg = (bytes : List ℕ) × IsSpelledMessage 1 p.setup.version msg bytes
+  SpelledAs msg = (front : List ℕ) × IsSpelledBody 1 p.setup.version msg.body front × (is_signature msg.sig ≡ true)
 
   root-spelled : Spelled Root
   root-spelled = (root_row, refl)
@@ -307,19 +309,14 @@ module _ (p : Params) (good : IsGoodParams chained p) where
 
   -- ---- The state
 
-  vote-parts : (phase view : ℕ) (d sig : List ℕ) → SpelledAs (Vote phase view d sig) → is_signature sig ≡ true
-  vote-parts phase view d sig h = h.1.signed
-
-  heard-fits : (me : ℕ) (s : State) (from : ℕ) (msg : Message) → SpelledAs msg → Fits s → Fits (heard p me s from msg)
-  heard-fits me s from (NewView round high sig) m h = by-if Fits (keeps_news p me s from round high) (with_news s from round high) s
+  heard-fits : (me : ℕ) (s : State) (from : ℕ) (body : Body) (sig : List ℕ) → SpelledAs (signed body sig) → Fits s → Fits (heard p me s from body sig)
+  heard-fits me s from (NewView round high) sig m h = by-if Fits (keeps_news p me s from round high) (with_news s from round high) s
       (record { high = h.high; votes = h.votes; news = ((m.1.certificate, m.1.spelled), h.news); turns = h.turns; full = h.full; casts = h.casts; few = h.few }) h
-  heard-fits me s from (Prepare view what just sig) m h = by-if Fits (may_prepare p s from view what just) (with_node p s view what just) s
+  heard-fits me s from (Prepare view what just) sig m h = by-if Fits (may_prepare p s from view what just) (with_node p s view what just) s
       (record { high = h.high; votes = h.votes; news = h.news; turns = h.turns; full = h.full; casts = h.casts; few = h.few }) h
-  heard-fits me s from (PreCommit view shown sig) m h = h
-  heard-fits me s from (Commit view shown sig) m h = h
-  heard-fits me s from (Decide view shown sig) m h = h
-  heard-fits me s from (Vote phase view d sig) m h = by-if Fits (keeps_vote p s from phase view d) (with_vote s from view d sig) s
-      (record { high = h.high; votes = (m.1.signed, h.votes); news = h.news; turns = h.turns; full = h.full; casts = h.casts; few = h.few }) h
+  heard-fits me s from (Vote phase view d) sig m h = by-if Fits (keeps_vote p s from phase view d) (with_vote s from view d sig) s
+      (record { high = h.high; votes = (m.2, h.votes); news = h.news; turns = h.turns; full = h.full; casts = h.casts; few = h.few }) h
+  heard-fits me s from other sig m h = h
 
   cast-fits : (s : State) (b : Batch) → length s.casts < length p.slots → IsReadBatch p b → Fits s → Fits (with_cast s b)
   cast-fits s b l r h =
@@ -344,26 +341,27 @@ module _ (p : Params) (good : IsGoodParams chained p) where
 
   pub heard-is : (i : Input Message) → IsHeard chained p i → Heard i
   heard-is (Cast slot batch) h = h
-  heard-is (Receive from msg) h = (spell 1 p.setup.version msg, read-spelled 1 p.setup.version msg h.1)
+  heard-is (Receive from msg) h = let r = read-spelled 1 p.setup.version msg h.1 in (r.front, r.body, r.shape)
   heard-is Timeout h = tt
 
   pub taken-fits : (me : ℕ) (s : State) (i : Input Message) → Heard i → Fits s → Fits (taken p me s i)
   taken-fits me s (Cast slot batch) m h = by-test Fits (may_cast p me s slot.0) (with_cast s batch) s
       (λ q. cast-fits s batch (place-below slot.0 p.slots (length s.casts) (and-true _ (is_slot slot.0 (nth p.slots (length s.casts))) q).1) m h) h
-  taken-fits me s (Receive from msg) m h = heard-fits me s from.0 msg m h
+  taken-fits me s (Receive from msg) m h = heard-fits me s from.0 msg.body msg.sig m h
   taken-fits me s Timeout m h = by-if Fits (may_end s) (with_round s) s (record { high = h.high; votes = h.votes; news = h.news; turns = h.turns; full = h.full; casts = h.casts; few = h.few }) h
 
-  shows-spelled : (me : ℕ) (s k : State) (i : Input Message) → Heard i → Fits s → Fits k → MaySpell (shows p me s k i)
-  shows-spelled me s k (Cast slot batch) m h g = tt
-  shows-spelled me s k (Receive from (NewView round high sig)) m h g = by-if MaySpell (keeps_news p me s from.0 round high) (first_high p k round) None (high-spelled k round g) tt
-  shows-spelled me s k (Receive from (Prepare view what just sig)) m h g = by-if MaySpell (is_usable p s from.0 view just) (Some just) None (m.1.certificate, m.1.spelled) tt
-  shows-spelled me s k (Receive from (PreCommit view shown sig)) m h g = tt
-  shows-spelled me s k (Receive from (Commit view shown sig)) m h g = tt
-  shows-spelled me s k (Receive from (Decide view shown sig)) m h g = tt
-  shows-spelled me s k (Receive from (Vote phase view d sig)) m h g = by-test MaySpell (keeps_vote p s from.0 phase view d && is_reached p k view d) (Some (certificate p k view d)) None (λ q.
+  shows-spelled-heard : (me : ℕ) (s k : State) (from : NodeId) (body : Body) (sig : List ℕ) → Heard (Receive from (signed body sig)) → Fits s → Fits k → MaySpell (shows p me s k (Receive from (signed body sig)))
+  shows-spelled-heard me s k from (NewView round high) sig m h g = by-if MaySpell (keeps_news p me s from.0 round high) (first_high p k round) None (high-spelled k round g) tt
+  shows-spelled-heard me s k from (Prepare view what just) sig m h g = by-if MaySpell (is_usable p s from.0 view just) (Some just) None (m.1.certificate, m.1.spelled) tt
+  shows-spelled-heard me s k from (Vote phase view d) sig m h g = by-test MaySpell (keeps_vote p s from.0 phase view d && is_reached p k view d) (Some (certificate p k view d)) None (λ q.
       let a = and-true (keeps_vote p s from.0 phase view d) (is_reached p k view d) q in
       let b = and-true _ _ (and-true _ _ a.0).0 in
       certificate-spelled k view d (own-some s.turns view d h.turns b.1) m.1.view_fits m.1.digest_fits g.votes) tt
+  shows-spelled-heard me s k from other sig m h g = tt
+
+  shows-spelled : (me : ℕ) (s k : State) (i : Input Message) → Heard i → Fits s → Fits k → MaySpell (shows p me s k i)
+  shows-spelled me s k (Cast slot batch) m h g = tt
+  shows-spelled me s k (Receive from msg) m h g = shows-spelled-heard me s k from msg.body msg.sig m h g
   shows-spelled me s k Timeout m h g = tt
 
   noted-fits : (s : State) (q : Certificate) (o : Option Node) → Spelled q → Fits s → Fits (noted s q o)
@@ -381,14 +379,14 @@ module _ (p : Params) (good : IsGoodParams chained p) where
       let g = taken-fits me s i m h in
       shown-fits t (shows p me s t i) (shows-spelled me s t i m h g) g
 
+  proposed-new-heard : (me : ℕ) (s k : State) (from : NodeId) (body : Body) (sig : List ℕ) → Heard (Receive from (signed body sig)) → Fits k → MayTurn k.turns (proposed p me s k (Receive from (signed body sig)))
+  proposed-new-heard me s k from (NewView round high) sig m h = by-if (MayTurn k.turns) (keeps_news p me s from.0 round high) (turn_on p k round (first_high p k round)) None (let l = m.1.round_fits in first-new k round (omega (arith, l)) h) tt
+  proposed-new-heard me s k from (Vote phase view d) sig m h = by-if (MayTurn k.turns) _ (next_turn p k k.turns) None (next-new k k.turns h h.turns) tt
+  proposed-new-heard me s k from other sig m h = tt
+
   pub proposed-new : (me : ℕ) (s k : State) (i : Input Message) → Heard i → Fits k → MayTurn k.turns (proposed p me s k i)
   proposed-new me s k (Cast slot batch) m h = by-if (MayTurn k.turns) (may_cast p me s slot.0) (next_turn p k k.turns) None (next-new k k.turns h h.turns) tt
-  proposed-new me s k (Receive from (NewView round high sig)) m h = by-if (MayTurn k.turns) (keeps_news p me s from.0 round high) (turn_on p k round (first_high p k round)) None (let l = m.1.round_fits in first-new k round (omega (arith, l)) h) tt
-  proposed-new me s k (Receive from (Prepare view what just sig)) m h = tt
-  proposed-new me s k (Receive from (PreCommit view shown sig)) m h = tt
-  proposed-new me s k (Receive from (Commit view shown sig)) m h = tt
-  proposed-new me s k (Receive from (Decide view shown sig)) m h = tt
-  proposed-new me s k (Receive from (Vote phase view d sig)) m h = by-if (MayTurn k.turns) _ (next_turn p k k.turns) None (next-new k k.turns h h.turns) tt
+  proposed-new me s k (Receive from msg) m h = proposed-new-heard me s k from msg.body msg.sig m h
   proposed-new me s k Timeout m h = tt
 
   full-more : (ts : List Turn) (t : Turn) → FullFits ts → NewTurn ts t → FullFits (t ∷ ts)
@@ -412,38 +410,34 @@ module _ (p : Params) (good : IsGoodParams chained p) where
   state-fits me [] h = record { high = root-spelled; votes = tt; news = tt; turns = tt; full = λ round v e. absurd cc; casts = λ b k. absurd k; few = omega arith }
   state-fits me (x ∷ xs) h = after-fits me (state p me xs) x.input (heard-is x.input h.0) (state-fits me xs h.2)
 
-  -- ---- Sent messages, with their signatures
+  -- ---- Sent messages
 
-  abbrev Signs : Message → Type 0
-  Signs msg = (sig : List ℕ) → is_signature sig ≡ true → SpelledAs (with_signature sig msg)
+  abbrev Signs : Body → Type 0
+  Signs body = (front : List ℕ) × IsSpelledBody 1 p.setup.version body front
 
-  abbrev SignsAll : List (To × Message) → Type 0
+  abbrev SignsAll : List (To × Body) → Type 0
   SignsAll [] = Unit {0}
   SignsAll (x ∷ xs) = Signs x.1 × SignsAll xs
 
-  signs-append : (xs ys : List (To × Message)) → SignsAll xs → SignsAll ys → SignsAll (xs ++ ys)
+  signs-append : (xs ys : List (To × Body)) → SignsAll xs → SignsAll ys → SignsAll (xs ++ ys)
   signs-append [] ys h g = g
   signs-append (x ∷ xs) ys h g = (h.0, signs-append xs ys h.1 g)
 
   proposal-signs : (ts : List Turn) (o : Option Turn) → MayTurn ts o → SignsAll (proposals o)
   proposal-signs ts None h = tt
-  proposal-signs ts (Some t) h = ((λ sig shape. (_, record { view_fits = low-view t.view h.fits.round_fits; behind = h.what.0; what_is = h.what.1; certificate = h.just.0; spelled = h.just.1; signed = shape; row = refl })), tt)
+  proposal-signs ts (Some t) h = ((_, record { view_fits = low-view t.view h.fits.round_fits; behind = h.what.0; what_is = h.what.1; certificate = h.just.0; spelled = h.just.1; row = refl }), tt)
 
   vote-signs : (view : ℕ) (d : List ℕ) → view < 2 ^ 32 → length d ≡ 32 → SignsAll (voted p view d)
-  vote-signs view d l long = ((λ sig shape. (_, record { phase_low = omega arith; phase_fits = omega arith; view_fits = l; digest_fits = long; signed = shape; row = refl })), tt)
+  vote-signs view d l long = ((_, record { phase_low = omega arith; phase_fits = omega arith; view_fits = l; digest_fits = long; row = refl }), tt)
 
-  answer-signs : (s : State) (from : ℕ) (msg : Message) → SpelledAs msg → SignsAll (answers_heard p s from msg)
-  answer-signs s from (NewView round high sig) m = tt
-  answer-signs s from (Prepare view what just sig) m = by-if SignsAll (may_prepare p s from view what just) (voted p view (node_digest p view what just)) [] (vote-signs view (node_digest p view what just) m.1.view_fits (digest-long form p view what just)) tt
-  answer-signs s from (PreCommit view shown sig) m = tt
-  answer-signs s from (Commit view shown sig) m = tt
-  answer-signs s from (Decide view shown sig) m = tt
-  answer-signs s from (Vote phase view d sig) m = tt
+  answer-signs : (s : State) (from : ℕ) (body : Body) (sig : List ℕ) → SpelledAs (signed body sig) → SignsAll (answers_heard p s from body)
+  answer-signs s from (Prepare view what just) sig m = by-if SignsAll (may_prepare p s from view what just) (voted p view (node_digest p view what just)) [] (vote-signs view (node_digest p view what just) m.1.view_fits (digest-long form p view what just)) tt
+  answer-signs s from other sig m = tt
 
   answers-sign : (s : State) (i : Input Message) → Heard i → Fits s → SignsAll (answers p s i)
   answers-sign s (Cast slot batch) m h = tt
-  answers-sign s (Receive from msg) m h = answer-signs s from.0 msg m
-  answers-sign s Timeout m h = by-test SignsAll (may_end s) _ [] (λ q. let l = ltb-true (round_of s.view) 65535 q in ((λ sig shape. (_, record { round_fits = omega (arith, l); certificate = h.high.0; spelled = h.high.1; signed = shape; row = refl })), tt)) tt
+  answers-sign s (Receive from msg) m h = answer-signs s from.0 msg.body msg.sig m
+  answers-sign s Timeout m h = by-test SignsAll (may_end s) _ [] (λ q. let l = ltb-true (round_of s.view) 65535 q in ((_, record { round_fits = omega (arith, l); certificate = h.high.0; spelled = h.high.1; row = refl }), tt)) tt
 
   drafts-sign : (me : ℕ) (s : State) (i : Input Message) → Heard i → Fits s → SignsAll (drafts p me s i)
   drafts-sign me s i m h =
@@ -451,11 +445,11 @@ module _ (p : Params) (good : IsGoodParams chained p) where
       let g = kept-fits me s i m h in
       signs-append (answers p s i) (proposals (proposed p me s k i)) (answers-sign s i m h) (proposal-signs k.turns (proposed p me s k i) (proposed-new me s k i m g))
 
-  signed-read : (me leaf : ℕ) (ds : List (To × Message)) → SignsAll ds → (to : To) (msg : Message) → In {A = To × Message} (to, msg) (sign_all p me leaf ds) → IsReadMessage chained p msg
+  signed-read : (me leaf : ℕ) (ds : List (To × Body)) → SignsAll ds → (to : To) (msg : Message) → In {A = To × Message} (to, msg) (sign_all p me leaf ds) → IsReadMessage chained p msg
   signed-read me leaf [] h to msg k = absurd k
   signed-read me leaf (x ∷ ds) h to msg (inl e) =
-      let s = h.0 (signature p me leaf (own_statement form p x.1)) (signature-shape chained p good me leaf (own_statement form p x.1)) in
-      subst (λ (z : To × Message). IsReadMessage chained p z.1) (sym e) (spelled-read 1 p.setup.version (with_signature (signature p me leaf (own_statement form p x.1)) x.1) s.0 s.1)
+      let sig = signature p me leaf (stated form p x.1) in
+      subst (λ (z : To × Message). IsReadMessage chained p z.1) (sym e) (spelled-read 1 p.setup.version (signed x.1 sig) h.0.0 h.0.1 (signature-shape chained p good me leaf (stated form p x.1)))
   signed-read me leaf (x ∷ ds) h to msg (inr k) = signed-read me (suc leaf) ds h.1 to msg k
 
 pub sent-again : (p : Params) (me : ℕ) (xs : List (Item Message)) (i : Input Message) (leaf : ℕ) (to : To) (msg : Message) → IsGoodParams chained p → me < p.setup.n →

@@ -17,7 +17,9 @@ use Rattle.iss_sb.specs.Evidence.{Item, accepts}
 use Rattle.iss_sb.specs.Laws.{IsLawful}
 use Rattle.iss_sb.proofs.Slots.{place-In}
 use Rattle.hs_tree.specs.declared.messages.Message.{Message}
-use Rattle.hs_tree.specs.declared.messages.Message.TheVariants.{NewView, Prepare, PreCommit, Commit, Decide, Vote}
+use Rattle.hs_tree.specs.declared.messages.Body.{Body}
+use Rattle.hs_tree.specs.declared.messages.Body.TheVariants.{Prepare}
+use Rattle.hs_tree.specs.Messages.{signed}
 use Rattle.hs_tree.specs.Tree.{Node, branch, chained as form}
 use Rattle.sb_chained.specs.Chained.{answers, answers_heard, asks, chained, decided, decides, drafts, offered, proposals, sign_all, state, value_on, voted}
 use Rattle.sb_chained.specs.Rules.{State, committed_by, kept, may_cast, may_end, may_prepare, node_digest, proposed, shows, slots_below, taken}
@@ -38,19 +40,18 @@ module _ (p : Params) (me : ℕ) (xs : List (Item Message)) where
   castable : (s : Slot) (b c : Batch) → asks p me xs (Cast s b) ≡ Some (s, b) → asks p me xs (Cast s c) ≡ Some (s, c)
   castable s b c h = rw ((cast-is s b (s, b) h).passed) refl
 
+asked-In-heard : (p : Params) (me : ℕ) (xs : List (Item Message)) (from : NodeId) (body : Body) (sig : List ℕ) (x : Slot × Batch) → asks p me xs (Receive from (signed body sig)) ≡ Some x → In x.0 p.slots
+asked-In-heard p me xs from (Prepare view what just) sig x h =
+    let s = state p me xs in
+    offered-In p (accepts xs) what (slots_below s just) x (if-in (may_prepare p s from.0 view what just) (offered p s (accepts xs) what just) x h).is
+asked-In-heard p me xs from other sig x h = absurd cc
+
 asked-In : AsksInside chained
 asked-In p me xs (Cast s b) x h =
     let c = cast-is p me xs s b x h in
     let t = and-true _ (is_slot s.0 (nth p.slots (length (state p me xs).casts))) c.passed in
     subst (λ (z : Slot × Batch). In z.0 p.slots) c.is (place-In s p.slots (length (state p me xs).casts) t.1)
-asked-In p me xs (Receive from (NewView round high sig)) x h = absurd cc
-asked-In p me xs (Receive from (Prepare view what just sig)) x h =
-    let s = state p me xs in
-    offered-In p (accepts xs) what (slots_below s just) x (if-in (may_prepare p s from.0 view what just) (offered p s (accepts xs) what just) x h).is
-asked-In p me xs (Receive from (PreCommit view shown sig)) x h = absurd cc
-asked-In p me xs (Receive from (Commit view shown sig)) x h = absurd cc
-asked-In p me xs (Receive from (Decide view shown sig)) x h = absurd cc
-asked-In p me xs (Receive from (Vote phase view d sig)) x h = absurd cc
+asked-In p me xs (Receive from msg) x h = asked-In-heard p me xs from msg.body msg.sig x h
 asked-In p me xs Timeout x h = absurd cc
 
 -- ---- Decisions
@@ -71,7 +72,7 @@ decided-In p me (i ∷ xs) n x h = elim (first-cases (decided p me xs n.0) (deci
 
 -- ---- At most two messages, to existing replicas
 
-record IsFine (n most : ℕ) (ds : List (To × Message)) : Type 0 where
+record IsFine (n most : ℕ) (ds : List (To × Body)) : Type 0 where
   pub to : AreToNodes n ds
   pub few : length ds ≤ most
 
@@ -85,7 +86,7 @@ module _ (p : Params) (some : 0 < p.setup.n) where
       go : (n : ℕ) → 0 < n → k % n < n
       go n h = omega arith
 
-  abbrev Fine : List (To × Message) → Type 0
+  abbrev Fine : List (To × Body) → Type 0
   Fine ds = IsFine p.setup.n 1 ds
 
   proposal_fine : (o : Option Turn) → Fine (proposals o)
@@ -95,17 +96,13 @@ module _ (p : Params) (some : 0 < p.setup.n) where
   voted_fine : (view : ℕ) (d : List ℕ) → Fine (voted p view d)
   voted_fine view d = record { to = (below (p.leader.0 + round_of view), tt); few = omega arith }
 
-  answer_fine : (s : State) (from : ℕ) (msg : Message) → Fine (answers_heard p s from msg)
-  answer_fine s from (NewView round high sig) = none_fine p.setup.n
-  answer_fine s from (Prepare view what just sig) = by-if Fine (may_prepare p s from view what just) (voted p view (node_digest p view what just)) [] (voted_fine view (node_digest p view what just)) (none_fine p.setup.n)
-  answer_fine s from (PreCommit view shown sig) = none_fine p.setup.n
-  answer_fine s from (Commit view shown sig) = none_fine p.setup.n
-  answer_fine s from (Decide view shown sig) = none_fine p.setup.n
-  answer_fine s from (Vote phase view d sig) = none_fine p.setup.n
+  answer_fine : (s : State) (from : ℕ) (body : Body) (sig : List ℕ) → Fine (answers_heard p s from body)
+  answer_fine s from (Prepare view what just) sig = by-if Fine (may_prepare p s from view what just) (voted p view (node_digest p view what just)) [] (voted_fine view (node_digest p view what just)) (none_fine p.setup.n)
+  answer_fine s from other sig = none_fine p.setup.n
 
   answers_fine : (s : State) (i : Input Message) → Fine (answers p s i)
   answers_fine s (Cast slot batch) = none_fine p.setup.n
-  answers_fine s (Receive from msg) = answer_fine s from.0 msg
+  answers_fine s (Receive from msg) = answer_fine s from.0 msg.body msg.sig
   answers_fine s Timeout = by-if Fine (may_end s) _ [] (record { to = (below (p.leader.0 + suc (round_of s.view)), tt); few = omega arith }) (none_fine p.setup.n)
 
   drafts_fine : (me : ℕ) (s : State) (i : Input Message) → IsFine p.setup.n 2 (drafts p me s i)
@@ -119,7 +116,7 @@ module _ (p : Params) (some : 0 < p.setup.n) where
       record { to = to-append p.setup.n (answers p s i) (proposals (proposed p me s k i)) a.to b.to; few = omega (arith, long, few_a, few_b) }
 
 -- signing changes neither the recipients nor the number of messages
-signed-to : (p : Params) (me leaf n : ℕ) (ds : List (To × Message)) → AreToNodes n ds → (k : NodeId) (msg : Message) → In {A = To × Message} (To_one k, msg) (sign_all p me leaf ds) → k.0 < n
+signed-to : (p : Params) (me leaf n : ℕ) (ds : List (To × Body)) → AreToNodes n ds → (k : NodeId) (msg : Message) → In {A = To × Message} (To_one k, msg) (sign_all p me leaf ds) → k.0 < n
 signed-to p me leaf n [] h k msg q = absurd q
 signed-to p me leaf n (x ∷ ds) h k msg (inl e) = subst (λ (z : To). IsToNode n z) (ap (λ (z : To × Message). z.0) (sym e)) h.0
 signed-to p me leaf n (x ∷ ds) h k msg (inr q) = signed-to p me (suc leaf) n ds h.1 k msg q

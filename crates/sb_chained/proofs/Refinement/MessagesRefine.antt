@@ -16,7 +16,9 @@ use Rattle.iss_sb.specs.declared.content.Content.{Content}
 use Rattle.hs_tree.specs.declared.certificates.Certificate.{Certificate}
 use Rattle.hs_tree.specs.declared.certificates.Certificate.TheVariants.{Root, Votes}
 use Rattle.hs_tree.specs.declared.messages.Message.{Message}
-use Rattle.hs_tree.specs.declared.messages.Message.TheVariants.{NewView, Prepare, PreCommit, Commit, Decide, Vote}
+use Rattle.hs_tree.specs.declared.messages.Body.{Body}
+use Rattle.hs_tree.specs.declared.messages.Body.TheVariants.{NewView, Prepare, PreCommit, Commit, Decide, Vote}
+use Rattle.hs_tree.specs.Messages.{signed}
 use Rattle.hs_tree.specs.Tree.{Node as Tree_node}
 use Rattle.hs_views.proofs.Tests.{none-within}
 use Rattle.hs_views.specs.declared.accepted.Accepted.{Accepted}
@@ -76,7 +78,7 @@ module _ (p : Params) (m : Chained) (t : Taken) (o : Outcome) (alone : IsAlone o
   idle-does s i h a b c e = record {
     node = refl;
     state = subst (λ (z : State). RefinesState p m.node z) (sym a) h;
-    draft = subst (λ (z : List (To × Message)). AreDrafts p t.outcome.draft z) (sym b) (quiet-draft p t o alone quiet);
+    draft = subst (λ (z : List (To × Body)). AreDrafts p t.outcome.draft z) (sym b) (quiet-draft p t o alone quiet);
     hashed = quiet-hashed t o alone quiet ∙ sym c;
     delivers = inl (record { decides = e; delivers = alone.delivers; same = refl });
   }
@@ -84,20 +86,20 @@ module _ (p : Params) (m : Chained) (t : Taken) (o : Outcome) (alone : IsAlone o
   idle-takes : (i : Input Message) → ((s : State) (old : List (Slot × Batch)) → RefinesState p m.node s → asked_in p m.node.me.0 s old i ≡ None) → ((s : State) → RefinesState p m.node s → Does p m m s i t) → Takes p m m i t
   idle-takes i unasked does = takes-none p m m i t refl alone.accepted (none-within t.delivers p.slots alone.delivers) unasked does
 
-  pub unheard-pre : (from : NodeId) (view : ℕ) (c : Certificate) (sig : List ℕ) → Takes p m m (Receive from (PreCommit view c sig)) t
-  unheard-pre from view c sig = idle-takes (Receive from (PreCommit view c sig)) (λ s old h. refl) (λ s h. idle-does s (Receive from (PreCommit view c sig)) h refl refl refl (λ k. refl))
+  pub unheard-pre : (from : NodeId) (view : ℕ) (c : Certificate) (sig : List ℕ) → Takes p m m (Receive from (signed (PreCommit view c) sig)) t
+  unheard-pre from view c sig = idle-takes (Receive from (signed (PreCommit view c) sig)) (λ s old h. refl) (λ s h. idle-does s (Receive from (signed (PreCommit view c) sig)) h refl refl refl (λ k. refl))
 
-  pub unheard-commit : (from : NodeId) (view : ℕ) (c : Certificate) (sig : List ℕ) → Takes p m m (Receive from (Commit view c sig)) t
-  unheard-commit from view c sig = idle-takes (Receive from (Commit view c sig)) (λ s old h. refl) (λ s h. idle-does s (Receive from (Commit view c sig)) h refl refl refl (λ k. refl))
+  pub unheard-commit : (from : NodeId) (view : ℕ) (c : Certificate) (sig : List ℕ) → Takes p m m (Receive from (signed (Commit view c) sig)) t
+  unheard-commit from view c sig = idle-takes (Receive from (signed (Commit view c) sig)) (λ s old h. refl) (λ s h. idle-does s (Receive from (signed (Commit view c) sig)) h refl refl refl (λ k. refl))
 
-  pub unheard-decide : (from : NodeId) (view : ℕ) (c : Certificate) (sig : List ℕ) → Takes p m m (Receive from (Decide view c sig)) t
-  unheard-decide from view c sig = idle-takes (Receive from (Decide view c sig)) (λ s old h. refl) (λ s h. idle-does s (Receive from (Decide view c sig)) h refl refl refl (λ k. refl))
+  pub unheard-decide : (from : NodeId) (view : ℕ) (c : Certificate) (sig : List ℕ) → Takes p m m (Receive from (signed (Decide view c) sig)) t
+  unheard-decide from view c sig = idle-takes (Receive from (signed (Decide view c) sig)) (λ s old h. refl) (λ s h. idle-does s (Receive from (signed (Decide view c) sig)) h refl refl refl (λ k. refl))
 
 -- ---- a proposal
 
 module _ (p : Params) (from : NodeId) (view : ℕ) (what : Content) (just : Certificate) (sig : List ℕ) where
   abbrev said : Input Message
-  said = Receive from (Prepare view what just sig)
+  said = Receive from (signed (Prepare view what just) sig)
 
   abbrev prep : State → Bool → State
   prep s t = if t then with_node p s view what just else s
@@ -119,7 +121,7 @@ module _ (p : Params) (from : NodeId) (view : ℕ) (what : Content) (just : Cert
       record {
         node = g.node;
         state = g.state;
-        draft = subst (λ (z : List (To × Message)). AreDrafts p tk.outcome.draft z) (sym (append-nil (if may_prepare p s from.0 view what just then voted p view (node_digest p view what just) else []))) g.draft;
+        draft = subst (λ (z : List (To × Body)). AreDrafts p tk.outcome.draft z) (sym (append-nil (if may_prepare p s from.0 view what just then voted p view (node_digest p view what just) else []))) g.draft;
         hashed = g.hashed ∙ sym (append-nil (if may_prepare p s from.0 view what just then strings_at p view what just else []));
         delivers = g.delivers;
       }
@@ -158,7 +160,7 @@ module _ (p : Params) (from : NodeId) (view : ℕ) (what : Content) (just : Cert
       t ≡ true → ((s : State) → RefinesState p m.node s → t ≡ may_prepare p s from.0 view what just) → ((s : State) → RefinesState p m.node s → TakesNode p m.node mid.node s view what just o) → mid.delivered ≡ m.delivered → n.accepted ≡ mid.accepted →
       a ≡ what_at what slot → Adds m.accepted mid.accepted (one_or_none (what_at what slot)) → IfSome slot (λ s. In s p.slots) → ((s : State) (old : List (Slot × Batch)) → RefinesState p m.node s → AreAccepted m.accepted old → what_at what slot ≡ offered p s old what just) →
       AllIn (slots_of ds) p.slots → ((k : State) → RefinesState p mid.node k → IsShown p mid n k (Some just) ds) → Takes p m n said (record { outcome = o; accepted = a; delivers = ds })
-  prepared-takes m mid n o ds slot a t u yep us holds ts node same acc is adds inside free within shown = record {
+  prepared-takes m mid n o ds slot a t u yep us holds ts node same acc is adds inside free.body within shown = record {
     does = λ s h.
         let g = node s h in
         let k = with_node p s view what just in
@@ -189,7 +191,7 @@ same-reached p k (Some (Votes w phase e votes)) view d = go (find k.tree e)
 
 module _ (p : Params) (from : NodeId) (phase view : ℕ) (d sig : List ℕ) where
   abbrev vote : Input Message
-  vote = Receive from (Vote phase view d sig)
+  vote = Receive from (signed (Vote phase view d) sig)
 
   abbrev vkept : State → Bool → State
   vkept s a = if a then with_vote s from.0 view d sig else s
@@ -279,7 +281,7 @@ same-high p k (Some (Votes view phase d votes)) round = go (find k.tree d)
 
 module _ (p : Params) (from : NodeId) (round : ℕ) (high : Certificate) (sig : List ℕ) where
   abbrev word : Input Message
-  word = Receive from (NewView round high sig)
+  word = Receive from (signed (NewView round high) sig)
 
   abbrev wkept : State → Bool → State
   wkept s a = if a then with_news s from.0 round high else s
@@ -355,7 +357,7 @@ pub cast-takes : (p : Params) (m : Chained) (node : Node) (accepted : Accepted) 
     ((s : State) → RefinesState p m.node s → Makes p m.node node s (Cast at batch) o) → a ≡ at_slot batch slot → Adds m.accepted accepted (one_or_none (at_slot batch slot)) →
     ((s : State) (b : Batch) → RefinesState p m.node s → at_slot b slot ≡ (if may_cast p m.node.me.0 s at.0 then Some (at, b) else None)) →
     Takes p m (record m { node = node; accepted = accepted }) (Cast at batch) (record { outcome = o; accepted = a; delivers = ds })
-cast-takes p m node accepted slot o a at batch ds none inside makes is adds free = record {
+cast-takes p m node accepted slot o a at batch ds none inside makes.body is adds free = record {
   does = λ s h. makes-does p m (record m { node = node; accepted = accepted }) s (Cast at batch) o (record { outcome = o; accepted = a; delivers = ds }) refl refl none (λ k. refl) (makes s h);
   asked = λ s old h g. is ∙ free s batch h;
   more = subst (λ (z : Option (Slot × Batch)). Adds m.accepted accepted (one_or_none z)) (sym is) adds;
@@ -367,3 +369,8 @@ pub timeout-takes : (p : Params) (m : Chained) (node : Node) (o : Outcome) (t : 
 timeout-takes p m node o t alone makes =
     takes-none p m (record m { node = node }) Timeout t refl alone.accepted (none-within t.delivers p.slots alone.delivers) (λ s old h. refl)
     (λ s h. makes-does p m (record m { node = node }) s Timeout o t refl alone.outcome alone.delivers (λ k. refl) (makes s h))
+
+-- ---- a message, by its body
+
+pub by-body : (p : Params) (m n : Chained) (from : NodeId) (msg : Message) (body : Body) (t : Taken) → msg.body ≡ body → Takes p m n (Receive from (signed body msg.sig)) t → Takes p m n (Receive from msg) t
+by-body p m n from msg body t is d = subst (λ (z : Body). Takes p m n (Receive from (signed z msg.sig)) t) (sym is) d

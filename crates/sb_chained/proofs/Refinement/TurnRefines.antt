@@ -12,7 +12,7 @@ use Rattle.iss_sb.specs.declared.content.Content.{Content}
 use Rattle.iss_sb.specs.declared.content.Content.TheVariants.{Nil, Holds as Holds_batch, Mark}
 use Rattle.hs_tree.specs.declared.certificates.Certificate.{Certificate}
 use Rattle.hs_tree.specs.declared.certificates.Certificate.TheVariants.{Root}
-use Rattle.hs_tree.specs.declared.messages.Message.TheVariants.{Prepare}
+use Rattle.hs_tree.specs.declared.messages.Body.TheVariants.{Prepare}
 use Rattle.hs_tree.specs.declared.signing.Hashed.{Hashed}
 use Rattle.hs_tree.specs.Certificates.{digest_of}
 use Rattle.hs_tree.specs.Hashed.{IsHashed}
@@ -79,7 +79,7 @@ module _ (p : Params) (m : Node) (k : State) (view slots : ℕ) (just : Certific
   view-is = ap (λ (z : Turn). z.view) (sym is)
 
   pub proposes-one : (turns : Turns) (nodes : Nodes) (draft : Draft) (parent : List ℕ) (h : Hashed) → parent ≡ digest_of just → IsHashed p.setup.version (Some view) parent what h → MayMake p k view slots what → RefinesState p m k → AreTurns p turns (t ∷ k.turns) →
-      Holds nodes (node_of t ∷ k.tree) → IsDraft p draft ((To_all, Prepare view what just []) ∷ []) → Proposes p m (record m { turns = turns; nodes = nodes }) k (Some t) (record { draft = Some draft; hashed = h.strings })
+      Holds nodes (node_of t ∷ k.tree) → IsDraft p draft ((To_all, Prepare view what just) ∷ []) → Proposes p m (record m { turns = turns; nodes = nodes }) k (Some t) (record { draft = Some draft; hashed = h.strings })
   proposes-one turns nodes draft parent h hp hashed may f more there drafted = record {
     node = refl;
     state = record {
@@ -97,7 +97,7 @@ module _ (p : Params) (m : Node) (k : State) (view slots : ℕ) (just : Certific
       votes = f.votes;
       news = f.news;
     };
-    draft = subst (λ (z : Turn). IsDraft p draft ((To_all, Prepare z.view z.what z.just []) ∷ [])) (sym is) drafted;
+    draft = subst (λ (z : Turn). IsDraft p draft ((To_all, Prepare z.view z.what z.just) ∷ [])) (sym is) drafted;
     hashed = strings-are parent h hp hashed ∙ ap (λ (z : Turn). strings_at p z.view z.what z.just) (sym is);
   }
 

@@ -9,6 +9,7 @@ use Rattle.iss_base.specs.Lists.{In, nth, same_bytes}
 use Rattle.iss_base.specs.Quorum.{count_below}
 use Rattle.iss_base.proofs.Lists.{and-true, in_right, same_bytes-is, same_bytes-refl}
 use Rattle.iss_request.specs.declared.requests.Batch.{Batch}
+use Rattle.iss_request.specs.declared.ids.NodeId.{NodeId}
 use Rattle.iss_sb.specs.declared.effects.Input.{Input}
 use Rattle.iss_sb.specs.declared.effects.Input.TheVariants.{Cast, Receive, Timeout}
 use Rattle.iss_sb.specs.declared.effects.Params.{Params}
@@ -19,10 +20,12 @@ use Rattle.hs_tree.specs.declared.certificates.Certificate.{Certificate}
 use Rattle.hs_tree.specs.declared.certificates.Certificate.TheVariants.{Root, Votes}
 use Rattle.iss_sb.specs.declared.signers.Signed.{Signed}
 use Rattle.hs_tree.specs.declared.messages.Message.{Message}
-use Rattle.hs_tree.specs.declared.messages.Message.TheVariants.{NewView, Prepare, PreCommit, Commit, Decide, Vote}
+use Rattle.hs_tree.specs.declared.messages.Body.{Body}
+use Rattle.hs_tree.specs.declared.messages.Body.TheVariants.{NewView, Prepare, Vote}
+use Rattle.hs_tree.specs.Messages.{signed}
 use Rattle.hs_tree.specs.Certificates.{digest_of, view_of}
 use Rattle.iss_sb.specs.Statements.{claim}
-use Rattle.hs_tree.specs.Statements.{certificate_claims, inside, own_statement, vote_statement}
+use Rattle.hs_tree.specs.Statements.{certificate_claims, inside, stated, vote_statement}
 use Rattle.hs_tree.specs.Tree.{Node, chained as form, is_known, root}
 use Rattle.iss_sb.proofs.Contents.{content-table}
 use Rattle.iss_sb.specs.declared.content.Content.TheVariants.{Nil, Holds, Mark}
@@ -276,24 +279,21 @@ module _ (p : Params) (w : World Message) (good : IsGoodParams chained p) (reach
     abbrev s : State
     s = state p me xs
 
-    taken-ok : (i : Input Message) → x.input ≡ i → Ok (state p me xs) → Ok (taken p me (state p me xs) i)
-    taken-ok (Cast slot batch) e h = by-test Ok (may_cast p me s slot.0) (with_cast s batch) s (λ q.
-        let leads = is-same me p.leader.0 (and-true (me == p.leader.0) _ (and-true _ _ q).0).0 in
-        record { tree = h.tree; nodes = h.nodes; votes = h.votes; words = h.words; turns = h.turns; lock = h.lock; casts = λ k b z. leads }) h
-    taken-ok (Receive from (NewView round high sig)) e h = by-test Ok (keeps_news p me s from.0 round high) (with_news s from.0 round high) s (λ q.
+    taken-ok-heard : (from : NodeId) (body : Body) (sig : List ℕ) → x.input ≡ (Receive from (signed body sig)) → Ok (state p me xs) → Ok (taken p me (state p me xs) (Receive from (signed body sig)))
+    taken-ok-heard from (NewView round high) sig e h = by-test Ok (keeps_news p me s from.0 round high) (with_news s from.0 round high) s (λ q.
         let just = (and-true _ _ (and-true _ _ q).0).1 in
-        let j = just-why p w good reached me x xs (round * 65536) from (NewView round high sig) f e just in
+        let j = just-why p w good reached me x xs (round * 65536) from (signed (NewView round high) sig) f e just in
         let some = (round-some s from.0 round high q).0 in
         record { tree = h.tree; nodes = h.nodes; votes = h.votes; words = (record { high = j.1; low = below round high some j.0 }, h.words); turns = h.turns; lock = h.lock; casts = h.casts }) h
       where
         below : (r : ℕ) (c : Certificate) → 1 ≤ r → (c ≡ Root) ⊎ (view_of c < r * 65536) → view_of c < r * 65536
         below r c l (inl q) = subst (λ (z : Certificate). view_of z < r * 65536) (sym q) (root-low r l)
         below r c l (inr q) = q
-    taken-ok (Receive from (Prepare view what just sig)) e h = by-test Ok (may_prepare p s from.0 view what just) (with_node p s view what just) s (λ q.
+    taken-ok-heard from (Prepare view what just) sig e h = by-test Ok (may_prepare p s from.0 view what just) (with_node p s view what just) s (λ q.
         let above = (tests p s from.0 view what just q).above in
         let le : s.view ≤ view = omega (arith, above) in
         let ps = parts p w good reached s from.0 view what just q in
-        let j = just-why p w good reached me x xs view from (Prepare view what just sig) f e ps.fine.just_is in
+        let j = just-why p w good reached me x xs view from (signed (Prepare view what just) sig) f e ps.fine.just_is in
         let at = taken-at p w good reached me x xs from view what just sig f e q in
         node-more (record s { view = view }) (node_on p view what just) at ps.fine.known (record { just = on just view j.0 (high-up s.view view le just j.1); placed = inl (omega arith) }) (ok-up s view le h)) h
       where
@@ -301,16 +301,13 @@ module _ (p : Params) (w : World Message) (good : IsGoodParams chained p) (reach
         on c v l (inl q) = inl (ap view_of q, ap digest_of q)
         on c v (inl q) (inr o) = inl (ap view_of q, ap digest_of q)
         on c v (inr l) (inr o) = inr (l, o)
-    taken-ok (Receive from (PreCommit view shown sig)) e h = h
-    taken-ok (Receive from (Commit view shown sig)) e h = h
-    taken-ok (Receive from (Decide view shown sig)) e h = h
-    taken-ok (Receive from (Vote phase view d sig)) e h = by-test Ok (keeps_vote p s from.0 phase view d) (with_vote s from.0 view d sig) s (λ q.
+    taken-ok-heard from (Vote phase view d) sig e h = by-test Ok (keeps_vote p s from.0 phase view d) (with_vote s from.0 view d sig) s (λ q.
         let one = is-same phase 1 (and-true (phase == 1) _ (and-true _ _ q).0).0 in
-        let msg = Vote phase view d sig in
-        let c = claim from.0 (own_statement form p msg) sig in
-        let there = in_right c (certificate_claims form p (inside msg)) (c ∷ []) (inl refl) in
+        let msg = signed (Vote phase view d) sig in
+        let c = claim from.0 (stated form p msg.body) sig in
+        let there = in_right c (certificate_claims form p (inside msg.body)) (c ∷ []) (inl refl) in
         let m = came p w good reached me x from msg (part-here p w good reached me x xs f) e in
-        let is : own_statement form p msg ≡ vote_statement form p 1 view d = ap (λ (z : ℕ). vote_statement form p z view d) one in
+        let is : stated form p msg.body ≡ vote_statement form p 1 view d = ap (λ (z : ℕ). vote_statement form p z view d) one in
         record {
           tree = h.tree;
           nodes = h.nodes;
@@ -320,6 +317,13 @@ module _ (p : Params) (w : World Message) (good : IsGoodParams chained p) (reach
           lock = h.lock;
           casts = h.casts;
         }) h
+    taken-ok-heard from other sig e h = h
+
+    taken-ok : (i : Input Message) → x.input ≡ i → Ok (state p me xs) → Ok (taken p me (state p me xs) i)
+    taken-ok (Cast slot batch) e h = by-test Ok (may_cast p me s slot.0) (with_cast s batch) s (λ q.
+        let leads = is-same me p.leader.0 (and-true (me == p.leader.0) _ (and-true _ _ q).0).0 in
+        record { tree = h.tree; nodes = h.nodes; votes = h.votes; words = h.words; turns = h.turns; lock = h.lock; casts = λ k b z. leads }) h
+    taken-ok (Receive from msg) e h = taken-ok-heard from msg.body msg.sig e h
     taken-ok Timeout e h = by-test Ok (may_end s) (with_round s) s (λ q. ok-up s (suc (round_of s.view) * 65536) (round-above s.view) h) h
 
     -- ---- what is shown
@@ -332,25 +336,26 @@ module _ (p : Params) (w : World Message) (good : IsGoodParams chained p) (reach
     best-high k round None h = tt
     best-high k round (Some c) h = h.best.high
 
-    shows-ok : (i : Input Message) → x.input ≡ i → Ok (taken p me s i) → MayHigh (taken p me s i).view (shows p me s (taken p me s i) i)
-    shows-ok (Cast slot batch) e h = tt
-    shows-ok (Receive from (NewView round high sig)) e h =
-        let k = taken p me s (Receive from (NewView round high sig)) in
+    shows-ok-heard : (from : NodeId) (body : Body) (sig : List ℕ) → x.input ≡ (Receive from (signed body sig)) → Ok (taken p me s (Receive from (signed body sig))) → MayHigh (taken p me s (Receive from (signed body sig))).view (shows p me s (taken p me s (Receive from (signed body sig))) (Receive from (signed body sig)))
+    shows-ok-heard from (NewView round high) sig e h =
+        let k = taken p me s (Receive from (signed (NewView round high) sig)) in
         by-test (MayHigh k.view) (keeps_news p me s from.0 round high) (first_high p k round) None
         (λ q. best-high k round (first_high p k round) (first-high-ok k round (round-some s from.0 round high q).0 h.words)) tt
-    shows-ok (Receive from (Prepare view what just sig)) e h =
-        let i = Receive from (Prepare view what just sig) in
+    shows-ok-heard from (Prepare view what just) sig e h =
+        let i = Receive from (signed (Prepare view what just) sig) in
         by-test (MayHigh (taken p me s i).view) (is_usable p s from.0 view just) (Some just) None (λ q.
         let u = usable p w good reached s from.0 view just q in
-        let j = just-why p w good reached me x xs view from (Prepare view what just sig) f e u.just_is in
+        let j = just-why p w good reached me x xs view from (signed (Prepare view what just) sig) f e u.just_is in
         high-up s.view (taken p me s i).view (taken-view p me s i) just j.1) tt
-    shows-ok (Receive from (PreCommit view shown sig)) e h = tt
-    shows-ok (Receive from (Commit view shown sig)) e h = tt
-    shows-ok (Receive from (Decide view shown sig)) e h = tt
-    shows-ok (Receive from (Vote phase view d sig)) e h =
-        let k = taken p me s (Receive from (Vote phase view d sig)) in
+    shows-ok-heard from (Vote phase view d) sig e h =
+        let k = taken p me s (Receive from (signed (Vote phase view d) sig)) in
         by-test (MayHigh k.view) (keeps_vote p s from.0 phase view d && is_reached p k view d) (Some (certificate p k view d)) None
         (λ q. inr (reached-cert k view d h.votes (and-true (keeps_vote p s from.0 phase view d) (is_reached p k view d) q).1)) tt
+    shows-ok-heard from other sig e h = tt
+
+    shows-ok : (i : Input Message) → x.input ≡ i → Ok (taken p me s i) → MayHigh (taken p me s i).view (shows p me s (taken p me s i) i)
+    shows-ok (Cast slot batch) e h = tt
+    shows-ok (Receive from msg) e h = shows-ok-heard from msg.body msg.sig e h
     shows-ok Timeout e h = tt
 
   -- ---- the lock, once a certificate of a known node is shown
@@ -466,16 +471,16 @@ module _ (p : Params) (w : World Message) (good : IsGoodParams chained p) (reach
         rounds : (r : ℕ) → (r * 65536 + 1) / 65536 ≡ r
         rounds r = omega arith
 
-    proposed-ok : (s k : State) (i : Input Message) → Ok k → Fits p good k → MayNew k (proposed p me s k i)
-    proposed-ok s k (Cast slot batch) h fits = by-if (MayNew k) (may_cast p me s slot.0) (next_turn p k k.turns) None (next-ok k k.turns h h.turns fits refl) tt
-    proposed-ok s k (Receive from (NewView round high sig)) h fits = by-test (MayNew k) (keeps_news p me s from.0 round high) (turn_on p k round (first_high p k round)) None (λ q.
+    proposed-ok-heard : (s k : State) (from : NodeId) (body : Body) (sig : List ℕ) → Ok k → Fits p good k → MayNew k (proposed p me s k (Receive from (signed body sig)))
+    proposed-ok-heard s k from (NewView round high) sig h fits = by-test (MayNew k) (keeps_news p me s from.0 round high) (turn_on p k round (first_high p k round)) None (λ q.
         let r = round-some s from.0 round high q in
         first-ok k round (first_high p k round) r.1 (first-high-ok k round r.0 h.words)) tt
-    proposed-ok s k (Receive from (Prepare view what just sig)) h fits = tt
-    proposed-ok s k (Receive from (PreCommit view shown sig)) h fits = tt
-    proposed-ok s k (Receive from (Commit view shown sig)) h fits = tt
-    proposed-ok s k (Receive from (Decide view shown sig)) h fits = tt
-    proposed-ok s k (Receive from (Vote phase view d sig)) h fits = by-if (MayNew k) _ (next_turn p k k.turns) None (next-ok k k.turns h h.turns fits refl) tt
+    proposed-ok-heard s k from (Vote phase view d) sig h fits = by-if (MayNew k) _ (next_turn p k k.turns) None (next-ok k k.turns h h.turns fits refl) tt
+    proposed-ok-heard s k from other sig h fits = tt
+
+    proposed-ok : (s k : State) (i : Input Message) → Ok k → Fits p good k → MayNew k (proposed p me s k i)
+    proposed-ok s k (Cast slot batch) h fits = by-if (MayNew k) (may_cast p me s slot.0) (next_turn p k k.turns) None (next-ok k k.turns h h.turns fits refl) tt
+    proposed-ok s k (Receive from msg) h fits = proposed-ok-heard s k from msg.body msg.sig h fits
     proposed-ok s k Timeout h fits = tt
 
     -- what is proposed was hashed

@@ -9,105 +9,81 @@ use Rattle.iss_sb.specs.declared.effects.Input.{Input}
 use Rattle.iss_sb.specs.declared.effects.Input.TheVariants.{Cast, Receive, Timeout}
 use Rattle.iss_sb.specs.declared.effects.Params.{Params}
 use Rattle.iss_sb.specs.declared.effects.To.{To}
+use Rattle.iss_sb.specs.declared.effects.To.TheVariants.{All as To_all}
 use Rattle.iss_sb.specs.Evidence.{Item, Made}
 use Rattle.iss_sb.specs.Legal.{AreMade}
-use Rattle.iss_sb.specs.Statements.{signature}
 use Rattle.iss_sb.specs.declared.content.Content.{Content}
 use Rattle.hs_tree.specs.declared.certificates.Certificate.{Certificate}
 use Rattle.hs_tree.specs.declared.messages.Message.{Message}
-use Rattle.hs_tree.specs.declared.messages.Message.TheVariants.{NewView, Prepare, PreCommit, Commit, Decide, Vote}
-use Rattle.hs_tree.specs.Statements.{own_statement, with_signature}
+use Rattle.hs_tree.specs.declared.messages.Body.{Body}
+use Rattle.hs_tree.specs.declared.messages.Body.TheVariants.{NewView, Prepare, Vote}
+use Rattle.hs_tree.specs.Messages.{signed}
 use Rattle.hs_tree.specs.Tree.{chained as form}
 use Rattle.sb_chained.specs.Facts.{VotedIn}
-use Rattle.sb_chained.specs.Chained.{answers, answers_heard, drafts, chained, makes, proposals, sign_all, state, voted}
+use Rattle.sb_chained.specs.Chained.{answers, answers_heard, drafts, chained, makes, proposals, state, voted}
 use Rattle.sb_chained.specs.Rules.{State, after, heard, is_allowed, is_safe, is_usable, keeps_news, keeps_vote, kept, may_cast, may_end, may_prepare, node_digest, proposed, shows, slots_below, taken, with_cast, with_news, with_node, with_round, with_turn, with_vote}
 use Rattle.hs_views.specs.Views.{Turn, round_of}
 use Rattle.sb_chained.proofs.Safety.CertificatesShown.{shown-like}
-use Rattle.hs_views.proofs.Tests.{by-test, each-option}
+use Rattle.hs_views.proofs.DraftsAgree.{sent-drafted}
+use Rattle.hs_views.proofs.Tests.{by-test, each-option, same-body}
 
 pub record IsFirst (p : Params) (s : State) (i : Input Message) (view : ℕ) (d : List ℕ) : Type 0 where
   pub from : NodeId
   pub what : Content
   pub just : Certificate
   pub sig : List ℕ
-  pub is : i ≡ Receive from (Prepare view what just sig)
+  pub is : i ≡ Receive from (signed (Prepare view what just) sig)
   pub may : may_prepare p s from.0 view what just ≡ true
   pub digest_is : d ≡ node_digest p view what just
 
--- ---- what is not yet signed
+-- ---- Drafts
 
-record IsUnsigned (ds : List (To × Message)) (to : To) (view : ℕ) (d : List ℕ) : Type 0 where
-  pub sig : List ℕ
-  pub sent : In {A = To × Message} (to, Vote 1 view d sig) ds
+module _ (p : Params) (to : To) (view : ℕ) (d : List ℕ) where
+  abbrev Sent : List (To × Body) → Type 0
+  Sent ds = In {A = To × Body} (to, Vote 1 view d) ds
 
-vote-unsigned : (s t : List ℕ) (msg : Message) (view : ℕ) (d : List ℕ) → Vote 1 view d s ≡ with_signature t msg → (sig : List ℕ) × (msg ≡ Vote 1 view d sig)
-vote-unsigned s t (NewView round high old) view d h = absurd cc
-vote-unsigned s t (Prepare v what just old) view d h = absurd cc
-vote-unsigned s t (PreCommit v shown old) view d h = absurd cc
-vote-unsigned s t (Commit v shown old) view d h = absurd cc
-vote-unsigned s t (Decide v shown old) view d h = absurd cc
-vote-unsigned s t (Vote q v e old) view d h = (old, (let a : q ≡ 1 = cc in let b : v ≡ view = cc in let c : e ≡ d = cc in cc))
+  one-is : (a : To) (n : Body) → Sent ((a, n) ∷ []) → Vote 1 view d ≡ n
+  one-is a n (inl e) = ap (λ (z : To × Body). z.1) e
+  one-is a n (inr h) = absurd h
 
-unsigned : (p : Params) (me leaf : ℕ) (ds : List (To × Message)) (to : To) (view : ℕ) (d sig : List ℕ) → In {A = To × Message} (to, Vote 1 view d sig) (sign_all p me leaf ds) → IsUnsigned ds to view d
-unsigned p me leaf [] to view d sig h = absurd h
-unsigned p me leaf (x ∷ ds) to view d sig (inl e) =
-    let r = vote-unsigned sig (signature p me leaf (own_statement form p x.1)) x.1 view d (ap (λ (z : To × Message). z.1) e) in
-    let goes : to ≡ x.0 = ap (λ (z : To × Message). z.0) e in
-    record { sig = r.0; sent = inl (ap (λ (z : To). let y : To × Message = (z, Vote 1 view d r.0) in y) goes ∙ ap (λ (z : Message). let y : To × Message = (x.0, z) in y) (sym r.1)) }
-unsigned p me leaf (x ∷ ds) to view d sig (inr k) = let r = unsigned p me (suc leaf) ds to view d sig k in record { sig = r.sig; sent = inr r.sent }
-
-module _ (p : Params) (to : To) (view : ℕ) (d sig : List ℕ) where
-  abbrev Sent : List (To × Message) → Type 0
-  Sent ds = In {A = To × Message} (to, Vote 1 view d sig) ds
-
-  one-is : (a b : To) (m n : Message) → In {A = To × Message} (a, m) ((b, n) ∷ []) → m ≡ n
-  one-is a b m n (inl e) = ap (λ (z : To × Message). z.1) e
-  one-is a b m n (inr h) = absurd h
-
-  by-true : (t : Bool) (ds : List (To × Message)) (C : Type 0) → (t ≡ true → Sent ds → C) → Sent (if t then ds else []) → C
+  by-true : (t : Bool) (ds : List (To × Body)) (C : Type 0) → (t ≡ true → Sent ds → C) → Sent (if t then ds else []) → C
   by-true true ds C h k = h refl k
   by-true false ds C h k = absurd k
 
   none-proposed : (o : Option Turn) → Sent (proposals o) → ⊥
   none-proposed None h = h
-  none-proposed (Some t) (inl e) = let m : Vote 1 view d sig ≡ Prepare t.view t.what t.just [] = ap (λ (z : To × Message). z.1) e in cc
-  none-proposed (Some t) (inr h) = h
+  none-proposed (Some t) h = let m = one-is To_all (Prepare t.view t.what t.just) h in cc
 
   abbrev Why : State → Input Message → Type 0
   Why s i = IsFirst p s i view d
 
-  why-heard : (s : State) (from : NodeId) (msg : Message) → Sent (answers_heard p s from.0 msg) → Why s (Receive from msg)
-  why-heard s from (NewView round high x) h = absurd h
-  why-heard s from (Prepare v what just x) h = by-true (may_prepare p s from.0 v what just) (voted p v (node_digest p v what just)) (Why s (Receive from (Prepare v what just x))) (λ t z. go t (one-is to _ (Vote 1 view d sig) (Vote 1 v (node_digest p v what just) []) z)) h
+  why-heard : (s : State) (from : NodeId) (body : Body) (sig : List ℕ) → Sent (answers_heard p s from.0 body) → Why s (Receive from (signed body sig))
+  why-heard s from (Prepare v what just) x h = by-true (may_prepare p s from.0 v what just) (voted p v (node_digest p v what just)) (Why s (Receive from (signed (Prepare v what just) x))) (λ t z. go t (one-is _ (Vote 1 v (node_digest p v what just)) z)) h
     where
-      go : may_prepare p s from.0 v what just ≡ true → Vote 1 view d sig ≡ Vote 1 v (node_digest p v what just) [] → Why s (Receive from (Prepare v what just x))
+      go : may_prepare p s from.0 v what just ≡ true → Vote 1 view d ≡ Vote 1 v (node_digest p v what just) → Why s (Receive from (signed (Prepare v what just) x))
       go t e =
           let b : view ≡ v = cc in
           let c : d ≡ node_digest p v what just = cc in
-          subst (λ (z : ℕ). IsFirst p s (Receive from (Prepare v what just x)) z d) (sym b)
+          subst (λ (z : ℕ). IsFirst p s (Receive from (signed (Prepare v what just) x)) z d) (sym b)
           (record { from = from; what = what; just = just; sig = x; is = refl; may = t; digest_is = c })
-  why-heard s from (PreCommit v shown x) h = absurd h
-  why-heard s from (Commit v shown x) h = absurd h
-  why-heard s from (Decide v shown x) h = absurd h
-  why-heard s from (Vote q v e x) h = absurd h
+  why-heard s from other x h = absurd h
 
   why-answer : (s : State) (i : Input Message) → Sent (answers p s i) → Why s i
   why-answer s (Cast slot batch) h = absurd h
-  why-answer s (Receive from msg) h = why-heard s from msg h
-  why-answer s Timeout h = absurd (by-true (may_end s) _ ⊥ (λ t z. let e = one-is to _ (Vote 1 view d sig) _ z in cc) h)
+  why-answer s (Receive from msg) h = why-heard s from msg.body msg.sig h
+  why-answer s Timeout h = absurd (by-true (may_end s) _ ⊥ (λ t z. let e = one-is _ _ z in cc) h)
 
   why : (me : ℕ) (s : State) (i : Input Message) → Sent (drafts p me s i) → Why s i
   why me s i h =
       let o = proposed p me s (kept p me s i) i in
-      elim (in_append {A = To × Message} (to, Vote 1 view d sig) (answers p s i) (proposals o) h) [
+      elim (in_append {A = To × Body} (to, Vote 1 view d) (answers p s i) (proposals o) h) [
         | inl a ↦ why-answer s i a
         | inr a ↦ absurd (none-proposed o a)
       ]
 
-pub cause : (p : Params) (me leaf : ℕ) (xs : List (Item Message)) (i : Input Message) (to : To) (view : ℕ) (d sig : List ℕ) → In {A = To × Message} (to, Vote 1 view d sig) (makes p me xs i leaf).sends → IsFirst p (state p me xs) i view d
+pub cause : (p : Params) (me leaf : ℕ) (xs : List (Item Message)) (i : Input Message) (to : To) (view : ℕ) (d sig : List ℕ) → In {A = To × Message} (to, signed (Vote 1 view d) sig) (makes p me xs i leaf).sends → IsFirst p (state p me xs) i view d
 cause p me leaf xs i to view d sig h =
-    let r = unsigned p me leaf (drafts p me (state p me xs) i) to view d sig h in
-    why p to view d r.sig me (state p me xs) i r.sent
+    why p to view d me (state p me xs) i (sent-drafted form p me leaf (drafts p me (state p me xs) i) to (signed (Vote 1 view d) sig) h)
 
 -- ---- Views never decrease
 
@@ -134,17 +110,15 @@ tests p s from view what just h =
 pub round-above : (v : ℕ) → v ≤ suc (v / 65536) * 65536
 round-above v = omega arith
 
-heard-view : (p : Params) (me : ℕ) (s : State) (from : ℕ) (msg : Message) → Rises s.view (heard p me s from msg)
-heard-view p me s from (NewView round high sig) = by-test (Rises s.view) (keeps_news p me s from round high) (with_news s from round high) s (λ t. same s.view) (same s.view)
-heard-view p me s from (Prepare view what just sig) = by-test (Rises s.view) (may_prepare p s from view what just) (with_node p s view what just) s (λ t. let a = (tests p s from view what just t).above in omega (arith, a)) (same s.view)
-heard-view p me s from (PreCommit view shown sig) = same s.view
-heard-view p me s from (Commit view shown sig) = same s.view
-heard-view p me s from (Decide view shown sig) = same s.view
-heard-view p me s from (Vote phase view d sig) = by-test (Rises s.view) (keeps_vote p s from phase view d) (with_vote s from view d sig) s (λ t. same s.view) (same s.view)
+heard-view : (p : Params) (me : ℕ) (s : State) (from : ℕ) (body : Body) (sig : List ℕ) → Rises s.view (heard p me s from body sig)
+heard-view p me s from (NewView round high) sig = by-test (Rises s.view) (keeps_news p me s from round high) (with_news s from round high) s (λ t. same s.view) (same s.view)
+heard-view p me s from (Prepare view what just) sig = by-test (Rises s.view) (may_prepare p s from view what just) (with_node p s view what just) s (λ t. let a = (tests p s from view what just t).above in omega (arith, a)) (same s.view)
+heard-view p me s from (Vote phase view d) sig = by-test (Rises s.view) (keeps_vote p s from phase view d) (with_vote s from view d sig) s (λ t. same s.view) (same s.view)
+heard-view p me s from other sig = same s.view
 
 pub taken-view : (p : Params) (me : ℕ) (s : State) (i : Input Message) → Rises s.view (taken p me s i)
 taken-view p me s (Cast slot batch) = by-test (Rises s.view) (may_cast p me s slot.0) (with_cast s batch) s (λ q. same s.view) (same s.view)
-taken-view p me s (Receive from msg) = heard-view p me s from.0 msg
+taken-view p me s (Receive from msg) = heard-view p me s from.0 msg.body msg.sig
 taken-view p me s Timeout = by-test (Rises s.view) (may_end s) (with_round s) s (λ t. round-above s.view) (same s.view)
 
 -- the view after an input is that of what was taken
@@ -163,18 +137,18 @@ after-view p me s i =
 
 pub first-view : (p : Params) (me : ℕ) (s : State) (i : Input Message) (view : ℕ) (d : List ℕ) → IsFirst p s i view d → (after p me s i).view ≡ view
 first-view p me s i view d f =
-    let here : (taken p me s (Receive f.from (Prepare view f.what f.just f.sig))).view ≡ view = rw (f.may) refl in
+    let here : (taken p me s (Receive f.from (signed (Prepare view f.what f.just) f.sig))).view ≡ view = rw (f.may) refl in
     after-is p me s i ∙ subst (λ (z : Input Message). (taken p me s z).view ≡ view) (sym f.is) here
 
 -- ---- In one history
 
 pub cause-new : (p : Params) (me : ℕ) (x : Item Message) (xs : List (Item Message)) (view : ℕ) (d : List ℕ) → AreMade chained p me (x ∷ xs) → VotedIn x view d → IsFirst p (state p me xs) x.input view d
-cause-new p me x xs view d made v = cause p me x.leaf xs x.input v.to view d v.sig (subst (λ (z : Made Message). In {A = To × Message} (v.to, Vote 1 view d v.sig) z.sends) made.0 v.sent)
+cause-new p me x xs view d made v = cause p me x.leaf xs x.input v.to view d v.sig (subst (λ (z : Made Message). In {A = To × Message} (v.to, signed (Vote 1 view d) v.sig) z.sends) made.0 v.sent)
 
 -- an input has one cause of a vote
 cause-one : (p : Params) (s : State) (i : Input Message) (view v : ℕ) (d e : List ℕ) → IsFirst p s i view d → IsFirst p s i v e → (view ≡ v) × (d ≡ e)
 cause-one p s i view v d e f g =
-    let k : Receive f.from (Prepare view f.what f.just f.sig) ≡ Receive g.from (Prepare v g.what g.just g.sig) = sym f.is ∙ g.is in
+    let k : Prepare view f.what f.just ≡ Prepare v g.what g.just = same-body _ _ _ _ (sym f.is ∙ g.is) in
     let a : view ≡ v = cc in
     let c : f.what ≡ g.what = cc in
     let j : f.just ≡ g.just = cc in

@@ -11,6 +11,8 @@ use Rattle.iss_sb.specs.Laws.{ComesWith}
 use Rattle.iss_sb.proofs.Claims.{signed-stated}
 use Rattle.iss_sb.proofs.Worlds.{by_node}
 use Rattle.hs_tree.specs.declared.messages.Message.{Message}
+use Rattle.hs_tree.specs.Messages.{signed}
+use Rattle.hs_tree.specs.declared.messages.Body.{Body}
 use Rattle.hs_tree.specs.Statements.{vote_statement}
 use Rattle.hs_tree.specs.Tree.{chained as form}
 use Rattle.sb_chained.specs.Chained.{chained}
@@ -23,10 +25,10 @@ abbrev pub AreVoted : Params → World Message → Type 0
 AreVoted p w = (i view : ℕ) (d : List ℕ) → is_correct p.setup i ≡ true → IsSigned chained p w i (vote_statement form p 1 view d) → IsVoted w i view d
 
 pub voted-reached : (p : Params) (w : World Message) → IsReached chained p w → AreVoted p w
-voted-reached p w reached i view d correct signed =
-    let s = signed-stated chained p (States p) refl (passes-on p) w reached i (vote_statement form p 1 view d) correct signed in
-    let v = own-vote p s.msg 1 view d s.states in
-    record { item = s.item; taken = s.taken; vote = record { to = s.to; sig = v.sig; sent = subst (λ (z : Message). In {A = To × Message} (s.to, z) s.item.made.sends) v.is s.sent } }
+voted-reached p w reached i view d correct own =
+    let s = signed-stated chained p (States p) refl (passes-on p) w reached i (vote_statement form p 1 view d) correct own in
+    let is = own-vote p s.msg.body 1 view d s.states in
+    record { item = s.item; taken = s.taken; vote = record { to = s.to; sig = s.msg.sig; sent = subst (λ (z : Body). In {A = To × Message} (s.to, signed z s.msg.sig) s.item.made.sends) is s.sent } }
 
 -- the vote was sent at one of these inputs
 pub record VotedBefore (xs : List (Item Message)) (view : ℕ) (d : List ℕ) : Type 0 where

@@ -29,7 +29,8 @@ use Rattle.hs_tree.specs.declared.certificates.Certificate.{Certificate}
 use Rattle.hs_tree.specs.declared.certificates.Certificate.TheVariants.{Root, Votes}
 use Rattle.iss_sb.specs.declared.signers.Signed.{Signed}
 use Rattle.hs_tree.specs.declared.messages.Message.{Message}
-use Rattle.hs_tree.specs.declared.messages.Message.TheVariants.{Prepare}
+use Rattle.hs_tree.specs.declared.messages.Body.TheVariants.{Prepare}
+use Rattle.hs_tree.specs.Messages.{signed}
 use Rattle.hs_tree.specs.Certificates.{digest_of, is_quorum, signers, view_of}
 use Rattle.iss_sb.specs.Statements.{claim}
 use Rattle.hs_tree.specs.Statements.{certificate_claims, inside, vote_claims, vote_statement}
@@ -165,25 +166,25 @@ module _ (p : Params) (w : World Message) (good : IsGoodParams chained p) (reach
       voted-below p me xs b.item view d (part-made me (x ∷ xs) f).1 b.taken b.vote
 
   -- a good certificate in a message that came
-  pub came-certified : (me : ℕ) (x : Item Message) (xs : List (Item Message)) (view : ℕ) (from : NodeId) (msg : Message) → Part me (x ∷ xs) → x.input ≡ Receive from msg → is_good p view (inside msg) ≡ true →
-      OwnCert p w me (state p me xs).view view (digest_of (inside msg))
+  pub came-certified : (me : ℕ) (x : Item Message) (xs : List (Item Message)) (view : ℕ) (from : NodeId) (msg : Message) → Part me (x ∷ xs) → x.input ≡ Receive from msg → is_good p view (inside msg.body) ≡ true →
+      OwnCert p w me (state p me xs).view view (digest_of (inside msg.body))
   came-certified me x xs view from msg f e h =
       let m = came me x from msg (part-here me x xs f) e in
-      by-certificate me (state p me xs).view view (inside msg) (good-is p view (inside msg) h).quorum (record {
-        verified = λ c k. m.verified c (in_left c (certificate_claims form p (inside msg)) _ k);
-        signed = λ c k. m.signed c (in_left c (certificate_claims form p (inside msg)) _ k);
-        own = λ c k by is. own-low me x xs from msg view (digest_of (inside msg)) c f e (in_left c (certificate_claims form p (inside msg)) _ k) by is;
+      by-certificate me (state p me xs).view view (inside msg.body) (good-is p view (inside msg.body) h).quorum (record {
+        verified = λ c k. m.verified c (in_left c (certificate_claims form p (inside msg.body)) _ k);
+        signed = λ c k. m.signed c (in_left c (certificate_claims form p (inside msg.body)) _ k);
+        own = λ c k by is. own-low me x xs from msg view (digest_of (inside msg.body)) c f e (in_left c (certificate_claims form p (inside msg.body)) _ k) by is;
       })
 
   -- a justification, or the certificate of a word: the root's, or a good one of a view below
   abbrev pub IsHigh : ℕ → ℕ → Certificate → Type 0
   IsHigh me bound c = (c ≡ Root) ⊎ OwnCert p w me bound (view_of c) (digest_of c)
 
-  pub just-why : (me : ℕ) (x : Item Message) (xs : List (Item Message)) (view : ℕ) (from : NodeId) (msg : Message) → Part me (x ∷ xs) → x.input ≡ Receive from msg → is_just p view (inside msg) ≡ true →
-      ((inside msg ≡ Root) ⊎ (view_of (inside msg) < view)) × IsHigh me (state p me xs).view (inside msg)
-  just-why me x xs view from msg f e h = go (inside msg) refl h
+  pub just-why : (me : ℕ) (x : Item Message) (xs : List (Item Message)) (view : ℕ) (from : NodeId) (msg : Message) → Part me (x ∷ xs) → x.input ≡ Receive from msg → is_just p view (inside msg.body) ≡ true →
+      ((inside msg.body ≡ Root) ⊎ (view_of (inside msg.body) < view)) × IsHigh me (state p me xs).view (inside msg.body)
+  just-why me x xs view from msg f e h = go (inside msg.body) refl h
     where
-      go : (c : Certificate) → inside msg ≡ c → is_just p view c ≡ true → ((c ≡ Root) ⊎ (view_of c < view)) × IsHigh me (state p me xs).view c
+      go : (c : Certificate) → inside msg.body ≡ c → is_just p view c ≡ true → ((c ≡ Root) ⊎ (view_of c < view)) × IsHigh me (state p me xs).view c
       go Root q j = (inl refl, inl refl)
       go (Votes v q d votes) i j =
           let t = and-true (is_good p v (Votes v q d votes)) (nat_lt v view) j in
@@ -208,14 +209,14 @@ module _ (p : Params) (w : World Message) (good : IsGoodParams chained p) (reach
   }
 
   pub taken-at : (me : ℕ) (x : Item Message) (older : List (Item Message)) (from : NodeId) (view : ℕ) (what : Content) (just : Certificate) (sig : List ℕ) → Part me (x ∷ older) →
-      x.input ≡ Receive from (Prepare view what just sig) → may_prepare p (state p me older) from.0 view what just ≡ true → IsAt p w (node_digest p view what just) view (digest_of just) what
+      x.input ≡ Receive from (signed (Prepare view what just) sig) → may_prepare p (state p me older) from.0 view what just ≡ true → IsAt p w (node_digest p view what just) view (digest_of just) what
   taken-at me x older from view what just sig f e may =
       let s = state p me older in
       let k = part-here me x older f in
-      let m = came me x from (Prepare view what just sig) k e in
-      let row = read-spelled 1 p.setup.version (Prepare view what just sig) m.read in
+      let m = came me x from (signed (Prepare view what just) sig) k e in
+      let row = (read-spelled 1 p.setup.version (signed (Prepare view what just) sig) m.read).body in
       let made-is : x.made.strings ≡ strings p me s x.input = ap (λ (z : Made Message). z.strings) (part-made me (x ∷ older) f).0 in
-      let at : strings p me s (Receive from (Prepare view what just sig)) ≡ strings_at p view what just ++ [] = rw may refl in
+      let at : strings p me s (Receive from (signed (Prepare view what just) sig)) ≡ strings_at p view what just ++ [] = rw may refl in
       let all : x.made.strings ≡ strings_at p view what just ++ [] = made-is ∙ ap (λ (z : Input Message). strings p me s z) e ∙ at in
       hashed-at me x view what just k (digest-length p good just (row.certificate, row.spelled)) (content-table p.setup.version what row.behind row.what_is).1
       (λ z q. subst (λ (y : List (List ℕ)). In z y) (sym all) (in_left z (strings_at p view what just) [] q))
@@ -272,7 +273,7 @@ module _ (p : Params) (w : World Message) (good : IsGoodParams chained p) (reach
       let f = s.why in
       let st = state p k s.older in
       let ps = parts st f.from.0 v f.what f.just f.may in
-      let j = just-why k s.item s.older v f.from (Prepare v f.what f.just f.sig) s.part f.is ps.fine.just_is in
+      let j = just-why k s.item s.older v f.from (signed (Prepare v f.what f.just) f.sig) s.part f.is ps.fine.just_is in
       record {
         some = turn-some v ps.fine.turn;
         parent = digest_of f.just;

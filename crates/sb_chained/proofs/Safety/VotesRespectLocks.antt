@@ -16,7 +16,9 @@ use Rattle.iss_sb.specs.declared.content.Content.{Content}
 use Rattle.hs_tree.specs.declared.certificates.Certificate.{Certificate}
 use Rattle.hs_tree.specs.declared.certificates.Certificate.TheVariants.{Root, Votes}
 use Rattle.hs_tree.specs.declared.messages.Message.{Message}
-use Rattle.hs_tree.specs.declared.messages.Message.TheVariants.{NewView, Prepare, PreCommit, Commit, Decide, Vote}
+use Rattle.hs_tree.specs.declared.messages.Body.{Body}
+use Rattle.hs_tree.specs.declared.messages.Body.TheVariants.{NewView, Prepare, Vote}
+use Rattle.hs_tree.specs.Messages.{signed}
 use Rattle.hs_tree.specs.Certificates.{digest_of, view_of}
 use Rattle.hs_tree.specs.Tree.{Node, branch, extends, is_known, root}
 use Rattle.sb_chained.specs.Chained.{chained, decided, decides, state, value_on}
@@ -62,17 +64,15 @@ turn-lock : (s : State) (o : Option Turn) → (with_turn s o).lock ≡ s.lock
 turn-lock s None = refl
 turn-lock s (Some t) = refl
 
-heard-lock : (p : Params) (me : ℕ) (s : State) (from : ℕ) (msg : Message) → (heard p me s from msg).lock ≡ s.lock
-heard-lock p me s from (NewView round high sig) = by-test (λ (t : State). t.lock ≡ s.lock) (keeps_news p me s from round high) (with_news s from round high) s (λ q. refl) refl
-heard-lock p me s from (Prepare view what just sig) = by-test (λ (t : State). t.lock ≡ s.lock) (may_prepare p s from view what just) (with_node p s view what just) s (λ q. refl) refl
-heard-lock p me s from (PreCommit view shown sig) = refl
-heard-lock p me s from (Commit view shown sig) = refl
-heard-lock p me s from (Decide view shown sig) = refl
-heard-lock p me s from (Vote phase view d sig) = by-test (λ (t : State). t.lock ≡ s.lock) (keeps_vote p s from phase view d) (with_vote s from view d sig) s (λ q. refl) refl
+heard-lock : (p : Params) (me : ℕ) (s : State) (from : ℕ) (body : Body) (sig : List ℕ) → (heard p me s from body sig).lock ≡ s.lock
+heard-lock p me s from (NewView round high) sig = by-test (λ (t : State). t.lock ≡ s.lock) (keeps_news p me s from round high) (with_news s from round high) s (λ q. refl) refl
+heard-lock p me s from (Prepare view what just) sig = by-test (λ (t : State). t.lock ≡ s.lock) (may_prepare p s from view what just) (with_node p s view what just) s (λ q. refl) refl
+heard-lock p me s from (Vote phase view d) sig = by-test (λ (t : State). t.lock ≡ s.lock) (keeps_vote p s from phase view d) (with_vote s from view d sig) s (λ q. refl) refl
+heard-lock p me s from other sig = refl
 
 taken-lock : (p : Params) (me : ℕ) (s : State) (i : Input Message) → (taken p me s i).lock ≡ s.lock
 taken-lock p me s (Cast slot batch) = by-test (λ (t : State). t.lock ≡ s.lock) (may_cast p me s slot.0) (with_cast s batch) s (λ q. refl) refl
-taken-lock p me s (Receive from msg) = heard-lock p me s from.0 msg
+taken-lock p me s (Receive from msg) = heard-lock p me s from.0 msg.body msg.sig
 taken-lock p me s Timeout = by-test (λ (t : State). t.lock ≡ s.lock) (may_end s) (with_round s) s (λ q. refl) refl
 
 after-high : (p : Params) (me : ℕ) (s : State) (i : Input Message) → Higher s.lock.view (after p me s i)
@@ -141,7 +141,7 @@ module _ (p : Params) (w : World Message) (good : IsGoodParams chained p) (reach
     vote-locks : (me : ℕ) (x : Item Message) (xs : List (Item Message)) (u : ℕ) → P me (x ∷ xs) → IsFirst p (state p me xs) x.input u d → Higher t (state p me (x ∷ xs))
     vote-locks me x xs u f why =
         let s = state p me xs in
-        let i : Input Message = Receive why.from (Prepare u why.what why.just why.sig) in
+        let i : Input Message = Receive why.from (signed (Prepare u why.what why.just) why.sig) in
         let ps = parts p w good reached s why.from.0 u why.what why.just why.may in
         let at = taken-at p w good reached me x xs why.from u why.what why.just why.sig f why.is why.may in
         let mine = subst (λ (q : List ℕ). IsAt p w q u (digest_of why.just) why.what) (sym why.digest_is) at in
@@ -215,7 +215,7 @@ module _ (p : Params) (w : World Message) (good : IsGoodParams chained p) (reach
     just-cert : (digest_of why.just ≡ root → ⊥) → (view_of why.just < v) × IsCertified p w (view_of why.just) (digest_of why.just)
     just-cert none =
         let ps = parts p w good reached s why.from.0 v why.what why.just why.may in
-        let j = just-why p w good reached i x older v why.from (Prepare v why.what why.just why.sig) f why.is ps.fine.just_is in
+        let j = just-why p w good reached i x older v why.from (signed (Prepare v why.what why.just) why.sig) f why.is ps.fine.just_is in
         go j.0 j.1
       where
         go : (why.just ≡ Root) ⊎ (view_of why.just < v) → (why.just ≡ Root) ⊎ OwnCert p w i s.view (view_of why.just) (digest_of why.just) → (view_of why.just < v) × IsCertified p w (view_of why.just) (digest_of why.just)
@@ -276,7 +276,7 @@ module _ (p : Params) (w : World Message) (good : IsGoodParams chained p) (reach
             not-zero : s.lock.view < view_of why.just → digest_of why.just ≡ root → ⊥
             not-zero l q =
                 let ps = parts p w good reached s why.from.0 v why.what why.just why.may in
-                let j = just-why p w good reached i x older v why.from (Prepare v why.what why.just why.sig) f why.is ps.fine.just_is in
+                let j = just-why p w good reached i x older v why.from (signed (Prepare v why.what why.just) why.sig) f why.is ps.fine.just_is in
                 elim j.1 [
                   | inl r ↦ let n = ap view_of r in omega (arith, n, l)
                   | inr c ↦ certified-not-root p w good (stands-why p w good reached) sep (view_of why.just) (digest_of why.just) c.cert q

@@ -23,10 +23,12 @@ use Rattle.iss_sb.specs.declared.content.Content.{Content}
 use Rattle.iss_sb.specs.declared.content.Content.TheVariants.{Holds}
 use Rattle.hs_tree.specs.declared.certificates.Certificate.{Certificate}
 use Rattle.hs_tree.specs.declared.messages.Message.{Message}
-use Rattle.hs_tree.specs.declared.messages.Message.TheVariants.{Prepare}
+use Rattle.hs_tree.specs.declared.messages.Body.{Body}
+use Rattle.hs_tree.specs.declared.messages.Body.TheVariants.{Prepare}
+use Rattle.hs_tree.specs.Messages.{signed}
 use Rattle.hs_tree.specs.Certificates.{digest_of}
 use Rattle.iss_sb.specs.Statements.{claim}
-use Rattle.hs_tree.specs.Statements.{certificate_claims, own_statement}
+use Rattle.hs_tree.specs.Statements.{certificate_claims, stated}
 use Rattle.hs_tree.specs.Tree.{branch, chained as form, filled, root, value_at}
 use Rattle.sb_chained.specs.Chained.{asks, chained, offered, state}
 use Rattle.hs_views.specs.Batches.{unless_accepted, was_accepted}
@@ -120,7 +122,7 @@ module _ (p : Params) (w : World Message) (good : IsGoodParams chained p) (reach
               let same = same-branch p w good standing sep (digest_of f.just) cs (branch s.tree (digest_of f.just)) br mine in
               let low = (allowed-low (round_of v) n b (ap (λ (c : Content). is_allowed p (round_of v) n c) (sym full) ∙ ps.allowed)).1 in
               let asked : sp.item.made.accepted ≡ asks p k sp.older sp.item.input = ap (λ (z : Made Message). z.accepted) (part-made p w good reached k (sp.item ∷ sp.older) sp.part).0 in
-              let here : asks p k sp.older (Receive f.from (Prepare v f.what f.just f.sig)) ≡ offered p s (accepts sp.older) f.what f.just = rw (f.may) refl in
+              let here : asks p k sp.older (Receive f.from (signed (Prepare v f.what f.just) f.sig)) ≡ offered p s (accepts sp.older) f.what f.just = rw (f.may) refl in
               let all : sp.item.made.accepted ≡ unless_accepted (accepts sp.older) b (nth p.slots n) = asked ∙ ap (λ (z : Input Message). asks p k sp.older z) f.is ∙ here ∙ ap (λ (c : Content). offered p s (accepts sp.older) c f.just) full in
               let r = offered-why sp.item sp.older b n low all in
               subst (λ (z : List Content). acc p w k (filled z) b) (sym same) (r.0, r.1, accepts-front (sp.item ∷ sp.older) (w k) (r.0, b) sp.part r.2);
@@ -181,19 +183,19 @@ module _ (p : Params) (w : World Message) (good : IsGoodParams chained p) (reach
     record IsProposal (b : Batch) (view : ℕ) (parent : List ℕ) : Type 0 where
       just : Certificate
       parent_is : digest_of just ≡ parent
-      signed : is_correct p.setup p.leader.0 ≡ true → IsSigned chained p w p.leader.0 (own_statement form p (Prepare view (Holds b) just []))
+      signed : is_correct p.setup p.leader.0 ≡ true → IsSigned chained p w p.leader.0 (stated form p (Prepare view (Holds b) just))
 
     -- a correct leader of the segment signed each proposal of a batch that a replica takes
-    pub leader-signed : (k : ℕ) (x : Item Message) (s : State) (from : NodeId) (v : ℕ) (b : Batch) (just : Certificate) (sig : List ℕ) → In x (w k) → x.input ≡ Receive from (Prepare v (Holds b) just sig) →
-        may_prepare p s from.0 v (Holds b) just ≡ true → is_correct p.setup p.leader.0 ≡ true → IsSigned chained p w p.leader.0 (own_statement form p (Prepare v (Holds b) just []))
+    pub leader-signed : (k : ℕ) (x : Item Message) (s : State) (from : NodeId) (v : ℕ) (b : Batch) (just : Certificate) (sig : List ℕ) → In x (w k) → x.input ≡ Receive from (signed (Prepare v (Holds b) just) sig) →
+        may_prepare p s from.0 v (Holds b) just ≡ true → is_correct p.setup p.leader.0 ≡ true → IsSigned chained p w p.leader.0 (stated form p (Prepare v (Holds b) just))
     leader-signed k x s from v b just sig h e may correct =
         let ps = parts p w good reached s from.0 v (Holds b) just may in
         let early = allowed-low (round_of v) (slots_below s just) b ps.allowed in
         let leader : from.0 ≡ p.leader.0 = ps.fine.leader ∙ ap (λ (z : ℕ). leader_of p z) early.0 ∙ first-leader p w good reached k sep in
-        let m = came p w good reached k x from (Prepare v (Holds b) just sig) h e in
-        let own = claim from.0 (own_statement form p (Prepare v (Holds b) just sig)) sig in
+        let m = came p w good reached k x from (signed (Prepare v (Holds b) just) sig) h e in
+        let own = claim from.0 (stated form p (Prepare v (Holds b) just)) sig in
         let given = m.signed own (in_right own (certificate_claims form p just) (own ∷ []) (inl refl)) (ap (λ (z : ℕ). is_correct p.setup z) leader ∙ correct) in
-        subst (λ (z : ℕ). IsSigned chained p w z (own_statement form p (Prepare v (Holds b) just []))) leader given
+        subst (λ (z : ℕ). IsSigned chained p w z (stated form p (Prepare v (Holds b) just))) leader given
 
     leads-first : (k v : ℕ) (d : List ℕ) → IsVoted w k v d → (u : ℕ) (b : Batch) (parent : List ℕ) → IsAt p w d u parent (Holds b) → IsProposal b v parent
     leads-first k v d h u b parent at =
@@ -202,19 +204,19 @@ module _ (p : Params) (w : World Message) (good : IsGoodParams chained p) (reach
         let s = state p k sp.older in
         let mine = subst (λ (z : List ℕ). IsAt p w z v (digest_of f.just) f.what) (sym f.digest_is) (taken-at p w good reached k sp.item sp.older f.from v f.what f.just f.sig sp.part f.is f.may) in
         let same = same-node p w good standing sep d v u (digest_of f.just) parent f.what (Holds b) mine at in
-        let is : sp.item.input ≡ Receive f.from (Prepare v (Holds b) f.just f.sig) = subst (λ (z : Content). sp.item.input ≡ Receive f.from (Prepare v z f.just f.sig)) same.contents f.is in
+        let is : sp.item.input ≡ Receive f.from (signed (Prepare v (Holds b) f.just) f.sig) = subst (λ (z : Content). sp.item.input ≡ Receive f.from (signed (Prepare v z f.just) f.sig)) same.contents f.is in
         let may = subst (λ (z : Content). may_prepare p s f.from.0 v z f.just ≡ true) same.contents f.may in
         record { just = f.just; parent_is = same.parents; signed = leader-signed k sp.item s f.from v b f.just f.sig (part-here p w good reached k sp.item sp.older sp.part) is may }
 
     -- what a correct leader signed as a proposal is its cast at the place behind the node's branch
-    pub proposed-cast : (l v : ℕ) (just : Certificate) (b : Batch) (parent : List ℕ) (below : List Content) → is_correct p.setup l ≡ true → IsSigned chained p w l (own_statement form p (Prepare v (Holds b) just [])) →
+    pub proposed-cast : (l v : ℕ) (just : Certificate) (b : Batch) (parent : List ℕ) (below : List Content) → is_correct p.setup l ≡ true → IsSigned chained p w l (stated form p (Prepare v (Holds b) just)) →
         digest_of just ≡ parent → IsAt p w (node_digest p v (Holds b) just) v parent (Holds b) → Leads p w parent root below → IsCast p w good reached l (filled below) b
-    proposed-cast l v just b parent below correct signed e at leads =
-        let s = signed-stated chained p (States p) refl (passes-on p) w reached l (own_statement form p (Prepare v (Holds b) just [])) correct signed in
-        let mine = own-proposal p s.msg v (node_digest p v (Holds b) just) s.states in
+    proposed-cast l v just b parent below correct own e at leads =
+        let s = signed-stated chained p (States p) refl (passes-on p) w reached l (stated form p (Prepare v (Holds b) just)) correct own in
+        let mine = own-proposal p s.msg.body v (node_digest p v (Holds b) just) s.states in
         let m = made-at chained p l s.item (w l) ((legal p w good reached).made l) s.taken in
-        let sent = subst (λ (z : Message). In {A = To × Message} (s.to, z) s.item.made.sends) mine.is s.sent in
-        let t = proposal-why p w good reached l sep s.item m.before s.to v mine.what mine.just mine.sig m.front sent in
+        let sent = subst (λ (z : Body). In {A = To × Message} (s.to, signed z s.msg.sig) s.item.made.sends) mine.is s.sent in
+        let t = proposal-why p w good reached l sep s.item m.before s.to v mine.what mine.just s.msg.sig m.front sent in
         let digests = same-digest p t.turn.view v t.turn.what mine.what t.turn.just mine.just (node_digest p v (Holds b) just) t.view_is t.what_is t.just_is mine.digest_is in
         let same = same-node p w good standing sep (node_digest p v (Holds b) just) t.turn.view v (digest_of t.turn.just) parent t.turn.what (Holds b) (subst (λ (z : List ℕ). IsAt p w z t.turn.view (digest_of t.turn.just) t.turn.what) digests t.at) at in
         let c = t.ok.batch b same.contents in

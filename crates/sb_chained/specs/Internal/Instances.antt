@@ -17,6 +17,7 @@ use Rattle.iss_sb.specs.Evidence.{Item, accepts, one_or_none}
 use Rattle.iss_sb.specs.declared.content.Content.{Content}
 use Rattle.hs_tree.specs.declared.certificates.Certificate.{Certificate}
 use Rattle.hs_tree.specs.declared.messages.Message.{Message}
+use Rattle.hs_tree.specs.declared.messages.Body.{Body}
 use Rattle.hs_tree.specs.Tree.{Node as Tree_node}
 use Rattle.sb_chained.specs.declared.chained.Chained.{Chained}
 use Rattle.sb_chained.specs.declared.outcomes.Outcome.{Outcome}
@@ -41,7 +42,7 @@ pub record Refines (m : Chained) (p : Params) (me : ℕ) (xs : List (Item Messag
 
 -- the effects of what was taken: its message signed with the next leaf
 pub record IsSigned (p : Params) (t : Taken) (before later : KeyState) (e : Effects Message) : Type 0 where
-  pub sends : (me : ℕ) (xs : List (To × Message)) → AreKeysOf me p.setup.keys before →
+  pub sends : (me : ℕ) (xs : List (To × Body)) → AreKeysOf me p.setup.keys before →
       AreDrafts p t.outcome.draft xs → e.sends ≡ sign_all p me before.used xs
   pub addressed : AreToNodes p.setup.n e.sends
   pub accepts : e.accepted ≡ t.accepted

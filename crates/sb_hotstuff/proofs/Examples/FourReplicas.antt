@@ -25,9 +25,11 @@ use Rattle.iss_sb.proofs.Signatures.{signature-shape, signature-verifies}
 use Rattle.hs_tree.specs.declared.certificates.Certificate.{Certificate}
 use Rattle.hs_tree.specs.declared.certificates.Certificate.TheVariants.{Votes}
 use Rattle.hs_tree.specs.declared.messages.Message.{Message}
-use Rattle.hs_tree.specs.declared.messages.Message.TheVariants.{NewView, Prepare, PreCommit, Commit, Decide, Vote}
+use Rattle.hs_tree.specs.declared.messages.Body.{Body}
+use Rattle.hs_tree.specs.declared.messages.Body.TheVariants.{NewView, Prepare, PreCommit, Commit, Decide, Vote}
+use Rattle.hs_tree.specs.Messages.{signed}
 use Rattle.hs_tree.specs.Certificates.{IsSpelledCertificate, votes_row}
-use Rattle.hs_tree.specs.Statements.{claims, own_statement, vote_statement, with_signature}
+use Rattle.hs_tree.specs.Statements.{claims, stated, vote_statement}
 use Rattle.hs_tree.specs.Tree.{basic}
 use Rattle.hs_tree.proofs.MessageGrammar.{spelled-read}
 use Rattle.hs_views.proofs.SmallWorlds.{AreFair, IsFair, comes, sent-alone}
@@ -50,8 +52,8 @@ abbrev pub signs : Params → ℕ → ℕ → List ℕ → Claim
 signs p k leaf statement = claim k statement (signature p k leaf statement)
 
 -- the message, signed by replica k with this leaf
-abbrev pub by : Params → ℕ → ℕ → Message → Message
-by p k leaf msg = with_signature (signature p k leaf (own_statement basic p msg)) msg
+abbrev pub by : Params → ℕ → ℕ → Body → Message
+by p k leaf body = signed body (signature p k leaf (stated basic p body))
 
 -- what votes for a node in a view sign, by phase
 abbrev pub states : Params → ℕ → List ℕ → ℕ → List ℕ
@@ -80,18 +82,18 @@ shown p r phase = Votes r.view phase r.digest (votes p r phase)
 
 -- replica 3 shows the certificates of the three phases
 abbrev pub pre_commit : Params → Poll → Message
-pre_commit p r = by p 3 0 (PreCommit r.view (shown p r 1) [])
+pre_commit p r = by p 3 0 (PreCommit r.view (shown p r 1))
 
 abbrev pub commit : Params → Poll → Message
-commit p r = by p 3 0 (Commit r.view (shown p r 2) [])
+commit p r = by p 3 0 (Commit r.view (shown p r 2))
 
 abbrev pub decide : Params → Poll → Message
-decide p r = by p 3 0 (Decide r.view (shown p r 3) [])
+decide p r = by p 3 0 (Decide r.view (shown p r 3))
 
 -- replica k sends its vote to a leader
 abbrev pub sent : Params → Poll → ℕ → ℕ → ℕ → ℕ → List (To × Message)
 sent p r phase leaf k leader =
-    (To_one (node leader), Vote phase r.view r.digest (signature p k leaf (states p r.view r.digest phase))) ∷ []
+    (To_one (node leader), signed (Vote phase r.view r.digest) (signature p k leaf (states p r.view r.digest phase))) ∷ []
 
 pub record IsPoll (r : Poll) : Type 0 where
   pub low : 1 ≤ r.view
@@ -142,19 +144,19 @@ module _ (l : ℕ) (below : l < 4) where
       }
 
   pub pre-commit-read : (r : Poll) → IsPoll r → IsReadMessage hotstuff p (pre_commit p r)
-  pre-commit-read r is = spelled-read 3 1 (pre_commit p r) _ (record { three = refl; view_fits = is.high; certificate = _; spelled = shown-spelled r 1 is (omega arith) (omega arith); signed = signature-shape hotstuff p good 3 0 _; row = refl })
+  pre-commit-read r is = spelled-read 3 1 (pre_commit p r) _ (record { three = refl; view_fits = is.high; certificate = _; spelled = shown-spelled r 1 is (omega arith) (omega arith); row = refl }) (signature-shape hotstuff p good 3 0 _)
 
   pub commit-read : (r : Poll) → IsPoll r → IsReadMessage hotstuff p (commit p r)
-  commit-read r is = spelled-read 3 1 (commit p r) _ (record { three = refl; view_fits = is.high; certificate = _; spelled = shown-spelled r 2 is (omega arith) (omega arith); signed = signature-shape hotstuff p good 3 0 _; row = refl })
+  commit-read r is = spelled-read 3 1 (commit p r) _ (record { three = refl; view_fits = is.high; certificate = _; spelled = shown-spelled r 2 is (omega arith) (omega arith); row = refl }) (signature-shape hotstuff p good 3 0 _)
 
   pub decide-read : (r : Poll) → IsPoll r → IsReadMessage hotstuff p (decide p r)
-  decide-read r is = spelled-read 3 1 (decide p r) _ (record { three = refl; view_fits = is.high; certificate = _; spelled = shown-spelled r 3 is (omega arith) (omega arith); signed = signature-shape hotstuff p good 3 0 _; row = refl })
+  decide-read r is = spelled-read 3 1 (decide p r) _ (record { three = refl; view_fits = is.high; certificate = _; spelled = shown-spelled r 3 is (omega arith) (omega arith); row = refl }) (signature-shape hotstuff p good 3 0 _)
 
-  pub prepare-read : (k leaf view : ℕ) (what : Content) (just : Certificate) (held cited : List ℕ) → view < 2 ^ 32 → IsSpelledContent 1 what held → IsSpelledCertificate 3 just cited → IsReadMessage hotstuff p (by p k leaf (Prepare view what just []))
-  prepare-read k leaf view what just held cited fits h c = spelled-read 3 1 (by p k leaf (Prepare view what just [])) _ (record { view_fits = fits; behind = held; what_is = h; certificate = cited; spelled = c; signed = signature-shape hotstuff p good k leaf _; row = refl })
+  pub prepare-read : (k leaf view : ℕ) (what : Content) (just : Certificate) (held cited : List ℕ) → view < 2 ^ 32 → IsSpelledContent 1 what held → IsSpelledCertificate 3 just cited → IsReadMessage hotstuff p (by p k leaf (Prepare view what just))
+  prepare-read k leaf view what just held cited fits h c = spelled-read 3 1 (by p k leaf (Prepare view what just)) _ (record { view_fits = fits; behind = held; what_is = h; certificate = cited; spelled = c; row = refl }) (signature-shape hotstuff p good k leaf _)
 
-  pub new-view-read : (k leaf round : ℕ) (high : Certificate) (cited : List ℕ) → round < 2 ^ 16 → IsSpelledCertificate 3 high cited → IsReadMessage hotstuff p (by p k leaf (NewView round high []))
-  new-view-read k leaf round high cited fits c = spelled-read 3 1 (by p k leaf (NewView round high [])) _ (record { round_fits = fits; certificate = cited; spelled = c; signed = signature-shape hotstuff p good k leaf _; row = refl })
+  pub new-view-read : (k leaf round : ℕ) (high : Certificate) (cited : List ℕ) → round < 2 ^ 16 → IsSpelledCertificate 3 high cited → IsReadMessage hotstuff p (by p k leaf (NewView round high))
+  new-view-read k leaf round high cited fits c = spelled-read 3 1 (by p k leaf (NewView round high)) _ (record { round_fits = fits; certificate = cited; spelled = c; row = refl }) (signature-shape hotstuff p good k leaf _)
 
 -- ---- Messages that may arrive at replicas of a module with these messages
 
@@ -198,7 +200,7 @@ module _ (m : Module Message) (like : IsLike m) (l : ℕ) (below : l < 4) (w : W
   arrives from msg cs is read e h = comes m q w from msg cs is (read-too msg read) (ap (λ (z : Params → ℕ → Message → List Claim). z q from msg) like.claims ∙ e) h
 
   -- a message with a certificate
-  pub cites : (from leaf : ℕ) (msg : Message) (r : Poll) (phase : ℕ) → IsPoll r → phase ≤ 3 → from < 4 → IsReadMessage hotstuff q msg → claims basic q from msg ≡ and_own q r phase (signs q from leaf (own_statement basic q msg)) → AreCast m q w r phase → IsFair m q w (signs q from leaf (own_statement basic q msg)) → IsCredible m q (Verifies q) (IsSigned m q w) from msg
+  pub cites : (from leaf : ℕ) (msg : Message) (r : Poll) (phase : ℕ) → IsPoll r → phase ≤ 3 → from < 4 → IsReadMessage hotstuff q msg → claims basic q from msg ≡ and_own q r phase (signs q from leaf (stated basic q msg.body)) → AreCast m q w r phase → IsFair m q w (signs q from leaf (stated basic q msg.body)) → IsCredible m q (Verifies q) (IsSigned m q w) from msg
   cites from leaf msg r phase is high named read e h own =
       let st = states q r.view r.digest phase in
       let one = honest r.one (r.one_behind + phase) st (omega (arith, is.ascending, is.few)) (omega (arith, is.one_left, high)) h.one_did in
@@ -217,6 +219,6 @@ module _ (m : Module Message) (like : IsLike m) (l : ℕ) (below : l < 4) (w : W
   -- replica k cast a vote in a step that sent nothing else
   pub voted : (r : Poll) (phase leaf k leader : ℕ) (x : Item Message) → In x (w k) → x.made.sends ≡ sent q r phase leaf k leader → IsSigned m q w k (states q r.view r.digest phase)
   voted r phase leaf k leader x h e =
-      let msg = Vote phase r.view r.digest (signature q k leaf (states q r.view r.digest phase)) in
+      let msg = signed (Vote phase r.view r.digest) (signature q k leaf (states q r.view r.digest phase)) in
       let c = signs q k leaf (states q r.view r.digest phase) in
       sent-alone m q w k x (To_one (node leader)) msg c h e (subst (λ (z : Params → ℕ → Message → List Claim). In c (z q k msg)) (sym like.claims) (inl refl)) refl

@@ -14,7 +14,7 @@ use Rattle.iss_sb.specs.Evidence.{Item, World, IsCredible, IsReached, IsReadMess
 use Rattle.iss_sb.specs.Laws.{IsBroadcast}
 use Rattle.hs_tree.specs.declared.certificates.Certificate.TheVariants.{Root}
 use Rattle.hs_tree.specs.declared.messages.Message.{Message}
-use Rattle.hs_tree.specs.declared.messages.Message.TheVariants.{Prepare}
+use Rattle.hs_tree.specs.declared.messages.Body.TheVariants.{Prepare}
 use Rattle.hs_tree.specs.Certificates.{root_row}
 use Rattle.hs_tree.specs.Tree.{plain_string, root}
 use Rattle.hs_views.proofs.SmallWorlds.{IsOneOf, all_differ, each-of, one-takes, separate-by, starts, world, zero-takes}
@@ -41,7 +41,7 @@ pub first-is : IsPoll first
 first-is = record { low = omega arith; high = omega arith; long = length-sha256 _; ascending = omega arith; few = omega arith; one_left = omega arith; other_left = omega arith }
 
 abbrev pub proposal : Message
-proposal = by q 3 0 (Prepare 1 (Holds b) Root [])
+proposal = by q 3 0 (Prepare 1 (Holds b) Root)
 
 pub proposal-read : IsReadMessage hotstuff q proposal
 proposal-read = prepare-read 3 (omega arith) 3 0 1 (Holds b) Root batch_held.0 root_row (omega arith) batch_held.1 refl

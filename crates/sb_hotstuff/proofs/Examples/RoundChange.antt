@@ -20,9 +20,10 @@ use Rattle.iss_sb.specs.declared.effects.To.TheVariants.{All as To_all, One as T
 use Rattle.iss_sb.specs.Evidence.{Item, World, IsCredible, IsReadMessage, IsSigned, Verifies, and_then}
 use Rattle.hs_tree.specs.declared.certificates.Certificate.TheVariants.{Root}
 use Rattle.hs_tree.specs.declared.messages.Message.{Message}
-use Rattle.hs_tree.specs.declared.messages.Message.TheVariants.{NewView, Prepare}
+use Rattle.hs_tree.specs.declared.messages.Body.TheVariants.{NewView, Prepare}
+use Rattle.hs_tree.specs.Messages.{signed}
 use Rattle.hs_tree.specs.Certificates.{root_row}
-use Rattle.hs_tree.specs.Statements.{own_statement}
+use Rattle.hs_tree.specs.Statements.{stated}
 use Rattle.hs_tree.specs.Tree.{basic}
 use Rattle.hs_views.proofs.SmallWorlds.{sent-alone}
 use Rattle.sb_hotstuff.specs.HotStuff.{hotstuff, makes}
@@ -55,19 +56,19 @@ pub second-is : IsPoll second
 second-is = record { low = omega arith; high = omega arith; long = length-sha256 _; ascending = omega arith; few = omega arith; one_left = omega arith; other_left = omega arith }
 
 abbrev pub proposal : Message
-proposal = by q 0 0 (Prepare 1 (Holds b) Root [])
+proposal = by q 0 0 (Prepare 1 (Holds b) Root)
 
 abbrev pub against : Message
-against = by q 3 0 (Prepare 196609 Nil Root [])
+against = by q 3 0 (Prepare 196609 Nil Root)
 
 abbrev pub ended : Message
-ended = by q 1 4 (NewView 1 (shown q first 1) [])
+ended = by q 1 4 (NewView 1 (shown q first 1))
 
 abbrev pub blank : ℕ → Message
-blank k = by q k 0 (NewView 1 Root [])
+blank k = by q k 0 (NewView 1 Root)
 
 abbrev pub again : Message
-again = by q 1 5 (Prepare 65537 Nil (shown q first 1) [])
+again = by q 1 5 (Prepare 65537 Nil (shown q first 1))
 
 proposal-read : IsReadMessage hotstuff q proposal
 proposal-read = prepare-read 0 (omega arith) 0 0 1 (Holds b) Root batch_held.0 root_row (omega arith) batch_held.1 refl
@@ -244,35 +245,35 @@ module _ (w : World Message) where
 
   pub proposal-comes : (x : Item Message) → In x (w 0) → x.made.sends ≡ (To_all, proposal) ∷ [] → Arrives 0 proposal
   proposal-comes x h is =
-      let st = own_statement basic q proposal in
+      let st = stated basic q proposal.body in
       let signed = sent-alone hotstuff q w 0 x To_all proposal (signs q 0 0 st) h is (inl refl) refl in
       arrives hotstuff like 0 (omega arith) w 0 proposal (signs q 0 0 st ∷ []) (omega arith) proposal-read refl (honest hotstuff like 0 (omega arith) w 0 0 st (omega arith) (omega arith) signed, tt)
 
   pub against-comes : Arrives 3 against
   against-comes =
-      let st = own_statement basic q against in
+      let st = stated basic q against.body in
       arrives hotstuff like 0 (omega arith) w 3 against (signs q 3 0 st ∷ []) (omega arith) against-read refl (liar hotstuff like 0 (omega arith) w st, tt)
 
   pub ended-comes : First 1 → (x : Item Message) → In x (w 1) → x.made.sends ≡ (To_one (node 1), ended) ∷ [] → Arrives 1 ended
   ended-comes cast x h is =
-      let st = own_statement basic q ended in
+      let st = stated basic q ended.body in
       let signed = sent-alone hotstuff q w 1 x (To_one (node 1)) ended (signs q 1 4 st) h is (inr (inr (inr (inl refl)))) refl in
       cites hotstuff like 0 (omega arith) w 1 4 ended first 1 first-is (omega arith) (omega arith) ended-read refl cast (honest hotstuff like 0 (omega arith) w 1 4 st (omega arith) (omega arith) signed)
 
   pub blank-comes : (x : Item Message) → In x (w 2) → x.made.sends ≡ (To_one (node 1), blank 2) ∷ [] → Arrives 2 (blank 2)
   blank-comes x h is =
-      let st = own_statement basic q (blank 2) in
+      let st = stated basic q (blank 2).body in
       let signed = sent-alone hotstuff q w 2 x (To_one (node 1)) (blank 2) (signs q 2 0 st) h is (inl refl) refl in
       arrives hotstuff like 0 (omega arith) w 2 (blank 2) (signs q 2 0 st ∷ []) (omega arith) (blank-read 2) refl (honest hotstuff like 0 (omega arith) w 2 0 st (omega arith) (omega arith) signed, tt)
 
   pub lie-comes : Arrives 3 (blank 3)
   lie-comes =
-      let st = own_statement basic q (blank 3) in
+      let st = stated basic q (blank 3).body in
       arrives hotstuff like 0 (omega arith) w 3 (blank 3) (signs q 3 0 st ∷ []) (omega arith) (blank-read 3) refl (liar hotstuff like 0 (omega arith) w st, tt)
 
   pub again-comes : First 1 → (x : Item Message) → In x (w 1) → x.made.sends ≡ (To_all, again) ∷ [] → Arrives 1 again
   again-comes cast x h is =
-      let st = own_statement basic q again in
+      let st = stated basic q again.body in
       let signed = sent-alone hotstuff q w 1 x To_all again (signs q 1 5 st) h is (inr (inr (inr (inl refl)))) refl in
       cites hotstuff like 0 (omega arith) w 1 5 again first 1 first-is (omega arith) (omega arith) again-read refl cast (honest hotstuff like 0 (omega arith) w 1 5 st (omega arith) (omega arith) signed)
 

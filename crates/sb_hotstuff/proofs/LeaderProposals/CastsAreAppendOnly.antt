@@ -9,7 +9,8 @@ use Rattle.iss_sb.specs.declared.effects.Params.{Params}
 use Rattle.iss_sb.specs.Evidence.{Item}
 use Rattle.iss_sb.specs.Legal.{Front}
 use Rattle.hs_tree.specs.declared.messages.Message.{Message}
-use Rattle.hs_tree.specs.declared.messages.Message.TheVariants.{NewView, Prepare, PreCommit, Commit, Decide, Vote}
+use Rattle.hs_tree.specs.declared.messages.Body.{Body}
+use Rattle.hs_tree.specs.declared.messages.Body.TheVariants.{NewView, Prepare, PreCommit, Commit, Decide, Vote}
 use Rattle.sb_hotstuff.specs.HotStuff.{state}
 use Rattle.sb_hotstuff.specs.Rules.{State, heard, keeps_news, keeps_vote, kept, may_cast, may_end, may_prepare, may_second, may_third, proposed, with_cast, with_news, with_node, with_round, with_turn, with_vote}
 use Rattle.hs_views.specs.Views.{Turn}
@@ -19,20 +20,20 @@ abbrev pub Same : State → State → Type 0
 Same s t = (t.turns ≡ s.turns) × (t.casts ≡ s.casts)
 
 module _ (p : Params) (me : ℕ) where
-  pub heard-same : (s : State) (from : ℕ) (msg : Message) → Same s (heard p me s from msg)
-  heard-same s from (NewView round high sig) = by-if (Same s) (keeps_news p me s from round high) (with_news s from round high) s (refl, refl) (refl, refl)
-  heard-same s from (Prepare view what just sig) = by-if (Same s) (may_prepare p s from view what just) (with_node p s view what just) s (refl, refl) (refl, refl)
-  heard-same s from (PreCommit view shown sig) = by-if (Same s) (may_second p s view shown) (record s { high = shown; second = true }) s (refl, refl) (refl, refl)
-  heard-same s from (Commit view shown sig) = by-if (Same s) (may_third p s view shown) (record s { lock = shown; third = true }) s (refl, refl) (refl, refl)
-  heard-same s from (Decide view shown sig) = (refl, refl)
-  heard-same s from (Vote phase view d sig) = by-if (Same s) (keeps_vote p s from phase view d) (with_vote s from phase view d sig) s (refl, refl) (refl, refl)
+  pub heard-same : (s : State) (from : ℕ) (body : Body) (sig : List ℕ) → Same s (heard p me s from body sig)
+  heard-same s from (NewView round high) sig = by-if (Same s) (keeps_news p me s from round high) (with_news s from round high) s (refl, refl) (refl, refl)
+  heard-same s from (Prepare view what just) sig = by-if (Same s) (may_prepare p s from view what just) (with_node p s view what just) s (refl, refl) (refl, refl)
+  heard-same s from (PreCommit view shown) sig = by-if (Same s) (may_second p s view shown) (record s { high = shown; second = true }) s (refl, refl) (refl, refl)
+  heard-same s from (Commit view shown) sig = by-if (Same s) (may_third p s view shown) (record s { lock = shown; third = true }) s (refl, refl) (refl, refl)
+  heard-same s from (Decide view shown) sig = (refl, refl)
+  heard-same s from (Vote phase view d) sig = by-if (Same s) (keeps_vote p s from phase view d) (with_vote s from phase view d sig) s (refl, refl) (refl, refl)
 
   abbrev pub IsAt : State → ℕ → Batch → Type 0
   IsAt s k b = nth s.casts k ≡ Some b
 
   kept-more : (s : State) (i : Input Message) (k : ℕ) (b : Batch) → IsAt s k b → IsAt (kept p me s i) k b
   kept-more s (Cast slot batch) k b e = by-if (λ (z : State). IsAt z k b) (may_cast p me s slot.0) (with_cast s batch) s (nth-first s.casts batch b k e) e
-  kept-more s (Receive from msg) k b e = ap (λ (cs : List Batch). nth cs k) (heard-same s from.0 msg).1 ∙ e
+  kept-more s (Receive from msg) k b e = ap (λ (cs : List Batch). nth cs k) (heard-same s from.0 msg.body msg.sig).1 ∙ e
   kept-more s Timeout k b e = by-if (λ (z : State). IsAt z k b) (may_end s) (with_round s) s e e
 
   -- a turn changes no cast

@@ -18,7 +18,9 @@ use Rattle.iss_sb.specs.declared.content.Content.{Content}
 use Rattle.iss_sb.specs.declared.content.Content.TheVariants.{Nil, Holds, Mark}
 use Rattle.hs_tree.specs.declared.certificates.Certificate.{Certificate}
 use Rattle.hs_tree.specs.declared.messages.Message.{Message}
-use Rattle.hs_tree.specs.declared.messages.Message.TheVariants.{NewView, Prepare, PreCommit, Commit, Decide, Vote}
+use Rattle.hs_tree.specs.declared.messages.Body.{Body}
+use Rattle.hs_tree.specs.declared.messages.Body.TheVariants.{Prepare}
+use Rattle.hs_tree.specs.Messages.{signed}
 use Rattle.hs_tree.specs.Certificates.{digest_of}
 use Rattle.hs_tree.specs.Tree.{branch, root}
 use Rattle.hs_tree.proofs.Nodes.{branch-is}
@@ -55,7 +57,7 @@ module _ (p : Params) (w : World Message) (good : IsGoodParams hotstuff p) (reac
       }
 
   by-proposal : (x : Item Message) (older : List (Item Message)) → Front (x ∷ older) (w l) → (from : NodeId) (v : ℕ) (c : Batch) (just : Certificate) (sig : List ℕ) (s : Slot) (b : Batch) →
-      x.input ≡ Receive from (Prepare v (Holds c) just sig) → may_prepare p (state p l older) from.0 v (Holds c) just ≡ true → IsOffered (nth p.slots (slots_below (state p l older) just)) c s b → IsCastAt s b
+      x.input ≡ Receive from (signed (Prepare v (Holds c) just) sig) → may_prepare p (state p l older) from.0 v (Holds c) just ≡ true → IsOffered (nth p.slots (slots_below (state p l older) just)) c s b → IsCastAt s b
   by-proposal x older f from v c just sig s b e q o =
       let st = state p l older in
       let k = front-in x (x ∷ older) (w l) f (inl refl) in
@@ -68,25 +70,24 @@ module _ (p : Params) (w : World Message) (good : IsGoodParams hotstuff p) (reac
       let own = proposed-cast p w good reached sep l v just c (digest_of just) (branch st.tree (digest_of just)) correct signed refl has leads in
       record { place = slots_below st just; slot = o.slot; cast = own.cast ∙ ap (λ (z : Batch). Some z) o.batch }
 
+  asked-at-heard : (x : Item Message) (older : List (Item Message)) → Front (x ∷ older) (w l) → (from : NodeId) (body : Body) (sig : List ℕ) (s : Slot) (b : Batch) → x.input ≡ (Receive from (signed body sig)) → asks p l older (Receive from (signed body sig)) ≡ Some (s, b) → IsCastAt s b
+  asked-at-heard x older f from (Prepare v what just) sig s b e h =
+      let st = state p l older in
+      let t = if-in (may_prepare p st from.0 v what just) (offered p st (accepts older) what just) (s, b) h in
+      go what e t.passed t.is
+    where
+      go : (c : Content) → x.input ≡ Receive from (signed (Prepare v c just) sig) → may_prepare p (state p l older) from.0 v c just ≡ true → offered p (state p l older) (accepts older) c just ≡ Some (s, b) → IsCastAt s b
+      go Nil is q o = absurd cc
+      go (Holds c) is q o = by-proposal x older f from v c just sig s b is q (unless-is (accepts older) c (nth p.slots (slots_below (state p l older) just)) s b o)
+      go Mark is q o = absurd cc
+  asked-at-heard x older f from other sig s b e h = absurd cc
+
   asked-at : (x : Item Message) (older : List (Item Message)) → Front (x ∷ older) (w l) → (i : Input Message) (s : Slot) (b : Batch) → x.input ≡ i → asks p l older i ≡ Some (s, b) → IsCastAt s b
   asked-at x older f (Cast slot batch) s b e h =
       let t = if-some (may_cast p l (state p l older) slot.0) (slot, batch) (s, b) h in
       subst (λ (z : Slot × Batch). IsCastAt z.0 z.1) t.is (by-cast x older f slot batch e t.passed)
   asked-at x older f Timeout s b e h = absurd cc
-  asked-at x older f (Receive from (NewView round high sig)) s b e h = absurd cc
-  asked-at x older f (Receive from (PreCommit view shown sig)) s b e h = absurd cc
-  asked-at x older f (Receive from (Commit view shown sig)) s b e h = absurd cc
-  asked-at x older f (Receive from (Decide view shown sig)) s b e h = absurd cc
-  asked-at x older f (Receive from (Vote phase view d sig)) s b e h = absurd cc
-  asked-at x older f (Receive from (Prepare v what just sig)) s b e h =
-      let st = state p l older in
-      let t = if-in (may_prepare p st from.0 v what just) (offered p st (accepts older) what just) (s, b) h in
-      go what e t.passed t.is
-    where
-      go : (c : Content) → x.input ≡ Receive from (Prepare v c just sig) → may_prepare p (state p l older) from.0 v c just ≡ true → offered p (state p l older) (accepts older) c just ≡ Some (s, b) → IsCastAt s b
-      go Nil is q o = absurd cc
-      go (Holds c) is q o = by-proposal x older f from v c just sig s b is q (unless-is (accepts older) c (nth p.slots (slots_below (state p l older) just)) s b o)
-      go Mark is q o = absurd cc
+  asked-at x older f (Receive from msg) s b e h = asked-at-heard x older f from msg.body msg.sig s b e h
 
   accepted-at : (xs : List (Item Message)) → Front xs (w l) → (s : Slot) (b : Batch) → In {A = Slot × Batch} (s, b) (accepts xs) → IsCastAt s b
   accepted-at [] f s b h = absurd h

@@ -4,6 +4,7 @@ use Rattle.std.specs.Prelude.{nat_lt}
 use Rattle.std.proofs.lemmas.Bool.{eqb-false, leb-true}
 use Rattle.iss_base.specs.Lists.{In, nth}
 use Rattle.iss_base.proofs.Lists.{and-true, in_append, in_right}
+use Rattle.iss_request.specs.declared.ids.NodeId.{NodeId}
 use Rattle.iss_request.specs.declared.ids.Slot.{Slot}
 use Rattle.iss_request.specs.declared.requests.Batch.{Batch}
 use Rattle.iss_sb.specs.declared.effects.Input.{Input}
@@ -15,7 +16,6 @@ use Rattle.iss_sb.specs.Calls.{IsGoodParams, is_slot}
 use Rattle.iss_sb.specs.Evidence.{Item, IsString, Made, World, accepts}
 use Rattle.iss_sb.specs.Laws.{AreHeard}
 use Rattle.iss_sb.specs.Legal.{IsLegal}
-use Rattle.iss_sb.specs.Statements.{signature}
 use Rattle.iss_sb.proofs.Slots.{slot-some}
 use Rattle.iss_sb.proofs.Worlds.{accepts-new, accepts-old}
 use Rattle.iss_sb.specs.declared.content.Content.{Content}
@@ -23,15 +23,16 @@ use Rattle.iss_sb.specs.declared.content.Content.TheVariants.{Nil, Holds, Mark}
 use Rattle.hs_tree.specs.declared.certificates.Certificate.{Certificate}
 use Rattle.hs_tree.specs.declared.certificates.Certificate.TheVariants.{Root}
 use Rattle.hs_tree.specs.declared.messages.Message.{Message}
-use Rattle.hs_tree.specs.declared.messages.Message.TheVariants.{NewView, Prepare, PreCommit, Commit, Decide, Vote}
+use Rattle.hs_tree.specs.declared.messages.Body.{Body}
+use Rattle.hs_tree.specs.declared.messages.Body.TheVariants.{NewView, Prepare, PreCommit, Commit, Decide, Vote}
+use Rattle.hs_tree.specs.Messages.{signed}
 use Rattle.hs_tree.specs.Certificates.{digest_of}
 use Rattle.hs_tree.specs.Paths.{Has, hash}
-use Rattle.hs_tree.specs.Statements.{own_statement}
-use Rattle.hs_tree.proofs.Claimed.{prepare-unsigned}
+use Rattle.hs_views.proofs.DraftsAgree.{sent-drafted}
 use Rattle.hs_tree.specs.Tree.{basic, filled, is_known, root, weight}
 use Rattle.iss_sb.proofs.Contents.{content-table}
 use Rattle.sb_hotstuff.specs.Facts.{Leads}
-use Rattle.sb_hotstuff.specs.HotStuff.{answers, asks, drafts, hotstuff, makes, proposals, shows, sign_all, state, strings_at, taken_of, turn_strings, voted}
+use Rattle.sb_hotstuff.specs.HotStuff.{answers, asks, drafts, hotstuff, makes, proposals, shows, state, strings_at, taken_of, turn_strings, voted}
 use Rattle.sb_hotstuff.specs.Rules.{State, cast_turn, certificate, first_turn, heard, is_reached, is_ready, keeps_news, keeps_vote, kept, may_cast, may_end, may_prepare, may_second, may_third, next_turn, nil_or_mark, node_digest, proposed, slots_below, turn, turn_after, turn_on, with_cast, with_round, with_turn}
 use Rattle.hs_views.specs.Views.{Turn, all_news, best, round_of}
 use Rattle.iss_sb.proofs.Cases.{by-both}
@@ -40,16 +41,7 @@ use Rattle.sb_hotstuff.proofs.ModuleLaws.SentMessagesDecode.{MayTurn, digest-len
 use Rattle.sb_hotstuff.proofs.Safety.VotesHaveCauses.{AreVoted, acc, hashed-has}
 use Rattle.hs_views.proofs.Tests.{by-if, by-test, is-same}
 
--- ---- Unsigned messages
-
-unsigned : (p : Params) (me leaf : ℕ) (ds : List (To × Message)) (to : To) (view : ℕ) (what : Content) (just : Certificate) (sig : List ℕ) → In {A = To × Message} (to, Prepare view what just sig) (sign_all p me leaf ds) →
-    (old : List ℕ) × In {A = To × Message} (to, Prepare view what just old) ds
-unsigned p me leaf [] to view what just sig h = absurd h
-unsigned p me leaf (x ∷ ds) to view what just sig (inl e) =
-    let r = prepare-unsigned sig (signature p me leaf (own_statement basic p x.1)) x.1 view what just (ap (λ (z : To × Message). z.1) e) in
-    let goes : to ≡ x.0 = ap (λ (z : To × Message). z.0) e in
-    (r.0, inl (ap (λ (z : To). let y : To × Message = (z, Prepare view what just r.0) in y) goes ∙ ap (λ (z : Message). let y : To × Message = (x.0, z) in y) (sym r.1)))
-unsigned p me leaf (x ∷ ds) to view what just sig (inr k) = let r = unsigned p me (suc leaf) ds to view what just sig k in (r.0, inr r.1)
+-- ---- Drafts
 
 -- a proposal that is sent belongs to the turn that the input triggered
 pub record IsTurn (o : Option Turn) (view : ℕ) (what : Content) (just : Certificate) : Type 0 where
@@ -59,57 +51,59 @@ pub record IsTurn (o : Option Turn) (view : ℕ) (what : Content) (just : Certif
   pub what_is : turn.what ≡ what
   pub just_is : turn.just ≡ just
 
-module _ (p : Params) (to : To) (view : ℕ) (what : Content) (just : Certificate) (sig : List ℕ) where
-  abbrev Sent : List (To × Message) → Type 0
-  Sent ds = In {A = To × Message} (to, Prepare view what just sig) ds
+module _ (p : Params) (to : To) (view : ℕ) (what : Content) (just : Certificate) where
+  abbrev Sent : List (To × Body) → Type 0
+  Sent ds = In {A = To × Body} (to, Prepare view what just) ds
 
-  one-is : (a : To) (n : Message) → Sent ((a, n) ∷ []) → Prepare view what just sig ≡ n
-  one-is a n (inl e) = ap (λ (z : To × Message). z.1) e
+  one-is : (a : To) (n : Body) → Sent ((a, n) ∷ []) → Prepare view what just ≡ n
+  one-is a n (inl e) = ap (λ (z : To × Body). z.1) e
   one-is a n (inr h) = absurd h
 
-  none-if : (t : Bool) (ds : List (To × Message)) → (Sent ds → ⊥) → Sent (if t then ds else []) → ⊥
+  none-if : (t : Bool) (ds : List (To × Body)) → (Sent ds → ⊥) → Sent (if t then ds else []) → ⊥
   none-if true ds h k = h k
   none-if false ds h k = k
 
   none-voted : (q v : ℕ) (e : List ℕ) → Sent (voted p q v e) → ⊥
-  none-voted q v e h = let m = one-is _ (Vote q v e []) h in cc
+  none-voted q v e h = let m = one-is _ (Vote q v e) h in cc
 
-  none-shown : (q v : ℕ) (c : Certificate) → Prepare view what just sig ≡ shows q v c → ⊥
+  none-shown : (q v : ℕ) (c : Certificate) → Prepare view what just ≡ shows q v c → ⊥
   none-shown q v c h = go (q == 1) (q == 2) h
     where
-      go : (a b : Bool) → Prepare view what just sig ≡ (if a then PreCommit v c [] else (if b then Commit v c [] else Decide v c [])) → ⊥
+      go : (a b : Bool) → Prepare view what just ≡ (if a then PreCommit v c else (if b then Commit v c else Decide v c)) → ⊥
       go true b e = cc
       go false true e = cc
       go false false e = cc
 
+  none-answered-heard : (s k : State) (from : NodeId) (body : Body) (sig : List ℕ) → Sent (answers p s k (Receive from (signed body sig))) → ⊥
+  none-answered-heard s k from (Prepare v c j) x h = none-if (may_prepare p s from.0 v c j) (voted p 1 v (node_digest p v c j)) (none-voted 1 v (node_digest p v c j)) h
+  none-answered-heard s k from (PreCommit v shown) x h = none-if (may_second p s v shown) (voted p 2 v (digest_of shown)) (none-voted 2 v (digest_of shown)) h
+  none-answered-heard s k from (Commit v shown) x h = none-if (may_third p s v shown) (voted p 3 v (digest_of shown)) (none-voted 3 v (digest_of shown)) h
+  none-answered-heard s k from (Vote q v e) x h = none-if (keeps_vote p s from.0 q v e && is_reached p k q v e) ((To_all, shows q v (certificate p k q v e)) ∷ []) (λ z. none-shown q v (certificate p k q v e) (one-is To_all (shows q v (certificate p k q v e)) z)) h
+  none-answered-heard s k from other x h = h
+
   none-answered : (s k : State) (i : Input Message) → Sent (answers p s k i) → ⊥
   none-answered s k (Cast slot batch) h = h
-  none-answered s k (Receive from (NewView round high x)) h = h
-  none-answered s k (Receive from (Prepare v c j x)) h = none-if (may_prepare p s from.0 v c j) (voted p 1 v (node_digest p v c j)) (none-voted 1 v (node_digest p v c j)) h
-  none-answered s k (Receive from (PreCommit v shown x)) h = none-if (may_second p s v shown) (voted p 2 v (digest_of shown)) (none-voted 2 v (digest_of shown)) h
-  none-answered s k (Receive from (Commit v shown x)) h = none-if (may_third p s v shown) (voted p 3 v (digest_of shown)) (none-voted 3 v (digest_of shown)) h
-  none-answered s k (Receive from (Decide v shown x)) h = h
-  none-answered s k (Receive from (Vote q v e x)) h = none-if (keeps_vote p s from.0 q v e && is_reached p k q v e) ((To_all, shows q v (certificate p k q v e)) ∷ []) (λ z. none-shown q v (certificate p k q v e) (one-is To_all (shows q v (certificate p k q v e)) z)) h
-  none-answered s k Timeout h = none-if (may_end s) _ (λ z. let m = one-is _ (NewView (suc (round_of s.view)) s.high []) z in cc) h
+  none-answered s k (Receive from msg) h = none-answered-heard s k from msg.body msg.sig h
+  none-answered s k Timeout h = none-if (may_end s) _ (λ z. let m = one-is _ (NewView (suc (round_of s.view)) s.high) z in cc) h
 
   of-turn : (o : Option Turn) → Sent (proposals o) → IsTurn o view what just
   of-turn None h = absurd h
   of-turn (Some t) h =
-      let m = one-is To_all (Prepare t.view t.what t.just []) h in
+      let m = one-is To_all (Prepare t.view t.what t.just) h in
       let a : t.view ≡ view = cc in
       let b : t.what ≡ what = cc in
       let c : t.just ≡ just = cc in
       record { turn = t; is = refl; view_is = a; what_is = b; just_is = c }
 
-pub proposal-turn : (p : Params) (me leaf : ℕ) (xs : List (Item Message)) (i : Input Message) (to : To) (view : ℕ) (what : Content) (just : Certificate) (sig : List ℕ) → In {A = To × Message} (to, Prepare view what just sig) (makes p me xs i leaf).sends →
+pub proposal-turn : (p : Params) (me leaf : ℕ) (xs : List (Item Message)) (i : Input Message) (to : To) (view : ℕ) (what : Content) (just : Certificate) (sig : List ℕ) → In {A = To × Message} (to, signed (Prepare view what just) sig) (makes p me xs i leaf).sends →
     IsTurn (proposed p me (state p me xs) (kept p me (state p me xs) i) i) view what just
 proposal-turn p me leaf xs i to view what just sig h =
     let s = state p me xs in
     let k = kept p me s i in
-    let r = unsigned p me leaf (drafts p me s i) to view what just sig h in
-    elim (in_append {A = To × Message} (to, Prepare view what just r.0) (answers p s k i) (proposals (proposed p me s k i)) r.1) [
-      | inl a ↦ absurd (none-answered p to view what just r.0 s k i a)
-      | inr a ↦ of-turn p to view what just r.0 (proposed p me s k i) a
+    let drafted = sent-drafted basic p me leaf (drafts p me s i) to (signed (Prepare view what just) sig) h in
+    elim (in_append {A = To × Body} (to, Prepare view what just) (answers p s k i) (proposals (proposed p me s k i)) drafted) [
+      | inl a ↦ absurd (none-answered p to view what just s k i a)
+      | inr a ↦ of-turn p to view what just (proposed p me s k i) a
     ]
 
 -- ---- The turns of a legal history
@@ -216,16 +210,16 @@ module _ (p : Params) (w : World Message) (good : IsGoodParams hotstuff p) (lega
       late : (r : ℕ) → 1 ≤ r → (r * 65536 + 1) / 65536 ≡ 0 → ⊥
       late r l e = omega (arith, l, e)
 
-  proposed-ok : (s k : State) (i : Input Message) → LeaderOk k → MayOk (proposed p me s k i)
-  proposed-ok s k (Cast slot batch) h = by-if MayOk (may_cast p me s slot.0) (next_turn p k k.turns) None (next-ok k k.turns h h.turns) tt
-  proposed-ok s k (Receive from (NewView round high sig)) h = by-test MayOk (keeps_news p me s from.0 round high) (first_turn p k round) None (λ q.
+  proposed-ok-heard : (s k : State) (from : NodeId) (body : Body) (sig : List ℕ) → LeaderOk k → MayOk (proposed p me s k (Receive from (signed body sig)))
+  proposed-ok-heard s k from (NewView round high) sig h = by-test MayOk (keeps_news p me s from.0 round high) (first_turn p k round) None (λ q.
       let a = and-true _ _ (and-true _ _ (and-true _ _ q).0).0 in
       first-ok k round (leb-true 1 round a.0)) tt
-  proposed-ok s k (Receive from (Prepare view what just sig)) h = tt
-  proposed-ok s k (Receive from (PreCommit view shown sig)) h = tt
-  proposed-ok s k (Receive from (Commit view shown sig)) h = tt
-  proposed-ok s k (Receive from (Decide view shown sig)) h = tt
-  proposed-ok s k (Receive from (Vote phase view d sig)) h = by-if MayOk _ (next_turn p k k.turns) None (next-ok k k.turns h h.turns) tt
+  proposed-ok-heard s k from (Vote phase view d) sig h = by-if MayOk _ (next_turn p k k.turns) None (next-ok k k.turns h h.turns) tt
+  proposed-ok-heard s k from other sig h = tt
+
+  proposed-ok : (s k : State) (i : Input Message) → LeaderOk k → MayOk (proposed p me s k i)
+  proposed-ok s k (Cast slot batch) h = by-if MayOk (may_cast p me s slot.0) (next_turn p k k.turns) None (next-ok k k.turns h h.turns) tt
+  proposed-ok s k (Receive from msg) h = proposed-ok-heard s k from msg.body msg.sig h
   proposed-ok s k Timeout h = tt
 
   -- ---- Proposed nodes were hashed
@@ -265,7 +259,7 @@ module _ (p : Params) (w : World Message) (good : IsGoodParams hotstuff p) (lega
 
   kept-ok : (s : State) (i : Input Message) → ((slot : Slot) (b : Batch) → i ≡ Cast slot b → may_cast p me s slot.0 ≡ true → In {A = Slot × Batch} (slot, b) (accepts (w me))) → Later (kept p me s i).casts → LeaderOk s → LeaderOk (kept p me s i)
   kept-ok s (Cast slot batch) a l h = by-test (λ (z : State). Later z.casts → LeaderOk z) (may_cast p me s slot.0) (with_cast s batch) s (λ q m. cast-kept s slot batch q (a slot batch refl q) m h) (λ m. h) l
-  kept-ok s (Receive from msg) a l h = same-ok s (heard p me s from.0 msg) (heard-same p me s from.0 msg) h
+  kept-ok s (Receive from msg) a l h = same-ok s (heard p me s from.0 msg.body msg.sig) (heard-same p me s from.0 msg.body msg.sig) h
   kept-ok s Timeout a l h = by-if LeaderOk (may_end s) (with_round s) s (record { turns = h.turns; casts = h.casts }) h
 
   turn-ok : (s : State) (o : Option Turn) → LeaderOk s → MayOk o → MayHold o → LeaderOk (with_turn s o)
@@ -316,11 +310,11 @@ module _ (p : Params) (w : World Message) (good : IsGoodParams hotstuff p) (lega
     pub ok : TurnOk turn
     pub has : Holder (digest_of turn.just) turn.what
 
-  pub proposal-why : (x : Item Message) (xs : List (Item Message)) (to : To) (view : ℕ) (what : Content) (just : Certificate) (sig : List ℕ) → IsPart (x ∷ xs) → In {A = To × Message} (to, Prepare view what just sig) x.made.sends → IsProposed view what just
+  pub proposal-why : (x : Item Message) (xs : List (Item Message)) (to : To) (view : ℕ) (what : Content) (just : Certificate) (sig : List ℕ) → IsPart (x ∷ xs) → In {A = To × Message} (to, signed (Prepare view what just) sig) x.made.sends → IsProposed view what just
   proposal-why x xs to view what just sig h sent =
       let s = state p me xs in
       let k = kept p me s x.input in
-      let made = subst (λ (z : Made Message). In {A = To × Message} (to, Prepare view what just sig) z.sends) h.heard.1 sent in
+      let made = subst (λ (z : Made Message). In {A = To × Message} (to, signed (Prepare view what just) sig) z.sends) h.heard.1 sent in
       let t = proposal-turn p me x.leaf xs x.input to view what just sig made in
       let ok = subst MayOk t.is (proposed-ok s k x.input (step-ok x xs h (state-ok xs (part-older x xs h)))) in
       let has = subst MayHold t.is (step-holds x xs h) in

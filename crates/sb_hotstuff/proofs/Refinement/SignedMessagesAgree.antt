@@ -7,7 +7,9 @@ use Rattle.iss_sb.specs.declared.effects.To.{To}
 use Rattle.iss_sb.specs.Calls.{AreToNodes}
 use Rattle.iss_sb.specs.Statements.{signature}
 use Rattle.hs_tree.specs.declared.messages.Message.{Message}
-use Rattle.hs_tree.specs.Statements.{own_statement, with_signature}
+use Rattle.hs_tree.specs.declared.messages.Body.{Body}
+use Rattle.hs_tree.specs.Messages.{signed}
+use Rattle.hs_tree.specs.Statements.{stated}
 use Rattle.hs_tree.specs.Tree.{basic}
 use Rattle.sb_hotstuff.specs.declared.outcomes.Taken.{Taken}
 use Rattle.hs_views.specs.declared.drafts.Draft.{Draft}
@@ -30,13 +32,13 @@ left-enough k l d h e =
 
 -- ---- Signatures in sequence
 
-sign-both : (p : Params) (me leaf : ℕ) (xs ys : List (To × Message)) → sign_all p me leaf (xs ++ ys) ≡ sign_all p me leaf xs ++ sign_all p me (leaf + length xs) ys
+sign-both : (p : Params) (me leaf : ℕ) (xs ys : List (To × Body)) → sign_all p me leaf (xs ++ ys) ≡ sign_all p me leaf xs ++ sign_all p me (leaf + length xs) ys
 sign-both p me leaf [] ys = ap (λ (n : ℕ). sign_all p me n ys) (none leaf)
   where
     none : (n : ℕ) → n ≡ n + 0
     none n = omega arith
 sign-both p me leaf (x ∷ xs) ys =
-    ap (λ (z : List (To × Message)). (x.0, with_signature (signature p me leaf (own_statement basic p x.1)) x.1) ∷ z)
+    ap (λ (z : List (To × Message)). (x.0, signed x.1 (signature p me leaf (stated basic p x.1))) ∷ z)
     (sign-both p me (suc leaf) xs ys ∙ ap (λ (n : ℕ). sign_all p me (suc leaf) xs ++ sign_all p me n ys) (next leaf (length xs)))
   where
     next : (n k : ℕ) → suc n + k ≡ n + suc k
@@ -49,10 +51,10 @@ add : (a b c : ℕ) → a + b + c ≡ a + (b + c)
 add a b c = omega arith
 
 module _ (p : Params) (t : Taken) (before mid later : KeyState) (empty first second : List (To × Message)) (e : empty ≡ [])
-    (one : (me : ℕ) (xs : List (To × Message)) → AreKeysOf me p.setup.keys before → AreDrafts p t.outcome.answer xs → first ≡ empty ++ sign_all p me before.used xs)
-    (two : (me : ℕ) (ys : List (To × Message)) → AreKeysOf me p.setup.keys mid → AreDrafts p t.outcome.proposal ys → second ≡ first ++ sign_all p me mid.used ys)
+    (one : (me : ℕ) (xs : List (To × Body)) → AreKeysOf me p.setup.keys before → AreDrafts p t.outcome.answer xs → first ≡ empty ++ sign_all p me before.used xs)
+    (two : (me : ℕ) (ys : List (To × Body)) → AreKeysOf me p.setup.keys mid → AreDrafts p t.outcome.proposal ys → second ≡ first ++ sign_all p me mid.used ys)
     (used : mid ≡ record before { used = before.used + count_of t.outcome.answer }) (again : later ≡ record mid { used = mid.used + count_of t.outcome.proposal }) where
-  sends : (me : ℕ) (xs ys : List (To × Message)) → AreKeysOf me p.setup.keys before → AreDrafts p t.outcome.answer xs → AreDrafts p t.outcome.proposal ys → second ≡ sign_all p me before.used (xs ++ ys)
+  sends : (me : ℕ) (xs ys : List (To × Body)) → AreKeysOf me p.setup.keys before → AreDrafts p t.outcome.answer xs → AreDrafts p t.outcome.proposal ys → second ≡ sign_all p me before.used (xs ++ ys)
   sends me xs ys own dx dy =
       let leaf : mid.used ≡ before.used + length xs = ap (λ (k : KeyState). k.used) used ∙ ap (λ (n : ℕ). before.used + n) (drafts-long basic p t.outcome.answer xs dx) in
       two me ys (same-owner me p.setup.keys before mid (count_of t.outcome.answer) used own) dy

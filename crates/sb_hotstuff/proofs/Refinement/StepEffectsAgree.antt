@@ -21,7 +21,9 @@ use Rattle.iss_sb.proofs.Delivered.{delivered-decided}
 use Rattle.iss_sb.specs.declared.content.Content.{Content}
 use Rattle.hs_tree.specs.declared.certificates.Certificate.{Certificate}
 use Rattle.hs_tree.specs.declared.messages.Message.{Message}
-use Rattle.hs_tree.specs.declared.messages.Message.TheVariants.{Prepare, Decide}
+use Rattle.hs_tree.specs.declared.messages.Body.{Body}
+use Rattle.hs_tree.specs.declared.messages.Body.TheVariants.{Prepare, Decide}
+use Rattle.hs_tree.specs.Messages.{signed}
 use Rattle.hs_tree.specs.Certificates.{digest_of}
 use Rattle.hs_tree.specs.Known.{Keeps, values}
 use Rattle.hs_tree.specs.Tree.{Node as Tree_node, basic, branch, filled, is_known, value_at_slot}
@@ -146,9 +148,9 @@ module _ (p : Params) (m : HotStuff) (node : Node) (accepted : Accepted) (slot :
   }
 
   pub proposal-takes : (from : NodeId) (view : ℕ) (what : Content) (just : Certificate) (sig : List ℕ) → ((s : State) → RefinesState m.node s → may_prepare p s from.0 view what just ≡ true) →
-      ((s : State) → RefinesState m.node s → Does p m.node node s (Receive from (Prepare view what just sig)) t.outcome) → t.accepted ≡ what_at what slot → Adds m.accepted accepted (one_or_none (what_at what slot)) →
+      ((s : State) → RefinesState m.node s → Does p m.node node s (Receive from (signed (Prepare view what just) sig)) t.outcome) → t.accepted ≡ what_at what slot → Adds m.accepted accepted (one_or_none (what_at what slot)) →
       ((s : State) (old : List (Slot × Batch)) → RefinesState m.node s → AreAccepted m.accepted old → what_at what slot ≡ offered p s old what just) →
-      Takes p m (record m { node = node; accepted = accepted }) (Receive from (Prepare view what just sig)) t
+      Takes p m (record m { node = node; accepted = accepted }) (Receive from (signed (Prepare view what just) sig)) t
   proposal-takes from view what just sig may does is adds free = record {
     does = does;
     asked = λ s old h k. is ∙ free s old h k ∙ ap (λ (z : Bool). let r : Option (Slot × Batch) = if z then offered p s old what just else None in r) (sym (may s h));
@@ -158,19 +160,23 @@ module _ (p : Params) (m : HotStuff) (node : Node) (accepted : Accepted) (slot :
     within = none-within t.delivers p.slots none;
   }
 
+-- a message, by its body
+pub by-body : (p : Params) (m n : HotStuff) (from : NodeId) (msg : Message) (body : Body) (t : Taken) → msg.body ≡ body → Takes p m n (Receive from (signed body msg.sig)) t → Takes p m n (Receive from msg) t
+by-body p m n from msg body t is d = subst (λ (z : Body). Takes p m n (Receive from (signed z msg.sig)) t) (sym is) d
+
 -- a proposal that does not pass its test
 pub unprepared-takes : (p : Params) (m : HotStuff) (o : Outcome) (t : Taken) → IsQuiet o → IsAlone o t → (from : NodeId) (view : ℕ) (what : Content) (just : Certificate) (sig : List ℕ) →
-    ((s : State) → RefinesState m.node s → may_prepare p s from.0 view what just ≡ false) → Takes p m m (Receive from (Prepare view what just sig)) t
+    ((s : State) → RefinesState m.node s → may_prepare p s from.0 view what just ≡ false) → Takes p m m (Receive from (signed (Prepare view what just) sig)) t
 unprepared-takes p m o t quiet alone from view what just sig nope =
-    rule-takes p m m.node (Receive from (Prepare view what just sig)) o t alone
-    (λ s h. idle p m.node s (Receive from (Prepare view what just sig)) o (ap (λ (z : Bool). if z then with_node p s view what just else s) (nope s h)) refl
-    (ap (λ (z : Bool). let l : List (To × Message) = if z then voted p 1 view (node_digest p view what just) else [] in l) (nope s h)) (ap (λ (z : Bool). let l : List (List ℕ) = if z then strings_at p view what just else [] in l) (nope s h)) h quiet)
+    rule-takes p m m.node (Receive from (signed (Prepare view what just) sig)) o t alone
+    (λ s h. idle p m.node s (Receive from (signed (Prepare view what just) sig)) o (ap (λ (z : Bool). if z then with_node p s view what just else s) (nope s h)) refl
+    (ap (λ (z : Bool). let l : List (To × Body) = if z then voted p 1 view (node_digest p view what just) else [] in l) (nope s h)) (ap (λ (z : Bool). let l : List (List ℕ) = if z then strings_at p view what just else [] in l) (nope s h)) h quiet)
     (λ s old h. ap (λ (z : Bool). let r : Option (Slot × Batch) = if z then offered p s old what just else None in r) (nope s h)) (λ s k. refl)
 
 -- a commitQC
 module _ (p : Params) (m : HotStuff) (later : ℕ) (o : Outcome) (t : Taken) (quiet : IsQuiet o) (outcome : t.outcome ≡ o) (accepted : t.accepted ≡ None) (from : NodeId) (view : ℕ) (shown : Certificate) (sig : List ℕ) where
   abbrev said : Input Message
-  said = Receive from (Decide view shown sig)
+  said = Receive from (signed (Decide view shown) sig)
 
   told : (s : State) (k : ℕ) (b : Bool) → (is_good p 3 view shown && is_known s.tree (digest_of shown)) ≡ b →
       decides p s said k ≡ (if b then value_at_slot (branch s.tree (digest_of shown)) 0 p.slots k else None)

@@ -14,7 +14,7 @@ use Rattle.iss_sb.specs.declared.content.Content.{Content}
 use Rattle.iss_sb.specs.declared.content.Content.TheVariants.{Nil, Holds}
 use Rattle.hs_tree.specs.declared.certificates.Certificate.{Certificate}
 use Rattle.hs_tree.specs.declared.certificates.Certificate.TheVariants.{Root}
-use Rattle.hs_tree.specs.declared.messages.Message.TheVariants.{Prepare}
+use Rattle.hs_tree.specs.declared.messages.Body.TheVariants.{Prepare}
 use Rattle.hs_tree.specs.declared.signing.Hashed.{Hashed}
 use Rattle.hs_tree.specs.Certificates.{digest_of}
 use Rattle.hs_tree.specs.Hashed.{IsHashed}
@@ -59,7 +59,7 @@ module _ (p : Params) (m : Node) (k : State) (view slots : ℕ) (just : Certific
       ap (λ (z : Turn). own_of z) is ∙ (λ i. record { view = view; digest = same i; slots = exact i })
 
   pub proposes-one : (turns : Turns) (draft : Draft) (parent : List ℕ) (h : Hashed) → parent ≡ digest_of just → IsHashed p.setup.version None parent what h → IsLow (own_of t) → RefinesState m k → AreTurns turns (t ∷ k.turns) →
-      IsDraft p draft ((To_all, Prepare view what just []) ∷ []) → Proposes p m (record m { turns = turns }) k (Some t) (record { answer = None; proposal = Some draft; hashed = h.strings })
+      IsDraft p draft ((To_all, Prepare view what just) ∷ []) → Proposes p m (record m { turns = turns }) k (Some t) (record { answer = None; proposal = Some draft; hashed = h.strings })
   proposes-one turns draft parent h hp hashed low f more drafted = record {
     node = refl;
     state = record {
@@ -76,7 +76,7 @@ module _ (p : Params) (m : Node) (k : State) (view slots : ℕ) (just : Certific
       news = f.news;
     };
     answer = refl;
-    proposal = subst (λ (z : Turn). IsDraft p draft ((To_all, Prepare z.view z.what z.just []) ∷ [])) (sym is) drafted;
+    proposal = subst (λ (z : Turn). IsDraft p draft ((To_all, Prepare z.view z.what z.just) ∷ [])) (sym is) drafted;
     hashed = strings-are parent h hp hashed
         ∙ ap (λ (z : Turn). strings_at p z.view z.what z.just) (sym is);
   }

@@ -5,6 +5,7 @@ use Rattle.std.proofs.lemmas.Bool.{ltb-true}
 use Rattle.iss_base.specs.Lists.{In, same_bytes}
 use Rattle.iss_base.proofs.Lists.{and-true, first-cases, same_bytes-is}
 use Rattle.iss_request.specs.declared.requests.Value.{Value}
+use Rattle.iss_request.specs.declared.ids.NodeId.{NodeId}
 use Rattle.iss_sb.specs.declared.effects.Input.{Input}
 use Rattle.iss_sb.specs.declared.effects.Input.TheVariants.{Cast, Receive, Timeout}
 use Rattle.iss_sb.specs.declared.effects.Params.{Params}
@@ -14,7 +15,9 @@ use Rattle.iss_sb.specs.Legal.{AreMade, IsLegal}
 use Rattle.iss_sb.specs.declared.content.Content.{Content}
 use Rattle.hs_tree.specs.declared.certificates.Certificate.{Certificate}
 use Rattle.hs_tree.specs.declared.messages.Message.{Message}
-use Rattle.hs_tree.specs.declared.messages.Message.TheVariants.{NewView, Prepare, PreCommit, Commit, Decide, Vote}
+use Rattle.hs_tree.specs.declared.messages.Body.{Body}
+use Rattle.hs_tree.specs.declared.messages.Body.TheVariants.{NewView, Prepare, PreCommit, Commit, Decide, Vote}
+use Rattle.hs_tree.specs.Messages.{signed}
 use Rattle.hs_tree.specs.Certificates.{digest_of, view_of}
 use Rattle.hs_tree.specs.Tree.{branch, extends, is_known, root, value_at_slot}
 use Rattle.hs_tree.proofs.Nodes.{branch-is, extends-is}
@@ -25,7 +28,7 @@ use Rattle.hs_views.specs.Views.{Turn}
 use Rattle.sb_hotstuff.proofs.Basics.{good-is, third-is}
 use Rattle.sb_hotstuff.proofs.Safety.OneVoteAPhase.{Cause, IsFirst, IsThird, by_first, by_second, by_third, cause-new, prepare-above, voted-below}
 use Rattle.sb_hotstuff.proofs.Safety.VotesHaveCauses.{AllHere, AreVoted, came, came-certified, is-taken, just-why, parts, state-tree, taken-has}
-use Rattle.hs_views.proofs.Tests.{by-test, if-in}
+use Rattle.hs_views.proofs.Tests.{by-test, if-in, same-body}
 
 module _ (p : Params) (w : World Message) (good : IsGoodParams hotstuff p) (legal : IsLegal hotstuff p w) (voted : AreVoted p w) where
   abbrev Here : ℕ → List (Item Message) → Type 0
@@ -52,24 +55,27 @@ module _ (p : Params) (w : World Message) (good : IsGoodParams hotstuff p) (lega
   stays : (s : State) → LockOk s → LockStep s s
   stays s h = same-lock s s refl (same s.view) h
 
-  lock-kept : (me : ℕ) (x : Item Message) (s : State) (i : Input Message) → In x (w me) → x.input ≡ i → LockOk s → LockStep s (kept p me s i)
-  lock-kept me x s (Cast slot batch) k e h = by-test (LockStep s) (may_cast p me s slot.0) (with_cast s batch) s (λ q. same-lock s (with_cast s batch) refl (same s.view) h) (stays s h)
-  lock-kept me x s (Receive from (NewView round high sig)) k e h = by-test (LockStep s) (keeps_news p me s from.0 round high) (with_news s from.0 round high) s (λ q. same-lock s (with_news s from.0 round high) refl (same s.view) h) (stays s h)
-  lock-kept me x s (Receive from (Prepare view what just sig)) k e h = by-test (LockStep s) (may_prepare p s from.0 view what just) (with_node p s view what just) s (λ q.
+  lock-kept-heard : (me : ℕ) (x : Item Message) (s : State) (from : NodeId) (body : Body) (sig : List ℕ) → In x (w me) → x.input ≡ (Receive from (signed body sig)) → LockOk s → LockStep s (kept p me s (Receive from (signed body sig)))
+  lock-kept-heard me x s from (NewView round high) sig k e h = by-test (LockStep s) (keeps_news p me s from.0 round high) (with_news s from.0 round high) s (λ q. same-lock s (with_news s from.0 round high) refl (same s.view) h) (stays s h)
+  lock-kept-heard me x s from (Prepare view what just) sig k e h = by-test (LockStep s) (may_prepare p s from.0 view what just) (with_node p s view what just) s (λ q.
       let a = prepare-above p s from.0 view what just q in
       same-lock s (with_node p s view what just) refl (omega (arith, a)) h) (stays s h)
-  lock-kept me x s (Receive from (PreCommit view shown sig)) k e h = by-test (LockStep s) (may_second p s view shown) (record s { high = shown; second = true }) s (λ q. same-lock s (record s { high = shown; second = true }) refl (same s.view) h) (stays s h)
-  lock-kept me x s (Receive from (Commit view shown sig)) k e h = by-test (LockStep s) (may_third p s view shown) (record s { lock = shown; third = true }) s (λ q.
+  lock-kept-heard me x s from (PreCommit view shown) sig k e h = by-test (LockStep s) (may_second p s view shown) (record s { high = shown; second = true }) s (λ q. same-lock s (record s { high = shown; second = true }) refl (same s.view) h) (stays s h)
+  lock-kept-heard me x s from (Commit view shown) sig k e h = by-test (LockStep s) (may_third p s view shown) (record s { lock = shown; third = true }) s (λ q.
       let g = third-is p s view shown q in
       let v = good-is p 2 view shown g.good in
-      let m = came p w good legal voted me x from (Commit view shown sig) k e in
-      let c = came-certified p w good legal voted 2 view from.0 (Commit view shown sig) m g.good in
+      let m = came p w good legal voted me x from (signed (Commit view shown) sig) k e in
+      let c = came-certified p w good legal voted 2 view from.0 (signed (Commit view shown) sig) m g.good in
       let a = v.view_is in
       let b = g.own in
       let l = h.low in
       record { ok = record { low = omega (arith, a, b); cert = λ z. subst (λ (y : ℕ). IsCertified p w 2 y (digest_of shown)) (sym a) c }; rises = omega (arith, a, b, l) }) (stays s h)
-  lock-kept me x s (Receive from (Decide view shown sig)) k e h = stays s h
-  lock-kept me x s (Receive from (Vote phase view d sig)) k e h = by-test (LockStep s) (keeps_vote p s from.0 phase view d) (with_vote s from.0 phase view d sig) s (λ q. same-lock s (with_vote s from.0 phase view d sig) refl (same s.view) h) (stays s h)
+  lock-kept-heard me x s from (Decide view shown) sig k e h = stays s h
+  lock-kept-heard me x s from (Vote phase view d) sig k e h = by-test (LockStep s) (keeps_vote p s from.0 phase view d) (with_vote s from.0 phase view d sig) s (λ q. same-lock s (with_vote s from.0 phase view d sig) refl (same s.view) h) (stays s h)
+
+  lock-kept : (me : ℕ) (x : Item Message) (s : State) (i : Input Message) → In x (w me) → x.input ≡ i → LockOk s → LockStep s (kept p me s i)
+  lock-kept me x s (Cast slot batch) k e h = by-test (LockStep s) (may_cast p me s slot.0) (with_cast s batch) s (λ q. same-lock s (with_cast s batch) refl (same s.view) h) (stays s h)
+  lock-kept me x s (Receive from msg) k e h = lock-kept-heard me x s from msg.body msg.sig k e h
   lock-kept me x s Timeout k e h = by-test (LockStep s) (may_end s) (with_round s) s (λ q. same-lock s (with_round s) refl (above s.view) h) (stays s h)
     where
       above : (v : ℕ) → v ≤ suc (v / 65536) * 65536
@@ -103,7 +109,7 @@ module _ (p : Params) (w : World Message) (good : IsGoodParams hotstuff p) (lega
       let s = state p me xs in
       let f = third-of s y.input u d 3 (cause-new p me y xs 3 u d made (subst (λ (z : Item Message). VotedIn z 3 u d) e v)) refl in
       let b = good-is p 2 u f.shown (third-is p s u f.shown f.may).good in
-      let at : view_of (after p me s (Receive f.from (Commit u f.shown f.sig))).lock ≡ view_of f.shown = rw (f.may) refl in
+      let at : view_of (after p me s (Receive f.from (signed (Commit u f.shown) f.sig))).lock ≡ view_of f.shown = rw (f.may) refl in
       let all : view_of (after p me s y.input).lock ≡ view_of f.shown = ap (λ (z : Input Message). view_of (after p me s z).lock) f.is ∙ at in
       let c = b.view_is in
       (b.some, omega (arith, all, c))
@@ -131,7 +137,7 @@ module _ (p : Params) (w : World Message) (good : IsGoodParams hotstuff p) (lega
       first-here q = first-of (state p me xs) z.input v e 1 (cause-new p me z xs 1 v e made (subst (λ (t : Item Message). VotedIn t 1 v e) q b)) refl
 
       clash : IsThird p (state p me xs) z.input u d → IsFirst p (state p me xs) z.input v e → ⊥
-      clash f g = let q : Receive f.from (Commit u f.shown f.sig) ≡ Receive g.from (Prepare v g.what g.just g.sig) = sym f.is ∙ g.is in cc
+      clash f g = let q : Commit u f.shown ≡ Prepare v g.what g.just = same-body _ _ _ _ (sym f.is ∙ g.is) in cc
 
       late : IsThird p (state p me xs) z.input u d → In y xs → ⊥
       late f i =
@@ -161,7 +167,7 @@ module _ (p : Params) (w : World Message) (good : IsGoodParams hotstuff p) (lega
       let t = third-lock k o.older h.item u d o.made.1 below o.third h.vote in
       let above = prepare-above p s f.from.0 v f.what f.just f.may in
       let ps = parts p w good legal voted s f.from.0 v f.what f.just f.may in
-      let m = came p w good legal voted k g.item f.from (Prepare v f.what f.just f.sig) g.taken f.is in
+      let m = came p w good legal voted k g.item f.from (signed (Prepare v f.what f.just) f.sig) g.taken f.is in
       let has = taken-has p w good legal voted k g.item v f.what f.just g.taken (is-taken p w good legal voted k g.item o.older f.from v f.what f.just f.sig g.taken o.made f.is f.may) in
       let tree = state-tree p w good legal voted k o.older o.made.1 below in
       let low = ok.low in
@@ -194,26 +200,25 @@ module _ (p : Params) (w : World Message) (good : IsGoodParams hotstuff p) (lega
     pub is_branch : Leads p w node root whats
     pub value : value_at_slot whats 0 p.slots n ≡ Some x
 
-  decides-shown : (me : ℕ) (x : Item Message) (older : List (Item Message)) (i : Input Message) (n : ℕ) (v : Value) → In x (w me) → x.input ≡ i → AreMade hotstuff p me older → Here me older → decides p (state p me older) i n ≡ Some v → Shown n v
-  decides-shown me x older (Cast slot batch) n v k e made here h = absurd cc
-  decides-shown me x older (Receive from (NewView round high sig)) n v k e made here h = absurd cc
-  decides-shown me x older (Receive from (Prepare view what just sig)) n v k e made here h = absurd cc
-  decides-shown me x older (Receive from (PreCommit view shown sig)) n v k e made here h = absurd cc
-  decides-shown me x older (Receive from (Commit view shown sig)) n v k e made here h = absurd cc
-  decides-shown me x older (Receive from (Decide view shown sig)) n v k e made here h =
+  decides-shown-heard : (me : ℕ) (x : Item Message) (older : List (Item Message)) (from : NodeId) (body : Body) (sig : List ℕ) (n : ℕ) (v : Value) → In x (w me) → x.input ≡ (Receive from (signed body sig)) → AreMade hotstuff p me older → Here me older → decides p (state p me older) (Receive from (signed body sig)) n ≡ Some v → Shown n v
+  decides-shown-heard me x older from (Decide view shown) sig n v k e made here h =
       let s = state p me older in
       let t = if-in (is_good p 3 view shown && is_known s.tree (digest_of shown)) (value_at_slot (branch s.tree (digest_of shown)) 0 p.slots n) v h in
       let a = and-true (is_good p 3 view shown) (is_known s.tree (digest_of shown)) t.passed in
-      let m = came p w good legal voted me x from (Decide view shown sig) k e in
+      let m = came p w good legal voted me x from (signed (Decide view shown) sig) k e in
       record {
         view = view;
         node = digest_of shown;
         whats = branch s.tree (digest_of shown);
-        cert = came-certified p w good legal voted 3 view from.0 (Decide view shown sig) m a.0;
+        cert = came-certified p w good legal voted 3 view from.0 (signed (Decide view shown) sig) m a.0;
         is_branch = branch-is p.setup.version (IsString w) s.tree (digest_of shown) (state-tree p w good legal voted me older made here) a.1;
         value = t.is;
       }
-  decides-shown me x older (Receive from (Vote phase view d sig)) n v k e made here h = absurd cc
+  decides-shown-heard me x older from other sig n v k e made here h = absurd cc
+
+  decides-shown : (me : ℕ) (x : Item Message) (older : List (Item Message)) (i : Input Message) (n : ℕ) (v : Value) → In x (w me) → x.input ≡ i → AreMade hotstuff p me older → Here me older → decides p (state p me older) i n ≡ Some v → Shown n v
+  decides-shown me x older (Cast slot batch) n v k e made here h = absurd cc
+  decides-shown me x older (Receive from msg) n v k e made here h = decides-shown-heard me x older from msg.body msg.sig n v k e made here h
   decides-shown me x older Timeout n v k e made here h = absurd cc
 
   decided-shown : (me : ℕ) (xs : List (Item Message)) (n : ℕ) (v : Value) → AreMade hotstuff p me xs → Here me xs → decided p me xs n ≡ Some v → Shown n v

@@ -12,27 +12,28 @@ use Rattle.iss_sb.specs.declared.effects.To.{To}
 use Rattle.iss_sb.specs.declared.effects.To.TheVariants.{All as To_all}
 use Rattle.iss_sb.specs.Evidence.{Item, Made}
 use Rattle.iss_sb.specs.Legal.{AreMade}
-use Rattle.iss_sb.specs.Statements.{signature}
 use Rattle.iss_sb.specs.declared.content.Content.{Content}
 use Rattle.hs_tree.specs.declared.certificates.Certificate.{Certificate}
 use Rattle.hs_tree.specs.declared.messages.Message.{Message}
-use Rattle.hs_tree.specs.declared.messages.Message.TheVariants.{NewView, Prepare, PreCommit, Commit, Decide, Vote}
+use Rattle.hs_tree.specs.declared.messages.Body.{Body}
+use Rattle.hs_tree.specs.declared.messages.Body.TheVariants.{NewView, Prepare, PreCommit, Commit, Decide, Vote}
+use Rattle.hs_tree.specs.Messages.{signed}
 use Rattle.hs_tree.specs.Certificates.{digest_of}
-use Rattle.hs_tree.specs.Statements.{own_statement, with_signature}
 use Rattle.hs_tree.specs.Tree.{basic}
 use Rattle.sb_hotstuff.specs.Facts.{VotedIn}
-use Rattle.sb_hotstuff.specs.HotStuff.{answers, answers_heard, drafts, hotstuff, makes, proposals, shows, sign_all, state, voted}
+use Rattle.sb_hotstuff.specs.HotStuff.{answers, answers_heard, drafts, hotstuff, makes, proposals, shows, state, voted}
 use Rattle.sb_hotstuff.specs.Rules.{State, after, certificate, heard, is_reached, keeps_news, keeps_vote, kept, may_cast, may_end, may_prepare, may_second, may_third, node_digest, proposed, with_cast, with_news, with_node, with_round, with_turn, with_vote}
 use Rattle.hs_views.specs.Views.{Turn}
 use Rattle.sb_hotstuff.proofs.Basics.{second-is, third-is}
-use Rattle.hs_views.proofs.Tests.{by-test, each-option}
+use Rattle.hs_views.proofs.DraftsAgree.{sent-drafted}
+use Rattle.hs_views.proofs.Tests.{by-test, each-option, same-body}
 
 pub record IsFirst (p : Params) (s : State) (i : Input Message) (view : ℕ) (d : List ℕ) : Type 0 where
   pub from : NodeId
   pub what : Content
   pub just : Certificate
   pub sig : List ℕ
-  pub is : i ≡ Receive from (Prepare view what just sig)
+  pub is : i ≡ Receive from (signed (Prepare view what just) sig)
   pub may : may_prepare p s from.0 view what just ≡ true
   pub digest_is : d ≡ node_digest p view what just
 
@@ -40,7 +41,7 @@ pub record IsSecond (p : Params) (s : State) (i : Input Message) (view : ℕ) (d
   pub from : NodeId
   pub shown : Certificate
   pub sig : List ℕ
-  pub is : i ≡ Receive from (PreCommit view shown sig)
+  pub is : i ≡ Receive from (signed (PreCommit view shown) sig)
   pub may : may_second p s view shown ≡ true
   pub digest_is : d ≡ digest_of shown
 
@@ -48,7 +49,7 @@ pub record IsThird (p : Params) (s : State) (i : Input Message) (view : ℕ) (d 
   pub from : NodeId
   pub shown : Certificate
   pub sig : List ℕ
-  pub is : i ≡ Receive from (Commit view shown sig)
+  pub is : i ≡ Receive from (signed (Commit view shown) sig)
   pub may : may_third p s view shown ≡ true
   pub digest_is : d ≡ digest_of shown
 
@@ -57,49 +58,28 @@ pub data Cause (p : Params) (s : State) (i : Input Message) (view : ℕ) (d : Li
   by_second : IsSecond p s i view d → Cause p s i view d 2
   by_third : IsThird p s i view d → Cause p s i view d 3
 
--- ---- Unsigned messages
+-- ---- Drafts
 
-record IsUnsigned (ds : List (To × Message)) (to : To) (phase view : ℕ) (d : List ℕ) : Type 0 where
-  pub sig : List ℕ
-  pub sent : In {A = To × Message} (to, Vote phase view d sig) ds
+module _ (p : Params) (to : To) (phase view : ℕ) (d : List ℕ) where
+  abbrev Sent : List (To × Body) → Type 0
+  Sent ds = In {A = To × Body} (to, Vote phase view d) ds
 
-vote-unsigned : (s t : List ℕ) (msg : Message) (phase view : ℕ) (d : List ℕ) → Vote phase view d s ≡ with_signature t msg → (sig : List ℕ) × (msg ≡ Vote phase view d sig)
-vote-unsigned s t (NewView round high old) phase view d h = absurd cc
-vote-unsigned s t (Prepare v what just old) phase view d h = absurd cc
-vote-unsigned s t (PreCommit v shown old) phase view d h = absurd cc
-vote-unsigned s t (Commit v shown old) phase view d h = absurd cc
-vote-unsigned s t (Decide v shown old) phase view d h = absurd cc
-vote-unsigned s t (Vote q v e old) phase view d h = (old, (let a : q ≡ phase = cc in let b : v ≡ view = cc in let c : e ≡ d = cc in cc))
+  one-is : (a : To) (n : Body) → Sent ((a, n) ∷ []) → Vote phase view d ≡ n
+  one-is a n (inl e) = ap (λ (z : To × Body). z.1) e
+  one-is a n (inr h) = absurd h
 
-unsigned : (p : Params) (me leaf : ℕ) (ds : List (To × Message)) (to : To) (phase view : ℕ) (d sig : List ℕ) → In {A = To × Message} (to, Vote phase view d sig) (sign_all p me leaf ds) → IsUnsigned ds to phase view d
-unsigned p me leaf [] to phase view d sig h = absurd h
-unsigned p me leaf (x ∷ ds) to phase view d sig (inl e) =
-    let r = vote-unsigned sig (signature p me leaf (own_statement basic p x.1)) x.1 phase view d (ap (λ (z : To × Message). z.1) e) in
-    let goes : to ≡ x.0 = ap (λ (z : To × Message). z.0) e in
-    record { sig = r.0; sent = inl (ap (λ (z : To). let y : To × Message = (z, Vote phase view d r.0) in y) goes ∙ ap (λ (z : Message). let y : To × Message = (x.0, z) in y) (sym r.1)) }
-unsigned p me leaf (x ∷ ds) to phase view d sig (inr k) = let r = unsigned p me (suc leaf) ds to phase view d sig k in record { sig = r.sig; sent = inr r.sent }
-
-module _ (p : Params) (to : To) (phase view : ℕ) (d sig : List ℕ) where
-  abbrev Sent : List (To × Message) → Type 0
-  Sent ds = In {A = To × Message} (to, Vote phase view d sig) ds
-
-  one-is : (a b : To) (m n : Message) → In {A = To × Message} (a, m) ((b, n) ∷ []) → m ≡ n
-  one-is a b m n (inl e) = ap (λ (z : To × Message). z.1) e
-  one-is a b m n (inr h) = absurd h
-
-  by-true : (t : Bool) (ds : List (To × Message)) (C : Type 0) → (t ≡ true → Sent ds → C) → Sent (if t then ds else []) → C
+  by-true : (t : Bool) (ds : List (To × Body)) (C : Type 0) → (t ≡ true → Sent ds → C) → Sent (if t then ds else []) → C
   by-true true ds C h k = h refl k
   by-true false ds C h k = absurd k
 
   none-proposed : (o : Option Turn) → Sent (proposals o) → ⊥
   none-proposed None h = h
-  none-proposed (Some t) (inl e) = let m : Vote phase view d sig ≡ Prepare t.view t.what t.just [] = ap (λ (z : To × Message). z.1) e in cc
-  none-proposed (Some t) (inr h) = h
+  none-proposed (Some t) h = let m = one-is To_all (Prepare t.view t.what t.just) h in cc
 
-  none-shown : (q v : ℕ) (c : Certificate) → Vote phase view d sig ≡ shows q v c → ⊥
+  none-shown : (q v : ℕ) (c : Certificate) → Vote phase view d ≡ shows q v c → ⊥
   none-shown q v c h = go (q == 1) (q == 2) h
     where
-      go : (a b : Bool) → Vote phase view d sig ≡ (if a then PreCommit v c [] else (if b then Commit v c [] else Decide v c [])) → ⊥
+      go : (a b : Bool) → Vote phase view d ≡ (if a then PreCommit v c else (if b then Commit v c else Decide v c)) → ⊥
       go true b e = cc
       go false true e = cc
       go false false e = cc
@@ -107,58 +87,56 @@ module _ (p : Params) (to : To) (phase view : ℕ) (d sig : List ℕ) where
   abbrev Why : State → Input Message → Type 0
   Why s i = Cause p s i view d phase
 
-  why-heard : (s k : State) (from : NodeId) (msg : Message) → Sent (answers_heard p s k from.0 msg) → Why s (Receive from msg)
-  why-heard s k from (NewView round high x) h = absurd h
-  why-heard s k from (Prepare v what just x) h = by-true (may_prepare p s from.0 v what just) (voted p 1 v (node_digest p v what just)) (Why s (Receive from (Prepare v what just x))) (λ t z. go t (one-is to _ (Vote phase view d sig) (Vote 1 v (node_digest p v what just) []) z)) h
+  why-heard : (s k : State) (from : NodeId) (body : Body) (sig : List ℕ) → Sent (answers_heard p s k from.0 body) → Why s (Receive from (signed body sig))
+  why-heard s k from (Prepare v what just) x h = by-true (may_prepare p s from.0 v what just) (voted p 1 v (node_digest p v what just)) (Why s (Receive from (signed (Prepare v what just) x))) (λ t z. go t (one-is _ (Vote 1 v (node_digest p v what just)) z)) h
     where
-      go : may_prepare p s from.0 v what just ≡ true → Vote phase view d sig ≡ Vote 1 v (node_digest p v what just) [] → Why s (Receive from (Prepare v what just x))
+      go : may_prepare p s from.0 v what just ≡ true → Vote phase view d ≡ Vote 1 v (node_digest p v what just) → Why s (Receive from (signed (Prepare v what just) x))
       go t e =
           let a : phase ≡ 1 = cc in
           let b : view ≡ v = cc in
           let c : d ≡ node_digest p v what just = cc in
-          subst (λ (z : ℕ). Cause p s (Receive from (Prepare v what just x)) view d z) (sym a)
-          (subst (λ (z : ℕ). Cause p s (Receive from (Prepare v what just x)) z d 1) (sym b)
+          subst (λ (z : ℕ). Cause p s (Receive from (signed (Prepare v what just) x)) view d z) (sym a)
+          (subst (λ (z : ℕ). Cause p s (Receive from (signed (Prepare v what just) x)) z d 1) (sym b)
           (by_first (record { from = from; what = what; just = just; sig = x; is = refl; may = t; digest_is = c })))
-  why-heard s k from (PreCommit v shown x) h = by-true (may_second p s v shown) (voted p 2 v (digest_of shown)) (Why s (Receive from (PreCommit v shown x))) (λ t z. go t (one-is to _ (Vote phase view d sig) (Vote 2 v (digest_of shown) []) z)) h
+  why-heard s k from (PreCommit v shown) x h = by-true (may_second p s v shown) (voted p 2 v (digest_of shown)) (Why s (Receive from (signed (PreCommit v shown) x))) (λ t z. go t (one-is _ (Vote 2 v (digest_of shown)) z)) h
     where
-      go : may_second p s v shown ≡ true → Vote phase view d sig ≡ Vote 2 v (digest_of shown) [] → Why s (Receive from (PreCommit v shown x))
+      go : may_second p s v shown ≡ true → Vote phase view d ≡ Vote 2 v (digest_of shown) → Why s (Receive from (signed (PreCommit v shown) x))
       go t e =
           let a : phase ≡ 2 = cc in
           let b : view ≡ v = cc in
           let c : d ≡ digest_of shown = cc in
-          subst (λ (z : ℕ). Cause p s (Receive from (PreCommit v shown x)) view d z) (sym a)
-          (subst (λ (z : ℕ). Cause p s (Receive from (PreCommit v shown x)) z d 2) (sym b)
+          subst (λ (z : ℕ). Cause p s (Receive from (signed (PreCommit v shown) x)) view d z) (sym a)
+          (subst (λ (z : ℕ). Cause p s (Receive from (signed (PreCommit v shown) x)) z d 2) (sym b)
           (by_second (record { from = from; shown = shown; sig = x; is = refl; may = t; digest_is = c })))
-  why-heard s k from (Commit v shown x) h = by-true (may_third p s v shown) (voted p 3 v (digest_of shown)) (Why s (Receive from (Commit v shown x))) (λ t z. go t (one-is to _ (Vote phase view d sig) (Vote 3 v (digest_of shown) []) z)) h
+  why-heard s k from (Commit v shown) x h = by-true (may_third p s v shown) (voted p 3 v (digest_of shown)) (Why s (Receive from (signed (Commit v shown) x))) (λ t z. go t (one-is _ (Vote 3 v (digest_of shown)) z)) h
     where
-      go : may_third p s v shown ≡ true → Vote phase view d sig ≡ Vote 3 v (digest_of shown) [] → Why s (Receive from (Commit v shown x))
+      go : may_third p s v shown ≡ true → Vote phase view d ≡ Vote 3 v (digest_of shown) → Why s (Receive from (signed (Commit v shown) x))
       go t e =
           let a : phase ≡ 3 = cc in
           let b : view ≡ v = cc in
           let c : d ≡ digest_of shown = cc in
-          subst (λ (z : ℕ). Cause p s (Receive from (Commit v shown x)) view d z) (sym a)
-          (subst (λ (z : ℕ). Cause p s (Receive from (Commit v shown x)) z d 3) (sym b)
+          subst (λ (z : ℕ). Cause p s (Receive from (signed (Commit v shown) x)) view d z) (sym a)
+          (subst (λ (z : ℕ). Cause p s (Receive from (signed (Commit v shown) x)) z d 3) (sym b)
           (by_third (record { from = from; shown = shown; sig = x; is = refl; may = t; digest_is = c })))
-  why-heard s k from (Decide v shown x) h = absurd h
-  why-heard s k from (Vote q v e x) h = absurd (by-true (keeps_vote p s from.0 q v e && is_reached p k q v e) ((To_all, shows q v (certificate p k q v e)) ∷ []) ⊥ (λ t z. none-shown q v (certificate p k q v e) (one-is to To_all (Vote phase view d sig) (shows q v (certificate p k q v e)) z)) h)
+  why-heard s k from (Vote q v e) x h = absurd (by-true (keeps_vote p s from.0 q v e && is_reached p k q v e) ((To_all, shows q v (certificate p k q v e)) ∷ []) ⊥ (λ t z. none-shown q v (certificate p k q v e) (one-is To_all (shows q v (certificate p k q v e)) z)) h)
+  why-heard s k from other x h = absurd h
 
   why-answer : (s k : State) (i : Input Message) → Sent (answers p s k i) → Why s i
   why-answer s k (Cast slot batch) h = absurd h
-  why-answer s k (Receive from msg) h = why-heard s k from msg h
-  why-answer s k Timeout h = absurd (by-true (may_end s) _ ⊥ (λ t z. let e = one-is to _ (Vote phase view d sig) _ z in cc) h)
+  why-answer s k (Receive from msg) h = why-heard s k from msg.body msg.sig h
+  why-answer s k Timeout h = absurd (by-true (may_end s) _ ⊥ (λ t z. let e = one-is _ _ z in cc) h)
 
   why : (me : ℕ) (s : State) (i : Input Message) → Sent (drafts p me s i) → Why s i
   why me s i h =
       let k = kept p me s i in
-      elim (in_append {A = To × Message} (to, Vote phase view d sig) (answers p s k i) (proposals (proposed p me s k i)) h) [
+      elim (in_append {A = To × Body} (to, Vote phase view d) (answers p s k i) (proposals (proposed p me s k i)) h) [
         | inl a ↦ why-answer s k i a
         | inr a ↦ absurd (none-proposed (proposed p me s k i) a)
       ]
 
-pub cause : (p : Params) (me leaf : ℕ) (xs : List (Item Message)) (i : Input Message) (to : To) (phase view : ℕ) (d sig : List ℕ) → In {A = To × Message} (to, Vote phase view d sig) (makes p me xs i leaf).sends → Cause p (state p me xs) i view d phase
+pub cause : (p : Params) (me leaf : ℕ) (xs : List (Item Message)) (i : Input Message) (to : To) (phase view : ℕ) (d sig : List ℕ) → In {A = To × Message} (to, signed (Vote phase view d) sig) (makes p me xs i leaf).sends → Cause p (state p me xs) i view d phase
 cause p me leaf xs i to phase view d sig h =
-    let r = unsigned p me leaf (drafts p me (state p me xs) i) to phase view d sig h in
-    why p to phase view d r.sig me (state p me xs) i r.sent
+    why p to phase view d me (state p me xs) i (sent-drafted basic p me leaf (drafts p me (state p me xs) i) to (signed (Vote phase view d) sig) h)
 
 -- ---- Views never decrease
 
@@ -179,17 +157,17 @@ prepare-above p s from view what just h =
 round-above : (v : ℕ) → v ≤ suc (v / 65536) * 65536
 round-above v = omega arith
 
-heard-view : (p : Params) (me : ℕ) (s : State) (from : ℕ) (msg : Message) → Rises s.view (heard p me s from msg)
-heard-view p me s from (NewView round high sig) = by-test (Rises s.view) (keeps_news p me s from round high) (with_news s from round high) s (λ t. same s.view) (same s.view)
-heard-view p me s from (Prepare view what just sig) = by-test (Rises s.view) (may_prepare p s from view what just) (with_node p s view what just) s (λ t. let a = prepare-above p s from view what just t in omega (arith, a)) (same s.view)
-heard-view p me s from (PreCommit view shown sig) = by-test (Rises s.view) (may_second p s view shown) (record s { high = shown; second = true }) s (λ t. same s.view) (same s.view)
-heard-view p me s from (Commit view shown sig) = by-test (Rises s.view) (may_third p s view shown) (record s { lock = shown; third = true }) s (λ t. same s.view) (same s.view)
-heard-view p me s from (Decide view shown sig) = same s.view
-heard-view p me s from (Vote phase view d sig) = by-test (Rises s.view) (keeps_vote p s from phase view d) (with_vote s from phase view d sig) s (λ t. same s.view) (same s.view)
+heard-view : (p : Params) (me : ℕ) (s : State) (from : ℕ) (body : Body) (sig : List ℕ) → Rises s.view (heard p me s from body sig)
+heard-view p me s from (NewView round high) sig = by-test (Rises s.view) (keeps_news p me s from round high) (with_news s from round high) s (λ t. same s.view) (same s.view)
+heard-view p me s from (Prepare view what just) sig = by-test (Rises s.view) (may_prepare p s from view what just) (with_node p s view what just) s (λ t. let a = prepare-above p s from view what just t in omega (arith, a)) (same s.view)
+heard-view p me s from (PreCommit view shown) sig = by-test (Rises s.view) (may_second p s view shown) (record s { high = shown; second = true }) s (λ t. same s.view) (same s.view)
+heard-view p me s from (Commit view shown) sig = by-test (Rises s.view) (may_third p s view shown) (record s { lock = shown; third = true }) s (λ t. same s.view) (same s.view)
+heard-view p me s from (Decide view shown) sig = same s.view
+heard-view p me s from (Vote phase view d) sig = by-test (Rises s.view) (keeps_vote p s from phase view d) (with_vote s from phase view d sig) s (λ t. same s.view) (same s.view)
 
 kept-view : (p : Params) (me : ℕ) (s : State) (i : Input Message) → Rises s.view (kept p me s i)
 kept-view p me s (Cast slot batch) = by-test (Rises s.view) (may_cast p me s slot.0) (with_cast s batch) s (λ q. same s.view) (same s.view)
-kept-view p me s (Receive from msg) = heard-view p me s from.0 msg
+kept-view p me s (Receive from msg) = heard-view p me s from.0 msg.body msg.sig
 kept-view p me s Timeout = by-test (Rises s.view) (may_end s) (with_round s) s (λ t. round-above s.view) (same s.view)
 
 pub after-view : (p : Params) (me : ℕ) (s : State) (i : Input Message) → Rises s.view (after p me s i)
@@ -202,14 +180,14 @@ after-view p me s i =
 
 pub first-view : (p : Params) (me : ℕ) (s : State) (i : Input Message) (view : ℕ) (d : List ℕ) → IsFirst p s i view d → (s.view < view) × ((after p me s i).view ≡ view)
 first-view p me s i view d f =
-    let here : (after p me s (Receive f.from (Prepare view f.what f.just f.sig))).view ≡ view = rw (f.may) refl in
+    let here : (after p me s (Receive f.from (signed (Prepare view f.what f.just) f.sig))).view ≡ view = rw (f.may) refl in
     (prepare-above p s f.from.0 view f.what f.just f.may, subst (λ (z : Input Message). (after p me s z).view ≡ view) (sym f.is) here)
 
 pub second-view : (p : Params) (me : ℕ) (s : State) (i : Input Message) (view : ℕ) (d : List ℕ) → IsSecond p s i view d → (view ≡ s.view) × (s.second ≡ false) × ((after p me s i).view ≡ view) × ((after p me s i).second ≡ true)
 second-view p me s i view d f =
     let own = (second-is p s view f.shown f.may).own in
     let open-now = (and-true _ (not s.second) f.may).1 in
-    let new : after p me s (Receive f.from (PreCommit view f.shown f.sig)) ≡ record s { high = f.shown; second = true } = rw (f.may) refl in
+    let new : after p me s (Receive f.from (signed (PreCommit view f.shown) f.sig)) ≡ record s { high = f.shown; second = true } = rw (f.may) refl in
     let is : after p me s i ≡ record s { high = f.shown; second = true } = ap (λ (z : Input Message). after p me s z) f.is ∙ new in
     (own, not-true s.second open-now, ap (λ (z : State). z.view) is ∙ sym own, ap (λ (z : State). z.second) is)
 
@@ -217,36 +195,36 @@ pub third-view : (p : Params) (me : ℕ) (s : State) (i : Input Message) (view :
 third-view p me s i view d f =
     let own = (third-is p s view f.shown f.may).own in
     let open-now = (and-true _ (not s.third) f.may).1 in
-    let new : after p me s (Receive f.from (Commit view f.shown f.sig)) ≡ record s { lock = f.shown; third = true } = rw (f.may) refl in
+    let new : after p me s (Receive f.from (signed (Commit view f.shown) f.sig)) ≡ record s { lock = f.shown; third = true } = rw (f.may) refl in
     let is : after p me s i ≡ record s { lock = f.shown; third = true } = ap (λ (z : Input Message). after p me s z) f.is ∙ new in
     (own, not-true s.third open-now, ap (λ (z : State). z.view) is ∙ sym own, ap (λ (z : State). z.third) is)
 
 -- ---- In one history
 
 pub cause-new : (p : Params) (me : ℕ) (x : Item Message) (xs : List (Item Message)) (phase view : ℕ) (d : List ℕ) → AreMade hotstuff p me (x ∷ xs) → VotedIn x phase view d → Cause p (state p me xs) x.input view d phase
-cause-new p me x xs phase view d made v = cause p me x.leaf xs x.input v.to phase view d v.sig (subst (λ (z : Made Message). In {A = To × Message} (v.to, Vote phase view d v.sig) z.sends) made.0 v.sent)
+cause-new p me x xs phase view d made v = cause p me x.leaf xs x.input v.to phase view d v.sig (subst (λ (z : Made Message). In {A = To × Message} (v.to, signed (Vote phase view d) v.sig) z.sends) made.0 v.sent)
 
 -- a step has at most one cause of a vote
 cause-one : (p : Params) (s : State) (i : Input Message) (phase view q v : ℕ) (d e : List ℕ) → Cause p s i view d phase → Cause p s i v e q → (phase ≡ q) × (view ≡ v) × (d ≡ e)
 cause-one p s i phase view q v d e (by_first f) (by_first g) =
-    let k : Receive f.from (Prepare view f.what f.just f.sig) ≡ Receive g.from (Prepare v g.what g.just g.sig) = sym f.is ∙ g.is in
+    let k : Prepare view f.what f.just ≡ Prepare v g.what g.just = same-body _ _ _ _ (sym f.is ∙ g.is) in
     let a : view ≡ v = cc in
     let c : f.what ≡ g.what = cc in
     let j : f.just ≡ g.just = cc in
     (refl, a, f.digest_is ∙ ap (λ (z : ℕ). node_digest p z f.what f.just) a ∙ ap (λ (z : Content). node_digest p v z f.just) c ∙ ap (λ (z : Certificate). node_digest p v g.what z) j ∙ sym g.digest_is)
-cause-one p s i phase view q v d e (by_first f) (by_second g) = absurd (let k : Receive f.from (Prepare view f.what f.just f.sig) ≡ Receive g.from (PreCommit v g.shown g.sig) = sym f.is ∙ g.is in cc)
-cause-one p s i phase view q v d e (by_first f) (by_third g) = absurd (let k : Receive f.from (Prepare view f.what f.just f.sig) ≡ Receive g.from (Commit v g.shown g.sig) = sym f.is ∙ g.is in cc)
-cause-one p s i phase view q v d e (by_second f) (by_first g) = absurd (let k : Receive f.from (PreCommit view f.shown f.sig) ≡ Receive g.from (Prepare v g.what g.just g.sig) = sym f.is ∙ g.is in cc)
+cause-one p s i phase view q v d e (by_first f) (by_second g) = absurd (let k : Prepare view f.what f.just ≡ PreCommit v g.shown = same-body _ _ _ _ (sym f.is ∙ g.is) in cc)
+cause-one p s i phase view q v d e (by_first f) (by_third g) = absurd (let k : Prepare view f.what f.just ≡ Commit v g.shown = same-body _ _ _ _ (sym f.is ∙ g.is) in cc)
+cause-one p s i phase view q v d e (by_second f) (by_first g) = absurd (let k : PreCommit view f.shown ≡ Prepare v g.what g.just = same-body _ _ _ _ (sym f.is ∙ g.is) in cc)
 cause-one p s i phase view q v d e (by_second f) (by_second g) =
-    let k : Receive f.from (PreCommit view f.shown f.sig) ≡ Receive g.from (PreCommit v g.shown g.sig) = sym f.is ∙ g.is in
+    let k : PreCommit view f.shown ≡ PreCommit v g.shown = same-body _ _ _ _ (sym f.is ∙ g.is) in
     let a : view ≡ v = cc in
     let c : f.shown ≡ g.shown = cc in
     (refl, a, f.digest_is ∙ ap digest_of c ∙ sym g.digest_is)
-cause-one p s i phase view q v d e (by_second f) (by_third g) = absurd (let k : Receive f.from (PreCommit view f.shown f.sig) ≡ Receive g.from (Commit v g.shown g.sig) = sym f.is ∙ g.is in cc)
-cause-one p s i phase view q v d e (by_third f) (by_first g) = absurd (let k : Receive f.from (Commit view f.shown f.sig) ≡ Receive g.from (Prepare v g.what g.just g.sig) = sym f.is ∙ g.is in cc)
-cause-one p s i phase view q v d e (by_third f) (by_second g) = absurd (let k : Receive f.from (Commit view f.shown f.sig) ≡ Receive g.from (PreCommit v g.shown g.sig) = sym f.is ∙ g.is in cc)
+cause-one p s i phase view q v d e (by_second f) (by_third g) = absurd (let k : PreCommit view f.shown ≡ Commit v g.shown = same-body _ _ _ _ (sym f.is ∙ g.is) in cc)
+cause-one p s i phase view q v d e (by_third f) (by_first g) = absurd (let k : Commit view f.shown ≡ Prepare v g.what g.just = same-body _ _ _ _ (sym f.is ∙ g.is) in cc)
+cause-one p s i phase view q v d e (by_third f) (by_second g) = absurd (let k : Commit view f.shown ≡ PreCommit v g.shown = same-body _ _ _ _ (sym f.is ∙ g.is) in cc)
 cause-one p s i phase view q v d e (by_third f) (by_third g) =
-    let k : Receive f.from (Commit view f.shown f.sig) ≡ Receive g.from (Commit v g.shown g.sig) = sym f.is ∙ g.is in
+    let k : Commit view f.shown ≡ Commit v g.shown = same-body _ _ _ _ (sym f.is ∙ g.is) in
     let a : view ≡ v = cc in
     let c : f.shown ≡ g.shown = cc in
     (refl, a, f.digest_is ∙ ap digest_of c ∙ sym g.digest_is)
@@ -263,17 +241,17 @@ Remembers s t = (s.view < t.view) ⊎ ((s.view ≡ t.view) × (s.second ≡ true
 all-same : (s t : State) → s.view ≡ t.view → s.second ≡ t.second → s.third ≡ t.third → Remembers s t
 all-same s t a b c = inr (a, (λ h. sym b ∙ h), (λ h. sym c ∙ h))
 
-heard-keeps : (p : Params) (me : ℕ) (s : State) (from : ℕ) (msg : Message) → Remembers s (heard p me s from msg)
-heard-keeps p me s from (NewView round high sig) = by-test (Remembers s) (keeps_news p me s from round high) (with_news s from round high) s (λ t. all-same s (with_news s from round high) refl refl refl) (all-same s s refl refl refl)
-heard-keeps p me s from (Prepare view what just sig) = by-test (Remembers s) (may_prepare p s from view what just) (with_node p s view what just) s (λ t. inl (prepare-above p s from view what just t)) (all-same s s refl refl refl)
-heard-keeps p me s from (PreCommit view shown sig) = by-test (Remembers s) (may_second p s view shown) (record s { high = shown; second = true }) s (λ t. inr (refl, (λ h. refl), (λ h. h))) (all-same s s refl refl refl)
-heard-keeps p me s from (Commit view shown sig) = by-test (Remembers s) (may_third p s view shown) (record s { lock = shown; third = true }) s (λ t. inr (refl, (λ h. h), (λ h. refl))) (all-same s s refl refl refl)
-heard-keeps p me s from (Decide view shown sig) = all-same s s refl refl refl
-heard-keeps p me s from (Vote phase view d sig) = by-test (Remembers s) (keeps_vote p s from phase view d) (with_vote s from phase view d sig) s (λ t. all-same s (with_vote s from phase view d sig) refl refl refl) (all-same s s refl refl refl)
+heard-keeps : (p : Params) (me : ℕ) (s : State) (from : ℕ) (body : Body) (sig : List ℕ) → Remembers s (heard p me s from body sig)
+heard-keeps p me s from (NewView round high) sig = by-test (Remembers s) (keeps_news p me s from round high) (with_news s from round high) s (λ t. all-same s (with_news s from round high) refl refl refl) (all-same s s refl refl refl)
+heard-keeps p me s from (Prepare view what just) sig = by-test (Remembers s) (may_prepare p s from view what just) (with_node p s view what just) s (λ t. inl (prepare-above p s from view what just t)) (all-same s s refl refl refl)
+heard-keeps p me s from (PreCommit view shown) sig = by-test (Remembers s) (may_second p s view shown) (record s { high = shown; second = true }) s (λ t. inr (refl, (λ h. refl), (λ h. h))) (all-same s s refl refl refl)
+heard-keeps p me s from (Commit view shown) sig = by-test (Remembers s) (may_third p s view shown) (record s { lock = shown; third = true }) s (λ t. inr (refl, (λ h. h), (λ h. refl))) (all-same s s refl refl refl)
+heard-keeps p me s from (Decide view shown) sig = all-same s s refl refl refl
+heard-keeps p me s from (Vote phase view d) sig = by-test (Remembers s) (keeps_vote p s from phase view d) (with_vote s from phase view d sig) s (λ t. all-same s (with_vote s from phase view d sig) refl refl refl) (all-same s s refl refl refl)
 
 kept-keeps : (p : Params) (me : ℕ) (s : State) (i : Input Message) → Remembers s (kept p me s i)
 kept-keeps p me s (Cast slot batch) = by-test (Remembers s) (may_cast p me s slot.0) (with_cast s batch) s (λ q. all-same s (with_cast s batch) refl refl refl) (all-same s s refl refl refl)
-kept-keeps p me s (Receive from msg) = heard-keeps p me s from.0 msg
+kept-keeps p me s (Receive from msg) = heard-keeps p me s from.0 msg.body msg.sig
 kept-keeps p me s Timeout = by-test (Remembers s) (may_end s) (with_round s) s (λ t. inl (higher s.view)) (all-same s s refl refl refl)
   where
     higher : (v : ℕ) → v < suc (v / 65536) * 65536

@@ -29,7 +29,9 @@ use Rattle.hs_tree.specs.declared.certificates.Certificate.{Certificate}
 use Rattle.hs_tree.specs.declared.certificates.Certificate.TheVariants.{Root, Votes}
 use Rattle.iss_sb.specs.declared.signers.Signed.{Signed}
 use Rattle.hs_tree.specs.declared.messages.Message.{Message}
-use Rattle.hs_tree.specs.declared.messages.Message.TheVariants.{NewView, Prepare, PreCommit, Commit, Decide, Vote}
+use Rattle.hs_tree.specs.declared.messages.Body.{Body}
+use Rattle.hs_tree.specs.declared.messages.Body.TheVariants.{NewView, Prepare, PreCommit, Commit, Decide, Vote}
+use Rattle.hs_tree.specs.Messages.{signed}
 use Rattle.hs_tree.specs.Certificates.{digest_of, is_quorum, signers, view_of}
 use Rattle.hs_tree.specs.Paths.{Has, IsTree}
 use Rattle.iss_sb.specs.Statements.{claim}
@@ -129,9 +131,9 @@ module _ (p : Params) (w : World Message) (good : IsGoodParams hotstuff p) (lega
   by-certificate phase view (Votes v q d votes) h g b = by-votes phase view q v d votes h g b
 
   -- a valid certificate in a message that was received
-  pub came-certified : (phase view from : ℕ) (msg : Message) → Came p w from msg → is_good p phase view (inside msg) ≡ true → IsCertified p w phase view (digest_of (inside msg))
-  came-certified phase view from msg m h = by-certificate phase view (inside msg) (good-is p phase view (inside msg) h).quorum
-      (λ c k. m.verified c (in_left c (certificate_claims basic p (inside msg)) _ k)) (λ c k. m.signed c (in_left c (certificate_claims basic p (inside msg)) _ k))
+  pub came-certified : (phase view from : ℕ) (msg : Message) → Came p w from msg → is_good p phase view (inside msg.body) ≡ true → IsCertified p w phase view (digest_of (inside msg.body))
+  came-certified phase view from msg m h = by-certificate phase view (inside msg.body) (good-is p phase view (inside msg.body) h).quorum
+      (λ c k. m.verified c (in_left c (certificate_claims basic p (inside msg.body)) _ k)) (λ c k. m.signed c (in_left c (certificate_claims basic p (inside msg.body)) _ k))
 
   pub came : (me : ℕ) (x : Item Message) (from : NodeId) (msg : Message) → In x (w me) → x.input ≡ Receive from msg → Came p w from.0 msg
   came me x from msg k e = subst (λ (z : Input Message). MayCome hotstuff p w me z) e (legal.came me x k)
@@ -149,8 +151,8 @@ module _ (p : Params) (w : World Message) (good : IsGoodParams hotstuff p) (lega
       go : {q : ℕ} → Cause p (state p k (Here k h.item h.taken).older) h.item.input v d q → q ≡ 2 → IsCertified p w 1 v d
       go (by_first f) e = absurd cc
       go (by_second f) e =
-          let m = came k h.item f.from (PreCommit v f.shown f.sig) h.taken f.is in
-          subst (λ (z : List ℕ). IsCertified p w 1 v z) (sym f.digest_is) (came-certified 1 v f.from.0 (PreCommit v f.shown f.sig) m (second-is p (state p k (Here k h.item h.taken).older) v f.shown f.may).good)
+          let m = came k h.item f.from (signed (PreCommit v f.shown) f.sig) h.taken f.is in
+          subst (λ (z : List ℕ). IsCertified p w 1 v z) (sym f.digest_is) (came-certified 1 v f.from.0 (signed (PreCommit v f.shown) f.sig) m (second-is p (state p k (Here k h.item h.taken).older) v f.shown f.may).good)
       go (by_third f) e = absurd cc
 
   pub third-why : (k v : ℕ) (d : List ℕ) → IsVoted w k 3 v d → IsCertified p w 2 v d
@@ -162,8 +164,8 @@ module _ (p : Params) (w : World Message) (good : IsGoodParams hotstuff p) (lega
       go (by_first f) e = absurd cc
       go (by_second f) e = absurd cc
       go (by_third f) e =
-          let m = came k h.item f.from (Commit v f.shown f.sig) h.taken f.is in
-          subst (λ (z : List ℕ). IsCertified p w 2 v z) (sym f.digest_is) (came-certified 2 v f.from.0 (Commit v f.shown f.sig) m (third-is p (state p k (Here k h.item h.taken).older) v f.shown f.may).good)
+          let m = came k h.item f.from (signed (Commit v f.shown) f.sig) h.taken f.is in
+          subst (λ (z : List ℕ). IsCertified p w 2 v z) (sym f.digest_is) (came-certified 2 v f.from.0 (signed (Commit v f.shown) f.sig) m (third-is p (state p k (Here k h.item h.taken).older) v f.shown f.may).good)
 
   pub one-why : (k v : ℕ) (d e : List ℕ) → IsVoted w k 1 v d → IsVoted w k 1 v e → d ≡ e
   one-why k v d e h g = one-first p k (w k) h.item g.item v d e (legal.made k) h.taken g.taken h.vote g.vote
@@ -195,13 +197,13 @@ module _ (p : Params) (w : World Message) (good : IsGoodParams hotstuff p) (lega
   taken-has me x view what just k t = hashed-has me x view what just k t.long t.read t.all
 
   pub is-taken : (me : ℕ) (x : Item Message) (older : List (Item Message)) (from : NodeId) (view : ℕ) (what : Content) (just : Certificate) (sig : List ℕ) → In x (w me) → AreMade hotstuff p me (x ∷ older) →
-      x.input ≡ Receive from (Prepare view what just sig) → may_prepare p (state p me older) from.0 view what just ≡ true → IsTaken me x view what just
+      x.input ≡ Receive from (signed (Prepare view what just) sig) → may_prepare p (state p me older) from.0 view what just ≡ true → IsTaken me x view what just
   is-taken me x older from view what just sig k made e may =
       let s = state p me older in
-      let m = came me x from (Prepare view what just sig) k e in
-      let row = read-spelled 3 p.setup.version (Prepare view what just sig) m.read in
+      let m = came me x from (signed (Prepare view what just) sig) k e in
+      let row = (read-spelled 3 p.setup.version (signed (Prepare view what just) sig) m.read).body in
       let made-is : x.made.strings ≡ strings p me s x.input = ap (λ (z : Made Message). z.strings) made.0 in
-      let at : strings p me s (Receive from (Prepare view what just sig)) ≡ strings_at p view what just ++ [] = rw may refl in
+      let at : strings p me s (Receive from (signed (Prepare view what just) sig)) ≡ strings_at p view what just ++ [] = rw may refl in
       let all : x.made.strings ≡ strings_at p view what just ++ [] = made-is ∙ ap (λ (z : Input Message). strings p me s z) e ∙ at in
       record {
         all = λ z q. subst (λ (y : List (List ℕ)). In z y) (sym all) (in_left z (strings_at p view what just) [] q);
@@ -235,18 +237,21 @@ module _ (p : Params) (w : World Message) (good : IsGoodParams hotstuff p) (lega
   tree-turn s None h = h
   tree-turn s (Some t) h = h
 
-  tree-kept : (me : ℕ) (x : Item Message) (older : List (Item Message)) (i : Input Message) → In x (w me) → AreMade hotstuff p me (x ∷ older) → x.input ≡ i → Tree (state p me older) → Tree (kept p me (state p me older) i)
-  tree-kept me x older (Cast slot batch) k made e h = let s = state p me older in by-test Tree (may_cast p me s slot.0) (with_cast s batch) s (λ q. h) h
-  tree-kept me x older (Receive from (NewView round high sig)) k made e h = let s = state p me older in by-test Tree (keeps_news p me s from.0 round high) (with_news s from.0 round high) s (λ q. h) h
-  tree-kept me x older (Receive from (Prepare view what just sig)) k made e h =
+  tree-kept-heard : (me : ℕ) (x : Item Message) (older : List (Item Message)) (from : NodeId) (body : Body) (sig : List ℕ) → In x (w me) → AreMade hotstuff p me (x ∷ older) → x.input ≡ (Receive from (signed body sig)) → Tree (state p me older) → Tree (kept p me (state p me older) (Receive from (signed body sig)))
+  tree-kept-heard me x older from (NewView round high) sig k made e h = let s = state p me older in by-test Tree (keeps_news p me s from.0 round high) (with_news s from.0 round high) s (λ q. h) h
+  tree-kept-heard me x older from (Prepare view what just) sig k made e h =
       let s = state p me older in
       by-test Tree (may_prepare p s from.0 view what just) (with_node p s view what just) s (λ q.
       let t = is-taken me x older from view what just sig k made e q in
       (taken-has me x view what just k t, refl, (parts s from.0 view what just q).known, h)) h
-  tree-kept me x older (Receive from (PreCommit view shown sig)) k made e h = let s = state p me older in by-test Tree (may_second p s view shown) (record s { high = shown; second = true }) s (λ q. h) h
-  tree-kept me x older (Receive from (Commit view shown sig)) k made e h = let s = state p me older in by-test Tree (may_third p s view shown) (record s { lock = shown; third = true }) s (λ q. h) h
-  tree-kept me x older (Receive from (Decide view shown sig)) k made e h = h
-  tree-kept me x older (Receive from (Vote phase view d sig)) k made e h = let s = state p me older in by-test Tree (keeps_vote p s from.0 phase view d) (with_vote s from.0 phase view d sig) s (λ q. h) h
+  tree-kept-heard me x older from (PreCommit view shown) sig k made e h = let s = state p me older in by-test Tree (may_second p s view shown) (record s { high = shown; second = true }) s (λ q. h) h
+  tree-kept-heard me x older from (Commit view shown) sig k made e h = let s = state p me older in by-test Tree (may_third p s view shown) (record s { lock = shown; third = true }) s (λ q. h) h
+  tree-kept-heard me x older from (Decide view shown) sig k made e h = h
+  tree-kept-heard me x older from (Vote phase view d) sig k made e h = let s = state p me older in by-test Tree (keeps_vote p s from.0 phase view d) (with_vote s from.0 phase view d sig) s (λ q. h) h
+
+  tree-kept : (me : ℕ) (x : Item Message) (older : List (Item Message)) (i : Input Message) → In x (w me) → AreMade hotstuff p me (x ∷ older) → x.input ≡ i → Tree (state p me older) → Tree (kept p me (state p me older) i)
+  tree-kept me x older (Cast slot batch) k made e h = let s = state p me older in by-test Tree (may_cast p me s slot.0) (with_cast s batch) s (λ q. h) h
+  tree-kept me x older (Receive from msg) k made e h = tree-kept-heard me x older from msg.body msg.sig k made e h
   tree-kept me x older Timeout k made e h = let s = state p me older in by-test Tree (may_end s) (with_round s) s (λ q. h) h
 
   pub state-tree : (me : ℕ) (xs : List (Item Message)) → AreMade hotstuff p me xs → AllHere me xs → Tree (state p me xs)
@@ -261,11 +266,11 @@ module _ (p : Params) (w : World Message) (good : IsGoodParams hotstuff p) (lega
   pub spot-here : (k : ℕ) (x : Item Message) (q : In x (w k)) → AllHere k (Here k x q).older
   spot-here k x q y h = (Here k x q).inside_it y (inr h)
 
-  pub just-why : (view from : ℕ) (what : Content) (just : Certificate) (sig : List ℕ) → Came p w from (Prepare view what just sig) → is_just p view just ≡ true → (just ≡ Root) ⊎ ((view_of just < view) × IsCertified p w 1 (view_of just) (digest_of just))
+  pub just-why : (view from : ℕ) (what : Content) (just : Certificate) (sig : List ℕ) → Came p w from (signed (Prepare view what just) sig) → is_just p view just ≡ true → (just ≡ Root) ⊎ ((view_of just < view) × IsCertified p w 1 (view_of just) (digest_of just))
   just-why view from what Root sig m h = inl refl
   just-why view from what (Votes v q d votes) sig m h =
       let t = and-true (is_good p 1 v (Votes v q d votes)) (nat_lt v view) h in
-      inr (ltb-true v view t.1, came-certified 1 v from (Prepare view what (Votes v q d votes) sig) m t.0)
+      inr (ltb-true v view t.1, came-certified 1 v from (signed (Prepare view what (Votes v q d votes)) sig) m t.0)
 
   offered-why : (me : ℕ) (x : Item Message) (older : List (Item Message)) (b : Batch) (n : ℕ) → n < length p.slots → x.made.accepted ≡ unless_accepted (accepts older) b (nth p.slots n) →
       (s : Slot) × (nth p.slots n ≡ Some s) × In {A = Slot × Batch} (s, b) (accepts (x ∷ older))
@@ -294,7 +299,7 @@ module _ (p : Params) (w : World Message) (good : IsGoodParams hotstuff p) (lega
         let same : cs ≡ branch s.tree (digest_of f.just) = branch-one p.setup.version (IsString w) sep (inl refl) (digest_of f.just) cs (branch s.tree (digest_of f.just)) br mine in
         let low = (allowed-low (round_of v) n b (ap (λ (c : Content). is_allowed p (round_of v) n c) (sym full) ∙ ps.allowed)).1 in
         let asked : x.made.accepted ≡ asks p k sp.older x.input = ap (λ (z : Made Message). z.accepted) sp.made.0 in
-        let at : asks p k sp.older (Receive f.from (Prepare v f.what f.just f.sig)) ≡ offered p s (accepts sp.older) f.what f.just = rw (f.may) refl in
+        let at : asks p k sp.older (Receive f.from (signed (Prepare v f.what f.just) f.sig)) ≡ offered p s (accepts sp.older) f.what f.just = rw (f.may) refl in
         let all : x.made.accepted ≡ unless_accepted (accepts sp.older) b (nth p.slots n) = asked ∙ ap (λ (z : Input Message). asks p k sp.older z) f.is ∙ at ∙ ap (λ (c : Content). offered p s (accepts sp.older) c f.just) full in
         let r = offered-why k x sp.older b n low all in
         subst (λ (z : List Content). acc p w k (filled z) b) (sym same) (r.0, r.1, sp.accepts_in (r.0, b) r.2)
@@ -303,7 +308,7 @@ module _ (p : Params) (w : World Message) (good : IsGoodParams hotstuff p) (lega
     first-by k v d h f =
         let sp = Here k h.item h.taken in
         let s = state p k sp.older in
-        let m = came k h.item f.from (Prepare v f.what f.just f.sig) h.taken f.is in
+        let m = came k h.item f.from (signed (Prepare v f.what f.just) f.sig) h.taken f.is in
         let t = is-taken k h.item sp.older f.from v f.what f.just f.sig h.taken sp.made f.is f.may in
         let ps = parts s f.from.0 v f.what f.just f.may in
         record {

@@ -6,6 +6,7 @@ use Rattle.iss_base.specs.Lists.{In, nth}
 use Rattle.iss_base.proofs.Lists.{and-true, in_append, in_left, in_right, same_bytes-is}
 use Rattle.iss_base.specs.Lists.{same_bytes}
 use Rattle.iss_request.specs.declared.requests.Batch.{Batch}
+use Rattle.iss_request.specs.declared.ids.NodeId.{NodeId}
 use Rattle.iss_sb.specs.declared.effects.Claim.{Claim}
 use Rattle.iss_sb.specs.declared.effects.Input.{Input}
 use Rattle.iss_sb.specs.declared.effects.Input.TheVariants.{Cast, Receive, Timeout}
@@ -20,14 +21,17 @@ use Rattle.hs_tree.specs.declared.certificates.Certificate.{Certificate}
 use Rattle.hs_tree.specs.declared.certificates.Certificate.TheVariants.{Root, Votes}
 use Rattle.iss_sb.specs.declared.signers.Signed.{Signed}
 use Rattle.hs_tree.specs.declared.messages.Message.{Message}
-use Rattle.hs_tree.specs.declared.messages.Message.TheVariants.{NewView, Prepare, PreCommit, Commit, Decide, Vote}
+use Rattle.hs_tree.specs.declared.messages.Body.{Body}
+use Rattle.hs_tree.specs.declared.messages.Body.TheVariants.{NewView, Prepare, PreCommit, Commit, Decide, Vote}
+use Rattle.hs_tree.specs.Messages.{signed}
 use Rattle.iss_sb.specs.declared.content.Content.TheVariants.{Nil}
 use Rattle.hs_tree.specs.Certificates.{digest_of, view_of}
-use Rattle.hs_tree.specs.Statements.{certificate_claims, claims, inside, own_statement, signature_of, vote_claims, vote_statement, with_signature}
+use Rattle.hs_tree.specs.Statements.{certificate_claims, claims, inside, stated, vote_claims, vote_statement}
 use Rattle.hs_tree.specs.Tree.{basic, is_known}
 use Rattle.sb_hotstuff.specs.HotStuff.{answers, answers_heard, drafts, hotstuff, proposals, shows, sign_all, state, voted}
 use Rattle.sb_hotstuff.specs.Rules.{State, cast_turn, certificate, first_turn, heard, is_reached, is_ready, keeps_news, keeps_vote, kept, may_cast, may_end, may_prepare, may_second, may_third, next_turn, nil_or_mark, node_digest, proposed, slots_below, turn, turn_after, turn_on, with_cast, with_news, with_node, with_round, with_turn, with_vote}
 use Rattle.hs_views.specs.Views.{Kept, News, Turn, all_news, best, is_for, news_of, round_of, vote_of, votes_of}
+use Rattle.hs_views.proofs.DraftsAgree.{sent-drafted}
 use Rattle.hs_views.proofs.Tests.{by-if, is-same}
 
 -- G c: the claim c was received
@@ -79,13 +83,13 @@ module _ (p : Params) (G : Claim → Type 0) where
   said-claims Root h c k = absurd k
   said-claims (Votes view phase d votes) h c k = claims-said (vote_statement basic p phase view d) votes h c k
 
-  came-said : (from : ℕ) (msg : Message) → Comes from msg → Said (inside msg)
-  came-said from msg h = said-by (inside msg) (λ c k. h c (in_left c (certificate_claims basic p (inside msg)) _ k))
+  came-said : (from : ℕ) (msg : Message) → Comes from msg → Said (inside msg.body)
+  came-said from msg h = said-by (inside msg.body) (λ c k. h c (in_left c (certificate_claims basic p (inside msg.body)) _ k))
 
-  came-own : (from : ℕ) (msg : Message) → Comes from msg → G (claim from (own_statement basic p msg) (signature_of msg))
+  came-own : (from : ℕ) (msg : Message) → Comes from msg → G (claim from (stated basic p msg.body) msg.sig)
   came-own from msg h =
-      let c = claim from (own_statement basic p msg) (signature_of msg) in
-      h c (in_right c (certificate_claims basic p (inside msg)) (c ∷ []) (inl refl))
+      let c = claim from (stated basic p msg.body) msg.sig in
+      h c (in_right c (certificate_claims basic p (inside msg.body)) (c ∷ []) (inl refl))
 
   -- ---- Certificates of received votes and of received NewView messages
 
@@ -163,16 +167,16 @@ module _ (p : Params) (G : Claim → Type 0) where
 
   -- ---- The state
 
-  heard-said : (me : ℕ) (s : State) (from : ℕ) (msg : Message) → Comes from msg → IsSaid s → IsSaid (heard p me s from msg)
-  heard-said me s from (NewView round high sig) m h = by-if IsSaid (keeps_news p me s from round high) (with_news s from round high) s
-      (record { high = h.high; votes = h.votes; news = (came-said from (NewView round high sig) m, h.news) }) h
-  heard-said me s from (Prepare view what just sig) m h = by-if IsSaid (may_prepare p s from view what just) (with_node p s view what just) s (record { high = h.high; votes = h.votes; news = h.news }) h
-  heard-said me s from (PreCommit view shown sig) m h = by-if IsSaid (may_second p s view shown) (record s { high = shown; second = true }) s
-      (record { high = came-said from (PreCommit view shown sig) m; votes = h.votes; news = h.news }) h
-  heard-said me s from (Commit view shown sig) m h = by-if IsSaid (may_third p s view shown) (record s { lock = shown; third = true }) s (record { high = h.high; votes = h.votes; news = h.news }) h
-  heard-said me s from (Decide view shown sig) m h = h
-  heard-said me s from (Vote phase view d sig) m h = by-if IsSaid (keeps_vote p s from phase view d) (with_vote s from phase view d sig) s
-      (record { high = h.high; votes = (came-own from (Vote phase view d sig) m, h.votes); news = h.news }) h
+  heard-said : (me : ℕ) (s : State) (from : ℕ) (body : Body) (sig : List ℕ) → Comes from (signed body sig) → IsSaid s → IsSaid (heard p me s from body sig)
+  heard-said me s from (NewView round high) sig m h = by-if IsSaid (keeps_news p me s from round high) (with_news s from round high) s
+      (record { high = h.high; votes = h.votes; news = (came-said from (signed (NewView round high) sig) m, h.news) }) h
+  heard-said me s from (Prepare view what just) sig m h = by-if IsSaid (may_prepare p s from view what just) (with_node p s view what just) s (record { high = h.high; votes = h.votes; news = h.news }) h
+  heard-said me s from (PreCommit view shown) sig m h = by-if IsSaid (may_second p s view shown) (record s { high = shown; second = true }) s
+      (record { high = came-said from (signed (PreCommit view shown) sig) m; votes = h.votes; news = h.news }) h
+  heard-said me s from (Commit view shown) sig m h = by-if IsSaid (may_third p s view shown) (record s { lock = shown; third = true }) s (record { high = h.high; votes = h.votes; news = h.news }) h
+  heard-said me s from (Decide view shown) sig m h = h
+  heard-said me s from (Vote phase view d) sig m h = by-if IsSaid (keeps_vote p s from phase view d) (with_vote s from phase view d sig) s
+      (record { high = h.high; votes = (came-own from (signed (Vote phase view d) sig) m, h.votes); news = h.news }) h
 
   abbrev ComesIn : Input Message → Type 0
   ComesIn (Cast slot batch) = Unit {0}
@@ -181,7 +185,7 @@ module _ (p : Params) (G : Claim → Type 0) where
 
   kept-said : (me : ℕ) (s : State) (i : Input Message) → ComesIn i → IsSaid s → IsSaid (kept p me s i)
   kept-said me s (Cast slot batch) m h = by-if IsSaid (may_cast p me s slot.0) (with_cast s batch) s (record { high = h.high; votes = h.votes; news = h.news }) h
-  kept-said me s (Receive from msg) m h = heard-said me s from.0 msg m h
+  kept-said me s (Receive from msg) m h = heard-said me s from.0 msg.body msg.sig m h
   kept-said me s Timeout m h = by-if IsSaid (may_end s) (with_round s) s (record { high = h.high; votes = h.votes; news = h.news }) h
 
   turn-said : (s : State) (o : Option Turn) → IsSaid s → IsSaid (with_turn s o)
@@ -196,11 +200,11 @@ module _ (p : Params) (G : Claim → Type 0) where
 
   -- ---- Sent messages
 
-  abbrev SendsSaid : List (To × Message) → Type 0
+  abbrev SendsSaid : List (To × Body) → Type 0
   SendsSaid [] = Unit {0}
   SendsSaid (x ∷ xs) = Said (inside x.1) × SendsSaid xs
 
-  sends-append : (xs ys : List (To × Message)) → SendsSaid xs → SendsSaid ys → SendsSaid (xs ++ ys)
+  sends-append : (xs ys : List (To × Body)) → SendsSaid xs → SendsSaid ys → SendsSaid (xs ++ ys)
   sends-append [] ys h g = g
   sends-append (x ∷ xs) ys h g = (h.0, sends-append xs ys h.1 g)
 
@@ -209,29 +213,28 @@ module _ (p : Params) (G : Claim → Type 0) where
   proposal-said (Some t) h = (h, tt)
 
   shows-said : (phase view : ℕ) (c : Certificate) → Said c → Said (inside (shows phase view c))
-  shows-said phase view c h = by-if (λ (m : Message). Said (inside m)) (phase == 1) _ _ h (by-if (λ (m : Message). Said (inside m)) (phase == 2) _ _ h h)
+  shows-said phase view c h = by-if (λ (b : Body). Said (inside b)) (phase == 1) _ _ h (by-if (λ (b : Body). Said (inside b)) (phase == 2) _ _ h h)
 
-  answer-said : (s k : State) (from : ℕ) (msg : Message) → IsSaid k → SendsSaid (answers_heard p s k from msg)
-  answer-said s k from (NewView round high sig) h = tt
-  answer-said s k from (Prepare view what just sig) h = by-if SendsSaid (may_prepare p s from view what just) (voted p 1 view (node_digest p view what just)) [] (tt, tt) tt
-  answer-said s k from (PreCommit view shown sig) h = by-if SendsSaid (may_second p s view shown) (voted p 2 view (digest_of shown)) [] (tt, tt) tt
-  answer-said s k from (Commit view shown sig) h = by-if SendsSaid (may_third p s view shown) (voted p 3 view (digest_of shown)) [] (tt, tt) tt
-  answer-said s k from (Decide view shown sig) h = tt
-  answer-said s k from (Vote phase view d sig) h = by-if SendsSaid (keeps_vote p s from phase view d && is_reached p k phase view d) _ [] (shows-said phase view (certificate p k phase view d) (certificate-said k phase view d h.votes), tt) tt
+  answer-said : (s k : State) (from : ℕ) (body : Body) (sig : List ℕ) → IsSaid k → SendsSaid (answers_heard p s k from body)
+  answer-said s k from (Prepare view what just) sig h = by-if SendsSaid (may_prepare p s from view what just) (voted p 1 view (node_digest p view what just)) [] (tt, tt) tt
+  answer-said s k from (PreCommit view shown) sig h = by-if SendsSaid (may_second p s view shown) (voted p 2 view (digest_of shown)) [] (tt, tt) tt
+  answer-said s k from (Commit view shown) sig h = by-if SendsSaid (may_third p s view shown) (voted p 3 view (digest_of shown)) [] (tt, tt) tt
+  answer-said s k from (Vote phase view d) sig h = by-if SendsSaid (keeps_vote p s from phase view d && is_reached p k phase view d) _ [] (shows-said phase view (certificate p k phase view d) (certificate-said k phase view d h.votes), tt) tt
+  answer-said s k from other sig h = tt
 
   answers-said : (s k : State) (i : Input Message) → IsSaid s → IsSaid k → SendsSaid (answers p s k i)
   answers-said s k (Cast slot batch) h g = tt
-  answers-said s k (Receive from msg) h g = answer-said s k from.0 msg g
+  answers-said s k (Receive from msg) h g = answer-said s k from.0 msg.body msg.sig g
   answers-said s k Timeout h g = by-if SendsSaid (may_end s) _ [] (h.high, tt) tt
+
+  proposed-said-heard : (me : ℕ) (s k : State) (from : NodeId) (body : Body) (sig : List ℕ) → IsSaid k → TurnSaid (proposed p me s k (Receive from (signed body sig)))
+  proposed-said-heard me s k from (NewView round high) sig h = by-if TurnSaid (keeps_news p me s from.0 round high) (first_turn p k round) None (first-said k round h) tt
+  proposed-said-heard me s k from (Vote phase view d) sig h = by-if TurnSaid _ (next_turn p k k.turns) None (next-said k k.turns h) tt
+  proposed-said-heard me s k from other sig h = tt
 
   proposed-said : (me : ℕ) (s k : State) (i : Input Message) → IsSaid k → TurnSaid (proposed p me s k i)
   proposed-said me s k (Cast slot batch) h = by-if TurnSaid (may_cast p me s slot.0) (next_turn p k k.turns) None (next-said k k.turns h) tt
-  proposed-said me s k (Receive from (NewView round high sig)) h = by-if TurnSaid (keeps_news p me s from.0 round high) (first_turn p k round) None (first-said k round h) tt
-  proposed-said me s k (Receive from (Prepare view what just sig)) h = tt
-  proposed-said me s k (Receive from (PreCommit view shown sig)) h = tt
-  proposed-said me s k (Receive from (Commit view shown sig)) h = tt
-  proposed-said me s k (Receive from (Decide view shown sig)) h = tt
-  proposed-said me s k (Receive from (Vote phase view d sig)) h = by-if TurnSaid _ (next_turn p k k.turns) None (next-said k k.turns h) tt
+  proposed-said me s k (Receive from msg) h = proposed-said-heard me s k from msg.body msg.sig h
   proposed-said me s k Timeout h = tt
 
   drafts-said : (me : ℕ) (s : State) (i : Input Message) → ComesIn i → IsSaid s → SendsSaid (drafts p me s i)
@@ -240,25 +243,15 @@ module _ (p : Params) (G : Claim → Type 0) where
       let g = kept-said me s i m h in
       sends-append (answers p s k i) (proposals (proposed p me s k i)) (answers-said s k i h g) (proposal-said (proposed p me s k i) (proposed-said me s k i g))
 
-  inside-same : (sig : List ℕ) (msg : Message) → inside (with_signature sig msg) ≡ inside msg
-  inside-same sig (NewView round high old) = refl
-  inside-same sig (Prepare view what just old) = refl
-  inside-same sig (PreCommit view shown old) = refl
-  inside-same sig (Commit view shown old) = refl
-  inside-same sig (Decide view shown old) = refl
-  inside-same sig (Vote phase view d old) = refl
-
-  sent-said : (me leaf : ℕ) (ds : List (To × Message)) → SendsSaid ds → (to : To) (msg : Message) → In {A = To × Message} (to, msg) (sign_all p me leaf ds) → Said (inside msg)
-  sent-said me leaf [] h to msg k = absurd k
-  sent-said me leaf (x ∷ ds) h to msg (inl e) =
-      let same : inside msg ≡ inside x.1 = ap (λ (z : To × Message). inside z.1) e ∙ inside-same (signature p me leaf (own_statement basic p x.1)) x.1 in
-      subst Said (sym same) h.0
-  sent-said me leaf (x ∷ ds) h to msg (inr k) = sent-said me (suc leaf) ds h.1 to msg k
+  draft-said : (ds : List (To × Body)) → SendsSaid ds → (to : To) (body : Body) → In {A = To × Body} (to, body) ds → Said (inside body)
+  draft-said [] h to body k = absurd k
+  draft-said (x ∷ ds) h to body (inl e) = subst (λ (z : To × Body). Said (inside z.1)) (sym e) h.0
+  draft-said (x ∷ ds) h to body (inr k) = draft-said ds h.1 to body k
 
 -- ---- The statement of a message's sender
 
 abbrev pub States : Params → ℕ → Message → List ℕ → Type 0
-States p i msg statement = own_statement basic p msg ≡ statement
+States p i msg statement = stated basic p msg.body ≡ statement
 
 -- ---- What is passed on was received
 
@@ -282,12 +275,12 @@ module _ (p : Params) where
 
   -- each claim in a certificate that is sent was received before
   pub inside-seen : (me : ℕ) (xs : List (Item Message)) (input : Input Message) (leaf : ℕ) (to : To) (msg : Message) → In {A = To × Message} (to, msg) (sign_all p me leaf (drafts p me (state p me xs) input)) →
-      (c : Claim) → In c (certificate_claims basic p (inside msg)) → Seen me xs input c
+      (c : Claim) → In c (certificate_claims basic p (inside msg.body)) → Seen me xs input c
   inside-seen me xs input leaf to msg sent =
       let G : Claim → Type 0 = Seen me xs input in
       let s = state p me xs in
       let ds = drafts-said p G me s input (comes-now me xs input) (state-said p G me xs (λ x q. comes-before me xs input x q)) in
-      said-claims p G (inside msg) (sent-said p G me leaf (drafts p me s input) ds to msg sent)
+      said-claims p G (inside msg.body) (draft-said p G (drafts p me s input) ds to msg.body (sent-drafted basic p me leaf (drafts p me s input) to msg sent))
 
   says-it : (from : ℕ) (msg : Message) (c : Claim) (k : ℕ) (t : List ℕ) → In c (claims basic p from msg) → c.by.0 ≡ k → c.statement ≡ t → Says hotstuff p from msg k t
   says-it from msg c k t h by is = record { claim = c; stands = h; named = by; is = is }
@@ -312,65 +305,47 @@ module _ (p : Params) where
 
   pub passes-on : PassesOn hotstuff p (States p)
   passes-on w legal me input leaf correct may to msg statement sent said =
-      elim (in_append said.claim (certificate_claims basic p (inside msg)) (claim me (own_statement basic p msg) (signature_of msg) ∷ []) said.stands) [
+      elim (in_append said.claim (certificate_claims basic p (inside msg.body)) (claim me (stated basic p msg.body) msg.sig ∷ []) said.stands) [
         | inl a ↦ inr (seen-old me (w me) input said.claim me statement said.named said.is (inside-seen me (w me) input leaf to msg sent said.claim a))
         | inr a ↦ inl (mine a)
       ]
     where
-      mine : In said.claim (claim me (own_statement basic p msg) (signature_of msg) ∷ []) → own_statement basic p msg ≡ statement
+      mine : In said.claim (claim me (stated basic p msg.body) msg.sig ∷ []) → stated basic p msg.body ≡ statement
       mine (inl e) = sym (ap (λ (z : Claim). z.statement) e) ∙ said.is
       mine (inr none) = absurd none
 
 -- ---- The statements that the leaves of a step sign
 
 module _ (p : Params) (me : ℕ) where
-  abbrev stated : List (To × Message) → List (List ℕ)
-  stated [] = []
-  stated (x ∷ xs) = own_statement basic p x.1 ∷ stated xs
+  abbrev statements : List (To × Body) → List (List ℕ)
+  statements [] = []
+  statements (x ∷ xs) = stated basic p x.1 ∷ statements xs
 
-  as-many : (ds : List (To × Message)) → length (stated ds) ≡ length ds
+  as-many : (ds : List (To × Body)) → length (statements ds) ≡ length ds
   as-many [] = refl
   as-many (x ∷ ds) = ap suc (as-many ds)
 
-  statement-same : (sig : List ℕ) (msg : Message) → own_statement basic p (with_signature sig msg) ≡ own_statement basic p msg
-  statement-same sig (NewView round high old) = refl
-  statement-same sig (Prepare view what just old) = refl
-  statement-same sig (PreCommit view shown old) = refl
-  statement-same sig (Commit view shown old) = refl
-  statement-same sig (Decide view shown old) = refl
-  statement-same sig (Vote phase view d old) = refl
-
-  signature-same : (sig : List ℕ) (msg : Message) → signature_of (with_signature sig msg) ≡ sig
-  signature-same sig (NewView round high old) = refl
-  signature-same sig (Prepare view what just old) = refl
-  signature-same sig (PreCommit view shown old) = refl
-  signature-same sig (Commit view shown old) = refl
-  signature-same sig (Decide view shown old) = refl
-  signature-same sig (Vote phase view d old) = refl
-
-  first-signed : (leaf : ℕ) (x : To × Message) (ds : List (To × Message)) (msg : Message) (c : Claim) →
-      msg ≡ with_signature (signature p me leaf (own_statement basic p x.1)) x.1 → c ≡ claim me (own_statement basic p msg) (signature_of msg) → IsSignedBy p me leaf (stated (x ∷ ds)) c
+  first-signed : (leaf : ℕ) (x : To × Body) (ds : List (To × Body)) (msg : Message) (c : Claim) →
+      msg ≡ signed x.1 (signature p me leaf (stated basic p x.1)) → c ≡ claim me (stated basic p msg.body) msg.sig → IsSignedBy p me leaf (statements (x ∷ ds)) c
   first-signed leaf x ds msg c is e =
-      let st = own_statement basic p x.1 in
-      let sig = signature p me leaf st in
-      let same : st ≡ c.statement = sym (ap (λ (z : Claim). z.statement) e ∙ ap (own_statement basic p) is ∙ statement-same sig x.1) in
-      by-first p me leaf st (stated ds) c same (ap (λ (z : Claim). z.sig) e ∙ ap signature_of is ∙ signature-same sig x.1)
+      let same : stated basic p x.1 ≡ c.statement = sym (ap (λ (z : Claim). z.statement) e ∙ ap (λ (z : Message). stated basic p z.body) is) in
+      by-first p me leaf (stated basic p x.1) (statements ds) c same (ap (λ (z : Claim). z.sig) e ∙ ap (λ (z : Message). z.sig) is)
 
-  signed-at : (leaf : ℕ) (ds : List (To × Message)) (to : To) (msg : Message) (c : Claim) → In {A = To × Message} (to, msg) (sign_all p me leaf ds) →
-      In c (claim me (own_statement basic p msg) (signature_of msg) ∷ []) → IsSignedBy p me leaf (stated ds) c
+  signed-at : (leaf : ℕ) (ds : List (To × Body)) (to : To) (msg : Message) (c : Claim) → In {A = To × Message} (to, msg) (sign_all p me leaf ds) →
+      In c (claim me (stated basic p msg.body) msg.sig ∷ []) → IsSignedBy p me leaf (statements ds) c
   signed-at leaf ds to msg c h (inr none) = absurd none
   signed-at leaf [] to msg c h (inl e) = absurd h
   signed-at leaf (x ∷ ds) to msg c (inl q) (inl e) = first-signed leaf x ds msg c (ap (λ (z : To × Message). z.1) q) e
   signed-at leaf (x ∷ ds) to msg c (inr k) (inl e) =
-      by-next p me leaf (own_statement basic p x.1) (stated ds) c (signed-at (suc leaf) ds to msg c k (inl e))
+      by-next p me leaf (stated basic p x.1) (statements ds) c (signed-at (suc leaf) ds to msg c k (inl e))
 
 pub hotstuff-once : SignsOnce hotstuff
 hotstuff-once p me xs i leaf good made =
     let ds = drafts p me (state p me xs) i in
     record {
-      statements = stated p me ds;
+      statements = statements p me ds;
       each = as-many p me ds;
-      own = λ c by g. elim (in_append c (certificate_claims basic p (inside g.msg)) (claim me (own_statement basic p g.msg) (signature_of g.msg) ∷ []) g.holds) [
+      own = λ c by g. elim (in_append c (certificate_claims basic p (inside g.msg.body)) (claim me (stated basic p g.msg.body) g.msg.sig ∷ []) g.holds) [
         | inl a ↦ inr (inside-seen p me xs i leaf g.to g.msg g.sent c a)
         | inr a ↦ inl (signed-at p me leaf ds g.to g.msg c g.sent a)
       ];

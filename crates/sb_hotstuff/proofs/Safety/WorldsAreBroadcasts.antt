@@ -23,11 +23,13 @@ use Rattle.iss_sb.specs.declared.content.Content.{Content}
 use Rattle.iss_sb.specs.declared.content.Content.TheVariants.{Holds}
 use Rattle.hs_tree.specs.declared.certificates.Certificate.{Certificate}
 use Rattle.hs_tree.specs.declared.messages.Message.{Message}
-use Rattle.hs_tree.specs.declared.messages.Message.TheVariants.{Prepare}
+use Rattle.hs_tree.specs.declared.messages.Body.{Body}
+use Rattle.hs_tree.specs.declared.messages.Body.TheVariants.{Prepare}
+use Rattle.hs_tree.specs.Messages.{signed}
 use Rattle.hs_tree.specs.Certificates.{digest_of}
 use Rattle.hs_tree.specs.Paths.{Has, hash}
 use Rattle.iss_sb.specs.Statements.{claim}
-use Rattle.hs_tree.specs.Statements.{certificate_claims, own_statement, vote_statement}
+use Rattle.hs_tree.specs.Statements.{certificate_claims, stated, vote_statement}
 use Rattle.hs_tree.specs.Tree.{basic, filled, root, value_at}
 use Rattle.sb_hotstuff.specs.Facts.{AreAgreed, AreBacked, AreCertified, AreExtending, AreFromLeader, AreRested, AreSafeVotes, HaveOneNode, HaveSharedAcceptor, IsVoted, Leads, VoteOnce}
 use Rattle.sb_hotstuff.specs.HotStuff.{hotstuff, state}
@@ -53,10 +55,10 @@ plus-none n = omega arith
 -- ---- What was signed was sent
 
 pub voted-reached : (p : Params) (w : World Message) → IsReached hotstuff p w → AreVoted p w
-voted-reached p w reached i phase view d correct signed =
-    let s = signed-stated hotstuff p (States p) refl (passes-on p) w reached i (vote_statement basic p phase view d) correct signed in
-    let v = own-vote p s.msg phase view d s.states in
-    record { item = s.item; taken = s.taken; vote = record { to = s.to; sig = v.sig; sent = subst (λ (z : Message). In {A = To × Message} (s.to, z) s.item.made.sends) v.is s.sent } }
+voted-reached p w reached i phase view d correct own =
+    let s = signed-stated hotstuff p (States p) refl (passes-on p) w reached i (vote_statement basic p phase view d) correct own in
+    let is = own-vote p s.msg.body phase view d s.states in
+    record { item = s.item; taken = s.taken; vote = record { to = s.to; sig = s.msg.sig; sent = subst (λ (z : Body). In {A = To × Message} (s.to, signed z s.msg.sig) s.item.made.sends) is s.sent } }
 
 module _ (p : Params) (w : World Message) (good : IsGoodParams hotstuff p) (reached : IsReached hotstuff p w) where
   pub legal : IsLegal hotstuff p w
@@ -159,21 +161,21 @@ module _ (p : Params) (w : World Message) (good : IsGoodParams hotstuff p) (reac
       view : ℕ
       just : Certificate
       parent_is : digest_of just ≡ parent
-      signed : is_correct p.setup p.leader.0 ≡ true → IsSigned hotstuff p w p.leader.0 (own_statement basic p (Prepare view (Holds b) just []))
+      signed : is_correct p.setup p.leader.0 ≡ true → IsSigned hotstuff p w p.leader.0 (stated basic p (Prepare view (Holds b) just))
 
     -- a correct leader of the segment signed each proposal of a batch that a replica takes
-    pub leader-signed : (k : ℕ) (x : Item Message) (s : State) (from : NodeId) (v : ℕ) (b : Batch) (just : Certificate) (sig : List ℕ) → In x (w k) → x.input ≡ Receive from (Prepare v (Holds b) just sig) →
-        may_prepare p s from.0 v (Holds b) just ≡ true → is_correct p.setup p.leader.0 ≡ true → IsSigned hotstuff p w p.leader.0 (own_statement basic p (Prepare v (Holds b) just []))
+    pub leader-signed : (k : ℕ) (x : Item Message) (s : State) (from : NodeId) (v : ℕ) (b : Batch) (just : Certificate) (sig : List ℕ) → In x (w k) → x.input ≡ Receive from (signed (Prepare v (Holds b) just) sig) →
+        may_prepare p s from.0 v (Holds b) just ≡ true → is_correct p.setup p.leader.0 ≡ true → IsSigned hotstuff p w p.leader.0 (stated basic p (Prepare v (Holds b) just))
     leader-signed k x s from v b just sig h e may correct =
         let ps = parts p w good legal voted s from.0 v (Holds b) just may in
         let early = allowed-low p w good legal voted (round_of v) (slots_below s just) b ps.allowed in
         let timely = (and-true (is_timely p s from.0 v) _ (and-true _ _ may).0).0 in
         let sender : from.0 ≡ leader_of p (round_of v) = is-same from.0 (leader_of p (round_of v)) (and-true (from.0 == leader_of p (round_of v)) _ timely).0 in
         let leader : from.0 ≡ p.leader.0 = sender ∙ ap (λ (z : ℕ). leader_of p z) early.0 ∙ first-leader p.setup.n p.leader.0 good.leader in
-        let m = came p w good legal voted k x from (Prepare v (Holds b) just sig) h e in
-        let own = claim from.0 (own_statement basic p (Prepare v (Holds b) just sig)) sig in
+        let m = came p w good legal voted k x from (signed (Prepare v (Holds b) just) sig) h e in
+        let own = claim from.0 (stated basic p (Prepare v (Holds b) just)) sig in
         let given = m.signed own (in_right own (certificate_claims basic p just) (own ∷ []) (inl refl)) (ap (λ (z : ℕ). is_correct p.setup z) leader ∙ correct) in
-        subst (λ (z : ℕ). IsSigned hotstuff p w z (own_statement basic p (Prepare v (Holds b) just []))) leader given
+        subst (λ (z : ℕ). IsSigned hotstuff p w z (stated basic p (Prepare v (Holds b) just))) leader given
 
     leads-first : (k v : ℕ) (d : List ℕ) (h : IsVoted w k 1 v d) (b : Batch) (parent : List ℕ) → Has p.setup.version (IsString w) parent (Holds b) → d ≡ hash p.setup.version parent (Holds b) → IsProposal b parent
     leads-first k v d h b parent has e =
@@ -182,7 +184,7 @@ module _ (p : Params) (w : World Message) (good : IsGoodParams hotstuff p) (reac
         let f = first-cause p w good legal voted sep k v d h in
         let mine = taken-has p w good legal voted k h.item v f.what f.just h.taken (is-taken p w good legal voted k h.item sp.older f.from v f.what f.just f.sig h.taken sp.made f.is f.may) in
         let same = same-node p w (acc p w) good facts sep (digest_of f.just) parent f.what (Holds b) mine has (sym f.digest_is ∙ e) in
-        let is : h.item.input ≡ Receive f.from (Prepare v (Holds b) f.just f.sig) = subst (λ (z : Content). h.item.input ≡ Receive f.from (Prepare v z f.just f.sig)) same.1 f.is in
+        let is : h.item.input ≡ Receive f.from (signed (Prepare v (Holds b) f.just) f.sig) = subst (λ (z : Content). h.item.input ≡ Receive f.from (signed (Prepare v z f.just) f.sig)) same.1 f.is in
         let may = subst (λ (z : Content). may_prepare p s f.from.0 v z f.just ≡ true) same.1 f.may in
         record { view = v; just = f.just; parent_is = same.0; signed = leader-signed k h.item s f.from v b f.just f.sig h.taken is may }
 
@@ -201,14 +203,14 @@ module _ (p : Params) (w : World Message) (good : IsGoodParams hotstuff p) (reac
         front-heard me a (y ∷ l) (inr g) h = front-heard me a l g h.2
 
     -- a proposal that a correct leader signed holds its cast at the place after the parent's branch
-    pub proposed-cast : (l v : ℕ) (just : Certificate) (b : Batch) (parent : List ℕ) (below : List Content) → is_correct p.setup l ≡ true → IsSigned hotstuff p w l (own_statement basic p (Prepare v (Holds b) just [])) →
+    pub proposed-cast : (l v : ℕ) (just : Certificate) (b : Batch) (parent : List ℕ) (below : List Content) → is_correct p.setup l ≡ true → IsSigned hotstuff p w l (stated basic p (Prepare v (Holds b) just)) →
         digest_of just ≡ parent → Has p.setup.version (IsString w) parent (Holds b) → Leads p w parent root below → IsCast p w good legal voted l (filled below) b
-    proposed-cast l v just b parent below correct signed e has leads =
-        let s = signed-stated hotstuff p (States p) refl (passes-on p) w reached l (own_statement basic p (Prepare v (Holds b) just [])) correct signed in
-        let mine = own-proposal p s.msg v (node_digest p v (Holds b) just) s.states in
+    proposed-cast l v just b parent below correct own e has leads =
+        let s = signed-stated hotstuff p (States p) refl (passes-on p) w reached l (stated basic p (Prepare v (Holds b) just)) correct own in
+        let mine = own-proposal p s.msg.body v (node_digest p v (Holds b) just) s.states in
         let at = made-at hotstuff p l s.item (w l) (legal.made l) s.taken in
-        let sent = subst (λ (z : Message). In {A = To × Message} (s.to, z) s.item.made.sends) mine.is s.sent in
-        let t = proposal-why p w good legal voted l s.item at.before s.to v mine.what mine.just mine.sig (part l s.item at.before at.front) sent in
+        let sent = subst (λ (z : Body). In {A = To × Message} (s.to, signed z s.msg.sig) s.item.made.sends) mine.is s.sent in
+        let t = proposal-why p w good legal voted l s.item at.before s.to v mine.what mine.just s.msg.sig (part l s.item at.before at.front) sent in
         let one : hash p.setup.version (digest_of t.turn.just) t.turn.what ≡ hash p.setup.version parent (Holds b) =
         ap (λ (c : Certificate). hash p.setup.version (digest_of c) t.turn.what) t.just_is ∙ ap (λ (c : Content). hash p.setup.version (digest_of mine.just) c) t.what_is ∙ mine.digest_is ∙ ap (λ (z : List ℕ). hash p.setup.version z (Holds b)) e in
         let same = same-node p w (acc p w) good facts sep (digest_of t.turn.just) parent t.turn.what (Holds b) t.has has one in

@@ -13,6 +13,7 @@ use Rattle.iss_sb.specs.declared.effects.To.{To}
 use Rattle.iss_sb.specs.Calls.{AllIn, AreToNodes, has_slot, slots_of}
 use Rattle.iss_sb.specs.Evidence.{Item, accepts, one_or_none}
 use Rattle.hs_tree.specs.declared.messages.Message.{Message}
+use Rattle.hs_tree.specs.declared.messages.Body.{Body}
 use Rattle.sb_hotstuff.specs.declared.hotstuff.HotStuff.{HotStuff}
 use Rattle.sb_hotstuff.specs.declared.outcomes.Taken.{Taken}
 use Rattle.hs_views.specs.Accepted.{Adds, AreAccepted}
@@ -34,7 +35,7 @@ pub record Refines (m : HotStuff) (p : Params) (me : ℕ) (xs : List (Item Messa
 
 -- the effects of what was taken: its messages signed with the next leaves, the answer first
 pub record IsSigned (p : Params) (t : Taken) (before later : KeyState) (e : Effects Message) : Type 0 where
-  pub sends : (me : ℕ) (xs ys : List (To × Message)) → AreKeysOf me p.setup.keys before →
+  pub sends : (me : ℕ) (xs ys : List (To × Body)) → AreKeysOf me p.setup.keys before →
       AreDrafts p t.outcome.answer xs → AreDrafts p t.outcome.proposal ys →
       e.sends ≡ sign_all p me before.used (xs ++ ys)
   pub addressed : AreToNodes p.setup.n e.sends

@@ -15,18 +15,9 @@ returns-in_err-high-clause-bad c =
     unread_then _ _ c.in_ok-round.ensures.ok
     (unread_first _ _ (c.in_err-high.ensures.bad at e)))
 
-pub returns-in_err-sig-clause-bad : goal.returns-in_err-sig-clause-bad
-unfolding parse_new_view
-returns-in_err-sig-clause-bad c =
-    exit c.from_residual-in_err-sig.result _ _ c.from_residual-in_err-sig.ensures.1 (λ at e.
-    unread_then _ _ c.in_ok-round.ensures.ok
-    (unread_then _ _ c.in_ok-high.ensures.ok
-    (unread_first _ _ (c.in_err-sig.ensures.bad at e))))
-
 pub returns-clause-ok : goal.returns-clause-ok
 unfolding parse_new_view
 returns-clause-ok c =
     read_then _ _ c.in_ok-round.ensures.ok
     (read_then _ _ c.in_ok-high.ensures.ok
-    (read_then _ _ c.in_ok-sig.ensures.ok
-    (read_done _ _)))
+    (read_done _ _))

@@ -25,20 +25,10 @@ returns-in_err-just-clause-bad c =
     (unread_then _ _ (read-by parse_content c.in_ok-view.ensures.ok.version c.in_ok-what.ensures.ok)
     (unread_first _ _ (c.in_err-just.ensures.bad at e))))
 
-pub returns-in_err-sig-clause-bad : goal.returns-in_err-sig-clause-bad
-unfolding parse_prepare
-returns-in_err-sig-clause-bad c =
-    exit c.from_residual-in_err-sig.result _ _ c.from_residual-in_err-sig.ensures.1 (λ at e.
-    unread_then _ _ c.in_ok-view.ensures.ok
-    (unread_then _ _ (read-by parse_content c.in_ok-view.ensures.ok.version c.in_ok-what.ensures.ok)
-    (unread_then _ _ c.in_ok-just.ensures.ok
-    (unread_first _ _ (c.in_err-sig.ensures.bad at e)))))
-
 pub returns-clause-ok : goal.returns-clause-ok
 unfolding parse_prepare
 returns-clause-ok c =
     read_then _ _ c.in_ok-view.ensures.ok
     (read_then _ _ (read-by parse_content c.in_ok-view.ensures.ok.version c.in_ok-what.ensures.ok)
     (read_then _ _ c.in_ok-just.ensures.ok
-    (read_then _ _ c.in_ok-sig.ensures.ok
-    (read_done _ _))))
+    (read_done _ _)))

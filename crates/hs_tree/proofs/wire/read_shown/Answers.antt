@@ -15,18 +15,9 @@ returns-in_err-shown-clause-bad c message =
     unread_then _ _ c.in_ok-view.ensures.ok
     (unread_first _ _ (c.in_err-shown.ensures.bad at e)))
 
-pub returns-in_err-sig-clause-bad : goal.returns-in_err-sig-clause-bad
-unfolding parse_shown
-returns-in_err-sig-clause-bad c message =
-    exit c.from_residual-in_err-sig.result _ _ c.from_residual-in_err-sig.ensures.1 (λ at e.
-    unread_then _ _ c.in_ok-view.ensures.ok
-    (unread_then _ _ c.in_ok-shown.ensures.ok
-    (unread_first _ _ (c.in_err-sig.ensures.bad at e))))
-
 pub returns-clause-ok : goal.returns-clause-ok
 unfolding parse_shown
 returns-clause-ok c message =
     read_then _ _ c.in_ok-view.ensures.ok
     (read_then _ _ c.in_ok-shown.ensures.ok
-    (read_then _ _ c.in_ok-sig.ensures.ok
-    (read_done _ _)))
+    (read_done _ _))

@@ -6,4 +6,4 @@ pub returns : goal.returns
 returns c is =
     let form = form_of c.args.protocol in
     let a = c.args.proposal in
-    proposal-drafted form c.args.p.now a.view a.what a.just c.args.digest.now c.new-sig.result c.in_ok-statement.statement is c.new-sig.ensures (c.in_ok-statement.ensures form c.args.p.now (c.in_ok-out.ensures form c.tag-tag.ensures))
+    proposal-drafted form c.args.p.now a.view a.what a.just c.args.digest.now c.in_ok-statement.statement is (c.in_ok-statement.ensures form c.args.p.now (c.in_ok-out.ensures form c.tag-tag.ensures))

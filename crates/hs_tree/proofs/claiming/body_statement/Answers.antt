@@ -4,7 +4,7 @@ use Rattle.iss_request.specs.Digest.{digest}
 use Rattle.iss_sb.specs.Statements.{four_bytes, two_bytes}
 use Rattle.hs_tree.specs.Protocols.{form_of}
 use Rattle.hs_tree.specs.Statements.{statement}
-use Rattle.hs_tree.proofs.claiming.own_statement.Goals as goal
+use Rattle.hs_tree.proofs.claiming.body_statement.Goals as goal
 
 pub returns-in-NewView : goal.returns-in-NewView
 returns-in-NewView c =
