@@ -4,7 +4,7 @@ use Rattle.iss_node.specs.declared.answers.Answer.{Answer as NodeAnswer}
 use Rattle.iss_node.specs.declared.answers.Answer.TheVariants.{Taken as Node_taken}
 use Rattle.iss_request.specs.declared.requests.Value.{Value}
 use Rattle.iss_keep.specs.Internal.Keeping.{Answers}
-use Rattle.iss_keep.proofs.StepLemmas.{Enters, journaled, later, longer, not-journaled, short}
+use Rattle.iss_keep.proofs.StepLemmas.{Enters, journaled, later, longer, short}
 use Rattle.iss_keep.proofs.keeping.apply_then_append.Goals as goal
 
 pub append_or_retreat-requires-clause-append : goal.append_or_retreat-requires-clause-append
