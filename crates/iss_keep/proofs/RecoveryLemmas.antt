@@ -1,5 +1,5 @@
 -- What a replica stored leads back to it, and so does what a crash leaves while an event is journaled.
-use Rattle.std.proofs.Common.{◌≡◌, ◌⊎◌, inl, inr, ℕ, ◌<◌, ◌^◌, List, ◌∷◌, sym, subst, ◌∙◌, arith, refl}
+use Rattle.std.proofs.Common.{◌≡◌, ◌⊎◌, inl, inr, ℕ, ◌<◌, ◌^◌, List, [], ◌∷◌, sym, subst, ◌∙◌, arith, refl}
 use Rattle.iss_base.specs.Lists.{In}
 use Rattle.iss_journal.specs.Frames.{version_1}
 use Rattle.iss_journal.proofs.Showing.{shown_once}
@@ -11,7 +11,7 @@ use Rattle.iss_rebuilt.specs.Laws.{HasEntry, JournalsRecover}
 use Rattle.iss_rebuilt.specs.Stored.{Stored}
 use Rattle.iss_keep.specs.Cores.{shown_of, stored_of}
 use Rattle.iss_keep.specs.Entries.{event_in, spell_event}
-use Rattle.iss_keep.specs.Recovery.{AreNamed, Recovers}
+use Rattle.iss_keep.specs.Recovery.{AreNamed, Recovers, RecoversOneOfTwo}
 use Rattle.iss_keep.proofs.EntryLemmas.{spelled-read}
 use Rattle.iss_keep.proofs.LifeLemmas.{stored-rises}
 use Rattle.iss_keep.proofs.RetainLemmas.{no-snapshot, shows-more}
@@ -43,3 +43,8 @@ module _ {Msg : Type 0} (s : Setup) (m : Module Msg) (recover : JournalsRecover 
     before-or-after more (inr h) reads =
         inr (subst (λ (es : List (List ℕ)). Recovers s m me es next)
         (sym (shows-more st next (shown_of st) entry refl more) ∙ shown_once _ found bytes h reads) (stored-recovers (event ∷ events) named last))
+
+  -- The law: of a history with no event nothing is asked.
+  pub one-of-two : (events : List NodeEvent) → AreNamed s.n events → (stored_of s m me events).core.past.epoch < 2 ^ 64 → RecoversOneOfTwo m s me events
+  one-of-two [] named last = tt
+  one-of-two (event ∷ events) named last = λ entry bytes found more held reads. before-or-after events event named last entry bytes found more held reads

@@ -1,11 +1,9 @@
 -- A node that recovers from the entries of its journal: first from the snapshots in front, then from the events behind.
-use Rattle.std.proofs.Common.{arith, append_assoc, inl, inr, length-append, length-take-le, true≢false, ◌≡◌, ◌⊎◌, ℕ, zero, suc, ◌+◌, ◌<◌, ◌≤◌, true, false, cond, List, [], ◌∷◌, ◌++◌, length, take, drop, get_or, Option, Some, None, Bool, Result, Ok, Err, IfOk, refl, sym, ap, ◌∙◌, subst, take-append-drop}
+use Rattle.std.proofs.Common.{arith, append_assoc, inl, inr, length-append, length-take-le, true≢false, ◌≡◌, ◌⊎◌, ℕ, zero, suc, ◌+◌, ◌<◌, ◌≤◌, true, false, cond, List, [], ◌∷◌, ◌++◌, length, take, drop, get_or, Option, Some, None, Bool, Result, Ok, IfOk, refl, sym, ap, ◌∙◌, subst, take-append-drop}
 use Rattle.std.proofs.lemmas.List.{drop_more, reverse-append, reverse-reverse, take_all, take_at, take_more}
 use Rattle.std.specs.List.{filter}
 use Rattle.std.specs.Prelude.{reverse}
 use Rattle.iss_journal.specs.Retained.{is_snapshot, retained}
-use Rattle.iss_journal.specs.declared.errors.AttachError.{AttachError}
-use Rattle.iss_journal.specs.declared.errors.AttachError.TheVariants.{Damaged}
 use Rattle.iss_rules.proofs.Logs.{newborn-log}
 use Rattle.iss_rules.specs.Concrete.{rules_of}
 use Rattle.iss_model.specs.Frames.{Frame, frame_of}
@@ -353,7 +351,3 @@ fresh-shown m refines v h =
 
 pub went : {E : Type 0} (r : Result Bool E) (b : Bool) (P : Bool → Type 0) → r ≡ Ok b → IfOk r P → P b
 went {E = E} r b P is h = subst (λ (z : Result Bool E). IfOk z P) is h
-
--- The offset in the error is the offset of the gate.
-pub same-gate : {A : Type 0} (e : AttachError) (gate there : ℕ) → e ≡ Damaged gate → ◌≡◌ {A = Result A AttachError} (Err e) (Err (Damaged there)) → there ≡ gate
-same-gate e gate there is h = cc

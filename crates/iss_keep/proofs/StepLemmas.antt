@@ -21,13 +21,12 @@ use Rattle.iss_node.specs.declared.answers.Outcome.{Outcome}
 use Rattle.iss_sb.specs.Calls.{Relation}
 use Rattle.iss_sb.specs.Evidence.{Module}
 use Rattle.iss_keep.specs.Entries.{spell_event}
-use Rattle.iss_keep.specs.Internal.Keeping.{Answers, HasAppended, HasEnded, HasJournaled, HasNoted, HasStepped, IsKeptAs, MayStep, ShowsSame, Takes, entry_kept, entry_made, kept_at, released}
+use Rattle.iss_keep.specs.Internal.Keeping.{Answers, HasAppended, HasEnded, HasJournaled, HasNoted, HasStepped, IsKeptAs, ShowsSame, Takes, entry_kept, kept_at, released}
 use Rattle.iss_keep.specs.Steps.{IsWritten, makes_stale}
 use Rattle.iss_keep.specs.declared.answers.Answer.{Answer}
 use Rattle.iss_keep.specs.declared.answers.Answer.TheVariants.{Dropped as Kept_dropped, Failed, NoMemory, Stale, Taken as Kept_taken}
 use Rattle.iss_keep.proofs.SnapshotLemmas.{kept-right, kept-short}
 use Rattle.iss_keep.proofs.TakenLemmas.{log-cut, log-long, taken-goes-on, taken-later, taken-short}
-use Rattle.iss_keep.proofs.WriteLemmas.{nothing-kept}
 
 -- What a node hands out and notes, for the step of each core that it refines.
 abbrev pub Enters : {M Msg : Type 0} → Module Msg → Relation M Msg → NodeEvent → (old new : NodeView M Msg) → NodeAnswer → Type 0
@@ -68,25 +67,6 @@ unaccepted m refines event old new entry (Node_taken outcome) core answer enters
 unaccepted m refines event old new entry (Node_dropped why) core answer enters left other = (answer, dropped-notes m refines event old new why core answer enters)
 unaccepted m refines event old new entry Node_no_memory core answer enters left other = shows-spoiled old new left
 unaccepted m refines event old new entry Node_stale core answer enters left other = shows-stale old new left.1
-
--- The journal is as it was.
-pub unwritten : {D : Type 0} (state : D → Device) (journal : JournalState D) (entry : List ℕ) (made : NodeAnswer) → ((outcome : Outcome) → made ≡ Node_taken outcome → ⊥) →
-    IsWritten journal.entries entry (state journal.disk) (state journal.disk) journal.entries (released made nothing_failed)
-unwritten state journal entry (Node_taken outcome) other = absurd (other outcome refl)
-unwritten state journal entry (Node_dropped why) other = nothing-kept (state journal.disk) journal.entries entry (Kept_dropped why) refl refl refl (λ is. absurd (cc))
-unwritten state journal entry Node_no_memory other = nothing-kept (state journal.disk) journal.entries entry NoMemory refl refl refl (λ is. absurd (cc))
-unwritten state journal entry Node_stale other = nothing-kept (state journal.disk) journal.entries entry NoMemory refl refl refl (λ is. absurd (cc))
-
-pub not-journaled : {M Msg D : Type 0} (state : D → Device) (m : Module Msg) (refines : Relation M Msg) (event : NodeEvent) (old new : NodeView M Msg) (journal : JournalState D)
-    (made : NodeAnswer) → MayStep m refines old journal → Answers m refines event old new made → Enters m refines event old new made → IsLeft old new made →
-    ((outcome : Outcome) → made ≡ Node_taken outcome → ⊥) → (new.state.setup ≡ old.state.setup) × (new.state.me ≡ old.state.me) →
-    HasJournaled state m refines event old new journal journal made nothing_failed
-not-journaled state m refines event old new journal made may answer enters left other same = record {
-  written = unwritten state journal (entry_made made (spell_event event)) made other;
-  stepped = unaccepted m refines event old new (entry_made made (spell_event event)) made may.core answer enters left other;
-  attached = λ on. may.attached;
-  same = same;
-}
 
 -- ---- the event was accepted
 

@@ -24,8 +24,8 @@ AreNamed n events = (event : NodeEvent) → In event events → NamesNode n even
 abbrev pub Recovers : {Msg : Type 0} → Setup → Module Msg → ℕ → List (List ℕ) → Stored Msg → Type 0
 Recovers s m me entries st = IsRecovered (frame_of s m) (event_in s.n) me (reverse entries) st
 
--- P holds for each history of a replica of a good set-up: its events, newest first, name nodes, and they end in an epoch
--- of 64 bits.
+-- P holds for each history of a replica of a good set-up: its events, newest first, name nodes, and they end in an
+-- epoch of 64 bits.
 abbrev pub OfEachHistory : {Msg : Type 0} → Module Msg → (Setup → ℕ → List NodeEvent → Type 0) → Type 0
 OfEachHistory m P = (s : Setup) → IsSetupOf m s → (me : ℕ) → me < s.n → (events : List NodeEvent) →
     AreNamed s.n events → (stored_of s m me events).core.past.epoch < 2 ^ 64 → P s me events

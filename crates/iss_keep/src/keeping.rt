@@ -2,7 +2,7 @@
 // snapshot that takes its place.
 ghost use Rattle.std.specs.Prelude.{◌≡◌, ◌∷◌, [], length, IfOk, OnOk};
 ghost use Rattle.iss_keep.specs.Entries.{spell_event};
-ghost use Rattle.iss_keep.specs.Internal.Keeping.{HasAppended, HasEnded, HasJournaled, MayAppend, MayRetreat, MayStep};
+ghost use Rattle.iss_keep.specs.Internal.Keeping.{HasAppended, HasEnded, HasJournaled, MayAppend, MayEnd, MayStep};
 ghost use Rattle.iss_keep.specs.Internal.Keeping.{entry_kept, released};
 ghost use Rattle.iss_node.specs.declared.answers.Answer.TheVariants.{Taken as Node_taken};
 ghost use Rattle.iss_node.specs.declared.answers.Outcome.{Outcome};
@@ -101,8 +101,8 @@ fn append_or_retreat<M: Sequenced, D: Disk>(
     entered: &mut Option<Bytes>,
     savepoint: (usize, Epoch),
 ) -> Result<(), EndError>
-    requires append { MayAppend journal.old (entry_kept entered.old (entry.kind ∷ entry.content)) }
-    requires retreat { MayRetreat savepoint.0 savepoint.1.0 node.old }
+    requires { MayEnd journal.old (entry_kept entered.old (entry.kind ∷ entry.content)) node.old savepoint.0
+        savepoint.1.0 }
     ensures appended { HasAppended D.state (entry.kind ∷ entry.content) entered.old entered.new journal.old journal.new
         result }
     ensures ended { (outcome : Outcome) →

@@ -4,8 +4,8 @@ ghost use Rattle.iss_disk.specs.Calls.{IsFused, IsRestarted};
 ghost use Rattle.iss_journal.specs.Frames.{version_1};
 ghost use Rattle.iss_journal.specs.Promises.{LosesNone};
 ghost use Rattle.iss_keep.specs.State.{IsUnopened};
-ghost use Rattle.iss_keep.specs.Steps.{AnswersEvent, HasRetreated, IsJournaled, IsReopened, IsSame, IsSameNode, OnlyDisk};
-ghost use Rattle.iss_keep.specs.Steps.{Refuses, ShowsAsBefore, StoresEvent, makes_stale};
+ghost use Rattle.iss_keep.specs.Steps.{AnswersEvent, HasRetreated, IsJournaled, IsReopened, IsSame, IsSameNode};
+ghost use Rattle.iss_keep.specs.Steps.{OnlyDisk, Refuses, ShowsAsBefore, StoresEvent, makes_stale};
 ghost use Rattle.iss_rules.specs.Setups.{IsSetupOf};
 ghost use Rattle.iss_node.specs.State.{IsMember};
 

@@ -26,8 +26,8 @@ pub fn a_journal_recovers<M: Sequenced>()
     journals_recover::<M>();
 }
 
-/// A crash while an event is journaled recovers the core from before the event or the core after it. `bytes` is any
-/// crash image that `Kept::take` allows (`Writes`); `reopen` reads the entries in it.
+/// A crash while the last event of a history is journaled recovers the core from before the event or the core after
+/// it. The crash image is any that `Kept::take` allows (`Writes`); `reopen` reads the entries in it.
 pub fn a_crash_leaves_one_of_two<M: Sequenced>()
     ensures { OfEachHistory M.spec (RecoversOneOfTwo M.spec) }
 {

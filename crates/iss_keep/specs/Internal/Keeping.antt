@@ -118,8 +118,10 @@ pub record HasAppended {D T : Type 0} (state : D → Device) (own : List ℕ) (e
   pub same : (IsErrOf result Disk_no_memory → ⊥) → later ≡ entered
   pub attached : OnOk result (new.attached ≡ true)
 
--- The node may go back to this number of slots and this epoch.
-pub record MayRetreat {M Msg : Type 0} (n e : ℕ) (v : NodeView M Msg) : Type 0 where
+-- An entry of these bytes may be appended, and the node may go back to this number of slots and this epoch.
+pub record MayEnd {M Msg D : Type 0} (journal : JournalState D) (bytes : List ℕ) (v : NodeView M Msg) (n e : ℕ) :
+    Type 0 where
+  pub append : MayAppend journal bytes
   pub slots : n ≤ length v.state.log.entries
   pub epoch : e ≤ v.state.epoch
 

@@ -4,24 +4,11 @@ use Rattle.iss_node.specs.declared.answers.Answer.{Answer as NodeAnswer}
 use Rattle.iss_node.specs.declared.answers.Answer.TheVariants.{Taken as Node_taken}
 use Rattle.iss_request.specs.declared.requests.Value.{Value}
 use Rattle.iss_keep.specs.Internal.Keeping.{Answers}
-use Rattle.iss_keep.proofs.StepLemmas.{Enters, journaled, later, longer, not-journaled, short}
+use Rattle.iss_keep.proofs.StepLemmas.{Enters, journaled, later, longer, short}
 use Rattle.iss_keep.proofs.keeping.apply_then_append.Goals as goal
 
-pub append_or_retreat-requires-clause-append : goal.append_or_retreat-requires-clause-append
-append_or_retreat-requires-clause-append g c =
-    let outcome = c.in-Taken.outcome in
-    let answer : Answers g.M.Sequenced.spec g.M.Sequenced.refines c.args.event c.args.node.now c.take.new.self (Node_taken outcome) =
-    subst (λ (a : NodeAnswer). Answers g.M.Sequenced.spec g.M.Sequenced.refines c.args.event c.args.node.now c.take.new.self a) c.in-Taken.is c.take.ensures.answer in
-    let enters : Enters g.M.Sequenced.spec g.M.Sequenced.refines c.args.event c.args.node.now c.take.new.self (Node_taken outcome) =
-    subst (λ (a : NodeAnswer). Enters g.M.Sequenced.spec g.M.Sequenced.refines c.args.event c.args.node.now c.take.new.self a) c.in-Taken.is c.take.ensures.entered in
-    record {
-      attached = c.requires.step.attached;
-      short = short g.M.Sequenced.spec g.M.Sequenced.refines c.args.event c.args.node.now c.take.new.self outcome c.requires.step.good c.requires.step.core c.take.ensures.same.0
-          c.take.ensures.same.1 answer enters _ c.requires.entry;
-    }
-
-pub append_or_retreat-requires-clause-retreat : goal.append_or_retreat-requires-clause-retreat
-append_or_retreat-requires-clause-retreat g c =
+pub append_or_retreat-requires : goal.append_or_retreat-requires
+append_or_retreat-requires g c =
     let outcome = c.in-Taken.outcome in
     let answer : Answers g.M.Sequenced.spec g.M.Sequenced.refines c.args.event c.args.node.now c.take.new.self (Node_taken outcome) =
     subst (λ (a : NodeAnswer). Answers g.M.Sequenced.spec g.M.Sequenced.refines c.args.event c.args.node.now c.take.new.self a) c.in-Taken.is c.take.ensures.answer in
@@ -30,6 +17,11 @@ append_or_retreat-requires-clause-retreat g c =
     let all : length c.entries-slots.result.now ≡ length c.args.node.now.state.log.entries =
     ap (λ (vs : List Value). length vs) (c.entries-slots.ensures ∙ ap (λ (z : LogState). z.entries) c.log.ensures.shown) in
     record {
+      append = record {
+        attached = c.requires.step.attached;
+        short = short g.M.Sequenced.spec g.M.Sequenced.refines c.args.event c.args.node.now c.take.new.self outcome c.requires.step.good c.requires.step.core c.take.ensures.same.0
+            c.take.ensures.same.1 answer enters _ c.requires.entry;
+      };
       slots = longer g.M.Sequenced.spec g.M.Sequenced.refines c.args.event c.args.node.now c.take.new.self outcome c.requires.step.good c.requires.step.core c.take.ensures.same.0
           c.take.ensures.same.1 answer enters _ c.requires.entry (length c.entries-slots.result.now) all;
       epoch = later g.M.Sequenced.spec g.M.Sequenced.refines c.args.event c.args.node.now c.take.new.self outcome c.requires.step.good c.requires.step.core c.take.ensures.same.0

@@ -34,7 +34,7 @@ returns-in_default-next g c =
     let read = get_or (shared_in c.entries-entries.result.now) c.loop-k.k [] in
     let entry : read ≡ get_or c.args.journal.now.entries c.loop-k.k [] =
     ap (λ (es : List (List ℕ)). get_or es c.loop-k.k []) c.entries-entries.ensures in
-    recovers-stopped c.args.setup.now g.M.Sequenced.spec c.args.me.0 c.args.journal.now _ c.damage_at.result _ c.damage_at.ensures
+    recovers-stopped c.args.setup.now g.M.Sequenced.spec c.args.me.0 c.args.journal.now c.damage_at.result _ c.damage_at.ensures
     (read-stops c.args.setup.now g.M.Sequenced.spec g.M.Sequenced.refines c.args.me c.args.journal.now.entries c.args.front c.requires.front c.loop-k.k lt
     c.loop-k.rebuilding c.in-Ok-read_at.next read entry c.loop-k.invariant.1 c.loop-k.invariant.0 c.in-Ok-read_at.ensures.read c.in_default-next.is
     c.args.journal.now.gates _ refl)

@@ -40,7 +40,7 @@ returns-then-not-taken-clause-recovered g c =
     ap (λ (es : List (List ℕ)). get_or es c.loop-k.k []) c.entries-entries.ensures in
     let took : c.replay_at.result ≡ Ok false = search rules in
     let old = c.loop-k.node in
-    recovers-stopped c.args.setup.now g.M.Sequenced.spec c.args.node.now.state.me.0 c.args.journal.now _ c.damage_at.result _ c.damage_at.ensures
+    recovers-stopped c.args.setup.now g.M.Sequenced.spec c.args.node.now.state.me.0 c.args.journal.now c.damage_at.result _ c.damage_at.ensures
     (replay-stops c.args.setup.now g.M.Sequenced.spec g.M.Sequenced.refines c.args.node.now.state.me c.args.journal.now.entries c.args.front c.requires.front c.requires.stay
     c.loop-k.k c.loop-k.invariant.2 lt old c.replay_at.new.node read entry c.loop-k.invariant.1 c.loop-k.invariant.0
     (went c.replay_at.result false

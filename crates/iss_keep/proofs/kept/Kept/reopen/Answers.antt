@@ -1,4 +1,3 @@
-use Rattle.std.proofs.Common.{sym, ◌∙◌}
 use Rattle.iss_keep.proofs.KeptLemmas.{reopened-kept, reopened-stored}
 use Rattle.iss_keep.proofs.WriteLemmas.{loses-none, no-error, refused}
 use Rattle.iss_keep.proofs.kept.Kept.reopen.Goals as goal
@@ -10,7 +9,7 @@ invariant_of-self g c =
     c.in-Ok.node h.stay h.back.core h.back.same c.self.invariant.member h.is_attached h.attached.durable
 
 pub open-requires : goal.open-requires
-open-requires g c = c.self.invariant.member
+open-requires g c = record { member = c.self.invariant.member }
 
 pub returns-in-Ok-clause-reopened : goal.returns-in-Ok-clause-reopened
 returns-in-Ok-clause-reopened g c =
@@ -31,4 +30,4 @@ returns-in-Ok-clause-loses g c = rw (← c.self.view_is) (loses-none _ _ _ _ (no
 pub returns-in-Err-clause-refused : goal.returns-in-Err-clause-refused
 returns-in-Err-clause-refused g c = λ at is.
     rw (← c.self.view_is) (refused g.D.Disk.state c.self.inside.setup g.M.Sequenced.spec g.M.Sequenced.refines c.self.inside.me c.self.inside.journal c.open.new.journal
-    c.open.result c.open.ensures.opened at (c.in-Err.is ∙ is))
+    c.in-Err.error c.in-Err.ensures.opened at is)
