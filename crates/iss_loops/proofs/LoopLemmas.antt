@@ -1,5 +1,5 @@
 -- A loop, part by part.
-use Rattle.std.proofs.Common.{rules, inl, inr, ◌≡◌, ◌≢◌, ◌∙◌, ℕ, zero, suc, false, true, Bool, ◌||◌, ◌+◌, ◌/◌, ◌%◌, ◌^◌, ◌<◌, ◌≤◌, ◌==◌, nat_lt, List, [], ◌∷◌, ◌++◌, length, get_or, drop, take, Option, Some, None, Result, Ok, Err, OnOk, IsErrOf, refl, ap, sym, subst, arith}
+use Rattle.std.proofs.Common.{rules, inl, inr, ◌≡◌, ◌≢◌, ◌∙◌, ℕ, zero, suc, false, true, Bool, ◌||◌, ◌+◌, ◌/◌, ◌%◌, ◌^◌, ◌<◌, ◌≤◌, ◌==◌, nat_lt, List, [], ◌∷◌, ◌++◌, length, get_or, take, Option, Some, None, Result, Ok, OnOk, IsErrOf, refl, ap, sym, subst, arith}
 use Rattle.std.proofs.lemmas.Bool.{eq-eqb, le-ltb, lt-ltb, ne_eqb}
 use Rattle.std.proofs.lemmas.List.{take_all}
 use Rattle.std.proofs.lemmas.Result.{on_ok_weaker}
@@ -12,7 +12,6 @@ use Rattle.iss_loops.specs.Progress.{Does, Goes, IsAt, Seen}
 use Rattle.iss_loops.specs.Traces.{MayBeMade}
 use Rattle.iss_loops.specs.declared.errors.LoopError.{LoopError}
 use Rattle.iss_loops.specs.declared.errors.LoopError.TheVariants.{LinksFault}
-use Rattle.iss_loops.specs.declared.progress.Progress.{Progress}
 use Rattle.iss_request.specs.Setup.{IsGoodSetup}
 use Rattle.iss_request.specs.declared.ids.NodeId.{NodeId}
 use Rattle.iss_request.specs.declared.setups.Kind.{Kind}

@@ -1,24 +1,23 @@
 -- Parts of a node's loop, one behind another.
-use Rattle.std.proofs.Common.{inl, inr, ◌≡◌, ◌≢◌, ◌⊎◌, ◌∙◌, ℕ, suc, ◌+◌, ◌^◌, ◌-◌, ◌<◌, ◌≤◌, ◌==◌, nat_lt, Bool, true, false, List, [], ◌∷◌, ◌++◌, length, get_or, take, Option, Some, None, Result, Ok, Err, OnOk, IsErrOf, refl, ap, sym, subst, arith}
+use Rattle.std.proofs.Common.{inl, inr, ◌≡◌, ◌≢◌, ◌∙◌, ℕ, suc, ◌+◌, ◌<◌, ◌≤◌, ◌==◌, nat_lt, Bool, true, false, List, [], ◌∷◌, ◌++◌, length, get_or, take, Option, Some, Result, Ok, Err, IsErrOf, refl, ap, sym, subst, arith}
 use Rattle.std.proofs.lemmas.Bool.{eq-eqb, le-ltb, lt-ltb, ne_eqb}
 use Rattle.std.proofs.lemmas.List.{take_all}
 use Rattle.std.proofs.lemmas.Result.{on_ok_weaker}
 use Rattle.iss_base.specs.Counts.{Rose}
-use Rattle.iss_disk.specs.Calls.{HasCause as HasDiskCause}
 use Rattle.iss_links.specs.Calls.{HasCause}
 use Rattle.iss_links.specs.Ends.{End}
 use Rattle.iss_loops.proofs.CutLemmas.{Reaches, cut-behind, frames-reach, goes-on, rested, rests-reaches, stays, times-out-reaches}
 use Rattle.iss_loops.proofs.LoopLemmas.{take-more}
 use Rattle.iss_loops.specs.Loop.{packet_at, peer_of}
 use Rattle.iss_loops.specs.NodeBehavior.{IsOpen, NodeBehavior}
-use Rattle.iss_loops.specs.NodeLoop.{Goes, GrowsTo, HasGone, HasLooped, IsAt, NodeState, arrives, asks, begins, node_loop_of, proposes, receives, rests, takes, times_out, turn, turns, wakes}
+use Rattle.iss_loops.specs.NodeLoop.{Goes, HasLooped, IsAt, NodeState, arrives, asks, begins, node_loop_of, proposes, receives, rests, takes, times_out, turn, turns, wakes}
 use Rattle.iss_loops.specs.NodeSteps.{Does, NodeSeen}
 use Rattle.iss_loops.specs.declared.errors.NodeError.{NodeError}
-use Rattle.iss_loops.specs.declared.errors.NodeError.TheVariants.{DiskFault, LinksFault}
+use Rattle.iss_loops.specs.declared.errors.NodeError.TheVariants.{LinksFault}
 use Rattle.iss_loops.specs.declared.node_loop.NodeProgress.{NodeProgress}
 use Rattle.iss_request.specs.declared.ids.NodeId.{NodeId}
 use Rattle.iss_rules.specs.declared.events.NodeEvent.{NodeEvent}
-use Rattle.iss_rules.specs.declared.events.NodeEvent.TheVariants.{AskFrom, Packet, Propose, Timeout}
+use Rattle.iss_rules.specs.declared.events.NodeEvent.TheVariants.{AskFrom, Propose, Timeout}
 
 -- a part that did not fail
 pub record Done (more : ℕ) (F : NodeBehavior → NodeState → NodeState) (a b : NodeSeen) : Type 0 where

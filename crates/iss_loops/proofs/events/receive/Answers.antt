@@ -1,4 +1,4 @@
-use Rattle.std.proofs.Common.{rules, ◌∙◌, ◌≡◌, ap, sym, false, ℕ, Vec, Global, Some, option_map}
+use Rattle.std.proofs.Common.{rules, ◌∙◌, ◌≡◌, ap, sym, ℕ, Vec, Global, Some, option_map}
 use Rattle.iss_loops.proofs.LoopLemmas.{does-as, does-then, received, takes}
 use Rattle.iss_loops.specs.Loop.{arrives, packet_at, receives}
 use Rattle.iss_loops.proofs.events.receive.Goals as goal

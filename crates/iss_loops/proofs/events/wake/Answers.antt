@@ -9,10 +9,12 @@ use Rattle.iss_loops.proofs.events.wake.Goals as goal
 pub step-requires : goal.step-requires
 step-requires g c =
     let same = c.loop-leader.invariant.goes.same in
-    let nodes = subst (λ (ls : List NodeId). AreNodes (g.C.TracedCluster.behavior c.args.cluster.now).setup.n ls) (sym c.as_slice-leaders.ensures) c.in_ok-unfilled.ensures.nodes in
-    (timeout-range (g.C.TracedCluster.behavior c.loop-leader.cluster).setup c.args.core c.as_slice-leaders.result.now c.loop-leader.leader-index _
-    (subst (λ (B : Behavior). c.args.core < B.setup.n) (sym same) c.requires)
-    (subst (λ (B : Behavior). AreNodes B.setup.n c.as_slice-leaders.result.now) (sym same) nodes) c.loop-leader-test.true, tt)
+    let nodes = subst (λ (ls : List NodeId). AreNodes (g.C.TracedCluster.behavior c.args.cluster.now).setup.n ls) (sym c.as_slice-leaders.ensures) c.in_ok-unfilled.ensures.nodes in (
+      timeout-range (g.C.TracedCluster.behavior c.loop-leader.cluster).setup c.args.core c.as_slice-leaders.result.now c.loop-leader.leader-index _
+          (subst (λ (B : Behavior). c.args.core < B.setup.n) (sym same) c.requires)
+          (subst (λ (B : Behavior). AreNodes B.setup.n c.as_slice-leaders.result.now) (sym same) nodes) c.loop-leader-test.true,
+      tt,
+    )
 
 pub loop-leader-preserved : goal.loop-leader-preserved
 loop-leader-preserved g c = record {

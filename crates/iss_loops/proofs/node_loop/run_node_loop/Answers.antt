@@ -1,7 +1,7 @@
 use Rattle.std.proofs.Common.{rules, ◌≡◌, ◌+◌, refl, subst, true, ℕ}
 use Rattle.std.proofs.lemmas.Result.{err_from_is_err_and}
 use Rattle.iss_loops.proofs.CutLemmas.{turn-reaches}
-use Rattle.iss_loops.proofs.PartLemmas.{Done, does-then, done-of, fails, looped, opens, stays-here, turns-more}
+use Rattle.iss_loops.proofs.PartLemmas.{does-then, done-of, fails, looped, opens, stays-here, turns-more}
 use Rattle.iss_loops.specs.NodeLoop.{HasLooped, node_loop_of, turn, turns}
 use Rattle.iss_loops.specs.NodeSteps.{seen}
 use Rattle.iss_loops.proofs.node_loop.run_node_loop.Goals as goal

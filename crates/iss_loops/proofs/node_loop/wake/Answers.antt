@@ -1,6 +1,6 @@
 use Rattle.std.proofs.Common.{◌∙◌, ℕ, List, get_or, sym, subst, take}
 use Rattle.std.proofs.lemmas.Result.{err_from_is_err_and}
-use Rattle.iss_loops.proofs.CutLemmas.{asks-reaches, takes-reaches, wakes-reaches}
+use Rattle.iss_loops.proofs.CutLemmas.{takes-reaches, wakes-reaches}
 use Rattle.iss_loops.proofs.LoopLemmas.{leader-at}
 use Rattle.iss_loops.proofs.PartLemmas.{asks-none, asks-peer, does-as, does-of, does-then, done-as, done-of, fails, opens, stays-here, times-out-all, times-out-more, woken}
 use Rattle.iss_loops.specs.Behavior.{AreNodes}
