@@ -121,17 +121,17 @@ module _ (B : NodeBehavior) where
   times-out-reaches [] w = stays w
   times-out-reaches (l ∷ ls) w = goes-on w (takes B (Timeout l) w) _ (takes-reaches (Timeout l) w) (times-out-reaches ls (takes B (Timeout l) w))
 
-  asks-reaches : (w : NodeState) → Reaches w (asks B w)
+  pub asks-reaches : (w : NodeState) → Reaches w (asks B w)
   asks-reaches w = go (nat_lt 1 B.setup.n)
     where
       go : (b : Bool) → Reaches w (if b then takes B (AskFrom (peer_of B.setup.n B.me)) w else w)
       go true = takes-reaches (AskFrom (peer_of B.setup.n B.me)) w
       go false = stays w
 
-  wakes-reaches : (w : NodeState) → Reaches w (wakes B w)
+  pub wakes-reaches : (w : NodeState) → Reaches w (wakes B w)
   wakes-reaches w = goes-on w (times_out B (B.unfilled w.events) w) _ (times-out-reaches (B.unfilled w.events) w) (asks-reaches (times_out B (B.unfilled w.events) w))
 
-  rests-reaches : (patience : ℕ) (w : NodeState) → Reaches w (rests B patience w)
+  pub rests-reaches : (patience : ℕ) (w : NodeState) → Reaches w (rests B patience w)
   rests-reaches patience w = go w.idle
     where
       up : (b : Bool) → Reaches w (if b then wakes B (record w { idle_turns = 0 }) else record w { idle_turns = w.idle_turns + 1 })

@@ -1,5 +1,5 @@
 -- What a cluster does, as functions of the events that happened to it, oldest first. The loop sees no more of it.
-use Rattle.std.specs.Prelude.{◌≡◌, ℕ, ◌<◌, Bool, false, List, Some}
+use Rattle.std.specs.Prelude.{◌≡◌, ℕ, ◌<◌, ◌||◌, Bool, false, List, Some}
 use Rattle.iss_base.specs.Lists.{In, nth}
 use Rattle.iss_network.specs.declared.packets.Sent.{Sent}
 use Rattle.iss_request.specs.declared.ids.NodeId.{NodeId}
@@ -16,6 +16,10 @@ pub record Behavior : Type 0 where
   pub packets : List Event → List Sent
   -- whether an event showed evidence: a forged claim or a collision
   pub has_evidence : List Event → Bool
+
+-- nothing more may happen to a cluster: an event showed evidence, or memory ran out
+abbrev pub is_over : Behavior → List Event → Bool → Bool
+is_over B events stale = stale || B.has_evidence events
 
 -- all of these are nodes
 abbrev pub AreNodes : ℕ → List NodeId → Type 0

@@ -4,6 +4,7 @@ pub mod Internal
 pub mod Loop
 pub mod NodeBehavior
 pub mod NodeLoop
+pub mod NodeSteps
 pub mod Plans
 pub mod Progress
 pub mod Traces

@@ -141,6 +141,9 @@ abbrev pub each_below : (ℕ → LoopState → LoopState) → ℕ → LoopState 
 each_below F zero l = l
 each_below F (suc n) l = F n (each_below F n l)
 
+abbrev pub each_core : (Behavior → ℕ → LoopState → LoopState) → Behavior → LoopState → LoopState
+each_core F B l = each_below (F B) B.setup.n l
+
 -- request i: client i mod clients, number i / clients, and the four bytes of i
 -- rule: Loopback: Request i is the next one of client i mod clients, with the four bytes of i
 abbrev pub request_at : ℕ → ℕ → ℕ → Event

@@ -40,6 +40,10 @@ IsOfLoop (Drop core) = ⊥
 IsOfLoop (Restart core) = ⊥
 IsOfLoop (Crash core calls) = ⊥
 
+-- an event of these kinds, of the set-up's cores and nodes
+abbrev pub MayBeMade : Setup → Event → Type 0
+MayBeMade s e = IsInRange s e × IsOfLoop e
+
 -- The event may come next in a trace: it is in range, the trace stays within its limits, and no event before it showed
 -- evidence.
 pub record IsNext (B : Behavior) (before : List Event) (e : Event) : Type 0 where

@@ -1,12 +1,11 @@
 // The events that a loop makes at one core.
-ghost use Rattle.std.specs.Prelude.{◌≡◌, ◌<◌, ◌≤◌, ◌++◌, ◌∷◌, [], ◌||◌, false, ℕ, List, Option, Some, None, IfOk, OnOk, IsErrOf, drop, option_map};
+ghost use Rattle.std.specs.Prelude.{◌≡◌, ◌<◌, ◌≤◌, ◌||◌, List, Option, Some, IfOk, OnOk, IsErrOf, drop, option_map};
 ghost use Rattle.iss_links.specs.Calls.{HasCause};
 ghost use Rattle.iss_links.specs.Ends.{End};
-ghost use Rattle.iss_loops.specs.Behavior.{AreNodes, HaveEnds, StaysFresh};
-ghost use Rattle.iss_loops.specs.Loop.{LoopState, asks, delivers, has_ended, number_from, packet_at, peer_of, proposes, receives, send_packets, step, times_out, wakes};
-ghost use Rattle.iss_loops.specs.Progress.{IsAt};
-ghost use Rattle.iss_loops.specs.Traces.{IsOfLoop};
-ghost use Rattle.iss_schedule.specs.Events.{IsInRange};
+ghost use Rattle.iss_loops.specs.Behavior.{HaveEnds, is_over};
+ghost use Rattle.iss_loops.specs.Loop.{arrives, packet_at, peer_of, proposes, receives, send_packets, step, wakes};
+ghost use Rattle.iss_loops.specs.Progress.{Does, seen};
+ghost use Rattle.iss_loops.specs.Traces.{MayBeMade};
 
 use crate::cluster::TracedCluster;
 use crate::errors::LoopError;
@@ -27,10 +26,9 @@ pub(crate) fn nodes_of<C: TracedCluster>(cluster: &C) -> u32
 // Whether the loop has ended.
 // rule: Loopback: A loop ends after an event that shows evidence, and before one that would pass a trace's limits
 pub(crate) fn has_ended<C: TracedCluster>(cluster: &C, progress: &Progress) -> bool
-    requires { C.stale cluster.now ≡ false }
-    ensures { result ≡ (progress.now.full || (C.behavior cluster.now).has_evidence (C.events cluster.now)) }
+    ensures { result ≡ (progress.now.full || is_over (C.behavior cluster.now) (C.events cluster.now) (C.stale cluster.now)) }
 {
-    progress.full || cluster.has_evidence()
+    progress.full || cluster.is_over()
 }
 
 // Sends the packets from number `first` on.
@@ -56,14 +54,10 @@ pub(crate) fn step<C: TracedCluster, L: Links>(
     progress: &mut Progress,
     event: Event,
 ) -> Result<(), LoopError>
-    requires fresh { C.stale cluster.old ≡ false }
-    requires range { IsInRange (C.behavior cluster.old).setup event }
-    requires kind { IsOfLoop event }
-    ensures goes { OnOk result ((l : LoopState) → IsAt (C.events cluster.old) (L.ends links.old) progress.old l →
-        IsAt (C.events cluster.new) (L.ends links.new) progress.new (step (C.behavior cluster.old) event l)) }
-    ensures kept { OnOk result (StaysFresh (C.behavior cluster.old) (C.behavior cluster.new) (C.stale cluster.new)) }
-    ensures idle_turns { progress.new.idle_turns ≡ progress.old.idle_turns }
-    ensures cause { HasCause (L.faults links.old) (L.faults links.new) (IsErrOf result LoopError.LinksFault) }
+    requires { MayBeMade (C.behavior cluster.old).setup event }
+    ensures { Does 0 (λ B. step B event)
+        (seen C.behavior C.events C.stale L.ends L.faults cluster.old links.old progress.old)
+        (seen C.behavior C.events C.stale L.ends L.faults cluster.new links.new progress.new) result }
 {
     if has_ended(cluster, progress) {
         return Ok(());
@@ -85,13 +79,10 @@ pub(crate) fn propose<C: TracedCluster, L: Links>(
     progress: &mut Progress,
     core: u32,
 ) -> Result<(), LoopError>
-    requires fresh { C.stale cluster.old ≡ false }
-    requires core { core < (C.behavior cluster.old).setup.n }
-    ensures goes { OnOk result ((l : LoopState) → IsAt (C.events cluster.old) (L.ends links.old) progress.old l →
-        IsAt (C.events cluster.new) (L.ends links.new) progress.new (proposes (C.behavior cluster.old) core l)) }
-    ensures kept { OnOk result (StaysFresh (C.behavior cluster.old) (C.behavior cluster.new) (C.stale cluster.new)) }
-    ensures idle_turns { progress.new.idle_turns ≡ progress.old.idle_turns }
-    ensures cause { HasCause (L.faults links.old) (L.faults links.new) (IsErrOf result LoopError.LinksFault) }
+    requires { core < (C.behavior cluster.old).setup.n }
+    ensures { Does 0 (λ B. proposes B core)
+        (seen C.behavior C.events C.stale L.ends L.faults cluster.old links.old progress.old)
+        (seen C.behavior C.events C.stale L.ends L.faults cluster.new links.new progress.new) result }
 {
     if has_ended(cluster, progress) {
         return Ok(());
@@ -127,8 +118,10 @@ pub fn take_packet<L: Links>(
     Ok(None)
 }
 
-// A packet arrives at a core: it is delivered if it was sent to this core.
+// A packet arrives at a core: it is delivered if it was sent to this core. Otherwise the core takes its bytes, if its
+// module tolerates Byzantine nodes.
 // rule: Loopback: A packet that arrives is the least one that was sent to this core with these bytes
+// rule: Loopback: What no core sent is injected under a Byzantine module, and thrown away under a stopping one
 fn deliver<C: TracedCluster, L: Links>(
     cluster: &mut C,
     links: &mut L,
@@ -136,40 +129,15 @@ fn deliver<C: TracedCluster, L: Links>(
     core: u32,
     packet: Vec<u8>,
 ) -> Result<(), LoopError>
-    requires fresh { C.stale cluster.old ≡ false }
-    requires core { core < (C.behavior cluster.old).setup.n }
-    ensures goes { OnOk result ((l : LoopState) → IsAt (C.events cluster.old) (L.ends links.old) progress.old l →
-        IsAt (C.events cluster.new) (L.ends links.new) progress.new
-        (delivers (C.behavior cluster.old) core packet.items
-        (number_from 0 core packet.items ((C.behavior cluster.old).packets (C.events cluster.old))) l)) }
-    ensures kept { OnOk result (StaysFresh (C.behavior cluster.old) (C.behavior cluster.new) (C.stale cluster.new)) }
-    ensures idle_turns { progress.new.idle_turns ≡ progress.old.idle_turns }
-    ensures cause { HasCause (L.faults links.old) (L.faults links.new) (IsErrOf result LoopError.LinksFault) }
+    requires { core < (C.behavior cluster.old).setup.n }
+    ensures { Does 0 (λ B. arrives B core (Some packet.items))
+        (seen C.behavior C.events C.stale L.ends L.faults cluster.old links.old progress.old)
+        (seen C.behavior C.events C.stale L.ends L.faults cluster.new links.new progress.new) result }
 {
-    match cluster.number_of(core, &packet) {
-        Some(packet) => step(cluster, links, progress, Event::Deliver { packet }),
-        None => inject(cluster, links, progress, core, packet),
+    progress.idle = false;
+    if let Some(packet) = cluster.number_of(core, &packet) {
+        return step(cluster, links, progress, Event::Deliver { packet });
     }
-}
-
-// A core takes bytes that no core sent, if its module tolerates Byzantine nodes.
-// rule: Loopback: What no core sent is injected under a Byzantine module, and thrown away under a stopping one
-fn inject<C: TracedCluster, L: Links>(
-    cluster: &mut C,
-    links: &mut L,
-    progress: &mut Progress,
-    core: u32,
-    packet: Vec<u8>,
-) -> Result<(), LoopError>
-    requires fresh { C.stale cluster.old ≡ false }
-    requires core { core < (C.behavior cluster.old).setup.n }
-    ensures goes { OnOk result ((l : LoopState) → IsAt (C.events cluster.old) (L.ends links.old) progress.old l →
-        IsAt (C.events cluster.new) (L.ends links.new) progress.new
-        (delivers (C.behavior cluster.old) core packet.items None l)) }
-    ensures kept { OnOk result (StaysFresh (C.behavior cluster.old) (C.behavior cluster.new) (C.stale cluster.new)) }
-    ensures idle_turns { progress.new.idle_turns ≡ progress.old.idle_turns }
-    ensures cause { HasCause (L.faults links.old) (L.faults links.new) (IsErrOf result LoopError.LinksFault) }
-{
     match cluster.setup().kind {
         Kind::Byzantine => {
             let bytes = Bytes::of(packet);
@@ -187,50 +155,20 @@ pub(crate) fn receive<C: TracedCluster, L: Links>(
     core: u32,
     most: u32,
 ) -> Result<(), LoopError>
-    requires fresh { C.stale cluster.old ≡ false }
-    requires core { core < (C.behavior cluster.old).setup.n }
-    requires end { core < 256 }
-    ensures goes { OnOk result ((l : LoopState) → IsAt (C.events cluster.old) (L.ends links.old) progress.old l →
-        IsAt (C.events cluster.new) (L.ends links.new) progress.new (receives (C.behavior cluster.old) most core l)) }
-    ensures kept { OnOk result (StaysFresh (C.behavior cluster.old) (C.behavior cluster.new) (C.stale cluster.new)) }
-    ensures idle_turns { progress.new.idle_turns ≡ progress.old.idle_turns }
-    ensures cause { HasCause (L.faults links.old) (L.faults links.new) (IsErrOf result LoopError.LinksFault) }
+    requires { core < (C.behavior cluster.old).setup.n }
+    ensures { Does 0 (λ B. receives B most core)
+        (seen C.behavior C.events C.stale L.ends L.faults cluster.old links.old progress.old)
+        (seen C.behavior C.events C.stale L.ends L.faults cluster.new links.new progress.new) result }
 {
     if has_ended(cluster, progress) {
         return Ok(());
     }
+    let nodes = nodes_of(cluster);
+    prove!(core < nodes);
     match take_packet(links, core, most)? {
-        Some(packet) => {
-            progress.idle = false;
-            deliver(cluster, links, progress, core, packet)
-        }
+        Some(packet) => deliver(cluster, links, progress, core, packet),
         None => Ok(()),
     }
-}
-
-// A core times out for these leaders, one after the other.
-fn time_out<C: TracedCluster, L: Links>(
-    cluster: &mut C,
-    links: &mut L,
-    progress: &mut Progress,
-    core: u32,
-    leaders: &[NodeId],
-) -> Result<(), LoopError>
-    requires fresh { C.stale cluster.old ≡ false }
-    requires core { core < (C.behavior cluster.old).setup.n }
-    requires leaders { AreNodes (C.behavior cluster.old).setup.n leaders.now }
-    ensures goes { OnOk result ((l : LoopState) → IsAt (C.events cluster.old) (L.ends links.old) progress.old l →
-        IsAt (C.events cluster.new) (L.ends links.new) progress.new
-        (times_out (C.behavior cluster.old) core leaders.now l)) }
-    ensures kept { OnOk result (StaysFresh (C.behavior cluster.old) (C.behavior cluster.new) (C.stale cluster.new)) }
-    ensures idle_turns { progress.new.idle_turns ≡ progress.old.idle_turns }
-    ensures cause { HasCause (L.faults links.old) (L.faults links.new) (IsErrOf result LoopError.LinksFault) }
-{
-    for leader in leaders {
-        let leader = *leader;
-        step(cluster, links, progress, Event::Timeout { core, leader })?;
-    }
-    Ok(())
 }
 
 /// The node that node i asks: the next one, and behind the last one the first.
@@ -244,29 +182,6 @@ pub fn next_of(node: u32, nodes: u32) -> NodeId
     NodeId(((node + 1) % nodes) as u8)
 }
 
-// A core asks the next node, if there is another.
-fn ask<C: TracedCluster, L: Links>(
-    cluster: &mut C,
-    links: &mut L,
-    progress: &mut Progress,
-    core: u32,
-) -> Result<(), LoopError>
-    requires fresh { C.stale cluster.old ≡ false }
-    requires core { core < (C.behavior cluster.old).setup.n }
-    ensures goes { OnOk result ((l : LoopState) → IsAt (C.events cluster.old) (L.ends links.old) progress.old l →
-        IsAt (C.events cluster.new) (L.ends links.new) progress.new (asks (C.behavior cluster.old) core l)) }
-    ensures kept { OnOk result (StaysFresh (C.behavior cluster.old) (C.behavior cluster.new) (C.stale cluster.new)) }
-    ensures idle_turns { progress.new.idle_turns ≡ progress.old.idle_turns }
-    ensures cause { HasCause (L.faults links.old) (L.faults links.new) (IsErrOf result LoopError.LinksFault) }
-{
-    let nodes = nodes_of(cluster);
-    if nodes <= 1 {
-        return Ok(());
-    }
-    let peer = next_of(core, nodes);
-    step(cluster, links, progress, Event::Ask { core, peer })
-}
-
 // A core wakes up: it times out for each leader whose segment it has not filled, and asks the next node.
 // rule: Loopback: A core that wakes up times out for the leaders whose segments it has not filled, and for no other
 pub(crate) fn wake<C: TracedCluster, L: Links>(
@@ -275,18 +190,24 @@ pub(crate) fn wake<C: TracedCluster, L: Links>(
     progress: &mut Progress,
     core: u32,
 ) -> Result<(), LoopError>
-    requires fresh { C.stale cluster.old ≡ false }
-    requires core { core < (C.behavior cluster.old).setup.n }
-    ensures goes { OnOk result ((l : LoopState) → IsAt (C.events cluster.old) (L.ends links.old) progress.old l →
-        IsAt (C.events cluster.new) (L.ends links.new) progress.new (wakes (C.behavior cluster.old) core l)) }
-    ensures kept { OnOk result (StaysFresh (C.behavior cluster.old) (C.behavior cluster.new) (C.stale cluster.new)) }
-    ensures idle_turns { progress.new.idle_turns ≡ progress.old.idle_turns }
-    ensures cause { HasCause (L.faults links.old) (L.faults links.new) (IsErrOf result LoopError.LinksFault) }
+    requires { core < (C.behavior cluster.old).setup.n }
+    ensures { Does 0 (λ B. wakes B core)
+        (seen C.behavior C.events C.stale L.ends L.faults cluster.old links.old progress.old)
+        (seen C.behavior C.events C.stale L.ends L.faults cluster.new links.new progress.new) result }
 {
     if has_ended(cluster, progress) {
         return Ok(());
     }
-    let leaders = cluster.unfilled(core)?;
-    time_out(cluster, links, progress, core, leaders.as_slice())?;
-    ask(cluster, links, progress, core)
+    let unfilled = cluster.unfilled(core)?;
+    let leaders = unfilled.as_slice();
+    for leader in leaders {
+        let leader = *leader;
+        step(cluster, links, progress, Event::Timeout { core, leader })?;
+    }
+    let nodes = nodes_of(cluster);
+    if nodes <= 1 {
+        return Ok(());
+    }
+    let peer = next_of(core, nodes);
+    step(cluster, links, progress, Event::Ask { core, peer })
 }

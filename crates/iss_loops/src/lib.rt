@@ -10,6 +10,7 @@ mod node_loop;
 mod packet_index;
 mod plan;
 mod progress;
+mod sending;
 mod trace;
 mod turns;
 

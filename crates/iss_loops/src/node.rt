@@ -60,7 +60,6 @@ pub trait JournaledNode {
 
     /// Whether it leads its epoch and has a free slot to propose at.
     fn castable(&self) -> bool
-        requires { IsOpen (has self.now) }
         ensures { (B : NodeBehavior) (events : List ModelEvent) → has self.now B events →
             result ≡ B.castable events };
 

@@ -1,11 +1,12 @@
 // All cores, and the turns of a loop.
-ghost use Rattle.std.specs.Prelude.{◌≡◌, ◌<◌, ◌≤◌, ◌+◌, ◌-◌, ◌/◌, ◌^◌, false, List, [], Some, IfOk, OnOk, IsErrOf};
+ghost use Rattle.std.specs.Prelude.{◌≡◌, ◌<◌, ◌/◌, ◌-◌, ◌^◌, false, List, [], Some, IfOk, OnOk, IsErrOf};
 ghost use Rattle.iss_links.specs.Calls.{HasCause};
 ghost use Rattle.iss_links.specs.Ends.{End};
 ghost use Rattle.iss_loops.specs.Behavior.{StaysFresh};
-ghost use Rattle.iss_loops.specs.Loop.{LoopState, each_below, hands_out, loop_of, proposes, receives, request_at, requests, rests, turn_at, wakes};
+ghost use Rattle.iss_loops.specs.Loop.{each_core, hands_out, loop_of, proposes, receives, request_at, turn_at, wakes};
 ghost use Rattle.iss_loops.specs.Plans.{HasLeaves, HasRun, plan_of};
-ghost use Rattle.iss_loops.specs.Progress.{IsAt};
+ghost use Rattle.iss_loops.specs.Progress.{Does, seen};
+ghost use Rattle.iss_request.specs.Setup.{IsGoodSetup};
 
 use crate::cluster::TracedCluster;
 use crate::errors::LoopError;
@@ -13,7 +14,7 @@ use crate::events::{has_ended, nodes_of, propose, receive, step, wake};
 use crate::plan::Plan;
 use crate::progress::Progress;
 use iss_links::Links;
-use iss_request::{Bytes, NoMemory};
+use iss_request::{Bytes, NoMemory, Setup};
 use iss_schedule::Event;
 use std::alloc::Global;
 
@@ -23,13 +24,9 @@ fn propose_all<C: TracedCluster, L: Links>(
     links: &mut L,
     progress: &mut Progress,
 ) -> Result<(), LoopError>
-    requires { C.stale cluster.old ≡ false }
-    ensures goes { OnOk result ((l : LoopState) → IsAt (C.events cluster.old) (L.ends links.old) progress.old l →
-        IsAt (C.events cluster.new) (L.ends links.new) progress.new
-        (each_below (proposes (C.behavior cluster.old)) (C.behavior cluster.old).setup.n l)) }
-    ensures kept { OnOk result (StaysFresh (C.behavior cluster.old) (C.behavior cluster.new) (C.stale cluster.new)) }
-    ensures idle_turns { progress.new.idle_turns ≡ progress.old.idle_turns }
-    ensures cause { HasCause (L.faults links.old) (L.faults links.new) (IsErrOf result LoopError.LinksFault) }
+    ensures { Does 0 (each_core proposes)
+        (seen C.behavior C.events C.stale L.ends L.faults cluster.old links.old progress.old)
+        (seen C.behavior C.events C.stale L.ends L.faults cluster.new links.new progress.new) result }
 {
     for core in 0..nodes_of(cluster) {
         propose(cluster, links, progress, core)?;
@@ -44,13 +41,9 @@ fn receive_all<C: TracedCluster, L: Links>(
     progress: &mut Progress,
     most: u32,
 ) -> Result<(), LoopError>
-    requires { C.stale cluster.old ≡ false }
-    ensures goes { OnOk result ((l : LoopState) → IsAt (C.events cluster.old) (L.ends links.old) progress.old l →
-        IsAt (C.events cluster.new) (L.ends links.new) progress.new
-        (each_below (receives (C.behavior cluster.old) most) (C.behavior cluster.old).setup.n l)) }
-    ensures kept { OnOk result (StaysFresh (C.behavior cluster.old) (C.behavior cluster.new) (C.stale cluster.new)) }
-    ensures idle_turns { progress.new.idle_turns ≡ progress.old.idle_turns }
-    ensures cause { HasCause (L.faults links.old) (L.faults links.new) (IsErrOf result LoopError.LinksFault) }
+    ensures { Does 0 (each_core (λ B. receives B most))
+        (seen C.behavior C.events C.stale L.ends L.faults cluster.old links.old progress.old)
+        (seen C.behavior C.events C.stale L.ends L.faults cluster.new links.new progress.new) result }
 {
     for core in 0..nodes_of(cluster) {
         receive(cluster, links, progress, core, most)?;
@@ -64,13 +57,9 @@ fn wake_all<C: TracedCluster, L: Links>(
     links: &mut L,
     progress: &mut Progress,
 ) -> Result<(), LoopError>
-    requires { C.stale cluster.old ≡ false }
-    ensures goes { OnOk result ((l : LoopState) → IsAt (C.events cluster.old) (L.ends links.old) progress.old l →
-        IsAt (C.events cluster.new) (L.ends links.new) progress.new
-        (each_below (wakes (C.behavior cluster.old)) (C.behavior cluster.old).setup.n l)) }
-    ensures kept { OnOk result (StaysFresh (C.behavior cluster.old) (C.behavior cluster.new) (C.stale cluster.new)) }
-    ensures idle_turns { progress.new.idle_turns ≡ progress.old.idle_turns }
-    ensures cause { HasCause (L.faults links.old) (L.faults links.new) (IsErrOf result LoopError.LinksFault) }
+    ensures { Does 0 (each_core wakes)
+        (seen C.behavior C.events C.stale L.ends L.faults cluster.old links.old progress.old)
+        (seen C.behavior C.events C.stale L.ends L.faults cluster.new links.new progress.new) result }
 {
     for core in 0..nodes_of(cluster) {
         wake(cluster, links, progress, core)?;
@@ -78,38 +67,8 @@ fn wake_all<C: TracedCluster, L: Links>(
     Ok(())
 }
 
-// An idle turn is counted. After `patience` idle turns in a row the cores wake up.
+// One turn, unless the loop has ended. An idle turn is counted. After `patience` idle turns in a row the cores wake up.
 // rule: Loopback: After 64 idle turns in a row the count begins anew, and each core wakes up
-fn rest<C: TracedCluster, L: Links>(
-    cluster: &mut C,
-    links: &mut L,
-    progress: &mut Progress,
-    patience: u32,
-) -> Result<(), LoopError>
-    requires fresh { C.stale cluster.old ≡ false }
-    requires idle_turns { progress.old.idle_turns < 2 ^ 32 - 1 }
-    ensures goes { OnOk result ((l : LoopState) → IsAt (C.events cluster.old) (L.ends links.old) progress.old l →
-        IsAt (C.events cluster.new) (L.ends links.new) progress.new (rests (C.behavior cluster.old) patience l)) }
-    ensures kept { OnOk result (StaysFresh (C.behavior cluster.old) (C.behavior cluster.new) (C.stale cluster.new)) }
-    ensures idle_turns { OnOk result (progress.new.idle_turns ≤ progress.old.idle_turns + 1) }
-    ensures cause { HasCause (L.faults links.old) (L.faults links.new) (IsErrOf result LoopError.LinksFault) }
-{
-    if has_ended(cluster, progress) {
-        return Ok(());
-    }
-    if !progress.idle {
-        progress.idle_turns = 0;
-        return Ok(());
-    }
-    if progress.idle_turns + 1 != patience {
-        progress.idle_turns += 1;
-        return Ok(());
-    }
-    progress.idle_turns = 0;
-    wake_all(cluster, links, progress)
-}
-
-// One turn, unless the loop has ended.
 fn take_turn<C: TracedCluster, L: Links>(
     cluster: &mut C,
     links: &mut L,
@@ -117,14 +76,10 @@ fn take_turn<C: TracedCluster, L: Links>(
     plan: &Plan,
     _turn: u32,
 ) -> Result<(), LoopError>
-    requires fresh { C.stale cluster.old ≡ false }
-    requires idle_turns { progress.old.idle_turns < 2 ^ 32 - 1 }
-    ensures goes { OnOk result ((l : LoopState) → IsAt (C.events cluster.old) (L.ends links.old) progress.old l →
-        IsAt (C.events cluster.new) (L.ends links.new) progress.new
-        (turn_at (C.behavior cluster.old) (plan_of plan.now) _turn l)) }
-    ensures kept { OnOk result (StaysFresh (C.behavior cluster.old) (C.behavior cluster.new) (C.stale cluster.new)) }
-    ensures idle_turns { OnOk result (progress.new.idle_turns ≤ progress.old.idle_turns + 1) }
-    ensures cause { HasCause (L.faults links.old) (L.faults links.new) (IsErrOf result LoopError.LinksFault) }
+    requires { progress.old.idle_turns < 2 ^ 32 - 1 }
+    ensures { Does 1 (λ B. turn_at B (plan_of plan.now) _turn)
+        (seen C.behavior C.events C.stale L.ends L.faults cluster.old links.old progress.old)
+        (seen C.behavior C.events C.stale L.ends L.faults cluster.new links.new progress.new) result }
 {
     if has_ended(cluster, progress) {
         return Ok(());
@@ -132,16 +87,28 @@ fn take_turn<C: TracedCluster, L: Links>(
     progress.idle = true;
     propose_all(cluster, links, progress)?;
     receive_all(cluster, links, progress, plan.frames)?;
-    rest(cluster, links, progress, plan.patience)
+    if has_ended(cluster, progress) {
+        return Ok(());
+    }
+    if !progress.idle {
+        progress.idle_turns = 0;
+        return Ok(());
+    }
+    if progress.idle_turns + 1 != plan.patience {
+        progress.idle_turns += 1;
+        return Ok(());
+    }
+    progress.idle_turns = 0;
+    wake_all(cluster, links, progress)
 }
 
 // Request i as an event of a core.
 // rule: Loopback: Request i is the next one of client i mod clients, with the four bytes of i
-fn request_at(alloc: Global, clients: u32, i: u32, core: u32) -> Result<Event, NoMemory>
-    requires some { 1 ≤ clients }
-    requires few { clients ≤ 256 }
-    ensures { IfOk result (λ event. event ≡ request_at clients i core) }
+fn request_at(alloc: Global, setup: &Setup, i: u32, core: u32) -> Result<Event, NoMemory>
+    requires { IsGoodSetup setup.now }
+    ensures { IfOk result (λ event. event ≡ request_at setup.now.clients i core) }
 {
+    let clients = setup.clients;
     let payload = Bytes::of(Vec::from_slice(alloc, &i.to_be_bytes())?);
     Ok(Event::Request {
         core,
@@ -149,29 +116,6 @@ fn request_at(alloc: Global, clients: u32, i: u32, core: u32) -> Result<Event, N
         number: i / clients,
         payload,
     })
-}
-
-// A core gets request i.
-fn request<C: TracedCluster, L: Links>(
-    alloc: Global,
-    cluster: &mut C,
-    links: &mut L,
-    progress: &mut Progress,
-    i: u32,
-    core: u32,
-) -> Result<(), LoopError>
-    requires fresh { C.stale cluster.old ≡ false }
-    requires leaf { i / (C.behavior cluster.old).setup.clients < 2 ^ (C.behavior cluster.old).setup.keys }
-    requires core { core < (C.behavior cluster.old).setup.n }
-    ensures goes { OnOk result ((l : LoopState) → IsAt (C.events cluster.old) (L.ends links.old) progress.old l →
-        IsAt (C.events cluster.new) (L.ends links.new) progress.new (requests (C.behavior cluster.old) i core l)) }
-    ensures kept { OnOk result (StaysFresh (C.behavior cluster.old) (C.behavior cluster.new) (C.stale cluster.new)) }
-    ensures idle_turns { progress.new.idle_turns ≡ progress.old.idle_turns }
-    ensures cause { HasCause (L.faults links.old) (L.faults links.new) (IsErrOf result LoopError.LinksFault) }
-{
-    let clients = cluster.setup().clients;
-    let event = request_at(alloc, clients, i, core)?;
-    step(cluster, links, progress, event)
 }
 
 // Each core gets request i.
@@ -182,16 +126,14 @@ fn hand_out<C: TracedCluster, L: Links>(
     progress: &mut Progress,
     i: u32,
 ) -> Result<(), LoopError>
-    requires fresh { C.stale cluster.old ≡ false }
-    requires leaf { i / (C.behavior cluster.old).setup.clients < 2 ^ (C.behavior cluster.old).setup.keys }
-    ensures goes { OnOk result ((l : LoopState) → IsAt (C.events cluster.old) (L.ends links.old) progress.old l →
-        IsAt (C.events cluster.new) (L.ends links.new) progress.new (hands_out (C.behavior cluster.old) i l)) }
-    ensures kept { OnOk result (StaysFresh (C.behavior cluster.old) (C.behavior cluster.new) (C.stale cluster.new)) }
-    ensures idle_turns { progress.new.idle_turns ≡ progress.old.idle_turns }
-    ensures cause { HasCause (L.faults links.old) (L.faults links.new) (IsErrOf result LoopError.LinksFault) }
+    requires { i / (C.behavior cluster.old).setup.clients < 2 ^ (C.behavior cluster.old).setup.keys }
+    ensures { Does 0 (λ B. hands_out B i)
+        (seen C.behavior C.events C.stale L.ends L.faults cluster.old links.old progress.old)
+        (seen C.behavior C.events C.stale L.ends L.faults cluster.new links.new progress.new) result }
 {
     for core in 0..nodes_of(cluster) {
-        request(alloc, cluster, links, progress, i, core)?;
+        let event = request_at(alloc, cluster.setup(), i, core)?;
+        step(cluster, links, progress, event)?;
     }
     Ok(())
 }

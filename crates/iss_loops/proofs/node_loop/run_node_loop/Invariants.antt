@@ -1,17 +1,11 @@
-use Rattle.std.proofs.Common.{◌≡◌, ◌≤◌, true, List}
-use Rattle.iss_loops.proofs.CutLemmas.{IsPassing}
-use Rattle.iss_loops.specs.NodeBehavior.{NodeBehavior}
+use Rattle.std.proofs.Common.{true}
+use Rattle.iss_loops.proofs.PartLemmas.{Done}
 use Rattle.iss_loops.specs.NodeLoop.{turns}
-use Rattle.iss_rules.specs.declared.events.NodeEvent.{NodeEvent}
+use Rattle.iss_loops.specs.NodeSteps.{seen}
 use Rattle.iss_loops.proofs.node_loop.run_node_loop.Given as goal
 
 abbrev pub invariant-loop : goal.invariant-loop
-invariant-loop g l = record {
-  links : g.L.Links.faults l.links ≡ g.L.Links.faults l.fn.links;
-  disk : g.N.JournaledNode.faults l.fn.node ≤ g.N.JournaledNode.faults l.node;
-  place : g.N.JournaledNode.place l.node ≡ g.N.JournaledNode.place l.fn.node;
-  same : g.N.JournaledNode.nodes l.node ≡ g.N.JournaledNode.nodes l.fn.node;
-  idle_turns : l.progress.idle_turns ≤ l.counter;
-  goes : (B : NodeBehavior) (events : List NodeEvent) → g.N.JournaledNode.has l.fn.node B events
-      → IsPassing B events (g.N.JournaledNode.has l.node B) (g.L.Links.ends l.fn.links) (g.L.Links.ends l.links) (record { count = 0; idle = true; idle_turns = 0 }) l.progress (λ v. v) (turns B l.frames l.patience l.counter);
-}
+invariant-loop g l =
+    Done l.counter (λ B. turns B l.frames l.patience l.counter)
+    (seen g.N.JournaledNode.has g.N.JournaledNode.leaves g.N.JournaledNode.nodes g.N.JournaledNode.place g.N.JournaledNode.faults g.L.Links.ends g.L.Links.faults l.fn.node l.fn.links (record { count = 0; idle = true; idle_turns = 0 }))
+    (seen g.N.JournaledNode.has g.N.JournaledNode.leaves g.N.JournaledNode.nodes g.N.JournaledNode.place g.N.JournaledNode.faults g.L.Links.ends g.L.Links.faults l.node l.links l.progress)

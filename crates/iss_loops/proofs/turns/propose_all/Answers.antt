@@ -1,0 +1,10 @@
+use Rattle.std.proofs.Common.{rules}
+use Rattle.iss_loops.proofs.LoopLemmas.{each-more, went}
+use Rattle.iss_loops.specs.Loop.{proposes}
+use Rattle.iss_loops.proofs.turns.propose_all.Goals as goal
+
+pub loop-core-preserved : goal.loop-core-preserved
+loop-core-preserved g c = record {
+  still = search rules;
+  goes = each-more (λ B. proposes B) c.loop-core.core _ _ _ c.loop-core.invariant.goes (went _ c.propose.result _ c.in_ok-propose.was c.propose.ensures.goes);
+}
