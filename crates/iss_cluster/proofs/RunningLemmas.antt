@@ -1,6 +1,6 @@
 -- A cluster in its loop: what it shows by its trace, and one more event.
 use Rattle.std.proofs.Common.{inl, inr, ◌≡◌, ◌⊎◌, ◌∙◌, ℕ, zero, suc, ◌+◌, ◌<◌, ◌≤◌, Bool, true, false, cond, List, [], ◌∷◌, ◌++◌, length, take, map, Option, Some, None, Vec, Global, Result, Ok, Err, OnOk, OnErr, refl, sym, ap, subst, arith}
-use Rattle.std.specs.Prelude.{is_some}
+use Rattle.std.specs.Prelude.{◌||◌, is_some}
 use Rattle.std.specs.List.{filter}
 use Rattle.iss_base.proofs.Lists.{in_append, some-injective}
 use Rattle.iss_base.specs.Lists.{In, below}
@@ -8,10 +8,10 @@ use Rattle.iss_cluster.proofs.CourseLemmas.{sent-first, works-on}
 use Rattle.iss_cluster.proofs.TraceLemmas.{trace-begins, trace-in-range, trace-more}
 use Rattle.iss_cluster.specs.Clusters.{IsTracedRun, behavior_of}
 use Rattle.iss_cluster.specs.Internal.Running.{HasRun, IsRunning, RunningState}
-use Rattle.iss_loops.specs.Behavior.{AreNodes, HaveEnds}
+use Rattle.iss_loops.specs.Behavior.{AreNodes, HaveEnds, is_over}
 use Rattle.iss_loops.specs.Internal.PacketIndex.{IsIndexOf}
 use Rattle.iss_loops.specs.Loop.{number_from}
-use Rattle.iss_loops.specs.Traces.{IsNext, IsOfLoop, is_within_limits}
+use Rattle.iss_loops.specs.Traces.{IsNext}
 use Rattle.iss_model.specs.Courses.{Course, Machines, begin_course, driver_of}
 use Rattle.iss_model.specs.Driver.{run_event}
 use Rattle.iss_model.proofs.Ranges.{at-cores}
@@ -33,7 +33,6 @@ use Rattle.iss_rules.specs.declared.events.Why.{Why}
 use Rattle.iss_sb.specs.Calls.{Relation}
 use Rattle.iss_sb.specs.Evidence.{Module}
 use Rattle.iss_schedule.specs.Cores.{cores_of}
-use Rattle.iss_schedule.specs.Events.{IsInRange}
 use Rattle.iss_schedule.specs.declared.schedules.Event.{Event}
 use Rattle.iss_schedule.specs.declared.schedules.Schedule.{Schedule}
 use Rattle.iss_theorems.proofs.CrashRecovery.LostEventsAreNumbered.{after-one, all-counted}
@@ -204,14 +203,6 @@ module _ {M Msg : Type 0} (m : Module Msg) (refines : Relation M Msg) where
       (subst (λ (ds : List (ℕ × Why)). IsRunning m refines (record { world = world; drops = ds; ended = None; trace = record { setup = s; events = [] }; index = index; stale = stale })) (sym no_drops)
       (record { good = good; cluster = same; run = λ fresh. run-begins world s index begun none }))
 
-  -- the event is the next one of the trace
-  pub next-is : (r : RunningState M Msg) (v : RunningState M Msg) (e : Event) → r ≡ v → IsInRange (behavior_of v.trace.setup m).setup e → IsOfLoop e
-      → is_within_limits (behavior_of v.trace.setup m).setup (v.trace.events ++ e ∷ []) ≡ true → (behavior_of v.trace.setup m).has_evidence v.trace.events ≡ false
-      → IsNext (behavior_of r.trace.setup m) r.trace.events e
-  next-is r v e same range kind limits none =
-      subst (λ (z : RunningState M Msg). IsNext (behavior_of z.trace.setup m) z.trace.events e) (sym same)
-      (record { range = range; kind = kind; limits = limits; no_evidence = none })
-
   -- memory ran out: the set-up is still the same
   pub gives-up : (r : RunningState M Msg) (world : WorldState M Msg) (drops : List (ℕ × Why)) (ended : Option (ℕ × Evidence)) (trace : Schedule) (index : List (ℕ × Vec ℕ Global))
       → IsRunning m refines r → trace.setup ≡ r.trace.setup → world.simulation.setup ≡ r.trace.setup
@@ -248,19 +239,37 @@ module _ {M Msg : Type 0} (m : Module Msg) (refines : Relation M Msg) where
 
   -- ---- what it shows
 
+  pub shows-ends : (r : RunningState M Msg) → IsRunning m refines r → (packets : List Sent) → AreBetweenCores (cores_of r.world.simulation.setup) packets → HaveEnds packets
+  shows-ends r h packets between = packets-have-ends r.trace.setup r.world.simulation.setup packets h.cluster h.good.good between
+
+  -- it is not over: memory did not run out, and no event showed evidence
+  both-off : (a b : Bool) → (a || b) ≡ false → (a ≡ false) × (b ≡ false)
+  both-off false b q = (refl, q)
+  both-off true b q = absurd (cc)
+
+  pub goes-yet : (r v : RunningState M Msg) → r ≡ v → is_over (behavior_of v.trace.setup m) v.trace.events v.stale ≡ false
+      → (r.stale ≡ false) × ((behavior_of r.trace.setup m).has_evidence r.trace.events ≡ false)
+  goes-yet r v same q =
+      both-off r.stale ((behavior_of r.trace.setup m).has_evidence r.trace.events)
+      (subst (λ (z : RunningState M Msg). is_over (behavior_of z.trace.setup m) z.trace.events z.stale ≡ false) (sym same) q)
+
+  pub stale-over : (r v : RunningState M Msg) → r ≡ v → r.stale ≡ true → true ≡ is_over (behavior_of v.trace.setup m) v.trace.events v.stale
+  stale-over r v same stale =
+      ap (λ (b : Bool). b || (behavior_of v.trace.setup m).has_evidence v.trace.events) (sym (subst (λ (z : RunningState M Msg). z.stale ≡ true) same stale))
+
   module _ (r : RunningState M Msg) (h : IsRunning m refines r) (fresh : r.stale ≡ false) where
     pub core-is : (core : ℕ) → core < r.trace.setup.n → core < cores_of r.world.simulation.setup
     core-is core low = subst (λ (s : Setup). core < cores_of s) (sym h.cluster) (omega (arith, low))
 
-    pub shows-evidence : is_some r.ended ≡ (behavior_of r.trace.setup m).has_evidence r.trace.events
+    shows-evidence : is_some r.ended ≡ (behavior_of r.trace.setup m).has_evidence r.trace.events
     shows-evidence = evidence-is m refines r.world r.drops r.ended r.trace r.index (h.run fresh)
+
+    pub shows-over : (over : Bool) → over ≡ is_some r.ended → over ≡ is_over (behavior_of r.trace.setup m) r.trace.events r.stale
+    shows-over over is = is ∙ shows-evidence ∙ ap (λ (b : Bool). b || (behavior_of r.trace.setup m).has_evidence r.trace.events) (sym fresh)
 
     pub shows-packets : (packets : List Sent) → ((p : Course Msg) → RefinesRun m refines r.world p → packets ≡ p.state.held.net.network.packets)
         → packets ≡ (behavior_of r.trace.setup m).packets r.trace.events
     shows-packets packets are = are (course_after r.trace.setup m r.trace.events) (h.run fresh).report.refined
-
-    pub shows-ends : (packets : List Sent) → AreBetweenCores (cores_of r.world.simulation.setup) packets → HaveEnds packets
-    shows-ends packets between = packets-have-ends r.trace.setup r.world.simulation.setup packets h.cluster h.good.good between
 
     pub shows-number : (core : ℕ) (bytes : List ℕ) (packets : List Sent) (number : Option ℕ) → ((p : Course Msg) → RefinesRun m refines r.world p → packets ≡ p.state.held.net.network.packets)
         → (IsIndexOf r.index packets → number ≡ number_from 0 core bytes packets) → number ≡ number_from 0 core bytes ((behavior_of r.trace.setup m).packets r.trace.events)

@@ -119,8 +119,8 @@ impl<M: Sequenced> TracedCluster for Running<M> {
         Ok(())
     }
 
-    fn has_evidence(&self) -> bool {
-        self.report.ended.is_some()
+    fn is_over(&self) -> bool {
+        self.stale || self.report.ended.is_some()
     }
 
     fn castable(&self, core: u32) -> bool {

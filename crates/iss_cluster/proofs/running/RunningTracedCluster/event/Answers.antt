@@ -1,6 +1,8 @@
 use Rattle.std.proofs.Common.{sym, subst, ◌≡◌, false}
+use Rattle.iss_cluster.specs.Clusters.{behavior_of}
 use Rattle.iss_cluster.specs.Internal.Running.{RunningState}
-use Rattle.iss_cluster.proofs.RunningLemmas.{gives-up, goes-further, next-is}
+use Rattle.iss_loops.specs.Traces.{IsNext}
+use Rattle.iss_cluster.proofs.RunningLemmas.{gives-up, goes-further}
 use Rattle.iss_cluster.proofs.running.RunningTracedCluster.event.Goals as goal
 
 pub follow-requires-clause-cluster : goal.follow-requires-clause-cluster
@@ -8,7 +10,7 @@ follow-requires-clause-cluster g c = c.self.invariant.cluster
 
 pub follow-requires-clause-next : goal.follow-requires-clause-next
 follow-requires-clause-next g c =
-    next-is g.M.Sequenced.spec g.M.Sequenced.refines _ _ c.args.event c.self.view_is c.requires.range c.requires.kind c.requires.limits c.requires.no_evidence
+    subst (λ (r : RunningState _ _). IsNext (behavior_of r.trace.setup g.M.Sequenced.spec) r.trace.events c.args.event) (sym c.self.view_is) c.requires.next
 
 pub invariant_of-self : goal.invariant_of-self
 invariant_of-self g c =
