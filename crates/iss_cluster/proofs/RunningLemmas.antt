@@ -1,6 +1,11 @@
 -- A cluster in its loop: what it shows by its trace, and one more event.
+<<<<<<< HEAD
 use Rattle.std.proofs.Common.{inl, inr, ◌||◌, ◌≡◌, ◌⊎◌, ◌∙◌, ℕ, zero, suc, ◌+◌, ◌<◌, ◌≤◌, Bool, true, false, cond, List, [], ◌∷◌, ◌++◌, length, take, map, Option, Some, None, Vec, Global, Result, Ok, Err, OnOk, OnErr, refl, sym, ap, subst, arith}
 use Rattle.std.specs.Prelude.{is_some}
+=======
+use Rattle.std.proofs.Common.{inl, inr, ◌≡◌, ◌⊎◌, ◌∙◌, ℕ, zero, suc, ◌+◌, ◌<◌, ◌≤◌, Bool, true, false, cond, List, [], ◌∷◌, ◌++◌, length, take, map, Option, Some, None, Vec, Global, Result, Ok, Err, OnOk, OnErr, refl, sym, ap, subst, arith}
+use Rattle.std.specs.Prelude.{◌||◌, is_some}
+>>>>>>> 76edcadaa847a55e6ca865f4fe2ab6afa24880ee
 use Rattle.std.specs.List.{filter}
 use Rattle.iss_base.proofs.Lists.{in_append, some-injective}
 use Rattle.iss_base.specs.Lists.{In, below}
@@ -222,10 +227,13 @@ module _ {M Msg : Type 0} (m : Module Msg) (refines : Relation M Msg) where
       (subst (λ (ds : List (ℕ × Why)). IsRunning m refines (record { world = world; drops = ds; ended = None; trace = record { setup = s; events = [] }; index = index; stale = stale })) (sym no_drops)
       (record { good = good; cluster = same; run = λ fresh. run-begins world s index begun none }))
 
+<<<<<<< HEAD
   -- the event is the next one of the trace
   pub next-is : (r : RunningState M Msg) (v : RunningState M Msg) (e : Event) → r ≡ v → IsNext (behavior_of v.trace.setup m) v.trace.events e → IsNext (behavior_of r.trace.setup m) r.trace.events e
   next-is r v e same next = subst (λ (z : RunningState M Msg). IsNext (behavior_of z.trace.setup m) z.trace.events e) (sym same) next
 
+=======
+>>>>>>> 76edcadaa847a55e6ca865f4fe2ab6afa24880ee
   -- memory ran out: the set-up is still the same
   pub gives-up : (r : RunningState M Msg) (world : WorldState M Msg) (drops : List (ℕ × Why)) (ended : Option (ℕ × Evidence)) (trace : Schedule) (index : List (ℕ × Vec ℕ Global))
       → IsRunning m refines r → trace.setup ≡ r.trace.setup → world.simulation.setup ≡ r.trace.setup
@@ -265,12 +273,33 @@ module _ {M Msg : Type 0} (m : Module Msg) (refines : Relation M Msg) where
   pub shows-ends : (r : RunningState M Msg) → IsRunning m refines r → (packets : List Sent) → AreBetweenCores (cores_of r.world.simulation.setup) packets → HaveEnds packets
   shows-ends r h packets between = packets-have-ends r.trace.setup r.world.simulation.setup packets h.cluster h.good.good between
 
+<<<<<<< HEAD
+=======
+  -- it is not over: memory did not run out, and no event showed evidence
+  both-off : (a b : Bool) → (a || b) ≡ false → (a ≡ false) × (b ≡ false)
+  both-off false b q = (refl, q)
+  both-off true b q = absurd (cc)
+
+  pub goes-yet : (r v : RunningState M Msg) → r ≡ v → is_over (behavior_of v.trace.setup m) v.trace.events v.stale ≡ false
+      → (r.stale ≡ false) × ((behavior_of r.trace.setup m).has_evidence r.trace.events ≡ false)
+  goes-yet r v same q =
+      both-off r.stale ((behavior_of r.trace.setup m).has_evidence r.trace.events)
+      (subst (λ (z : RunningState M Msg). is_over (behavior_of z.trace.setup m) z.trace.events z.stale ≡ false) (sym same) q)
+
+  pub stale-over : (r v : RunningState M Msg) → r ≡ v → r.stale ≡ true → true ≡ is_over (behavior_of v.trace.setup m) v.trace.events v.stale
+  stale-over r v same stale =
+      ap (λ (b : Bool). b || (behavior_of v.trace.setup m).has_evidence v.trace.events) (sym (subst (λ (z : RunningState M Msg). z.stale ≡ true) same stale))
+
+>>>>>>> 76edcadaa847a55e6ca865f4fe2ab6afa24880ee
   module _ (r : RunningState M Msg) (h : IsRunning m refines r) (fresh : r.stale ≡ false) where
     pub core-is : (core : ℕ) → core < r.trace.setup.n → core < cores_of r.world.simulation.setup
     core-is core low = subst (λ (s : Setup). core < cores_of s) (sym h.cluster) (omega (arith, low))
 
-    pub shows-evidence : is_some r.ended ≡ (behavior_of r.trace.setup m).has_evidence r.trace.events
+    shows-evidence : is_some r.ended ≡ (behavior_of r.trace.setup m).has_evidence r.trace.events
     shows-evidence = evidence-is m refines r.world r.drops r.ended r.trace r.index (h.run fresh)
+
+    pub shows-over : (over : Bool) → over ≡ is_some r.ended → over ≡ is_over (behavior_of r.trace.setup m) r.trace.events r.stale
+    shows-over over is = is ∙ shows-evidence ∙ ap (λ (b : Bool). b || (behavior_of r.trace.setup m).has_evidence r.trace.events) (sym fresh)
 
     pub shows-packets : (packets : List Sent) → ((p : Course Msg) → RefinesRun m refines r.world p → packets ≡ p.state.held.net.network.packets)
         → packets ≡ (behavior_of r.trace.setup m).packets r.trace.events

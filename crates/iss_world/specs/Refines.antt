@@ -23,7 +23,7 @@ use Rattle.iss_schedule.specs.declared.schedules.Event.{Event}
 use Rattle.iss_theorems.specs.Readers.{is_reader, reader_at, reader_of}
 use Rattle.iss_model.specs.Courses.{Course, Machines, core_of as core_of_kept, driver_of}
 use Rattle.iss_model.specs.Disks.{Disk, new_disk}
-use Rattle.iss_model.specs.Driver.{Driver, Upshot, apply_event}
+use Rattle.iss_model.specs.Driver.{Driver, Upshot, apply_event, run_event_if_open}
 use Rattle.iss_rules.specs.Concrete.{rules_of}
 use Rattle.iss_rules.specs.Formats.{formats_of}
 use Rattle.iss_rules.specs.Past.{log_of}
@@ -277,3 +277,31 @@ pub record IsStaleOr {M Msg : Type 0} (old new : WorldState M Msg) (r : EventRes
 pub record IsOverOr {M Msg : Type 0} (old new : WorldState M Msg) : Type 0 where
   pub simulation : (end : Evidence) → old.ended ≡ Some end → new.simulation ≡ old.simulation
   pub ended : (end : Evidence) → old.ended ≡ Some end → new.ended ≡ old.ended
+
+-- The world refines the run that it refined with this event added, unless that had ended.
+abbrev pub RunsEvent : {M Msg : Type 0} → Module Msg → Relation M Msg → (old new : WorldState M Msg) → Event →
+    EventResult → Type 0
+RunsEvent m refines old new event r = InRun m refines old (λ p. HasHappened m refines new p
+    (run_event_if_open p.ended (driver_of old.simulation.setup m) p event) r)
+
+-- An event of a run that had not ended leaves only those cores stale whose disk has failed, and who read evidence.
+abbrev pub LeavesStale : {M Msg : Type 0} → Module Msg → Relation M Msg → (old new : WorldState M Msg) → Event → Type 0
+LeavesStale m refines old new event = InRun m refines old (λ p. p.ended ≡ None →
+    AreStaleBehind (driver_of old.simulation.setup m) p event new)
+
+-- In a run, stopped or not, the kept node of this core refines it, or has retreated to it.
+abbrev pub IsLeftNode : {M Msg : Type 0} → Module Msg → Relation M Msg → WorldState M Msg → ℕ →
+    KeptState M Msg MemoryDisk → Course Msg → Type 0
+IsLeftNode m refines v core g p = RefinesOrRetreated m refines v.simulation.setup (node_of v.simulation.setup core) g
+    (p.state.held.net.cores core) (p.state.disks core)
+
+-- ---- a recovered node
+
+-- The node's entries lead to some core.
+abbrev pub HasLed : {M Msg : Type 0} → Module Msg → KeptState M Msg MemoryDisk → Type 0
+HasLed {Msg = Msg} m g = (events : List NodeEvent) × (c : Core Msg) × LeadsBy m g events c
+
+-- The node refines the core that its entries led to, over a disk that works.
+abbrev pub IsMadeAnew : {M Msg : Type 0} → Module Msg → Relation M Msg → (old new : KeptState M Msg MemoryDisk) → Type 0
+IsMadeAnew {Msg = Msg} m refines old new = (events : List NodeEvent) (c : Core Msg) → LeadsBy m old events c →
+    RefinesMachine m refines new c (record { kept = events; passes = None; failed = false })

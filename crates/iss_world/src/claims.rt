@@ -1,5 +1,5 @@
 //! The signatures that correct nodes made, and the test of received claims against them.
-ghost use Rattle.std.specs.Prelude.{◌≡◌, ◌==◌, ◌∷◌, ◌++◌, [], List, IfOk, OnOk, Some, nat_eq, refl};
+ghost use Rattle.std.specs.Prelude.{◌≡◌, ◌==◌, ◌∷◌, [], List, IfOk, OnOk, Some, nat_eq, refl};
 ghost use Rattle.std.specs.List.{list_any};
 ghost use Rattle.std.specs.Cmp.Lexicographic.{pointwise, slice_cmp, nat_list_eq_equiv, nat_list_cmp_total, texts_ties, texts_po};
 ghost use Rattle.std.specs.Cmp.{partial_equiv_from_equiv};
@@ -8,7 +8,7 @@ ghost use Rattle.iss_rules.specs.Books.{Signed};
 ghost use Rattle.iss_rules.specs.Concrete.{rules_of};
 ghost use Rattle.iss_model.specs.Run.{as_signed, booked, first_forged, is_forged};
 ghost use Rattle.iss_sb.specs.Evidence.{is_correct};
-ghost use Rattle.iss_world.specs.Books.{AreSigned, is_booked};
+ghost use Rattle.iss_world.specs.Books.{AddsClaims, AreSigned, is_booked};
 
 use crate::ends::copy_of;
 use crate::members::Members;
@@ -116,8 +116,8 @@ impl Claims {
 
     // Adds one claim.
     fn add(&mut self, alloc: Global, claim: &Claim) -> Result<(), NoMemory>
-        ensures { OnOk result ((book : List Signed) → AreSigned self.old book →
-            AreSigned self.new (record { by = claim.now.by.0; statement = claim.now.statement } ∷ book)) }
+        ensures { OnOk result (AddsClaims self.old self.new
+            (record { by = claim.now.by.0; statement = claim.now.statement } ∷ [])) }
     {
         let entry = Entry::of(alloc, claim.by, claim.statement.as_slice())?;
         self.all.insert(entry)?;
@@ -126,8 +126,7 @@ impl Claims {
 
     /// Adds the claims that a step signed. The only error is out of memory.
     pub fn book(&mut self, alloc: Global, own: &[Claim]) -> Result<(), NoMemory>
-        ensures { OnOk result ((book : List Signed) → AreSigned self.old book →
-            AreSigned self.new (as_signed own.now ++ book)) }
+        ensures { OnOk result (AddsClaims self.old self.new (as_signed own.now)) }
     {
         for claim in own {
             self.add(alloc, claim)?;
@@ -180,8 +179,7 @@ pub fn book_own(
     own: &[Claim],
     signed: &mut Claims,
 ) -> Result<(), NoMemory>
-    ensures { OnOk result ((book : List Signed) → AreSigned signed.old book →
-        AreSigned signed.new (booked members.now core own.now ++ book)) }
+    ensures { OnOk result (AddsClaims signed.old signed.new (booked members.now core own.now)) }
 {
     if !is_correct(members.setup(), core) {
         return Ok(());

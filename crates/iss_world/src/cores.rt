@@ -1,15 +1,13 @@
 //! Which node each core runs, and how cores are started and recovered.
-ghost use Rattle.std.specs.Prelude.{◌≡◌, ◌<◌, ◌≤◌, ◌+◌, List, [], None, false, length, IfOk, OnOk};
-ghost use Rattle.iss_rules.specs.declared.events.NodeEvent.{NodeEvent};
+ghost use Rattle.std.specs.Prelude.{◌≡◌, ◌<◌, ◌≤◌, ◌+◌, [], length, IfOk, OnOk};
 ghost use Rattle.iss_disk.specs.Calls.{script};
 ghost use Rattle.iss_disk.specs.MemoryViews.{calls_of};
 ghost use Rattle.iss_keep.specs.Steps.{IsSame};
-ghost use Rattle.iss_model.specs.Node.{Core};
 ghost use Rattle.iss_rules.specs.Concrete.{keys_of};
 ghost use Rattle.iss_model.specs.Run.{cores_of, node_of};
 ghost use Rattle.iss_rules.specs.Setups.{IsSetupOf};
 ghost use Rattle.iss_request.specs.Setup.{IsGoodSetup};
-ghost use Rattle.iss_world.specs.Refines.{AreFresh, IsFresh, LeadsBy, RefinesMachine};
+ghost use Rattle.iss_world.specs.Refines.{AreFresh, HasLed, IsFresh, IsMadeAnew};
 
 use crate::members::Members;
 use iss_disk::MemoryDisk;
@@ -89,9 +87,8 @@ fn start_core<M: Sequenced>(
 /// Recovers a kept node whose disk works and whose entries lead to a core. So the only possible error is out of memory.
 pub fn make_anew<M: Sequenced>(node: &mut Kept<M, MemoryDisk>) -> Result<(), NoMemory>
     requires works { calls_of node.old.disk ≡ script [] }
-    requires whole { (events : List NodeEvent) × (c : Core M.Msg) × LeadsBy M.spec node.old events c }
-    ensures anew { OnOk result ((events : List NodeEvent) (c : Core M.Msg) → LeadsBy M.spec node.old events c →
-        RefinesMachine M.spec M.refines node.new c (record { kept = events; passes = None; failed = false })) }
+    requires whole { HasLed M.spec node.old }
+    ensures anew { OnOk result (IsMadeAnew M.spec M.refines node.old node.new) }
     ensures same { IsSame node.old node.new }
 {
     a_file_has_one_reading();

@@ -1,8 +1,6 @@
 //! One event at a core. First the signatures that it claims are tested, then the core takes it. What the step made is
 //! then tested, recorded and posted.
-ghost use Rattle.std.specs.Prelude.{◌≡◌, ◌<◌, ℕ, IfOk, List, None, length, option_map};
-ghost use Rattle.iss_base.specs.Lists.{push_all};
-ghost use Rattle.iss_rules.specs.Books.{Signed};
+ghost use Rattle.std.specs.Prelude.{◌≡◌, ◌<◌, IfOk, length};
 ghost use Rattle.iss_model.specs.Node.{Core};
 ghost use Rattle.iss_model.specs.Run.{cores_of};
 ghost use Rattle.iss_model.specs.Frames.{claims_at_in, frame_of};
@@ -10,9 +8,9 @@ ghost use Rattle.iss_keep.specs.State.{KeptRefinesCore};
 ghost use Rattle.iss_keep.specs.Steps.{IsSame};
 ghost use Rattle.iss_node.specs.Steps.{IsOfNodes};
 ghost use Rattle.iss_model.specs.Courses.{Machines};
-ghost use Rattle.iss_world.specs.Books.{AreHashed, AreSigned};
-ghost use Rattle.iss_world.specs.Refines.{Follows, IsLeftBy, RefinesMachines, RefinesSome, by_core, end_of};
-ghost use Rattle.iss_world.specs.Internal.Steps.{AnswersMachine, CompletesTurn, FollowsStep, IsWorking, MayRetreat, ends_by};
+ghost use Rattle.iss_world.specs.Books.{AddsStrings};
+ghost use Rattle.iss_world.specs.Refines.{Follows, IsLeftBy, RefinesMachines, RefinesSome, by_core};
+ghost use Rattle.iss_world.specs.Internal.Steps.{AnswersMachine, CompletesTurn, FollowsStep, IsWorking, MayRetreat, Reveals};
 
 use crate::claims::{Claims, book_own};
 use crate::ends::{EventOutcome, Evidence};
@@ -84,11 +82,8 @@ fn ends(
     hashed: &mut Strings,
     outcome: &Outcome,
 ) -> Result<Option<Evidence>, NoMemory>
-    ensures told { IfOk result (λ end. (claims : List Signed) (strings : List (List ℕ)) → AreSigned signed.now claims →
-        AreHashed hashed.old strings →
-        option_map end_of end ≡ ends_by members.now claims strings outcome.now.early outcome.now.hashed) }
-    ensures booked { IfOk result (λ end. (strings : List (List ℕ)) → AreHashed hashed.old strings → end ≡ None →
-        AreHashed hashed.new (push_all outcome.now.hashed strings)) }
+    ensures told { IfOk result (Reveals members.now signed.now hashed.old outcome.now) }
+    ensures booked { IfOk result (AddsStrings hashed.old hashed.new outcome.now.hashed) }
 {
     let early = outcome.early.as_slice();
     match signed.first_forged(alloc, members, early)? {

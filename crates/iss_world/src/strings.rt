@@ -1,9 +1,9 @@
 //! The strings that were hashed, to detect collisions.
-ghost use Rattle.std.specs.Prelude.{◌≡◌, ◌∷◌, [], ℕ, List, None, Some, IfOk, IsTrue, OnOk, option_map};
-ghost use Rattle.iss_base.specs.Lists.{push_all, same_bytes};
+ghost use Rattle.std.specs.Prelude.{◌≡◌, ◌∷◌, [], ℕ, List, Some, IfOk, IsTrue, OnOk, option_map};
+ghost use Rattle.iss_base.specs.Lists.{same_bytes};
 ghost use Rattle.iss_model.specs.Run.{collision_in, collision_with};
 ghost use Rattle.iss_request.specs.Digest.{digest};
-ghost use Rattle.iss_world.specs.Books.{AreHashed, difference, string_at};
+ghost use Rattle.iss_world.specs.Books.{AddsStrings, AreHashed, KeepsStrings, difference, string_at};
 ghost use Rattle.iss_world.specs.Refines.{end_of};
 
 use crate::ends::Evidence;
@@ -55,8 +55,7 @@ impl Strings {
         ensures told { IfOk result
             (λ end. (book : List (List ℕ)) → AreHashed self.old book →
             option_map end_of end ≡ collision_with string.now book) }
-        ensures booked { IfOk result (λ end. (book : List (List ℕ)) → AreHashed self.old book → end ≡ None →
-            AreHashed self.new (string.now ∷ book)) }
+        ensures booked { IfOk result (AddsStrings self.old self.new (string.now ∷ [])) }
     {
         let digest = digest(directory, string.as_slice());
         if let Some(first) = self.all.get(&digest) {
@@ -76,8 +75,7 @@ impl Strings {
         ensures told { IfOk result
             (λ end. (book : List (List ℕ)) → AreHashed self.old book →
             option_map end_of end ≡ collision_in strings.now book) }
-        ensures booked { IfOk result (λ end. (book : List (List ℕ)) → AreHashed self.old book → end ≡ None →
-            AreHashed self.new (push_all strings.now book)) }
+        ensures booked { IfOk result (AddsStrings self.old self.new strings.now) }
     {
         for string in strings {
             let end = self.add(directory, string)?;
@@ -104,7 +102,7 @@ impl Strings {
         members: &Members,
         value: &Value,
     ) -> Result<(), NoMemory>
-        ensures { OnOk result ((book : List (List ℕ)) → AreHashed self.old book → AreHashed self.new book) }
+        ensures { OnOk result (KeepsStrings self.old self.new) }
     {
         let version = members.setup().version;
         let string = value_string(self.alloc, version, value)?;
@@ -123,7 +121,7 @@ impl Strings {
         members: &Members,
         values: &[Value],
     ) -> Result<(), NoMemory>
-        ensures { OnOk result ((book : List (List ℕ)) → AreHashed self.old book → AreHashed self.new book) }
+        ensures { OnOk result (KeepsStrings self.old self.new) }
     {
         for value in values {
             self.share_one(members, value)?;

@@ -2,12 +2,12 @@
 ghost use Rattle.std.specs.Prelude.{◌≡◌, ◌<◌, [], IfOk, None, OnOk, Some, reverse, slice_get};
 ghost use Rattle.iss_model.specs.Run.{cores_of, node_of};
 ghost use Rattle.iss_model.specs.Courses.{Machines, begin_machines, driver_of};
-ghost use Rattle.iss_model.specs.Driver.{run_event, run_event_if_open};
+ghost use Rattle.iss_model.specs.Driver.{run_event};
 ghost use Rattle.iss_rules.specs.Setups.{IsSetupOf};
 ghost use Rattle.iss_schedule.specs.Events.{IsInRange};
 ghost use Rattle.iss_world.specs.Headline.{IsAnswered, KeepsHeadline, RefinesEvents};
 ghost use Rattle.iss_world.specs.Internal.Shape.{IsWorld};
-ghost use Rattle.iss_world.specs.Refines.{AreStaleBehind, HasHappened, InRun, IsOverOr, IsStaleOr, RefinesMachine, RefinesOrRetreated, RefinesSome, WorldRefinesMachines, awake, log_at, result_of};
+ghost use Rattle.iss_world.specs.Refines.{AreStaleBehind, InRun, IsLeftNode, IsOverOr, IsStaleOr, LeavesStale, RefinesMachine, RefinesSome, RunsEvent, WorldRefinesMachines, awake, log_at, result_of};
 ghost use Rattle.iss_world.specs.State.{AreBetweenCores};
 
 use crate::ends::{EventOutcome, Evidence};
@@ -99,8 +99,7 @@ impl<M: Sequenced> World<M> {
     // rule: Transfer: A value that a correct node adopted was delivered in that slot by a correct node
     pub fn event(&mut self, alloc: Global, event: &Event) -> EventResult
         requires { IsInRange self.old.simulation.setup event.now }
-        ensures happened { InRun M.spec M.refines self.old (λ p. HasHappened M.spec M.refines self.new p
-            (run_event_if_open p.ended (driver_of self.old.simulation.setup M.spec) p event.now) result) }
+        ensures happened { RunsEvent M.spec M.refines self.old self.new event.now result }
         ensures silent { InRun M.spec M.refines self.old (λ p. p.ended ≡ None → IsAnswered result →
             AreStaleBehind (driver_of self.old.simulation.setup M.spec) p event.now self.new) }
         ensures headline { KeepsHeadline M.spec M.refines self.old self.new event.now result }
@@ -139,9 +138,7 @@ impl<M: Sequenced> World<M> {
         ensures at { slice_get self.now.simulation.nodes core ≡ Some result.now }
         ensures refines { (w : Machines M.Msg) → WorldRefinesMachines M.spec M.refines self.now w →
             RefinesMachine M.spec M.refines result.now (w.held.net.cores core) (w.disks core) }
-        ensures left { InRun M.spec M.refines self.now (λ p. RefinesOrRetreated M.spec M.refines
-            self.now.simulation.setup (node_of self.now.simulation.setup core)
-            result.now (p.state.held.net.cores core) (p.state.disks core)) }
+        ensures left { InRun M.spec M.refines self.now (IsLeftNode M.spec M.refines self.now core result.now) }
         ensures same { (result.now.setup ≡ self.now.simulation.setup)
             × (result.now.me.0 ≡ node_of self.now.simulation.setup core) }
     {
@@ -193,11 +190,10 @@ fn run_event<M: Sequenced>(
 ) -> Result<EventResult, NoMemory>
     requires range { IsInRange simulation.old.setup event.now }
     requires standing { ended.old ≡ None → RefinesSome M.spec M.refines simulation.old }
-    ensures happened { IfOk result (λ r. InRun M.spec M.refines (awake simulation.old ended.old)
-        (λ p. HasHappened M.spec M.refines (awake simulation.new ended.new) p
-        (run_event_if_open p.ended (driver_of simulation.old.setup M.spec) p event.now) r)) }
-    ensures silent { OnOk result (InRun M.spec M.refines (awake simulation.old ended.old) (λ p. p.ended ≡ None →
-        AreStaleBehind (driver_of simulation.old.setup M.spec) p event.now (awake simulation.new ended.new))) }
+    ensures happened { IfOk result (RunsEvent M.spec M.refines (awake simulation.old ended.old)
+        (awake simulation.new ended.new) event.now) }
+    ensures silent { OnOk result (LeavesStale M.spec M.refines (awake simulation.old ended.old)
+        (awake simulation.new ended.new) event.now) }
     ensures answered { IfOk result (λ r. IsAnswered r) }
     ensures world { OnOk result (IsWorld M.spec M.refines (awake simulation.new ended.new)) }
     ensures over { IsOverOr (awake simulation.old ended.old) (awake simulation.new ended.new) }

@@ -1,6 +1,6 @@
 -- One step of a core in the world: test what it claims, step and journal, test what it made, book it and post it.
 -- Where the disk fails nothing of the step comes out.
-use Rattle.std.specs.Prelude.{◌≡◌, ◌≤◌, ℕ, true, false, cond, List, Option, Some, None, length, reverse, slice_get, take}
+use Rattle.std.specs.Prelude.{◌≡◌, ◌≤◌, ℕ, true, false, cond, List, Option, Some, None, length, option_map, reverse, slice_get, take}
 use Rattle.iss_base.specs.Lists.{first_of, set_at}
 use Rattle.iss_rules.specs.Ends.{End, Forged}
 use Rattle.iss_rules.specs.declared.events.NodeEvent.{NodeEvent}
@@ -25,9 +25,10 @@ use Rattle.iss_sb.specs.Calls.{Relation}
 use Rattle.iss_sb.specs.Evidence.{Module}
 use Rattle.iss_sb.specs.declared.effects.Claim.{Claim}
 use Rattle.iss_world.specs.Books.{AreHashed, AreSigned}
-use Rattle.iss_world.specs.Refines.{HasChanged, RefinesMachine, RefinesMachines}
+use Rattle.iss_world.specs.Refines.{HasChanged, RefinesMachine, RefinesMachines, end_of}
 use Rattle.iss_world.specs.State.{SimulationState}
 use Rattle.iss_world.specs.declared.ends.EventOutcome.{EventOutcome}
+use Rattle.iss_world.specs.declared.ends.Evidence.{Evidence}
 
 -- The effect of a step of core c whose own claims were tested. The claims in messages that arrived early are tested
 -- next, then the strings that were hashed.
@@ -129,3 +130,8 @@ CompletesTurn {Msg = Msg} m refines old new core slots at outcome r = (w : Machi
 abbrev pub MayRetreat : {M Msg : Type 0} → SimulationState M Msg → (core slots at : ℕ) → Type 0
 MayRetreat {M = M} {Msg = Msg} v core slots at = (g : KeptState M Msg MemoryDisk) → slice_get v.nodes core ≡ Some g →
     (slots ≤ length g.node.state.log.entries) × (at ≤ g.node.state.epoch)
+
+-- The evidence in what a step made, if any: a forged claim in a message that arrived early, or a collision.
+abbrev pub Reveals : Setup → List (List ℕ) → List (List ℕ × List ℕ) → Outcome → Option Evidence → Type 0
+Reveals s signed hashed outcome end = (claims : List Signed) (strings : List (List ℕ)) → AreSigned signed claims →
+    AreHashed hashed strings → option_map end_of end ≡ ends_by s claims strings outcome.early outcome.hashed

@@ -1,3 +1,4 @@
+<<<<<<< HEAD
 use Rattle.std.proofs.Common.{ap, sym, ◌≡◌, ◌∙◌, ◌||◌, Bool, false}
 use Rattle.iss_cluster.specs.Clusters.{behavior_of}
 use Rattle.iss_cluster.proofs.RunningLemmas.{shows-evidence}
@@ -11,3 +12,19 @@ returns g c =
     rw (← c.self.view_is)
     (c.is_some.ensures ∙ shows-evidence m g.M.Sequenced.refines _ c.self.invariant fresh
     ∙ sym (ap (λ (stale : Bool). stale || (behavior_of trace.setup m).has_evidence trace.events) fresh))
+=======
+use Rattle.std.proofs.Common.{rules, sym, ◌≡◌, ◌∙◌, true, false}
+use Rattle.iss_cluster.proofs.RunningLemmas.{shows-over, stale-over}
+use Rattle.iss_cluster.proofs.running.RunningTracedCluster.is_over.Goals as goal
+
+pub returns-then-self : goal.returns-then-self
+returns-then-self g c =
+    let stale : c.self.inside.stale ≡ true = search rules in
+    stale-over g.M.Sequenced.spec g.M.Sequenced.refines _ _ c.self.view_is stale
+
+pub returns-else-self : goal.returns-else-self
+returns-else-self g c =
+    let fresh : c.self.inside.stale ≡ false = search rules in
+    rw (← c.self.view_is)
+    (shows-over g.M.Sequenced.spec g.M.Sequenced.refines _ c.self.invariant fresh c.is_some.result c.is_some.ensures)
+>>>>>>> 76edcadaa847a55e6ca865f4fe2ab6afa24880ee
