@@ -53,7 +53,11 @@ fn export_of(alloc: Global, core: u32, schedule: &CheckedSchedule) -> Result<Ans
 }
 
 // What a core exports after the run of a schedule under the module that it names.
-fn export_by_module(alloc: Global, core: u32, schedule: &CheckedSchedule) -> Result<Answer, NoMemory>
+fn export_by_module(
+    alloc: Global,
+    core: u32,
+    schedule: &CheckedSchedule,
+) -> Result<Answer, NoMemory>
     requires { core < schedule.now.setup.n }
     ensures { IfOk result (λ a. Under schedule.now.setup.module (IsExportedUnder core schedule.now a)) }
 {

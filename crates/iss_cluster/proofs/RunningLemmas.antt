@@ -1,11 +1,6 @@
 -- A cluster in its loop: what it shows by its trace, and one more event.
-<<<<<<< HEAD
-use Rattle.std.proofs.Common.{inl, inr, ◌||◌, ◌≡◌, ◌⊎◌, ◌∙◌, ℕ, zero, suc, ◌+◌, ◌<◌, ◌≤◌, Bool, true, false, cond, List, [], ◌∷◌, ◌++◌, length, take, map, Option, Some, None, Vec, Global, Result, Ok, Err, OnOk, OnErr, refl, sym, ap, subst, arith}
-use Rattle.std.specs.Prelude.{is_some}
-=======
 use Rattle.std.proofs.Common.{inl, inr, ◌≡◌, ◌⊎◌, ◌∙◌, ℕ, zero, suc, ◌+◌, ◌<◌, ◌≤◌, Bool, true, false, cond, List, [], ◌∷◌, ◌++◌, length, take, map, Option, Some, None, Vec, Global, Result, Ok, Err, OnOk, OnErr, refl, sym, ap, subst, arith}
 use Rattle.std.specs.Prelude.{◌||◌, is_some}
->>>>>>> 76edcadaa847a55e6ca865f4fe2ab6afa24880ee
 use Rattle.std.specs.List.{filter}
 use Rattle.iss_base.proofs.Lists.{in_append, some-injective}
 use Rattle.iss_base.specs.Lists.{In, below}
@@ -104,25 +99,6 @@ few-cores s good =
 pub packets-have-ends : (s t : Setup) (packets : List Sent) → t ≡ s → IsGoodSetup s → AreBetweenCores (cores_of t) packets → HaveEnds packets
 packets-have-ends s t packets same good b =
     have-ends (cores_of s) packets (few-cores s good) (subst (λ (u : Setup). AreBetweenCores (cores_of u) packets) same b)
-
--- ---- a cluster that is not over
-
-not-stale : (stale evidence : Bool) → (stale || evidence) ≡ false → stale ≡ false
-not-stale true evidence is = absurd (cc)
-not-stale false evidence is = refl
-
-no-evidence : (stale evidence : Bool) → (stale || evidence) ≡ false → evidence ≡ false
-no-evidence true evidence is = absurd (cc)
-no-evidence false evidence is = is
-
-pub fresh-on : {M Msg : Type 0} (m : Module Msg) (r v : RunningState M Msg) → r ≡ v → is_over (behavior_of v.trace.setup m) v.trace.events v.stale ≡ false → r.stale ≡ false
-fresh-on {M} {Msg} m r v same going =
-    subst (λ (z : RunningState M Msg). z.stale ≡ false) (sym same) (not-stale v.stale ((behavior_of v.trace.setup m).has_evidence v.trace.events) going)
-
-pub none-on : {M Msg : Type 0} (m : Module Msg) (r v : RunningState M Msg) → r ≡ v → is_over (behavior_of v.trace.setup m) v.trace.events v.stale ≡ false
-    → (behavior_of r.trace.setup m).has_evidence r.trace.events ≡ false
-none-on {M} {Msg} m r v same going =
-    subst (λ (z : RunningState M Msg). (behavior_of z.trace.setup m).has_evidence z.trace.events ≡ false) (sym same) (no-evidence v.stale ((behavior_of v.trace.setup m).has_evidence v.trace.events) going)
 
 -- ---- a run that goes on
 
@@ -227,13 +203,6 @@ module _ {M Msg : Type 0} (m : Module Msg) (refines : Relation M Msg) where
       (subst (λ (ds : List (ℕ × Why)). IsRunning m refines (record { world = world; drops = ds; ended = None; trace = record { setup = s; events = [] }; index = index; stale = stale })) (sym no_drops)
       (record { good = good; cluster = same; run = λ fresh. run-begins world s index begun none }))
 
-<<<<<<< HEAD
-  -- the event is the next one of the trace
-  pub next-is : (r : RunningState M Msg) (v : RunningState M Msg) (e : Event) → r ≡ v → IsNext (behavior_of v.trace.setup m) v.trace.events e → IsNext (behavior_of r.trace.setup m) r.trace.events e
-  next-is r v e same next = subst (λ (z : RunningState M Msg). IsNext (behavior_of z.trace.setup m) z.trace.events e) (sym same) next
-
-=======
->>>>>>> 76edcadaa847a55e6ca865f4fe2ab6afa24880ee
   -- memory ran out: the set-up is still the same
   pub gives-up : (r : RunningState M Msg) (world : WorldState M Msg) (drops : List (ℕ × Why)) (ended : Option (ℕ × Evidence)) (trace : Schedule) (index : List (ℕ × Vec ℕ Global))
       → IsRunning m refines r → trace.setup ≡ r.trace.setup → world.simulation.setup ≡ r.trace.setup
@@ -273,8 +242,6 @@ module _ {M Msg : Type 0} (m : Module Msg) (refines : Relation M Msg) where
   pub shows-ends : (r : RunningState M Msg) → IsRunning m refines r → (packets : List Sent) → AreBetweenCores (cores_of r.world.simulation.setup) packets → HaveEnds packets
   shows-ends r h packets between = packets-have-ends r.trace.setup r.world.simulation.setup packets h.cluster h.good.good between
 
-<<<<<<< HEAD
-=======
   -- it is not over: memory did not run out, and no event showed evidence
   both-off : (a b : Bool) → (a || b) ≡ false → (a ≡ false) × (b ≡ false)
   both-off false b q = (refl, q)
@@ -290,7 +257,6 @@ module _ {M Msg : Type 0} (m : Module Msg) (refines : Relation M Msg) where
   stale-over r v same stale =
       ap (λ (b : Bool). b || (behavior_of v.trace.setup m).has_evidence v.trace.events) (sym (subst (λ (z : RunningState M Msg). z.stale ≡ true) same stale))
 
->>>>>>> 76edcadaa847a55e6ca865f4fe2ab6afa24880ee
   module _ (r : RunningState M Msg) (h : IsRunning m refines r) (fresh : r.stale ≡ false) where
     pub core-is : (core : ℕ) → core < r.trace.setup.n → core < cores_of r.world.simulation.setup
     core-is core low = subst (λ (s : Setup). core < cores_of s) (sym h.cluster) (omega (arith, low))

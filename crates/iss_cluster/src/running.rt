@@ -120,14 +120,7 @@ impl<M: Sequenced> TracedCluster for Running<M> {
     }
 
     fn is_over(&self) -> bool {
-<<<<<<< HEAD
-        if self.stale {
-            return true;
-        }
-        self.report.ended.is_some()
-=======
         self.stale || self.report.ended.is_some()
->>>>>>> 76edcadaa847a55e6ca865f4fe2ab6afa24880ee
     }
 
     fn castable(&self, core: u32) -> bool {

@@ -135,12 +135,7 @@ impl Claims {
     }
 
     // Whether a claim is forged: it names a correct node, its signature is valid, and the node never made it.
-    fn is_forged(
-        &self,
-        alloc: Global,
-        members: &Members,
-        claim: &Claim,
-    ) -> Result<bool, NoMemory>
+    fn is_forged(&self, alloc: Global, members: &Members, claim: &Claim) -> Result<bool, NoMemory>
         ensures { IfOk result (λ forged. (book : List Signed) → AreSigned self.now book →
             forged ≡ is_forged members.now (rules_of members.now) book claim.now) }
     {

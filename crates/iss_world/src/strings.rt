@@ -97,11 +97,7 @@ impl Strings {
     }
 
     // Keeps the string of a value, if its bytes are kept, as the value.
-    fn share_one(
-        &mut self,
-        members: &Members,
-        value: &Value,
-    ) -> Result<(), NoMemory>
+    fn share_one(&mut self, members: &Members, value: &Value) -> Result<(), NoMemory>
         ensures { OnOk result (KeepsStrings self.old self.new) }
     {
         let version = members.setup().version;
@@ -116,11 +112,7 @@ impl Strings {
     }
 
     /// Keeps the strings of these values, if they are here, as the values. The same strings are hashed as before.
-    pub fn share(
-        &mut self,
-        members: &Members,
-        values: &[Value],
-    ) -> Result<(), NoMemory>
+    pub fn share(&mut self, members: &Members, values: &[Value]) -> Result<(), NoMemory>
         ensures { OnOk result (KeepsStrings self.old self.new) }
     {
         for value in values {

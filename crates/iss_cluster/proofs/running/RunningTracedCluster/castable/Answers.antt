@@ -1,21 +1,13 @@
 use Rattle.std.proofs.Common.{sym, subst, ◌≡◌, ◌<◌, false}
 use Rattle.iss_cluster.specs.Clusters.{behavior_of}
 use Rattle.iss_cluster.specs.Internal.Running.{RunningState}
-<<<<<<< HEAD
-use Rattle.iss_cluster.proofs.RunningLemmas.{core-is, fresh-on, none-on, shows-castable}
-=======
 use Rattle.iss_cluster.proofs.RunningLemmas.{core-is, goes-yet, shows-castable}
->>>>>>> 76edcadaa847a55e6ca865f4fe2ab6afa24880ee
 use Rattle.iss_cluster.proofs.running.RunningTracedCluster.castable.Goals as goal
 
 pub castable-requires : goal.castable-requires
 castable-requires g c =
-<<<<<<< HEAD
-    core-is g.M.Sequenced.spec g.M.Sequenced.refines _ c.self.invariant (fresh-on g.M.Sequenced.spec _ _ c.self.view_is c.requires.going) c.args.core
-=======
     let yet = goes-yet g.M.Sequenced.spec g.M.Sequenced.refines _ _ c.self.view_is c.requires.going in
     core-is g.M.Sequenced.spec g.M.Sequenced.refines _ c.self.invariant yet.0 c.args.core
->>>>>>> 76edcadaa847a55e6ca865f4fe2ab6afa24880ee
     (subst (λ (r : RunningState _ _). c.args.core < r.trace.setup.n) (sym c.self.view_is) c.requires.core)
 
 pub returns : goal.returns
@@ -23,10 +15,5 @@ returns g c =
     let m = g.M.Sequenced.spec in
     let yet = goes-yet g.M.Sequenced.spec g.M.Sequenced.refines _ _ c.self.view_is c.requires.going in
     subst (λ (r : RunningState _ _). c.castable.result ≡ (behavior_of r.trace.setup m).castable r.trace.events c.args.core) c.self.view_is
-<<<<<<< HEAD
-    (shows-castable m g.M.Sequenced.refines _ c.self.invariant (fresh-on g.M.Sequenced.spec _ _ c.self.view_is c.requires.going)
-    (none-on g.M.Sequenced.spec _ _ c.self.view_is c.requires.going) c.args.core c.castable.result c.castable.ensures)
-=======
     (shows-castable m g.M.Sequenced.refines _ c.self.invariant yet.0
     yet.1 c.args.core c.castable.result c.castable.ensures)
->>>>>>> 76edcadaa847a55e6ca865f4fe2ab6afa24880ee

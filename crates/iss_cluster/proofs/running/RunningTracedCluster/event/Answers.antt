@@ -10,11 +10,7 @@ follow-requires-clause-cluster g c = c.self.invariant.cluster
 
 pub follow-requires-clause-next : goal.follow-requires-clause-next
 follow-requires-clause-next g c =
-<<<<<<< HEAD
-    next-is g.M.Sequenced.spec g.M.Sequenced.refines _ _ c.args.event c.self.view_is c.requires.next
-=======
     subst (λ (r : RunningState _ _). IsNext (behavior_of r.trace.setup g.M.Sequenced.spec) r.trace.events c.args.event) (sym c.self.view_is) c.requires.next
->>>>>>> 76edcadaa847a55e6ca865f4fe2ab6afa24880ee
 
 pub invariant_of-self : goal.invariant_of-self
 invariant_of-self g c =

@@ -9,9 +9,5 @@ pub returns : goal.returns
 returns g c =
     let m = g.M.Sequenced.spec in
     subst (λ (r : RunningState _ _). r.stale ≡ false → c.find.result ≡ number_from 0 c.args.core c.args.packet.now ((behavior_of r.trace.setup m).packets r.trace.events)) c.self.view_is
-<<<<<<< HEAD
-    (λ fresh. shows-number m g.M.Sequenced.refines _ c.self.invariant fresh c.args.core c.args.packet.now c.packets.result.now c.find.result c.packets.ensures.refines c.find.ensures)
-=======
     (λ fresh. shows-number m g.M.Sequenced.refines _ c.self.invariant fresh
     c.args.core c.args.packet.now c.packets.result.now c.find.result c.packets.ensures.refines c.find.ensures)
->>>>>>> 76edcadaa847a55e6ca865f4fe2ab6afa24880ee

@@ -11,9 +11,5 @@ returns-clause-sent g c =
     (λ fresh. shows-packets m g.M.Sequenced.refines _ c.self.invariant fresh c.packets.result.now c.packets.ensures.refines)
 
 pub returns-clause-ends : goal.returns-clause-ends
-<<<<<<< HEAD
-returns-clause-ends g c = shows-ends g.M.Sequenced.spec g.M.Sequenced.refines _ c.self.invariant c.packets.result.now c.packets.ensures.between
-=======
 returns-clause-ends g c =
     shows-ends g.M.Sequenced.spec g.M.Sequenced.refines _ c.self.invariant c.packets.result.now c.packets.ensures.between
->>>>>>> 76edcadaa847a55e6ca865f4fe2ab6afa24880ee

@@ -3,21 +3,13 @@ use Rattle.std.proofs.lemmas.Result.{IfOk-weaker}
 use Rattle.iss_cluster.specs.Clusters.{behavior_of}
 use Rattle.iss_cluster.specs.Internal.Running.{RunningState}
 use Rattle.iss_loops.specs.Behavior.{AreNodes}
-<<<<<<< HEAD
-use Rattle.iss_cluster.proofs.RunningLemmas.{core-is, fresh-on, none-on, shows-unfilled}
-=======
 use Rattle.iss_cluster.proofs.RunningLemmas.{core-is, goes-yet, shows-unfilled}
->>>>>>> 76edcadaa847a55e6ca865f4fe2ab6afa24880ee
 use Rattle.iss_cluster.proofs.running.RunningTracedCluster.unfilled.Goals as goal
 
 pub unfilled-requires : goal.unfilled-requires
 unfilled-requires g c =
-<<<<<<< HEAD
-    core-is g.M.Sequenced.spec g.M.Sequenced.refines _ c.self.invariant (fresh-on g.M.Sequenced.spec _ _ c.self.view_is c.requires.going) c.args.core
-=======
     let yet = goes-yet g.M.Sequenced.spec g.M.Sequenced.refines _ _ c.self.view_is c.requires.going in
     core-is g.M.Sequenced.spec g.M.Sequenced.refines _ c.self.invariant yet.0 c.args.core
->>>>>>> 76edcadaa847a55e6ca865f4fe2ab6afa24880ee
     (subst (λ (r : RunningState _ _). c.args.core < r.trace.setup.n) (sym c.self.view_is) c.requires.core)
 
 pub returns-clause-leaders : goal.returns-clause-leaders
@@ -26,13 +18,8 @@ returns-clause-leaders g c =
     let yet = goes-yet g.M.Sequenced.spec g.M.Sequenced.refines _ _ c.self.view_is c.requires.going in
     subst (λ (r : RunningState _ _). IfOk c.unfilled.result (λ leaders. leaders ≡ (behavior_of r.trace.setup m).unfilled r.trace.events c.args.core)) c.self.view_is
     (IfOk-weaker c.unfilled.result _ _ (λ leaders is.
-<<<<<<< HEAD
-    (shows-unfilled m g.M.Sequenced.refines _ c.self.invariant (fresh-on g.M.Sequenced.spec _ _ c.self.view_is c.requires.going)
-    (none-on g.M.Sequenced.spec _ _ c.self.view_is c.requires.going) c.args.core leaders is).0) c.unfilled.ensures)
-=======
     (shows-unfilled m g.M.Sequenced.refines _ c.self.invariant yet.0
     yet.1 c.args.core leaders is).0) c.unfilled.ensures)
->>>>>>> 76edcadaa847a55e6ca865f4fe2ab6afa24880ee
 
 pub returns-clause-nodes : goal.returns-clause-nodes
 returns-clause-nodes g c =
@@ -40,10 +27,5 @@ returns-clause-nodes g c =
     let yet = goes-yet g.M.Sequenced.spec g.M.Sequenced.refines _ _ c.self.view_is c.requires.going in
     subst (λ (r : RunningState _ _). IfOk c.unfilled.result (λ leaders. AreNodes r.trace.setup.n leaders)) c.self.view_is
     (IfOk-weaker c.unfilled.result _ _ (λ leaders is.
-<<<<<<< HEAD
-    (shows-unfilled m g.M.Sequenced.refines _ c.self.invariant (fresh-on g.M.Sequenced.spec _ _ c.self.view_is c.requires.going)
-    (none-on g.M.Sequenced.spec _ _ c.self.view_is c.requires.going) c.args.core leaders is).1) c.unfilled.ensures)
-=======
     (shows-unfilled m g.M.Sequenced.refines _ c.self.invariant yet.0
     yet.1 c.args.core leaders is).1) c.unfilled.ensures)
->>>>>>> 76edcadaa847a55e6ca865f4fe2ab6afa24880ee

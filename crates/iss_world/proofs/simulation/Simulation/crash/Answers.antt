@@ -12,7 +12,7 @@ invariant_of-self g c =
     let lt : c.args.core < length c.self.inside.nodes.items = omega (arith, ap (λ (z : SimulationState _ _). cores_of z.setup) c.self.view_is, c.self.invariant.count) in
     let at = slice_get_read c.self.inside.nodes.items _ c.args.core c.index_mut.result.now refl lt c.index_mut.ensures.value in
     still-running g.M.Sequenced.spec g.M.Sequenced.refines v c.args.core c.index_mut.result.now c.fuse.new.self c.self.inside.network c.self.inside.signed c.self.inside.hashed c.self.invariant lt at c.fuse.ensures.only.same
-          (same-network g.M.Sequenced.spec g.M.Sequenced.refines v c.self.invariant)
+    (same-network g.M.Sequenced.spec g.M.Sequenced.refines v c.self.invariant)
 
 pub returns-clause-happened : goal.returns-clause-happened
 returns-clause-happened g c =

@@ -18,8 +18,8 @@ loop-core-preserved g c =
     ap (λ (s : Setup). is_for s c.args.send.now.0 c.loop-core.core) (sym same) ∙ sym c.is_for.ensures in
     elim c.if-is_for.branch [
       | then-is_for+in_ok-post_to w ↦ record {
-          posted = w.self-is ∙ core-posted v c.loop-core.self w.post_to.new.self c.args.from c.args.send.now c.loop-core.core (is ∙ w.if-is_for.true) c.loop-core.invariant.posted w.in_ok-post_to.ensures.posted;
-        }
+        posted = w.self-is ∙ core-posted v c.loop-core.self w.post_to.new.self c.args.from c.args.send.now c.loop-core.core (is ∙ w.if-is_for.true) c.loop-core.invariant.posted w.in_ok-post_to.ensures.posted;
+      }
       | else-is_for w ↦ record { posted = w.self-is ∙ core-passed v c.loop-core.self c.args.from c.args.send.now c.loop-core.core (is ∙ w.if-is_for.false) c.loop-core.invariant.posted }
     ]
 

@@ -13,7 +13,7 @@ invariant_of-self g c =
     let lt : c.args.core < length c.self.inside.nodes.items = omega (arith, ap (λ (z : SimulationState _ _). cores_of z.setup) c.self.view_is, c.self.invariant.count) in
     let at = slice_get_read c.self.inside.nodes.items _ c.args.core c.index_mut-node.result.now refl lt c.index_mut-node.ensures.value in
     still-running g.M.Sequenced.spec g.M.Sequenced.refines v c.args.core c.index_mut-node.result.now c.make_anew.new.node c.self.inside.network c.self.inside.signed c.self.inside.hashed c.self.invariant lt at
-          (same-again c.index_mut-node.result.now c.restart.new.self c.make_anew.new.node c.restart.ensures.only.same c.make_anew.ensures.same) (same-network g.M.Sequenced.spec g.M.Sequenced.refines v c.self.invariant)
+    (same-again c.index_mut-node.result.now c.restart.new.self c.make_anew.new.node c.restart.ensures.only.same c.make_anew.ensures.same) (same-network g.M.Sequenced.spec g.M.Sequenced.refines v c.self.invariant)
 
 pub invariant_of-self-2 : goal.invariant_of-self-2
 invariant_of-self-2 g c =
@@ -21,7 +21,7 @@ invariant_of-self-2 g c =
     let lt : c.args.core < length c.self.inside.nodes.items = omega (arith, ap (λ (z : SimulationState _ _). cores_of z.setup) c.self.view_is, c.self.invariant.count) in
     let at = slice_get_read c.self.inside.nodes.items _ c.args.core c.index_mut-node.result.now refl lt c.index_mut-node.ensures.value in
     still-running g.M.Sequenced.spec g.M.Sequenced.refines v c.args.core c.index_mut-node.result.now c.make_anew.new.node c.self.inside.network c.self.inside.signed c.self.inside.hashed c.self.invariant lt at
-          (same-again c.index_mut-node.result.now c.restart.new.self c.make_anew.new.node c.restart.ensures.only.same c.make_anew.ensures.same) (same-network g.M.Sequenced.spec g.M.Sequenced.refines v c.self.invariant)
+    (same-again c.index_mut-node.result.now c.restart.new.self c.make_anew.new.node c.restart.ensures.only.same c.make_anew.ensures.same) (same-network g.M.Sequenced.spec g.M.Sequenced.refines v c.self.invariant)
 
 pub make_anew-requires-clause-whole : goal.make_anew-requires-clause-whole
 make_anew-requires-clause-whole g c =

@@ -14,7 +14,7 @@ invariant_of-self g c =
     let lt : c.args.core < length c.self.inside.nodes.items = omega (arith, ap (λ (z : SimulationState _ _). cores_of z.setup) c.self.view_is, c.self.invariant.count) in
     let at = slice_get_read c.self.inside.nodes.items _ c.args.core c.index_mut.result.now refl lt c.index_mut.ensures.value in
     still-running g.M.Sequenced.spec g.M.Sequenced.refines v c.args.core c.index_mut.result.now c.take_with_savepoint-answer.new.node c.self.inside.network c.self.inside.signed c.self.inside.hashed c.self.invariant lt at c.take_with_savepoint-answer.ensures.same
-          (same-network g.M.Sequenced.spec g.M.Sequenced.refines v c.self.invariant)
+    (same-network g.M.Sequenced.spec g.M.Sequenced.refines v c.self.invariant)
 
 pub invariant_of-self-in-Dropped : goal.invariant_of-self-in-Dropped
 invariant_of-self-in-Dropped g c =
@@ -22,7 +22,7 @@ invariant_of-self-in-Dropped g c =
     let lt : c.args.core < length c.self.inside.nodes.items = omega (arith, ap (λ (z : SimulationState _ _). cores_of z.setup) c.self.view_is, c.self.invariant.count) in
     let at = slice_get_read c.self.inside.nodes.items _ c.args.core c.index_mut.result.now refl lt c.index_mut.ensures.value in
     still-running g.M.Sequenced.spec g.M.Sequenced.refines v c.args.core c.index_mut.result.now c.take_with_savepoint-answer.new.node c.self.inside.network c.self.inside.signed c.self.inside.hashed c.self.invariant lt at c.take_with_savepoint-answer.ensures.same
-          (same-network g.M.Sequenced.spec g.M.Sequenced.refines v c.self.invariant)
+    (same-network g.M.Sequenced.spec g.M.Sequenced.refines v c.self.invariant)
 
 pub invariant_of-self-in-Failed : goal.invariant_of-self-in-Failed
 invariant_of-self-in-Failed g c =
@@ -30,7 +30,7 @@ invariant_of-self-in-Failed g c =
     let lt : c.args.core < length c.self.inside.nodes.items = omega (arith, ap (λ (z : SimulationState _ _). cores_of z.setup) c.self.view_is, c.self.invariant.count) in
     let at = slice_get_read c.self.inside.nodes.items _ c.args.core c.index_mut.result.now refl lt c.index_mut.ensures.value in
     still-running g.M.Sequenced.spec g.M.Sequenced.refines v c.args.core c.index_mut.result.now c.take_with_savepoint-answer.new.node c.self.inside.network c.self.inside.signed c.self.inside.hashed c.self.invariant lt at c.take_with_savepoint-answer.ensures.same
-          (same-network g.M.Sequenced.spec g.M.Sequenced.refines v c.self.invariant)
+    (same-network g.M.Sequenced.spec g.M.Sequenced.refines v c.self.invariant)
 
 pub invariant_of-self-in-NoMemory : goal.invariant_of-self-in-NoMemory
 invariant_of-self-in-NoMemory g c =
@@ -38,7 +38,7 @@ invariant_of-self-in-NoMemory g c =
     let lt : c.args.core < length c.self.inside.nodes.items = omega (arith, ap (λ (z : SimulationState _ _). cores_of z.setup) c.self.view_is, c.self.invariant.count) in
     let at = slice_get_read c.self.inside.nodes.items _ c.args.core c.index_mut.result.now refl lt c.index_mut.ensures.value in
     still-running g.M.Sequenced.spec g.M.Sequenced.refines v c.args.core c.index_mut.result.now c.take_with_savepoint-answer.new.node c.self.inside.network c.self.inside.signed c.self.inside.hashed c.self.invariant lt at c.take_with_savepoint-answer.ensures.same
-          (same-network g.M.Sequenced.spec g.M.Sequenced.refines v c.self.invariant)
+    (same-network g.M.Sequenced.spec g.M.Sequenced.refines v c.self.invariant)
 
 pub taken-requires-clause-retreat : goal.taken-requires-clause-retreat
 taken-requires-clause-retreat g c =

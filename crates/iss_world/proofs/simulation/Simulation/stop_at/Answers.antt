@@ -11,7 +11,7 @@ invariant_of-self g c =
     let lt : c.args.core < length c.self.inside.nodes.items = omega (arith, ap (λ (z : SimulationState _ _). cores_of z.setup) c.self.view_is, c.self.invariant.count) in
     let at = slice_get_read c.self.inside.nodes.items _ c.args.core c.index_mut-node.result.now refl lt c.index_mut-node.ensures.value in
     still-running g.M.Sequenced.spec g.M.Sequenced.refines v c.args.core c.index_mut-node.result.now c.retreat.new.self c.self.inside.network c.self.inside.signed c.self.inside.hashed c.self.invariant lt at c.retreat.ensures.same
-          (same-network g.M.Sequenced.spec g.M.Sequenced.refines v c.self.invariant)
+    (same-network g.M.Sequenced.spec g.M.Sequenced.refines v c.self.invariant)
 
 pub returns-clause-left : goal.returns-clause-left
 returns-clause-left g c =
