@@ -164,13 +164,13 @@ pub record IsReadAt (at : ℕ) (history : List File) (old new : List ℕ) (n : �
   pub count : IfTold history (λ file. n ≡ min (length old) (length file.content - at))
   pub bytes : IfTold history (λ file. new ≡ take n (drop at file.content) ++ drop n old)
 
--- there is room for a call that writes so many bytes, at an offset that is at most the file's length
+-- there is room for a call that writes this number of bytes, at an offset that is at most the file's length
 pub record MayChange (at more : ℕ) (device : Device) : Type 0 where
   pub call : 1 ≤ device.room.calls
   pub bytes : more ≤ device.room.bytes
   pub within : IfTold device.history (λ file. at ≤ length file.content)
 
--- one call that changes the current file so, and writes so many bytes
+-- one call that changes the current file so, and writes this number of bytes
 pub record Changes {T E : Type 0} (change : File → File) (bytes : ℕ) (result : Result T E) (before now : Device) :
     Type 0 where
   pub file : Moves change (is_ok result) before.history now.history
@@ -179,7 +179,7 @@ pub record Changes {T E : Type 0} (change : File → File) (bytes : ℕ) (result
   pub cause : HasCause before.faults now.faults (IsErr result)
   pub device : Runs 1 before.passes now.passes (is_ok result)
 
--- the next calls succeed, so many of them, and all later ones fail
+-- this number of the next calls succeed, and all later ones fail
 pub record IsFused (calls : ℕ) (before now : Device) : Type 0 where
   pub passes : now.passes ≡ up_to calls
   pub same : Stays before.current now.current before.files now.files

@@ -27,13 +27,13 @@ room_for_calls file =
 abbrev pub room_of : StoredFile → Room
 room_of file = record { calls = room_for_calls file; bytes = room_for_bytes file }
 
--- the file was changed so by one call, which wrote so many bytes
+-- the file was changed so by one call, which wrote this number of bytes
 pub record Becomes (change : File → File) (bytes : ℕ) (old new : StoredFile) : Type 0 where
   pub states : history_of new ≡ after change (history_of old)
   pub room : Takes 1 bytes (room_of old) (room_of new)
   pub name : new.name.items ≡ old.name.items
 
--- there is room for a call that writes so many bytes, at an offset that is at most the file's length
+-- there is room for a call that writes this number of bytes, at an offset that is at most the file's length
 pub record MayWrite (at more : ℕ) (file : StoredFile) : Type 0 where
   pub call : 1 ≤ (room_of file).calls
   pub bytes : more ≤ (room_of file).bytes

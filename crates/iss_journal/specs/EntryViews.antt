@@ -32,7 +32,7 @@ pub record IsReady (entry : List ℕ) (entries : Entries) : Type 0 where
   pub bytes : IsStaged entry entries
   pub mark : vec_len entries.marks < vec_capacity entries.marks
 
--- room was made for some entries, the first of which has so many bytes
+-- room was made for some entries, the first of which has this number of bytes
 pub record HasRoomFor (some more : ℕ) (old new : Entries) : Type 0 where
   pub room : length (frames (entries_in old)) + more + 6 ≤ vec_capacity new.bytes
   pub marks : vec_len new.marks + some ≤ vec_capacity new.marks
@@ -58,7 +58,7 @@ pub record Commits (entry : List ℕ) (old new : Entries) : Type 0 where
   pub mark : vec_len new.marks ≤ vec_len old.marks + 1
   pub no_less : vec_capacity old.marks ≤ vec_capacity new.marks
 
--- so many of the first entries were kept, and the room of the others is there
+-- this number of the first entries was kept, and the room of the others is there
 pub record IsFirst (count : ℕ) (old new : Entries) : Type 0 where
   pub entries : entries_in new ≡ take count (entries_in old)
   pub bytes : vec_capacity new.bytes ≡ vec_capacity old.bytes

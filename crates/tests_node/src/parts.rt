@@ -56,7 +56,7 @@ fn items(alloc: Global, count: u16, item: &[u8]) -> Result<Vec<u8>, Fail> {
     Ok(all)
 }
 
-// The entry with so many of its only item, which stands right behind its count.
+// The entry with this number of copies of its only item, which stands right behind its count.
 fn with_items(
     alloc: Global,
     entry: &[u8],
@@ -175,7 +175,7 @@ fn an_early_packet_is_a_message_of_an_instance(rt: HostRuntime) -> Result<(), Fa
     check(&rt, alloc, &[&changed], false, 0)
 }
 
-// The first snapshot with this certificate, and so many of its vote for the same epoch.
+// The first snapshot with this certificate, and this number of copies of its vote for the same epoch.
 fn with_cert(alloc: Global, first: &[u8], cert: &[u8], votes: u16) -> Result<Vec<u8>, Fail> {
     let changed = with_items(alloc, first, VOTE, votes)?;
     let certs = items(alloc, 1, cert)?;

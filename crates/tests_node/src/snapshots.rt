@@ -111,7 +111,7 @@ fn a_snapshot_takes_the_place_of_the_event_that_ended_an_epoch(
     Ok(())
 }
 
-// The keys of client 0 of so many.
+// The keys of client 0 of this number of clients.
 fn client_keys(alloc: Global, clients: u32, height: u8) -> Result<Keys, Fail>
     requires some { 0 < clients }
     requires clients { clients ≤ 256 }

@@ -38,7 +38,8 @@ has_number queues b k = list_any (λ j. is_eq (nat_cmp k j)) (get_or queues b []
 -- the queue of this bucket, if it is there, holds a number, or does not, and all else is unchanged
 pub record IsSetAt (old new : List (List ℕ)) (bucket number : ℕ) (has : Bool) : Type 0 where
   pub size : length new ≡ length old
-  pub at : (b k : ℕ) → b < length new → has_number new b k ≡ (if (b == bucket) && (k == number) then has else has_number old b k)
+  pub at : (b k : ℕ) → b < length new →
+      has_number new b k ≡ (if (b == bucket) && (k == number) then has else has_number old b k)
 
 abbrev pub bucket_of_id : ℕ → ReqId → ℕ
 bucket_of_id buckets id = (id.client + id.number) % buckets

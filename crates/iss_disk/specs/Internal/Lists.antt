@@ -1,7 +1,7 @@
 -- What small steps change in a list of bytes.
 use Rattle.std.specs.Prelude.{◌≡◌, ℕ, ◌+◌, ◌-◌, ◌≤◌, min, List, ◌++◌, length, take, drop, Vec, vec_len, vec_capacity}
 
--- there is room for so many more items
+-- there is room for this number of items more
 abbrev pub HasSpare : {A Z : Type 0} → ℕ → Vec A Z → Type 0
 HasSpare more list = vec_len list + more ≤ vec_capacity list
 

@@ -65,7 +65,7 @@ params_by s e plan l =
       directory = keys_of s;
     }
 
--- A good plan of so many nodes.
+-- A good plan of n nodes.
 pub record IsPlanOf (n : ℕ) (plan : Plan) : Type 0 where
   pub good : IsGoodPlan plan
   pub nodes : plan.nodes ≡ n
