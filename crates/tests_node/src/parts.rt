@@ -33,7 +33,7 @@ fn cut(bytes: &[u8], from: usize, to: usize) -> &[u8] {
     &bytes[from.min(to)..to]
 }
 
-// The entry with these bytes in the place of a part.
+// The entry with these bytes in place of a part.
 fn with_part(
     alloc: Global,
     entry: &[u8],
@@ -46,7 +46,7 @@ fn with_part(
     Ok(changed)
 }
 
-// So many of an item, behind the last two bytes of their count.
+// This number of copies of an item, behind the last two bytes of their count.
 fn items(alloc: Global, count: u16, item: &[u8]) -> Result<Vec<u8>, Fail> {
     let mut all = Vec::new(alloc);
     all.extend_from_slice(&count.to_be_bytes())?;
@@ -126,7 +126,7 @@ fn nothing_known_or_past_the_bound_stands_in_a_snapshot(rt: HostRuntime) -> Resu
     Ok(())
 }
 
-// Checks the first snapshot with a request of this number in the place of its own. The window has two numbers.
+// Checks the first snapshot with a request of this number in place of its own. The window has two numbers.
 fn check_request(rt: &impl Abort, alloc: Global, number: u32, opens: bool) -> Result<(), Fail>
     requires { number < 4 }
 {
