@@ -160,7 +160,7 @@ module _ (p : Params) (from : NodeId) (view : ℕ) (what : Content) (just : Cert
       t ≡ true → ((s : State) → RefinesState p m.node s → t ≡ may_prepare p s from.0 view what just) → ((s : State) → RefinesState p m.node s → TakesNode p m.node mid.node s view what just o) → mid.delivered ≡ m.delivered → n.accepted ≡ mid.accepted →
       a ≡ what_at what slot → Adds m.accepted mid.accepted (one_or_none (what_at what slot)) → IfSome slot (λ s. In s p.slots) → ((s : State) (old : List (Slot × Batch)) → RefinesState p m.node s → AreAccepted m.accepted old → what_at what slot ≡ offered p s old what just) →
       AllIn (slots_of ds) p.slots → ((k : State) → RefinesState p mid.node k → IsShown p mid n k (Some just) ds) → Takes p m n said (record { outcome = o; accepted = a; delivers = ds })
-  prepared-takes m mid n o ds slot a t u yep us holds ts node same acc is adds inside free.body within shown = record {
+  prepared-takes m mid n o ds slot a t u yep us holds ts node same acc is adds inside free within shown = record {
     does = λ s h.
         let g = node s h in
         let k = with_node p s view what just in
@@ -357,7 +357,7 @@ pub cast-takes : (p : Params) (m : Chained) (node : Node) (accepted : Accepted) 
     ((s : State) → RefinesState p m.node s → Makes p m.node node s (Cast at batch) o) → a ≡ at_slot batch slot → Adds m.accepted accepted (one_or_none (at_slot batch slot)) →
     ((s : State) (b : Batch) → RefinesState p m.node s → at_slot b slot ≡ (if may_cast p m.node.me.0 s at.0 then Some (at, b) else None)) →
     Takes p m (record m { node = node; accepted = accepted }) (Cast at batch) (record { outcome = o; accepted = a; delivers = ds })
-cast-takes p m node accepted slot o a at batch ds none inside makes.body is adds free = record {
+cast-takes p m node accepted slot o a at batch ds none inside makes is adds free = record {
   does = λ s h. makes-does p m (record m { node = node; accepted = accepted }) s (Cast at batch) o (record { outcome = o; accepted = a; delivers = ds }) refl refl none (λ k. refl) (makes s h);
   asked = λ s old h g. is ∙ free s batch h;
   more = subst (λ (z : Option (Slot × Batch)). Adds m.accepted accepted (one_or_none z)) (sym is) adds;

@@ -83,7 +83,7 @@ pub record TakesNode (p : Params) (old new : Node) (s : State) (view : ℕ) (wha
 -- the batch that a replica in state s accepts with the input, after these batches
 abbrev pub asked_in : Params → ℕ → State → List (Slot × Batch) → Input Message → Option (Slot × Batch)
 asked_in p me s old (Cast slot batch) = if may_cast p me s slot.0 then Some (slot, batch) else None
-asked_in p me s old (Receive from msg) = asked_by p s old from.0 msg
+asked_in p me s old (Receive from msg) = asked_by p s old from.0 msg.body
 asked_in p me s old Timeout = None
 
 -- the instance took the input in state s, as the model says
