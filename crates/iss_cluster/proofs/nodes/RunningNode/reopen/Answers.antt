@@ -1,4 +1,4 @@
-use Rattle.std.proofs.Common.{◌<◌, refl, subst, sym, ℕ, IsErrOf, OnOk}
+use Rattle.std.proofs.Common.{◌<◌, subst, sym, ℕ, IsErrOf, OnOk}
 use Rattle.iss_cluster.proofs.NodeLemmas.{read-by, reopened-running}
 use Rattle.iss_cluster.specs.Nodes.{HasRead, IsRefused}
 use Rattle.iss_journal.specs.declared.errors.AttachError.TheVariants.{Damaged}

@@ -1,4 +1,4 @@
-use Rattle.std.proofs.Common.{sym, subst, refl, ◌∙◌, true≢false, List, Result, IfOk, IsErrOf}
+use Rattle.std.proofs.Common.{sym, subst, ◌∙◌, true≢false, List, Result, IfOk, IsErrOf}
 use Rattle.iss_cluster.proofs.NodeLemmas.{by-address, by-cut, by-durable, by-step, has-fresh, running-on}
 use Rattle.iss_cluster.specs.Nodes.{HasTaken, Leaves}
 use Rattle.iss_keep.specs.State.{KeptState}

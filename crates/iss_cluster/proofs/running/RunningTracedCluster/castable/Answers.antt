@@ -1,4 +1,4 @@
-use Rattle.std.proofs.Common.{sym, subst, ◌≡◌, ◌<◌, false}
+use Rattle.std.proofs.Common.{sym, subst, ◌≡◌, ◌<◌}
 use Rattle.iss_cluster.specs.Clusters.{behavior_of}
 use Rattle.iss_cluster.specs.Internal.Running.{RunningState}
 use Rattle.iss_cluster.proofs.RunningLemmas.{core-is, goes-yet, shows-castable}

@@ -1,11 +1,11 @@
-use Rattle.std.proofs.Common.{rules, sym, ◌≡◌, ◌∙◌, true, false}
+use Rattle.std.proofs.Common.{rules, ◌≡◌, ◌∙◌, true, false}
 use Rattle.iss_cluster.proofs.RunningLemmas.{shows-over, stale-over}
 use Rattle.iss_cluster.proofs.running.RunningTracedCluster.is_over.Goals as goal
 
 pub returns-then-self : goal.returns-then-self
 returns-then-self g c =
     let stale : c.self.inside.stale ≡ true = search rules in
-    stale-over g.M.Sequenced.spec g.M.Sequenced.refines _ _ c.self.view_is stale
+    stale ∙ stale-over g.M.Sequenced.spec g.M.Sequenced.refines _ _ c.self.view_is stale
 
 pub returns-else-self : goal.returns-else-self
 returns-else-self g c =

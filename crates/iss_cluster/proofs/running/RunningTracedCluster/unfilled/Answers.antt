@@ -1,4 +1,4 @@
-use Rattle.std.proofs.Common.{sym, subst, ◌≡◌, ◌<◌, false, IfOk}
+use Rattle.std.proofs.Common.{sym, subst, ◌≡◌, ◌<◌, IfOk}
 use Rattle.std.proofs.lemmas.Result.{IfOk-weaker}
 use Rattle.iss_cluster.specs.Clusters.{behavior_of}
 use Rattle.iss_cluster.specs.Internal.Running.{RunningState}
