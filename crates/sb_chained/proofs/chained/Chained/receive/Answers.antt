@@ -17,5 +17,5 @@ returns-in-PreCommit c = by-body _ _ _ _ c.args.msg _ _ c.in-PreCommit.is (unhea
 pub returns-in-Commit : goal.returns-in-Commit
 returns-in-Commit c = by-body _ _ _ _ c.args.msg _ _ c.in-Commit.is (unheard-commit c.args.context.now.p.now c.args.self.now c.of-in-Commit.result c.nothing-in-Commit.result c.of-in-Commit.ensures c.nothing-in-Commit.ensures c.args.from c.in-Commit.view c.in-Commit.shown c.args.msg.sig)
 
-pub returns : goal.returns
-returns c = by-body _ _ _ _ c.args.msg _ _ c.in-Decide.is (unheard-decide c.args.context.now.p.now c.args.self.now c.of-in-Decide.result c.nothing-in-Decide.result c.of-in-Decide.ensures c.nothing-in-Decide.ensures c.args.from c.in-Decide.view c.in-Decide.shown c.args.msg.sig)
+pub returns-in-Decide : goal.returns-in-Decide
+returns-in-Decide c = by-body _ _ _ _ c.args.msg _ _ c.in-Decide.is (unheard-decide c.args.context.now.p.now c.args.self.now c.of-in-Decide.result c.nothing-in-Decide.result c.of-in-Decide.ensures c.nothing-in-Decide.ensures c.args.from c.in-Decide.view c.in-Decide.shown c.args.msg.sig)
