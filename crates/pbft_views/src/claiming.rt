@@ -10,7 +10,7 @@ ghost use Rattle.iss_sb.specs.Statements.{claim};
 ghost use Rattle.pbft_views.specs.Claims.{certificate_claims, certificates_claims, change_claims, changes_claims, chosen_claims, claimed_inside, claims, vote_claims};
 
 use crate::choosing::choice_digest;
-use crate::goodness::primary;
+use crate::goodness::Turns;
 use iss_request::{Bytes, NoMemory, NodeId, Seq, Slot};
 use iss_sb::{Claim, Params, Signed};
 use pbft_wire::signing::{COMMIT, PRE_PREPARE, PREPARE};
@@ -57,17 +57,17 @@ fn put_vote_claims(
 
 fn put_certificate_claims(
     alloc: Global,
-    p: &Params,
+    turns: &Turns,
     mark: &Mark,
     c: &Certificate,
     all: &mut Seq<Claim>,
 ) -> Result<(), NoMemory>
-    requires good { IsGoodSetup p.now.setup }
-    requires marked { mark.now ≡ mark_of p.now c.now }
-    ensures { OnOk result (all.new ≡ all.old ++ certificate_claims p.now c.now) }
+    requires marked { mark.now ≡ mark_of turns.now.p.now c.now }
+    ensures { OnOk result (all.new ≡ all.old ++ certificate_claims turns.now.p.now c.now) }
 {
+    let p = turns.p;
     let statement = state_at(alloc, p, PRE_PREPARE, mark)?;
-    put_claim(primary(p, mark.view), statement, &c.sig, all)?;
+    put_claim(turns.primary(mark.view), statement, &c.sig, all)?;
     let prepared = state_at(alloc, p, PREPARE, mark)?;
     put_vote_claims(p, mark, &prepared, c.prepares.as_slice(), all)
 }
@@ -75,22 +75,21 @@ fn put_certificate_claims(
 // Appends the claims of the certificates to `all`, and their marks to `marks`.
 fn put_certificates_claims(
     alloc: Global,
-    p: &Params,
+    turns: &Turns,
     certificates: &[Certificate],
     marks: &mut Seq<Mark>,
     all: &mut Seq<Claim>,
 ) -> Result<(), NoMemory>
-    requires { IsGoodSetup p.now.setup }
-    ensures marked { OnOk result (marks.new ≡ marks.old ++ map (mark_of p.now) certificates.now) }
-    ensures claimed { OnOk result (all.new ≡ all.old ++ certificates_claims p.now certificates.now) }
+    ensures marked { OnOk result (marks.new ≡ marks.old ++ map (mark_of turns.now.p.now) certificates.now) }
+    ensures claimed { OnOk result (all.new ≡ all.old ++ certificates_claims turns.now.p.now certificates.now) }
 {
     match certificates {
         [] => Ok(()),
         [first, others @ ..] => {
-            let mark = mark_of(alloc, p, first);
-            put_certificate_claims(alloc, p, &mark, first, all)?;
+            let mark = mark_of(alloc, turns.p, first);
+            put_certificate_claims(alloc, turns, &mark, first, all)?;
             marks.push(mark)?;
-            put_certificates_claims(alloc, p, others, marks, all)
+            put_certificates_claims(alloc, turns, others, marks, all)
         }
     }
 }
@@ -99,51 +98,54 @@ fn put_certificates_claims(
 // none: the answer is `NoMemory`.
 fn change_statement(
     alloc: Global,
-    p: &Params,
+    turns: &Turns,
     view: u16,
     certificates: &[Certificate],
     all: &mut Seq<Claim>,
 ) -> Result<Bytes, NoMemory>
-    requires { IsGoodSetup p.now.setup }
-    ensures statement { IfOk result (λ s. s ≡ state_change p.now view certificates.now) }
-    ensures claimed { OnOk result (all.new ≡ all.old ++ certificates_claims p.now certificates.now) }
+    ensures statement { IfOk result (λ s. s ≡ state_change turns.now.p.now view certificates.now) }
+    ensures claimed { OnOk result (all.new ≡ all.old ++ certificates_claims turns.now.p.now certificates.now) }
 {
     let mut marks = Seq::new(alloc);
-    put_certificates_claims(alloc, p, certificates, &mut marks, all)?;
+    put_certificates_claims(alloc, turns, certificates, &mut marks, all)?;
     if marks.len() > 255 {
         return Err(NoMemory);
     }
-    state_marked(alloc, p, view, marks.as_slice())
+    state_marked(alloc, turns.p, view, marks.as_slice())
 }
 
 fn put_change_claims(
     alloc: Global,
-    p: &Params,
+    turns: &Turns,
     change: &Change,
     all: &mut Seq<Claim>,
 ) -> Result<(), NoMemory>
-    requires { IsGoodSetup p.now.setup }
     ensures { OnOk result (all.new ≡ all.old ++
-        change_claims p.now change.now.node.0 change.now.view change.now.certificates change.now.sig) }
+        change_claims turns.now.p.now change.now.node.0 change.now.view change.now.certificates change.now.sig) }
 {
-    let statement = change_statement(alloc, p, change.view, change.certificates.as_slice(), all)?;
+    let statement = change_statement(
+        alloc,
+        turns,
+        change.view,
+        change.certificates.as_slice(),
+        all,
+    )?;
     put_claim(change.node, statement, &change.sig, all)
 }
 
 fn put_changes_claims(
     alloc: Global,
-    p: &Params,
+    turns: &Turns,
     changes: &[Change],
     all: &mut Seq<Claim>,
 ) -> Result<(), NoMemory>
-    requires { IsGoodSetup p.now.setup }
-    ensures { OnOk result (all.new ≡ all.old ++ changes_claims p.now changes.now) }
+    ensures { OnOk result (all.new ≡ all.old ++ changes_claims turns.now.p.now changes.now) }
 {
     match changes {
         [] => Ok(()),
         [change, others @ ..] => {
-            put_change_claims(alloc, p, change, all)?;
-            put_changes_claims(alloc, p, others, all)
+            put_change_claims(alloc, turns, change, all)?;
+            put_changes_claims(alloc, turns, others, all)
         }
     }
 }
@@ -151,7 +153,7 @@ fn put_changes_claims(
 // The PrePrepares of a NewView in an instance: their primary, their view, and the ViewChanges that choose their values.
 #[derive(Drop)]
 struct NewProposals<'a> {
-    p: &'a Params,
+    turns: &'a Turns<'a>,
     by: NodeId,
     view: u16,
     changes: &'a [Change],
@@ -165,13 +167,14 @@ fn put_chosen_claim(
     sig: &Bytes,
     all: &mut Seq<Claim>,
 ) -> Result<(), NoMemory>
-    ensures { OnOk result (let p = new.now.p.now in all.new ≡ all.old ++ claim new.now.by.0
+    ensures { OnOk result (let p = new.now.turns.now.p.now in all.new ≡ all.old ++ claim new.now.by.0
         (state_at p 1 new.now.view slot.0 (digest_of p (choice new.now.changes.now slot.0))) sig.now ∷ []) }
 {
-    let digest = choice_digest(alloc, new.p, slot, new.changes);
+    let p = new.turns.p;
+    let digest = choice_digest(alloc, p, slot, new.changes);
     let view = new.view;
     let mark = Mark { slot, view, digest };
-    let statement = state_at(alloc, new.p, PRE_PREPARE, &mark)?;
+    let statement = state_at(alloc, p, PRE_PREPARE, &mark)?;
     put_claim(new.by, statement, sig, all)
 }
 
@@ -183,7 +186,7 @@ fn put_chosen_claims(
     all: &mut Seq<Claim>,
 ) -> Result<(), NoMemory>
     ensures { OnOk result (all.new ≡ all.old ++
-        chosen_claims new.now.p.now new.now.by.0 new.now.view new.now.changes.now slots.now signatures.now) }
+        chosen_claims new.now.turns.now.p.now new.now.by.0 new.now.view new.now.changes.now slots.now signatures.now) }
 {
     let [slot, slots @ ..] = slots else {
         return Ok(());
@@ -210,27 +213,26 @@ fn put_new_view_claims(
     signatures: &[Bytes],
     all: &mut Seq<Claim>,
 ) -> Result<(), NoMemory>
-    requires { IsGoodSetup new.now.p.now.setup }
-    ensures { OnOk result ((others : List Claim) → all.new ++ others ≡ all.old ++ claimed_inside new.now.p.now
+    ensures { OnOk result ((others : List Claim) → all.new ++ others ≡ all.old ++ claimed_inside new.now.turns.now.p.now
         new.now.by.0 (NewView new.now.view new.now.changes.now signatures.now) others) }
 {
-    put_changes_claims(alloc, new.p, new.changes, all)?;
-    put_chosen_claims(alloc, new, new.p.slots.as_slice(), signatures, all)
+    put_changes_claims(alloc, new.turns, new.changes, all)?;
+    put_chosen_claims(alloc, new, new.turns.p.slots.as_slice(), signatures, all)
 }
 
 // Appends the claims of the signatures inside a body, and returns the body's statement.
 fn body_statement(
     alloc: Global,
-    p: &Params,
+    turns: &Turns,
     by: NodeId,
     body: &Body,
     all: &mut Seq<Claim>,
 ) -> Result<Bytes, NoMemory>
-    requires { IsGoodSetup p.now.setup }
-    ensures statement { IfOk result (λ s. s ≡ stated p.now body.now) }
+    ensures statement { IfOk result (λ s. s ≡ stated turns.now.p.now body.now) }
     ensures claimed { OnOk result ((others : List Claim) →
-        all.new ++ others ≡ all.old ++ claimed_inside p.now by.0 body.now others) }
+        all.new ++ others ≡ all.old ++ claimed_inside turns.now.p.now by.0 body.now others) }
 {
+    let p = turns.p;
     match body {
         Body::PrePrepare { view, slot, value } => {
             let digest = digest_of(alloc, p, value);
@@ -243,7 +245,7 @@ fn body_statement(
             state_at(alloc, p, COMMIT, &mark(*view, *slot, *digest))
         }
         Body::ViewChange { view, certificates } => {
-            change_statement(alloc, p, *view, certificates.as_slice(), all)
+            change_statement(alloc, turns, *view, certificates.as_slice(), all)
         }
         Body::NewView {
             view,
@@ -251,7 +253,7 @@ fn body_statement(
             signatures,
         } => {
             let new = NewProposals {
-                p,
+                turns,
                 by,
                 view: *view,
                 changes: changes.as_slice(),
@@ -275,7 +277,7 @@ pub fn claims(
     ensures { IfOk result (λ all. all ≡ claims p.now from.0 msg.now) }
 {
     let mut all = Seq::new(alloc);
-    let statement = body_statement(alloc, p, from, &msg.body, &mut all)?;
+    let statement = body_statement(alloc, &Turns::of(p), from, &msg.body, &mut all)?;
     put_claim(from, statement, &msg.sig, &mut all)?;
     Ok(all)
 }

@@ -1,5 +1,5 @@
 use Rattle.std.proofs.Common.{length}
-use Rattle.pbft_views.proofs.goodness.+all_good.Given as goal
+use Rattle.pbft_views.proofs.goodness.Turns.+all_good.Given as goal
 
 abbrev pub decreases-all_good : goal.decreases-all_good
 decreases-all_good l = length l.certificates.now
