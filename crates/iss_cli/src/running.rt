@@ -246,6 +246,8 @@ fn run_existing<L: Links, D: Disk>(
     ensures links { HasCause (L.faults links.old) (L.faults links.new) (IsErrOf result NodeError.LinksFault) }
     ensures disk { HasDiskCause (D.state disk.old).faults (D.state disk.new).faults (IsErrOf result NodeError.DiskFault) }
 {
+    // Its values are in range: there are at most ten nodes.
+    let _config = config.config();
     attach(order, links, disk)?;
     let me = NodeId(order.node as u8);
     run_by_module(alloc, config, me, links, disk)
