@@ -1,6 +1,9 @@
 -- A running node, event by event: what it does is what its core does, and its journal shows what stays of the events.
 use Rattle.std.proofs.Common.{◌≡◌, true≢false, Result, Ok, Err, IfOk, IsErrOf, OnOk, is_ok, ◌∙◌, inl, inr, ℕ, zero, suc, ◌<◌, ◌≤◌, ◌^◌, Bool, true, false, cond, get_or, List, [], ◌∷◌, ◌++◌, Option, Some, refl, sym, ap, subst, arith}
-use Rattle.std.specs.Prelude.{filter, map, not}
+use Rattle.std.specs.Prelude.{filter, map, not, IsErr}
+use Rattle.iss_node.specs.declared.answers.Answer.TheVariants.{Dropped as Node_dropped, NoMemory as Node_no_memory, Stale as Node_stale, Taken as Node_taken}
+use Rattle.iss_node.specs.declared.answers.Answer.{Answer as NodeAnswer}
+use Rattle.iss_disk.specs.declared.errors.Failed.{Failed}
 use Rattle.iss_base.proofs.Lists.{in_append, some-injective}
 use Rattle.iss_base.specs.Lists.{In, below}
 use Rattle.iss_cluster.proofs.EventLemmas.{accepted-more, named-more, since-more}
@@ -19,8 +22,6 @@ use Rattle.iss_keep.specs.Entries.{NamesNode, spell_event}
 use Rattle.iss_keep.specs.Recovery.{AreNamed, Recovers}
 use Rattle.iss_keep.specs.State.{KeptRefinesCore, KeptState, RefinesStored, stored_as}
 use Rattle.iss_keep.specs.Steps.{IsAnswer, IsAttached, IsDrop, IsJournaled, IsReopened, IsSame, IsTaken, IsTurn, Writes, makes_stale}
-use Rattle.iss_keep.specs.declared.answers.Answer.{Answer}
-use Rattle.iss_keep.specs.declared.answers.Answer.TheVariants.{Dropped as Kept_dropped, Failed, NoMemory, Stale, Taken as Kept_taken}
 use Rattle.iss_links.specs.Ends.{End}
 use Rattle.iss_loops.specs.Behavior.{AreNodes}
 use Rattle.iss_loops.specs.NodeBehavior.{FailsAt, GoTo, IsOpen, IsStep, NamesNodes, NodeBehavior}
@@ -227,9 +228,9 @@ module _ {M Msg D : Type 0} (m : Module Msg) (refines : Relation M Msg) (state :
           )
 
       -- the disk failed
-      fails-at : (entry : List ℕ) → Writes old.entries entry (state old.disk).history (state new.disk).history Failed → (stored_after old.setup m old.me.0 st event).entries ≡ entry ∷ st.entries → IsTaken stepped
+      fails-at : (failed : Failed) (entry : List ℕ) → Writes old.entries entry (state old.disk).history (state new.disk).history (Err failed) → (stored_after old.setup m old.me.0 st event).entries ≡ entry ∷ st.entries → IsTaken stepped
           → FailsAt B (λ (es : List NodeEvent) (e : NodeEvent). Leaves new.setup.n (state new.disk).history B es e) events event
-      fails-at entry written right t =
+      fails-at failed entry written right t =
           let kept : newest_entry (stored_after old.setup m old.me.0 st event) ≡ entry = ap (λ (es : List (List ℕ)). get_or es 0 []) right in
           record {
             accepted = accepts-is _ t.1;
@@ -244,55 +245,55 @@ module _ {M Msg D : Type 0} (m : Module Msg) (refines : Relation M Msg) (state :
 
     -- by the answer of the kept node
     module _ (names : NamesNodes old.setup.n event) (stores : (z : Stored Msg) → RefinesStored m refines old z → new.stale ≡ false → RefinesStored m refines new (stored_after old.setup m old.me.0 z event)) where
-      abbrev Says : Answer → Type 0
+      abbrev Says : Result NodeAnswer Failed → Type 0
       Says a = (c : Core Msg) → KeptRefinesCore m refines old c → IsAnswer m refines (IsOfNodes old.setup.n event) c (step_of old.setup m old.me.0 c event) new a
 
-      pub by-step : (a : Answer) → Says a → IfOk (as_step a) (λ step. (B : NodeBehavior) (events : List NodeEvent) → Has old B events → IsStep B events event (Has new B) step)
-      by-step (Kept_taken outcome) says = λ B events h. taken-step names B events h outcome (says (stored_since old.setup m old.me.0 h.base events).core (is-there old B events h)) stores
-      by-step (Kept_dropped why) says = λ B events h. dropped-step names B events h why (says (stored_since old.setup m old.me.0 h.base events).core (is-there old B events h)) stores
-      by-step Failed says = tt
-      by-step Stale says = tt
-      by-step NoMemory says = tt
+      pub by-step : (a : Result NodeAnswer Failed) → Says a → IfOk (as_step a) (λ step. (B : NodeBehavior) (events : List NodeEvent) → Has old B events → IsStep B events event (Has new B) step)
+      by-step (Ok (Node_taken outcome)) says = λ B events h. taken-step names B events h outcome (says (stored_since old.setup m old.me.0 h.base events).core (is-there old B events h)) stores
+      by-step (Ok (Node_dropped why)) says = λ B events h. dropped-step names B events h why (says (stored_since old.setup m old.me.0 h.base events).core (is-there old B events h)) stores
+      by-step (Err failed) says = tt
+      by-step (Ok Node_stale) says = tt
+      by-step (Ok Node_no_memory) says = tt
 
-      pub by-address : (a : Answer) → Says a → IsOpen (Has old) → IfOk (as_step a) (GoTo old.setup.n)
-      by-address (Kept_taken outcome) says o =
+      pub by-address : (a : Result NodeAnswer Failed) → Says a → IsOpen (Has old) → IfOk (as_step a) (GoTo old.setup.n)
+      by-address (Ok (Node_taken outcome)) says o =
           let h = o.2 in
           let t = says (stored_since old.setup m old.me.0 h.base o.1).core (is-there old o.0 o.1 h) in
           subst (λ (s : Setup). AreToNodes s.n outcome.sends) same.setup (t.addressed (of-nodes old.setup.n event names))
-      by-address (Kept_dropped why) says o = tt
-      by-address Failed says o = tt
-      by-address Stale says o = tt
-      by-address NoMemory says o = tt
+      by-address (Ok (Node_dropped why)) says o = tt
+      by-address (Err failed) says o = tt
+      by-address (Ok Node_stale) says o = tt
+      by-address (Ok Node_no_memory) says o = tt
 
-      pub by-cut : (a : Answer) → Says a → IsJournaled state m refines event old new a → IsErrOf (as_step a) DiskFault
+      pub by-cut : (a : Result NodeAnswer Failed) → Says a → IsJournaled state m refines event old new a → IsErrOf (as_step a) DiskFault
           → (B : NodeBehavior) (events : List NodeEvent) → Has old B events → FailsAt B (λ (es : List NodeEvent) (e : NodeEvent). Leaves new.setup.n (state new.disk).history B es e) events event
-      by-cut (Kept_taken outcome) says w q = absurd (cc)
-      by-cut (Kept_dropped why) says w q = absurd (cc)
-      by-cut Failed says w q = λ B events h.
-          fails-at names B events h w.entry
+      by-cut (Ok (Node_taken outcome)) says w q = absurd (cc)
+      by-cut (Ok (Node_dropped why)) says w q = absurd (cc)
+      by-cut (Err failed) says w q = λ B events h.
+          fails-at names B events h failed w.entry
           w.written.file
           (w.right refl (stored_since old.setup m old.me.0 h.base events) h.stored) (says (stored_since old.setup m old.me.0 h.base events).core (is-there old B events h))
-      by-cut Stale says w q = absurd (cc)
-      by-cut NoMemory says w q = absurd (cc)
+      by-cut (Ok Node_stale) says w q = absurd (cc)
+      by-cut (Ok Node_no_memory) says w q = absurd (cc)
 
     -- every crash image shows its entries after the answer, too
-    pub by-durable : (a : Answer) → IsJournaled state m refines event old new a → new.stale ≡ makes_stale a
+    pub by-durable : (a : Result NodeAnswer Failed) → IsJournaled state m refines event old new a → new.stale ≡ makes_stale a
         → (old.stale ≡ false → IsDurable state old) → old.stale ≡ false → new.stale ≡ false → IsDurable state new
-    by-durable (Kept_taken outcome) w is durable was fresh =
+    by-durable (Ok (Node_taken outcome)) w is durable was fresh =
         subst (λ (es : List (List ℕ)). IfTold (state new.disk).history (OnlyLeaves (Shows version_1 es))) (sym w.written.added) w.written.file.1
-    by-durable (Kept_dropped why) w is durable was fresh =
+    by-durable (Ok (Node_dropped why)) w is durable was fresh =
         subst (λ (x : List File). IfTold x (OnlyLeaves (Shows version_1 new.entries))) (sym w.written.file)
         (subst (λ (es : List (List ℕ)). IfTold (state old.disk).history (OnlyLeaves (Shows version_1 es))) (sym w.written.added) (durable was))
-    by-durable Failed w is durable was fresh = absurd (true≢false (sym is ∙ fresh))
-    by-durable Stale w is durable was fresh = absurd (true≢false (sym is ∙ fresh))
-    by-durable NoMemory w is durable was fresh = absurd (true≢false (sym is ∙ fresh))
+    by-durable (Err failed) w is durable was fresh = absurd (true≢false (sym is ∙ fresh))
+    by-durable (Ok Node_stale) w is durable was fresh = absurd (true≢false (sym is ∙ fresh))
+    by-durable (Ok Node_no_memory) w is durable was fresh = absurd (true≢false (sym is ∙ fresh))
 
-  pub by-cause : (a : Answer) (before now : ℕ) → HasCause before now (a ≡ Failed) → HasCause before now (IsErrOf (as_step a) DiskFault)
-  by-cause (Kept_taken outcome) before now h = record { never_falls = h.never_falls; rose = λ q. absurd (cc) }
-  by-cause (Kept_dropped why) before now h = record { never_falls = h.never_falls; rose = λ q. absurd (cc) }
-  by-cause Failed before now h = record { never_falls = h.never_falls; rose = λ q. h.rose refl }
-  by-cause Stale before now h = record { never_falls = h.never_falls; rose = λ q. absurd (cc) }
-  by-cause NoMemory before now h = record { never_falls = h.never_falls; rose = λ q. absurd (cc) }
+  pub by-cause : (a : Result NodeAnswer Failed) (before now : ℕ) → HasCause before now (IsErr a) → HasCause before now (IsErrOf (as_step a) DiskFault)
+  by-cause (Ok (Node_taken outcome)) before now h = record { never_falls = h.never_falls; rose = λ q. absurd (cc) }
+  by-cause (Ok (Node_dropped why)) before now h = record { never_falls = h.never_falls; rose = λ q. absurd (cc) }
+  by-cause (Err failed) before now h = record { never_falls = h.never_falls; rose = λ q. h.rose refl }
+  by-cause (Ok Node_stale) before now h = record { never_falls = h.never_falls; rose = λ q. absurd (cc) }
+  by-cause (Ok Node_no_memory) before now h = record { never_falls = h.never_falls; rose = λ q. absurd (cc) }
 
   -- ---- from call to call
 

@@ -1,6 +1,9 @@
 -- What one node does, as functions of the events that it has accepted, by the model of a node. And what its journal and
 -- its links hold behind its loop, and what it prints.
 use Rattle.std.specs.Prelude.{◌≡◌, ◌⊎◌, ℕ, ◌<◌, ◌^◌, Bool, true, false, List, [], ◌∷◌, Result, Ok, Err, get_or, map, reverse, Option, Some, ◌++◌}
+use Rattle.iss_node.specs.declared.answers.Answer.TheVariants.{Dropped as Node_dropped, NoMemory as Node_no_memory, Stale as Node_stale, Taken as Node_taken}
+use Rattle.iss_node.specs.declared.answers.Answer.{Answer as NodeAnswer}
+use Rattle.iss_disk.specs.declared.errors.Failed.{Failed}
 use Rattle.iss_config.specs.Configs.{setup_of}
 use Rattle.iss_config.specs.declared.configs.Config.{Config}
 use Rattle.iss_disk.specs.Calls.{Device, IfTold}
@@ -12,8 +15,6 @@ use Rattle.iss_keep.specs.Entries.{spell_event}
 use Rattle.iss_keep.specs.Recovery.{AreNamed}
 use Rattle.iss_keep.specs.State.{KeptState, RefinesStored, stored_as}
 use Rattle.iss_keep.specs.Steps.{IsDamaged, IsLeft}
-use Rattle.iss_keep.specs.declared.answers.Answer.{Answer}
-use Rattle.iss_keep.specs.declared.answers.Answer.TheVariants.{Dropped as Kept_dropped, Failed, NoMemory as NoMemory_kept, Stale, Taken as Kept_taken}
 use Rattle.iss_links.specs.Ends.{End}
 use Rattle.iss_loops.specs.NodeBehavior.{NodeBehavior}
 use Rattle.iss_loops.specs.NodeLoop.{HasRun, HasSent, begins, node_loop_of}
@@ -177,12 +178,12 @@ pub record IsRefused {Msg : Type 0} (M : Module Msg) (s : Setup) (me : ℕ) (bef
 -- ---- the code
 
 -- What a kept node's answer is to a loop. A node that has to be reopened is not asked.
-abbrev pub as_step : Answer → Result NodeStep StepError
-as_step (Kept_taken outcome) = Ok (Step_taken outcome.sends)
-as_step (Kept_dropped why) = Ok Step_dropped
-as_step Failed = Err DiskFault
-as_step Stale = Err NoMemory
-as_step NoMemory_kept = Err NoMemory
+abbrev pub as_step : Result NodeAnswer Failed → Result NodeStep StepError
+as_step (Ok (Node_taken outcome)) = Ok (Step_taken outcome.sends)
+as_step (Ok (Node_dropped why)) = Ok Step_dropped
+as_step (Err failed) = Err DiskFault
+as_step (Ok Node_stale) = Err NoMemory
+as_step (Ok Node_no_memory) = Err NoMemory
 
 -- The file held these entries, which lead to a core. The node that has read them stands for what it had stored by them.
 pub record HasRead {M Msg D : Type 0} (m : Module Msg) (refines : Relation M Msg) (before : List File)

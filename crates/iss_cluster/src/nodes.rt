@@ -1,5 +1,5 @@
 //! One node of a cluster, which runs over links and keeps its events in a journal.
-ghost use Rattle.std.specs.Prelude.{◌≡◌, ◌≢◌, ◌<◌, ◌^◌, ◌++◌, ℕ, List, reverse, false, IfOk, IsErrOf, OnOk};
+ghost use Rattle.std.specs.Prelude.{◌≡◌, ◌≢◌, ◌<◌, ◌^◌, ◌++◌, ℕ, List, reverse, false, IfOk, IsErrOf, Ok, OnOk};
 ghost use Rattle.iss_cluster.specs.Nodes.{HasRead, HasTaken, IsDurable, IsNodeRun, IsRefused, IsStopped, as_step, stored_since};
 ghost use Rattle.iss_config.specs.Configs.{IsInRange, setup_of};
 ghost use Rattle.iss_disk.specs.Calls.{HasCause as HasDiskCause};
@@ -15,12 +15,12 @@ ghost use Rattle.iss_rules.specs.declared.events.NodeEvent.{NodeEvent as ModelEv
 
 use crate::errors::NodeFailure;
 use iss_config::Config;
-use iss_disk::Disk;
+use iss_disk::{Disk, Failed};
 use iss_journal::AttachError;
-use iss_keep::{Answer, Fresh, Kept, a_journal_recovers};
+use iss_keep::{Fresh, Kept, a_journal_recovers};
 use iss_links::Links;
 use iss_loops::{JournaledNode, NodeStep, StepError, run_node_loop};
-use iss_node::nodes_stand_for_slims;
+use iss_node::{Answer, nodes_stand_for_slims};
 use iss_replay::lines::put_node;
 use iss_request::{Bytes, NoMemory, NodeId, Seq};
 use iss_rules::NodeEvent;
@@ -157,16 +157,16 @@ impl<M: Sequenced, D: Disk> JournaledNode for RunningNode<M, D> {
 }
 
 // What a kept node's answer is to a loop.
-fn as_step(answer: Answer) -> Result<NodeStep, StepError>
-    requires { answer ≢ Answer.Stale }
+fn as_step(answer: Result<Answer, Failed>) -> Result<NodeStep, StepError>
+    requires { answer ≢ Ok Answer.Stale }
     ensures { result ≡ as_step answer }
 {
     match answer {
-        Answer::Taken(outcome) => Ok(NodeStep::Taken(outcome.sends)),
-        Answer::Dropped(_) => Ok(NodeStep::Dropped),
-        Answer::Failed => Err(StepError::DiskFault),
-        Answer::NoMemory => Err(StepError::NoMemory),
-        Answer::Stale => unreachable!(),
+        Ok(Answer::Taken(outcome)) => Ok(NodeStep::Taken(outcome.sends)),
+        Ok(Answer::Dropped(_)) => Ok(NodeStep::Dropped),
+        Ok(Answer::NoMemory) => Err(StepError::NoMemory),
+        Ok(Answer::Stale) => unreachable!(),
+        Err(Failed) => Err(StepError::DiskFault),
     }
 }
 

@@ -1,6 +1,9 @@
 -- What the disk of a kept node holds from call to call. The synced part of its file is exactly the journal's entries,
 -- so a restart reopens the node in the same state.
-use Rattle.std.proofs.Common.{arith, ◌≡◌, inl, inr, ℕ, zero, suc, ◌-◌, ◌<◌, ◌≤◌, Bool, true, false, List, [], ◌∷◌, ◌++◌, Some, refl, sym, ap, ◌∙◌, subst}
+use Rattle.std.proofs.Common.{arith, ◌≡◌, inl, inr, ℕ, zero, suc, ◌-◌, ◌<◌, ◌≤◌, Bool, true, false, List, [], ◌∷◌, ◌++◌, Some, refl, sym, ap, ◌∙◌, subst, Result, Ok, Err}
+use Rattle.iss_node.specs.declared.answers.Answer.TheVariants.{Dropped as Node_dropped, NoMemory as Node_no_memory, Stale as Node_stale, Taken as Node_taken}
+use Rattle.iss_node.specs.declared.answers.Answer.{Answer as NodeAnswer}
+use Rattle.iss_disk.specs.declared.errors.Failed.{Failed}
 use Rattle.iss_disk.specs.Calls.{Device, IfTold, IsRestarted, Passes, Place, Restarts, Runs, Stays, script, up_to}
 use Rattle.iss_disk.specs.EachState.{newest_state, states_some}
 use Rattle.iss_disk.specs.File.{File, Image, restarted, settled, shortened, wrote}
@@ -20,8 +23,6 @@ use Rattle.iss_sb.specs.Evidence.{Module}
 use Rattle.iss_keep.proofs.ReplayLemmas.{stops-not}
 use Rattle.iss_keep.specs.Cores.{StopsAt, core_of}
 use Rattle.iss_keep.specs.Steps.{IsAttached, IsDamaged, IsWritten}
-use Rattle.iss_keep.specs.declared.answers.Answer.{Answer}
-use Rattle.iss_keep.specs.declared.answers.Answer.TheVariants.{Dropped as Kept_dropped, Failed, NoMemory, Stale, Taken as Kept_taken}
 
 -- ---- a file has one reading: `one` is the law `a_file_has_one_reading` of iss_journal
 
@@ -90,15 +91,15 @@ module _ (entries : List (List ℕ)) where
       subst (λ (es : List (List ℕ)). AreSynced now es) (sym added) (subst (λ (f : List File). AreSynced f entries) (sym same) h)
 
   -- Whatever the answer to an event, the synced part of the file is the entries after that event.
-  pub written-synced : (entry : List ℕ) (before now : Device) (later : List (List ℕ)) (answer : Answer) → IsWritten entries entry before now later answer →
+  pub written-synced : (entry : List ℕ) (before now : Device) (later : List (List ℕ)) (answer : Result NodeAnswer Failed) → IsWritten entries entry before now later answer →
       IfTold now.history (λ file. Image file file.kept) → IfTold before.history (λ file. Shows version_1 entries file.kept) →
       IfTold now.history (λ file. Shows version_1 later file.kept)
-  written-synced entry before now later (Kept_taken outcome) w image h =
+  written-synced entry before now later (Ok (Node_taken outcome)) w image h =
       subst (λ (es : List (List ℕ)). AreSynced now.history es) (sym w.added) (leaves-synced (retained (entries ++ entry ∷ [])) now.history image w.file.1)
-  written-synced entry before now later (Kept_dropped why) w image h = alike before.history now.history later w.file w.added h
-  written-synced entry before now later Failed w image h = subst (λ (es : List (List ℕ)). AreSynced now.history es) (sym w.added) w.file.1
-  written-synced entry before now later Stale w image h = alike before.history now.history later w.file w.added h
-  written-synced entry before now later NoMemory w image h = alike before.history now.history later w.file w.added h
+  written-synced entry before now later (Ok (Node_dropped why)) w image h = alike before.history now.history later w.file w.added h
+  written-synced entry before now later (Err failed) w image h = subst (λ (es : List (List ℕ)). AreSynced now.history es) (sym w.added) w.file.1
+  written-synced entry before now later (Ok Node_stale) w image h = alike before.history now.history later w.file w.added h
+  written-synced entry before now later (Ok Node_no_memory) w image h = alike before.history now.history later w.file w.added h
 
   -- ---- a restart
 

@@ -1,5 +1,7 @@
 -- What each call of a kept node preserves and establishes.
-use Rattle.std.proofs.Common.{inl, inr, ◌≡◌, ◌⊎◌, ℕ, ◌<◌, Bool, true, false, List, [], ◌∷◌, ◌++◌, length, refl, sym, ap, ◌∙◌, subst, true≢false}
+use Rattle.std.proofs.Common.{inl, inr, ◌≡◌, ◌⊎◌, ℕ, Bool, true, false, List, [], ◌∷◌, ◌++◌, refl, sym, ap, ◌∙◌, subst, true≢false, Result, Ok, Err}
+use Rattle.iss_node.specs.declared.answers.Answer.{Answer as NodeAnswer}
+use Rattle.iss_disk.specs.declared.errors.Failed.{Failed}
 use Rattle.iss_disk.specs.Calls.{Device, IfTold}
 use Rattle.iss_disk.specs.File.{File}
 use Rattle.iss_journal.specs.Frames.{version_1}
@@ -8,7 +10,6 @@ use Rattle.iss_journal.specs.Retained.{retained}
 use Rattle.iss_journal.specs.Sound.{JournalState}
 use Rattle.iss_keys.specs.Directories.{AreKeysOf, DirectoryView, directory_of, node_secret}
 use Rattle.iss_keys.specs.KeyStates.{KeyState}
-use Rattle.iss_keys.proofs.DirectoryLemmas.{length-nodes}
 use Rattle.iss_rules.specs.Concrete.{keys_of, rules_of}
 use Rattle.iss_rules.specs.Formats.{formats_of}
 use Rattle.iss_model.specs.Frames.{frame_of}
@@ -18,7 +19,7 @@ use Rattle.iss_rules.specs.declared.events.Why.{Why}
 use Rattle.iss_node.specs.Saved.{saved_of}
 use Rattle.iss_node.specs.State.{IsMember, NodeView, RefinesCore}
 use Rattle.iss_node.specs.Steps.{IsAnswer as Node_answers, IsOfNodes}
-use Rattle.iss_node.specs.declared.answers.Answer.TheVariants.{Dropped as Node_dropped, Taken as Node_taken}
+use Rattle.iss_node.specs.declared.answers.Answer.TheVariants.{Dropped as Node_dropped, Taken as Node_taken, NoMemory as Node_no_memory, Stale as Node_stale}
 use Rattle.iss_node.specs.declared.answers.Outcome.{Outcome}
 use Rattle.iss_rebuilt.specs.Stored.{Kept, Saved, Stored, kept_of, stored_by}
 use Rattle.iss_request.specs.declared.ids.NodeId.{NodeId}
@@ -31,14 +32,9 @@ use Rattle.iss_keep.specs.State.{IsKept, IsStoredSince, KeptRefinesCore, KeptSta
 use Rattle.iss_keep.specs.Internal.Keeping.{HasStepped, IsKeptAs, kept_at}
 use Rattle.iss_keep.specs.Internal.Replays.{IsOf, IsReplayed}
 use Rattle.iss_keep.specs.Steps.{IsAnswer, IsDrop, IsTurn, ShowsAsBefore, Writes, entries_after, is_appended, makes_stale}
-use Rattle.iss_keep.specs.declared.answers.Answer.{Answer}
-use Rattle.iss_keep.specs.declared.answers.Answer.TheVariants.{Dropped as Kept_dropped, Failed, NoMemory, Stale, Taken as Kept_taken}
 use Rattle.iss_keep.proofs.RetainLemmas.{shows-more, shows-read}
 
 -- The keys of a replica, none of which is used.
-pub own-number : (s : Setup) (i : ℕ) (d : DirectoryView) → d ≡ keys_of s → i < s.n → i < length d.nodes
-own-number s i d is lt = subst (λ (z : DirectoryView). i < length z.nodes) (sym is) (subst (λ (k : ℕ). i < k) (sym (length-nodes s.n s.clients s.keys)) lt)
-
 pub own-keys : (s : Setup) (i : ℕ) (d : DirectoryView) (k : KeyState) → d ≡ keys_of s →
     ((n clients height : ℕ) → d ≡ directory_of n clients height → k ≡ record { secret = node_secret i; height = height; used = 0 }) →
     AreKeysOf i s.keys k × (k.used ≡ 0)
@@ -175,16 +171,16 @@ module _ {M Msg D : Type 0} (m : Module Msg) (refines : Relation M Msg) (state :
           ∙ ap (λ (bytes : List ℕ). bytes ∷ st.entries) (sym (right st.core turn for.node q))
 
       -- What was written is what the event is stored as.
-      pub right-entry : (entry : List ℕ) (answer : Answer) → HasStepped m refines event old.node node entry answer → is_appended answer ≡ true →
+      pub right-entry : (entry : List ℕ) (answer : Result NodeAnswer Failed) → HasStepped m refines event old.node node entry answer → is_appended answer ≡ true →
           (stored_after old.setup m old.me.0 st event).entries ≡ entry ∷ st.entries
-      right-entry entry (Kept_taken outcome) h on = let a = h.0 st.core for.node in stored-entry a.turn entry a.step_is h.1
-      right-entry entry (Kept_dropped why) h on = absurd (true≢false (sym on))
-      right-entry entry Failed h on = let t = h.1 st.core for.node in stored-entry t.0 entry t.1 h.2
-      right-entry entry Stale h on = absurd (true≢false (sym on))
-      right-entry entry NoMemory h on = absurd (true≢false (sym on))
+      right-entry entry (Ok (Node_taken outcome)) h on = let a = h.0 st.core for.node in stored-entry a.turn entry a.step_is h.1
+      right-entry entry (Ok (Node_dropped why)) h on = absurd (true≢false (sym on))
+      right-entry entry (Err failed) h on = let t = h.1 st.core for.node in stored-entry t.0 entry t.1 h.2
+      right-entry entry (Ok Node_stale) h on = absurd (true≢false (sym on))
+      right-entry entry (Ok Node_no_memory) h on = absurd (true≢false (sym on))
 
       -- After an accepted event the node stands for what is stored with it.
-      took-stored : (journal : JournalState D) (entry : List ℕ) (outcome : Outcome) → HasStepped m refines event old.node node entry (Kept_taken outcome) →
+      took-stored : (journal : JournalState D) (entry : List ℕ) (outcome : Outcome) → HasStepped m refines event old.node node entry (Ok (Node_taken outcome)) →
           journal.entries ≡ retained (old.entries ++ entry ∷ []) →
           RefinesStored m refines (state_over old.setup old.me node journal false) (stored_after old.setup m old.me.0 st event)
       took-stored journal entry outcome h added =
@@ -201,7 +197,7 @@ module _ {M Msg D : Type 0} (m : Module Msg) (refines : Relation M Msg) (state :
           }
 
       -- A dropped event changes nothing.
-      dropped-stored : (journal : JournalState D) (entry : List ℕ) (why : Why) → HasStepped m refines event old.node node entry (Kept_dropped why) →
+      dropped-stored : (journal : JournalState D) (entry : List ℕ) (why : Why) → HasStepped m refines event old.node node entry (Ok (Node_dropped why)) →
           journal.entries ≡ old.entries →
           RefinesStored m refines (state_over old.setup old.me node journal false) (stored_after old.setup m old.me.0 st event)
       dropped-stored journal entry why h added =
@@ -217,29 +213,29 @@ module _ {M Msg D : Type 0} (m : Module Msg) (refines : Relation M Msg) (state :
             saved = h.1 ∙ for.saved;
           })
 
-      pub stores : (journal : JournalState D) (entry : List ℕ) (answer : Answer) → HasStepped m refines event old.node node entry answer →
+      pub stores : (journal : JournalState D) (entry : List ℕ) (answer : Result NodeAnswer Failed) → HasStepped m refines event old.node node entry answer →
           journal.entries ≡ entries_after old.entries entry answer → makes_stale answer ≡ false →
           RefinesStored m refines (state_over old.setup old.me node journal false) (stored_after old.setup m old.me.0 st event)
-      stores journal entry (Kept_taken outcome) h added on = took-stored journal entry outcome h added
-      stores journal entry (Kept_dropped why) h added on = dropped-stored journal entry why h added
-      stores journal entry Failed h added on = absurd (true≢false on)
-      stores journal entry Stale h added on = absurd (true≢false on)
-      stores journal entry NoMemory h added on = absurd (true≢false on)
+      stores journal entry (Ok (Node_taken outcome)) h added on = took-stored journal entry outcome h added
+      stores journal entry (Ok (Node_dropped why)) h added on = dropped-stored journal entry why h added
+      stores journal entry (Err failed) h added on = absurd (true≢false on)
+      stores journal entry (Ok Node_stale) h added on = absurd (true≢false on)
+      stores journal entry (Ok Node_no_memory) h added on = absurd (true≢false on)
 
     -- ---- the effect of the whole call on a node that was not stale
 
     module _ (fresh : old.stale ≡ false) (journal : JournalState D) (entry : List ℕ) where
-      abbrev left : Answer → KeptState M Msg D
+      abbrev left : Result NodeAnswer Failed → KeptState M Msg D
       left answer = state_over old.setup old.me node journal (makes_stale answer)
 
-      pub answers : (answer : Answer) → HasStepped m refines event old.node node entry answer →
+      pub answers : (answer : Result NodeAnswer Failed) → HasStepped m refines event old.node node entry answer →
           (c : Core Msg) → KeptRefinesCore m refines old c →
           IsAnswer m refines (IsOfNodes old.setup.n event) c (step_of old.setup m old.me.0 c event) (left answer) answer
-      answers (Kept_taken outcome) stepped c at = took-turn outcome stepped.0 journal c at
-      answers (Kept_dropped why) stepped c at = dropped-turn why stepped.0 journal c at
-      answers Failed stepped c at = let t = stepped.1 c at.node in (t.0, sym (same-step c) ∙ t.1)
-      answers Stale stepped c at = stepped
-      answers NoMemory stepped c at = tt
+      answers (Ok (Node_taken outcome)) stepped c at = took-turn outcome stepped.0 journal c at
+      answers (Ok (Node_dropped why)) stepped c at = dropped-turn why stepped.0 journal c at
+      answers (Err failed) stepped c at = let t = stepped.1 c at.node in (t.0, sym (same-step c) ∙ t.1)
+      answers (Ok Node_stale) stepped c at = stepped
+      answers (Ok Node_no_memory) stepped c at = tt
 
       fresh-after : journal.attached ≡ true →
           IfTold (state journal.disk).history (OnlyLeaves (Shows version_1 journal.entries)) →
@@ -258,30 +254,30 @@ module _ {M Msg D : Type 0} (m : Module Msg) (refines : Relation M Msg) (state :
       durable-with es added told =
           subst (λ (xs : List (List ℕ)). IfTold (state journal.disk).history (OnlyLeaves (Shows version_1 xs))) (sym added) told
 
-      pub kept-after : (answer : Answer) → HasStepped m refines event old.node node entry answer → journal.entries ≡ entries_after old.entries entry answer →
+      pub kept-after : (answer : Result NodeAnswer Failed) → HasStepped m refines event old.node node entry answer → journal.entries ≡ entries_after old.entries entry answer →
           Writes old.entries entry (state old.disk).history (state journal.disk).history answer →
           (makes_stale answer ≡ false → journal.attached ≡ true) → IsKept m refines state directory journal (left answer)
-      kept-after (Kept_taken outcome) stepped added wrote attached =
+      kept-after (Ok (Node_taken outcome)) stepped added wrote attached =
           fresh-after (attached refl) (durable-with (retained (old.entries ++ entry ∷ [])) added wrote.1)
           (λ st for. took-stored st for journal entry outcome stepped added)
-      kept-after (Kept_dropped why) stepped added wrote attached =
+      kept-after (Ok (Node_dropped why)) stepped added wrote attached =
           let told : IfTold (state journal.disk).history (OnlyLeaves (Shows version_1 old.entries)) =
           subst (λ (f : List File). IfTold f (OnlyLeaves (Shows version_1 old.entries))) (sym wrote) (kept.durable fresh) in
           fresh-after (attached refl) (durable-with old.entries added told) (λ st for. dropped-stored st for journal entry why stepped added)
-      kept-after Failed stepped added wrote attached = stale-after
-      kept-after Stale stepped added wrote attached = stale-after
-      kept-after NoMemory stepped added wrote attached = stale-after
+      kept-after (Err failed) stepped added wrote attached = stale-after
+      kept-after (Ok Node_stale) stepped added wrote attached = stale-after
+      kept-after (Ok Node_no_memory) stepped added wrote attached = stale-after
 
-      shows-after : (answer : Answer) → HasStepped m refines event old.node node entry answer → makes_stale answer ≡ true → (later : Bool) →
+      shows-after : (answer : Result NodeAnswer Failed) → HasStepped m refines event old.node node entry answer → makes_stale answer ≡ true → (later : Bool) →
           ShowsAsBefore old (state_over old.setup old.me node journal later)
-      shows-after (Kept_taken outcome) stepped stale later = absurd (true≢false (sym stale))
-      shows-after (Kept_dropped why) stepped stale later = absurd (true≢false (sym stale))
-      shows-after Failed stepped stale later = record { log = stepped.0.log; epoch = stepped.0.epoch }
-      shows-after Stale stepped stale later = absurd stepped
-      shows-after NoMemory stepped stale later = record { log = stepped.log; epoch = stepped.epoch }
+      shows-after (Ok (Node_taken outcome)) stepped stale later = absurd (true≢false (sym stale))
+      shows-after (Ok (Node_dropped why)) stepped stale later = absurd (true≢false (sym stale))
+      shows-after (Err failed) stepped stale later = record { log = stepped.0.log; epoch = stepped.0.epoch }
+      shows-after (Ok Node_stale) stepped stale later = absurd stepped
+      shows-after (Ok Node_no_memory) stepped stale later = record { log = stepped.log; epoch = stepped.epoch }
 
       -- The same, with the new value of `stale`.
-      module _ (later : Bool) (answer : Answer) (is : later ≡ makes_stale answer) (stepped : HasStepped m refines event old.node node entry answer) where
+      module _ (later : Bool) (answer : Result NodeAnswer Failed) (is : later ≡ makes_stale answer) (stepped : HasStepped m refines event old.node node entry answer) where
         pub take-answers : (c : Core Msg) → KeptRefinesCore m refines old c →
             IsAnswer m refines (IsOfNodes old.setup.n event) c (step_of old.setup m old.me.0 c event) (state_over old.setup old.me node journal later) answer
         take-answers c at =

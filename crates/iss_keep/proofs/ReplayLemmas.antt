@@ -1,6 +1,6 @@
 -- A node that recovers from the entries of its journal: first from the snapshots in front, then from the events behind.
 use Rattle.std.proofs.Common.{arith, append_assoc, inl, inr, length-append, length-take-le, true≢false, ◌≡◌, ◌⊎◌, ℕ, zero, suc, ◌+◌, ◌<◌, ◌≤◌, true, false, cond, List, [], ◌∷◌, ◌++◌, length, take, drop, get_or, Option, Some, None, Bool, Result, Ok, IfOk, refl, sym, ap, ◌∙◌, subst, take-append-drop}
-use Rattle.std.proofs.lemmas.List.{drop_more, reverse-append, reverse-reverse, take_all, take_at, take_more}
+use Rattle.std.proofs.lemmas.List.{drop_more, reverse-reverse, take_all, take_at, take_more}
 use Rattle.std.specs.List.{filter}
 use Rattle.std.specs.Prelude.{reverse}
 use Rattle.iss_journal.specs.Retained.{is_snapshot, retained}
@@ -15,6 +15,7 @@ use Rattle.iss_node.specs.Saved.{SavedState, saved_of}
 use Rattle.iss_node.specs.State.{NodeView, RefinesCore}
 use Rattle.iss_node.specs.Steps.{IsDrop, IsTurn}
 use Rattle.iss_node.specs.declared.answers.Outcome.{Outcome}
+use Rattle.iss_rebuilt.proofs.StaysTurned.{turned-last}
 use Rattle.iss_rebuilt.specs.Reading.{Rebuilt, core_of_step, reads_entry, rebuilt, recovered, replayed, replays, woken_of}
 use Rattle.iss_request.specs.declared.ids.NodeId.{NodeId}
 use Rattle.iss_request.specs.declared.requests.Value.{Value}
@@ -27,9 +28,6 @@ use Rattle.iss_keep.specs.Internal.Replays.{AreInFront, GoesTo, IsFound, IsOf, I
 use Rattle.iss_keep.proofs.RetainLemmas.{behind-event}
 
 -- ---- entries, oldest first and newest first
-
-turned-last : (front : List (List ℕ)) (entry : List ℕ) → reverse (front ++ entry ∷ []) ≡ entry ∷ reverse front
-turned-last front entry = reverse-append front (entry ∷ [])
 
 turned-more : (entries : List (List ℕ)) (k : ℕ) → k < length entries → reverse (take (k + 1) entries) ≡ get_or entries k [] ∷ reverse (take k entries)
 turned-more entries k lt = ap (λ (es : List (List ℕ)). reverse es) (take_more entries k [] lt) ∙ turned-last (take k entries) (get_or entries k [])

@@ -1,5 +1,6 @@
 -- What a step leaves of a node, and what appending its entry leaves after that.
 use Rattle.std.proofs.Common.{◌≡◌, ℕ, ◌≤◌, true, false, List, Option, Result, Ok, Err, IsErrOf, OnOk, length, take, refl, sym, ap, ◌∙◌, subst, true≢false}
+use Rattle.iss_disk.specs.declared.errors.Failed.{Failed}
 use Rattle.iss_disk.specs.Calls.{Device}
 use Rattle.iss_disk.specs.declared.errors.EndError.{EndError}
 use Rattle.iss_disk.specs.declared.errors.EndError.TheVariants.{Failed as Disk_failed, NoMemory as Disk_no_memory}
@@ -23,8 +24,6 @@ use Rattle.iss_sb.specs.Evidence.{Module}
 use Rattle.iss_keep.specs.Entries.{spell_event}
 use Rattle.iss_keep.specs.Internal.Keeping.{Answers, HasAppended, HasEnded, HasJournaled, HasNoted, HasStepped, IsKeptAs, ShowsSame, Takes, entry_kept, kept_at, released}
 use Rattle.iss_keep.specs.Steps.{IsWritten, makes_stale}
-use Rattle.iss_keep.specs.declared.answers.Answer.{Answer}
-use Rattle.iss_keep.specs.declared.answers.Answer.TheVariants.{Dropped as Kept_dropped, Failed, NoMemory, Stale, Taken as Kept_taken}
 use Rattle.iss_keep.proofs.SnapshotLemmas.{kept-right, kept-short}
 use Rattle.iss_keep.proofs.TakenLemmas.{log-cut, log-long, taken-goes-on, taken-later, taken-short}
 
@@ -41,10 +40,6 @@ nothing_failed = Ok tt
 
 pub shows-spoiled : {M Msg : Type 0} (old new : NodeView M Msg) → IsSpoiled old new → ShowsSame old new
 shows-spoiled old new h = record { log = h.log; epoch = h.epoch }
-
-pub shows-stale : {M Msg : Type 0} (old new : NodeView M Msg) → new ≡ old → ShowsSame old new
-shows-stale old new same =
-    record { log = ap (λ (v : NodeView _ _). v.state.log.entries) same; epoch = ap (λ (v : NodeView _ _). v.state.epoch) same }
 
 pub shows-itself : {M Msg : Type 0} (v : NodeView M Msg) → ShowsSame v v
 shows-itself v = record { log = refl; epoch = refl }
@@ -66,7 +61,12 @@ pub unaccepted : {M Msg : Type 0} (m : Module Msg) (refines : Relation M Msg) (e
 unaccepted m refines event old new entry (Node_taken outcome) core answer enters left other = absurd (other outcome refl)
 unaccepted m refines event old new entry (Node_dropped why) core answer enters left other = (answer, dropped-notes m refines event old new why core answer enters)
 unaccepted m refines event old new entry Node_no_memory core answer enters left other = shows-spoiled old new left
-unaccepted m refines event old new entry Node_stale core answer enters left other = shows-stale old new left.1
+unaccepted m refines event old new entry Node_stale core answer enters left other = absurd (true≢false (sym left.0 ∙ core.1.fresh))
+
+-- A node that is not stale does not answer so.
+pub never-stale : {M Msg : Type 0} (m : Module Msg) (refines : Relation M Msg) (event : NodeEvent) (old new : NodeView M Msg) (entry : List ℕ) (a : Result NodeAnswer Failed) →
+    HasStepped m refines event old new entry a → a ≡ Ok Node_stale → ⊥
+never-stale m refines event old new entry a h q = subst (λ (z : Result NodeAnswer Failed). HasStepped m refines event old new entry z) q h
 
 -- ---- the event was accepted
 
@@ -159,12 +159,12 @@ module _ {M Msg : Type 0} (m : Module Msg) (refines : Relation M Msg) (event : N
       stepped (Err Disk_failed) same h = (gone-back h, taken-then, entry-with (same (λ e. absurd (cc))))
       stepped (Err Disk_no_memory) same h = gone-back h
 
-    pub same-node : (given : Outcome) (a : Answer) → HasEnded given slots epoch taken new a → (new.state.setup ≡ old.state.setup) × (new.state.me ≡ old.state.me)
-    same-node given (Kept_taken taken_out) h = (ap (λ (v : NodeView M Msg). v.state.setup) h.1 ∙ setup, ap (λ (v : NodeView M Msg). v.state.me) h.1 ∙ me)
-    same-node given (Kept_dropped why) h = absurd h
-    same-node given Failed h = (h.setup ∙ setup, h.me ∙ me)
-    same-node given Stale h = absurd h
-    same-node given NoMemory h = (h.setup ∙ setup, h.me ∙ me)
+    pub same-node : (given : Outcome) (a : Result NodeAnswer Failed) → HasEnded given slots epoch taken new a → (new.state.setup ≡ old.state.setup) × (new.state.me ≡ old.state.me)
+    same-node given (Ok (Node_taken taken_out)) h = (ap (λ (v : NodeView M Msg). v.state.setup) h.1 ∙ setup, ap (λ (v : NodeView M Msg). v.state.me) h.1 ∙ me)
+    same-node given (Ok (Node_dropped why)) h = absurd h
+    same-node given (Err failed) h = (h.setup ∙ setup, h.me ∙ me)
+    same-node given (Ok Node_stale) h = absurd h
+    same-node given (Ok Node_no_memory) h = (h.setup ∙ setup, h.me ∙ me)
 
     -- The whole: the step, and the append of its entry.
     pub journaled : {D : Type 0} (state : D → Device) (before now : JournalState D) (after : Option (List ℕ)) (r : Result (Unit {0}) EndError) →

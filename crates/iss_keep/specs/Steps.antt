@@ -3,9 +3,10 @@
 -- `reopen`: the entries are those of the file, which is brought to rest and loses none of them; a refusal names the
 -- damaged place. A crash in between leaves the node as before the event or as after it. Meanwhile a stale node shows
 -- the log and epoch from before.
-use Rattle.std.specs.Prelude.{◌≡◌, ◌⊎◌, ℕ, Bool, true, false, List, [], ◌∷◌, ◌++◌, take, Some, Result, IsErrOf}
+use Rattle.std.specs.Prelude.{◌≡◌, ◌⊎◌, ℕ, Bool, true, false, List, [], ◌∷◌, ◌++◌, take, Some, Result, Ok, Err, IsErr, IsErrOf}
 use Rattle.iss_disk.specs.Calls.{Device, HasCause, IfTold, Passes, Runs, StaysHere}
 use Rattle.iss_disk.specs.File.{File, settled}
+use Rattle.iss_disk.specs.declared.errors.Failed.{Failed}
 use Rattle.iss_journal.specs.Frames.{damaged, Reads, version_1}
 use Rattle.iss_journal.specs.Promises.{ComesToRest, LeavesWithOrWithout, OnlyLeaves, Shows}
 use Rattle.iss_journal.specs.Retained.{retained}
@@ -18,14 +19,14 @@ use Rattle.iss_rebuilt.specs.Stored.{Stored}
 use Rattle.iss_rules.specs.declared.events.NodeEvent.{NodeEvent}
 use Rattle.iss_rules.specs.declared.events.Why.{Why}
 use Rattle.iss_node.specs.Steps.{IsMade, IsOfNodes}
+use Rattle.iss_node.specs.declared.answers.Answer.{Answer as NodeAnswer}
+use Rattle.iss_node.specs.declared.answers.Answer.TheVariants.{Dropped as Node_dropped, NoMemory as Node_no_memory, Stale as Node_stale, Taken as Node_taken}
 use Rattle.iss_node.specs.declared.answers.Outcome.{Outcome}
 use Rattle.iss_request.specs.declared.setups.Setup.{Setup}
 use Rattle.iss_sb.specs.Calls.{AreToNodes, Relation}
 use Rattle.iss_sb.specs.Evidence.{Module}
 use Rattle.iss_keep.specs.Cores.{StopsAt, core_of, step_of, stored_after}
 use Rattle.iss_keep.specs.State.{KeptRefinesCore, KeptState, RefinesStored, stored_as}
-use Rattle.iss_keep.specs.declared.answers.Answer.{Answer}
-use Rattle.iss_keep.specs.declared.answers.Answer.TheVariants.{Dropped as Kept_dropped, Failed, NoMemory, Stale, Taken as Kept_taken}
 
 -- The event was accepted. The node refines the core after the step and releases what the step made. If the event asks
 -- only existing peers, every send goes to an existing node.
@@ -49,16 +50,16 @@ IsTaken {Msg = Msg} stepped = (turn : Turn Msg) × (stepped ≡ Step_taken turn)
 
 -- The answer to the step of a core that the node refines. `asked` says that the event asks only existing peers.
 abbrev pub IsAnswer : {M Msg D : Type 0} → Module Msg → Relation M Msg → Type 0 → Core Msg → Stepped Msg →
-    KeptState M Msg D → Answer → Type 0
-IsAnswer m refines asked c stepped new (Kept_taken outcome) = IsTurn m refines asked stepped new outcome
-IsAnswer m refines asked c stepped new (Kept_dropped why) = IsDrop m refines c stepped new why
-IsAnswer m refines asked c stepped new Failed = IsTaken stepped
-IsAnswer m refines asked c stepped new Stale = ⊥
-IsAnswer m refines asked c stepped new NoMemory = Unit {0}
+    KeptState M Msg D → Result NodeAnswer Failed → Type 0
+IsAnswer m refines asked c stepped new (Ok (Node_taken outcome)) = IsTurn m refines asked stepped new outcome
+IsAnswer m refines asked c stepped new (Ok (Node_dropped why)) = IsDrop m refines c stepped new why
+IsAnswer m refines asked c stepped new (Err failed) = IsTaken stepped
+IsAnswer m refines asked c stepped new (Ok Node_stale) = ⊥
+IsAnswer m refines asked c stepped new (Ok Node_no_memory) = Unit {0}
 
 -- For each core that the node refines, the answer is that of the model's step.
 abbrev pub AnswersEvent : {M Msg D : Type 0} → Module Msg → Relation M Msg → NodeEvent → (old new : KeptState M Msg D) →
-    Answer → Type 0
+    Result NodeAnswer Failed → Type 0
 AnswersEvent {Msg = Msg} m refines event old new answer = (c : Core Msg) → KeptRefinesCore m refines old c →
     IsAnswer m refines (IsOfNodes old.setup.n event) c (step_of old.setup m old.me.0 c event) new answer
 
@@ -69,69 +70,69 @@ StoresEvent {Msg = Msg} m refines event old new = (st : Stored Msg) → RefinesS
     new.stale ≡ false → RefinesStored m refines new (stored_after old.setup m old.me.0 st event)
 
 -- Whether the node has to be reopened after this answer.
-abbrev pub makes_stale : Answer → Bool
-makes_stale (Kept_taken outcome) = false
-makes_stale (Kept_dropped why) = false
-makes_stale Failed = true
-makes_stale Stale = true
-makes_stale NoMemory = true
+abbrev pub makes_stale : Result NodeAnswer Failed → Bool
+makes_stale (Ok (Node_taken outcome)) = false
+makes_stale (Ok (Node_dropped why)) = false
+makes_stale (Err failed) = true
+makes_stale (Ok Node_stale) = true
+makes_stale (Ok Node_no_memory) = true
 
 -- ---- the disk after an answer
 
 -- What a journal shows after this answer to an event that is kept as this entry. A snapshot drops the events before it.
 -- rule: Persistence: A dropped event changes nothing and is not kept
-abbrev pub entries_after : List (List ℕ) → List ℕ → Answer → List (List ℕ)
-entries_after entries entry (Kept_taken outcome) = retained (entries ++ entry ∷ [])
-entries_after entries entry (Kept_dropped why) = entries
-entries_after entries entry Failed = entries
-entries_after entries entry Stale = entries
-entries_after entries entry NoMemory = entries
+abbrev pub entries_after : List (List ℕ) → List ℕ → Result NodeAnswer Failed → List (List ℕ)
+entries_after entries entry (Ok (Node_taken outcome)) = retained (entries ++ entry ∷ [])
+entries_after entries entry (Ok (Node_dropped why)) = entries
+entries_after entries entry (Err failed) = entries
+entries_after entries entry (Ok Node_stale) = entries
+entries_after entries entry (Ok Node_no_memory) = entries
 
 -- A crash at any moment of a write leaves the entries, with or without the new one. After `Taken`, every crash image
 -- holds the new entry. After `Failed`, the synced part of the file holds the entries without it. No other answer writes
 -- to the file.
 -- rule: Persistence: An event is kept before its outcome is handed out
-abbrev pub Writes : List (List ℕ) → List ℕ → List File → List File → Answer → Type 0
-Writes entries entry before now (Kept_taken outcome) =
+abbrev pub Writes : List (List ℕ) → List ℕ → List File → List File → Result NodeAnswer Failed → Type 0
+Writes entries entry before now (Ok (Node_taken outcome)) =
     LeavesWithOrWithout version_1 entries entry before now
     × IfTold now (OnlyLeaves (Shows version_1 (retained (entries ++ entry ∷ []))))
-Writes entries entry before now Failed =
+Writes entries entry before now (Err failed) =
     LeavesWithOrWithout version_1 entries entry before now × IfTold now (λ file. Shows version_1 entries file.kept)
-Writes entries entry before now (Kept_dropped why) = now ≡ before
-Writes entries entry before now Stale = now ≡ before
-Writes entries entry before now NoMemory = now ≡ before
+Writes entries entry before now (Ok (Node_dropped why)) = now ≡ before
+Writes entries entry before now (Ok Node_stale) = now ≡ before
+Writes entries entry before now (Ok Node_no_memory) = now ≡ before
 
 -- An accepted event takes four calls of the device. If one of them fails, no further call is made.
-abbrev pub Calls : Passes → Passes → Answer → Type 0
-Calls before now (Kept_taken outcome) = Runs 4 before now true
-Calls before now (Kept_dropped why) = now ≡ before
-Calls before now Failed = Runs 4 before now false
-Calls before now Stale = now ≡ before
-Calls before now NoMemory = now ≡ before
+abbrev pub Calls : Passes → Passes → Result NodeAnswer Failed → Type 0
+Calls before now (Ok (Node_taken outcome)) = Runs 4 before now true
+Calls before now (Ok (Node_dropped why)) = now ≡ before
+Calls before now (Err failed) = Runs 4 before now false
+Calls before now (Ok Node_stale) = now ≡ before
+Calls before now (Ok Node_no_memory) = now ≡ before
 
 -- The journal and its disk after an answer to an event that is kept as this entry. `later` is what the journal shows
 -- then.
 -- rule: Persistence: Room for the entry is reserved before the node steps
 pub record IsWritten (entries : List (List ℕ)) (entry : List ℕ) (before now : Device) (later : List (List ℕ))
-    (answer : Answer) : Type 0 where
+    (answer : Result NodeAnswer Failed) : Type 0 where
   pub added : later ≡ entries_after entries entry answer
   pub file : Writes entries entry before.history now.history answer
   pub device : Calls before.passes now.passes answer
-  pub cause : HasCause before.faults now.faults (answer ≡ Failed)
+  pub cause : HasCause before.faults now.faults (IsErr answer)
   pub others : StaysHere before.current now.current before.files now.files
 
 -- Whether an entry was written, in whole or in part.
-abbrev pub is_appended : Answer → Bool
-is_appended (Kept_taken outcome) = true
-is_appended (Kept_dropped why) = false
-is_appended Failed = true
-is_appended Stale = false
-is_appended NoMemory = false
+abbrev pub is_appended : Result NodeAnswer Failed → Bool
+is_appended (Ok (Node_taken outcome)) = true
+is_appended (Ok (Node_dropped why)) = false
+is_appended (Err failed) = true
+is_appended (Ok Node_stale) = false
+is_appended (Ok Node_no_memory) = false
 
 -- What was written for an answer to this event is the event, or the snapshot that takes its place.
 -- rule: Persistence: The snapshot of a node that entered an epoch takes the place of the event that ended the last one
 pub record IsJournaled {M Msg D : Type 0} (state : D → Device) (m : Module Msg) (refines : Relation M Msg)
-    (event : NodeEvent) (old new : KeptState M Msg D) (answer : Answer) : Type 0 where
+    (event : NodeEvent) (old new : KeptState M Msg D) (answer : Result NodeAnswer Failed) : Type 0 where
   pub entry : List ℕ
   pub written : IsWritten old.entries entry (state old.disk) (state new.disk) new.entries answer
   pub right : is_appended answer ≡ true → (st : Stored Msg) → RefinesStored m refines old st →

@@ -10,7 +10,7 @@ ghost use Rattle.iss_node.specs.declared.answers.Outcome.{Outcome};
 use crate::entries::{ASK, PACKET, PROPOSE, TIMEOUT};
 use iss_disk::{Disk, EndError};
 use iss_journal::Journal;
-use iss_node::{Answer as NodeAnswer, Node};
+use iss_node::{Answer, Node};
 use iss_request::{Bytes, Epoch, NoMemory, NodeId};
 use iss_rules::NodeEvent;
 use iss_sb::Sequenced;
@@ -131,7 +131,7 @@ fn apply_then_append<M: Sequenced, D: Disk>(
     journal: &mut Journal<D>,
     event: NodeEvent,
     entry: Entry,
-    made: &mut NodeAnswer,
+    made: &mut Answer,
 ) -> Result<(), EndError>
     requires step { MayStep M.spec M.refines node.old journal.old }
     requires entry { entry.kind ∷ entry.content ≡ spell_event event }
@@ -141,7 +141,7 @@ fn apply_then_append<M: Sequenced, D: Disk>(
     let epoch = node.epoch();
     *made = node.take(alloc, event);
     match made {
-        NodeAnswer::Taken(outcome) => {
+        Answer::Taken(outcome) => {
             append_or_retreat(node, journal, entry, &mut outcome.entered, (slots, epoch))
         }
         _ => Ok(()),
@@ -159,7 +159,7 @@ pub(crate) fn journal_and_apply<M: Sequenced, D: Disk>(
     node: &mut Node<M>,
     journal: &mut Journal<D>,
     event: NodeEvent,
-    made: &mut NodeAnswer,
+    made: &mut Answer,
 ) -> Result<(), EndError>
     requires { MayStep M.spec M.refines node.old journal.old }
     ensures { HasJournaled D.state M.spec M.refines event node.old node.new journal.old journal.new made.new result }

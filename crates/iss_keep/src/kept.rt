@@ -1,5 +1,5 @@
 //! A kept node: a replica with a journal of its events.
-ghost use Rattle.std.specs.Prelude.{◌≡◌, ◌<◌, ◌≤◌, ◌↔◌, true, not, is_ok, length, IfOk, OnOk, OnErr, IsErrOf};
+ghost use Rattle.std.specs.Prelude.{◌≡◌, ◌<◌, ◌≤◌, ◌↔◌, true, not, is_ok, length, IfOk, Ok, OnOk, OnErr, IsErrOf};
 ghost use Rattle.iss_disk.specs.Calls.{IsFused, IsRestarted};
 ghost use Rattle.iss_journal.specs.Frames.{version_1};
 ghost use Rattle.iss_journal.specs.Promises.{LosesNone};
@@ -9,14 +9,14 @@ ghost use Rattle.iss_keep.specs.Steps.{OnlyDisk, Refuses, ShowsAsBefore, StoresE
 ghost use Rattle.iss_rules.specs.Setups.{IsSetupOf};
 ghost use Rattle.iss_node.specs.State.{IsMember};
 
-use crate::answers::{Answer, makes_stale, release};
+use crate::answers::{makes_stale, release};
 use crate::fresh::Fresh;
 use crate::keeping::journal_and_apply;
 use crate::reopening::open;
-use iss_disk::{Disk, Fused};
+use iss_disk::{Disk, Failed, Fused};
 use iss_journal::{AttachError, Journal};
 use iss_keys::SharedDirectory;
-use iss_node::{Answer as NodeAnswer, Node};
+use iss_node::{Answer, Node};
 use iss_request::{Epoch, NoMemory, NodeId, Setup};
 use iss_rules::NodeEvent;
 use iss_sb::Sequenced;
@@ -90,21 +90,22 @@ impl<M: Sequenced, D: Disk> Kept<M, D> {
 
     /// Takes an event: reserves room for its entry, steps the node, appends the entry if the event was accepted, and
     /// only then releases the outcome. If the event let the node enter an epoch, a snapshot is appended in its place,
-    /// unless that is too long. Answers `Stale` if and only if the node has to be reopened. An ask is never dropped; if
-    /// its peer does not exist, `reopen` will report its entry as damage, until a snapshot takes its place.
+    /// unless that is too long. Answers `Stale` if and only if the node has to be reopened. `Failed` if the disk failed:
+    /// the event may or may not be in the journal, and its outcome is not released. An ask is never dropped; if its
+    /// peer does not exist, `reopen` will report its entry as damage, until a snapshot takes its place.
     // rule: Persistence: A stale node takes nothing and shows the log and epoch from before
-    pub fn take(&mut self, event: NodeEvent) -> Answer
+    pub fn take(&mut self, event: NodeEvent) -> Result<Answer, Failed>
         ensures answer { AnswersEvent M.spec M.refines event self.old self.new result }
         ensures stored { StoresEvent M.spec M.refines event self.old self.new }
-        ensures refused { (result ≡ Answer.Stale) ↔ (self.old.stale ≡ true) }
+        ensures refused { (result ≡ Ok Answer.Stale) ↔ (self.old.stale ≡ true) }
         ensures stale { self.new.stale ≡ makes_stale result }
         ensures written { IsJournaled D.state M.spec M.refines event self.old self.new result }
         ensures node { IsSameNode self.old self.new }
     {
         if self.stale {
-            return Answer::Stale;
+            return Ok(Answer::Stale);
         }
-        let mut made = NodeAnswer::Stale;
+        let mut made = Answer::Stale;
         let kept = journal_and_apply(
             self.alloc,
             &mut self.node,

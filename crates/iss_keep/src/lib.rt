@@ -10,7 +10,6 @@ mod laws;
 mod reopening;
 mod shown;
 
-pub use answers::Answer;
 pub use entries::{decode_entry, encode_entry, entries_are_exact};
 pub use fresh::Fresh;
 pub use kept::Kept;

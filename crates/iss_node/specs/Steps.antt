@@ -2,7 +2,7 @@
 -- and hands out what the model makes: packets in order, own claims, read claims, hashed strings. If the model drops
 -- it, nothing changes, for the same cause. Where memory runs out the node is stale, and shows the log and epoch that
 -- it had.
-use Rattle.std.specs.Prelude.{◌≡◌, ◌<◌, ◌+◌, ◌^◌, ℕ, true, List, [], Option, None, take}
+use Rattle.std.specs.Prelude.{◌≡◌, ◌<◌, ◌+◌, ◌^◌, ℕ, true, List, [], Option, None, take, Err, Ok, Result}
 use Rattle.iss_log.specs.LogState.{GoesOn}
 use Rattle.iss_rules.specs.Concrete.{rules_of}
 use Rattle.iss_rules.specs.Formats.{formats_of}
@@ -21,8 +21,6 @@ use Rattle.iss_node.specs.declared.answers.Answer.{Answer}
 use Rattle.iss_node.specs.declared.answers.Answer.TheVariants.{Dropped as Node_dropped, NoMemory as Node_no_memory, Stale as Node_stale, Taken as Node_taken}
 use Rattle.iss_node.specs.declared.answers.Early.{Early}
 use Rattle.iss_node.specs.declared.answers.Outcome.{Outcome}
-use Rattle.iss_node.specs.declared.answers.StepResult.{StepResult}
-use Rattle.iss_node.specs.declared.answers.StepResult.TheVariants.{Dropped as Result_dropped, Taken as Result_taken}
 use Rattle.iss_sb.specs.Calls.{AreToNodes, Relation}
 use Rattle.iss_sb.specs.Evidence.{Module}
 use Rattle.iss_sb.specs.declared.effects.Input.{Input}
@@ -64,9 +62,9 @@ pub record IsDroppedBy {Msg : Type 0} (Refined : Core Msg → Type 0) (c : Core 
 
 -- The result agrees with the model's step.
 abbrev pub IsStepBy : {Msg : Type 0} → (Turn Msg → Outcome → Type 0) → (Core Msg → Type 0) → Core Msg → Stepped Msg →
-    StepResult → Type 0
-IsStepBy Turned Refined c stepped (Result_taken outcome) = IsTakenBy Turned stepped outcome
-IsStepBy Turned Refined c stepped (Result_dropped why) = IsDroppedBy Refined c stepped why
+    Result Outcome Why → Type 0
+IsStepBy Turned Refined c stepped (Ok outcome) = IsTakenBy Turned stepped outcome
+IsStepBy Turned Refined c stepped (Err why) = IsDroppedBy Refined c stepped why
 
 -- If the event names existing nodes, every send goes to one of these n.
 abbrev pub AreAddressed : Type 0 → ℕ → List (To × List ℕ) → Type 0
@@ -80,13 +78,13 @@ IsTurned m refines turn new outcome =
     IsTurnBy (RefinesBareCore m refines new) (IsEntered m new) (AreToNodes new.setup.n) turn outcome
 
 abbrev pub IsStep : {M Msg : Type 0} → Module Msg → Relation M Msg → Core Msg → Stepped Msg → StateView M Msg →
-    StepResult → Type 0
+    Result Outcome Why → Type 0
 IsStep m refines c stepped new answer =
     IsStepBy (λ turn o. IsTurned m refines turn new o) (RefinesBareCore m refines new) c stepped answer
 
 -- The result agrees with the model's step (or turn), for every history that the state refines.
 abbrev pub IsStepOf : {M Msg : Type 0} → Module Msg → Relation M Msg → StateView M Msg →
-    (Formats Msg → Rules → ℕ → Core Msg → Stepped Msg) → StateView M Msg → StepResult → Type 0
+    (Formats Msg → Rules → ℕ → Core Msg → Stepped Msg) → StateView M Msg → Result Outcome Why → Type 0
 IsStepOf {Msg = Msg} m refines old step new answer = (past : Past Msg) → RefinesPast m refines old past →
     IsStep m refines (core_of old past)
     (step (formats_of old.setup m) (rules_of old.setup) old.me.0 (core_of old past)) new answer
@@ -104,7 +102,7 @@ IsTurnBehind {Msg = Msg} m refines old turn first new outcome = (t : Turn Msg) �
 
 -- A step was completed: the model completes it too.
 abbrev pub IsSettled : {M Msg : Type 0} → Module Msg → Relation M Msg → StateView M Msg → StateView M Msg →
-    StepResult → StepResult → Type 0
+    Result Outcome Why → Result Outcome Why → Type 0
 IsSettled {Msg = Msg} m refines old new step answer = (c : Core Msg) (stepped : Stepped Msg) →
     IsStep m refines c stepped old step →
     IsStep m refines c (finish_step_in (frame_of old.setup m) old.me.0 stepped) new answer
@@ -160,13 +158,13 @@ IsHeldTurn m refines asked turn new outcome =
     IsTurnBy (StateRefinesCore m refines new) (IsHeldEntered m new) (AreAddressed asked new.setup.n) turn outcome
 
 abbrev pub IsHeldStep : {M Msg : Type 0} → Module Msg → Relation M Msg → Type 0 → Core Msg → Stepped Msg →
-    StateView M Msg → StepResult → Type 0
+    StateView M Msg → Result Outcome Why → Type 0
 IsHeldStep m refines asked c stepped new answer =
     IsStepBy (λ turn o. IsHeldTurn m refines asked turn new o) (StateRefinesCore m refines new) c stepped answer
 
 -- The result agrees with the model's step, for every core that the state refines.
 abbrev pub IsHeldStepOf : {M Msg : Type 0} → Module Msg → Relation M Msg → Type 0 → StateView M Msg →
-    (Formats Msg → Rules → ℕ → Core Msg → Stepped Msg) → StateView M Msg → StepResult → Type 0
+    (Formats Msg → Rules → ℕ → Core Msg → Stepped Msg) → StateView M Msg → Result Outcome Why → Type 0
 IsHeldStepOf {Msg = Msg} m refines asked old step new answer = (c : Core Msg) → StateRefinesCore m refines old c →
     IsHeldStep m refines asked c (step (formats_of old.setup m) (rules_of old.setup) old.me.0 c) new answer
 
@@ -180,13 +178,13 @@ IsKeptTurn m refines asked old turn new outcome =
     (AreAddressed asked new.setup.n) turn outcome
 
 abbrev pub IsKeptStep : {M Msg : Type 0} → Module Msg → Relation M Msg → Type 0 → Core Msg → Stepped Msg →
-    StateView M Msg → StateView M Msg → StepResult → Type 0
+    StateView M Msg → StateView M Msg → Result Outcome Why → Type 0
 IsKeptStep m refines asked c stepped old new answer =
     IsStepBy (λ turn o. IsKeptTurn m refines asked old turn new o)
     (λ d. StateRefinesCore m refines new d × (new.saved ≡ old.saved)) c stepped answer
 
 abbrev pub IsKeptStepOf : {M Msg : Type 0} → Module Msg → Relation M Msg → Type 0 → StateView M Msg →
-    (Formats Msg → Rules → ℕ → Core Msg → Stepped Msg) → StateView M Msg → StepResult → Type 0
+    (Formats Msg → Rules → ℕ → Core Msg → Stepped Msg) → StateView M Msg → Result Outcome Why → Type 0
 IsKeptStepOf {Msg = Msg} m refines asked old step new answer = (c : Core Msg) → StateRefinesCore m refines old c →
     IsKeptStep m refines asked c (step (formats_of old.setup m) (rules_of old.setup) old.me.0 c) old new answer
 

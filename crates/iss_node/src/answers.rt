@@ -46,12 +46,8 @@ pub enum Answer {
     Stale,
 }
 
-/// The result of a step, while memory suffices.
-#[derive(Drop)]
-pub enum StepResult {
-    Taken(Outcome),
-    Dropped(Why),
-}
+/// The result of a step, while memory suffices: its outcome, or why the event was dropped.
+pub type StepResult = Result<Outcome, Why>;
 
 /// A batch that a leader's instance accepted for a slot.
 #[derive(Drop)]

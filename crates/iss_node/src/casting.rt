@@ -31,16 +31,16 @@ impl<M: Sequenced> NodeState<M> {
         ensures later { IsLater self.old self.new }
     {
         if !self.leads(self.me) {
-            return Ok(StepResult::Dropped(Why::NotLeader));
+            return Ok(Err(Why::NotLeader));
         }
         let Some(slot) = self.next_slot() else {
-            return Ok(StepResult::Dropped(Why::NothingToCast));
+            return Ok(Err(Why::NothingToCast));
         };
         if !self.has_leaves(self.me) {
-            return Ok(StepResult::Dropped(Why::NoKeys));
+            return Ok(Err(Why::NoKeys));
         }
         let outcome = self.cast(alloc, slot)?;
-        Ok(StepResult::Taken(self.advance_epochs(alloc, outcome)?))
+        Ok(Ok(self.advance_epochs(alloc, outcome)?))
     }
 
     /// Whether a proposal would find a free slot.

@@ -36,10 +36,8 @@ impl<M: Sequenced> NodeState<M> {
         ensures later { IsLater self.old self.new }
     {
         match step {
-            StepResult::Taken(outcome) => Ok(StepResult::Taken(self.advance_epochs(
-                alloc, outcome,
-            )?)),
-            StepResult::Dropped(why) => Ok(StepResult::Dropped(why)),
+            Ok(outcome) => Ok(Ok(self.advance_epochs(alloc, outcome)?)),
+            Err(why) => Ok(Err(why)),
         }
     }
 
@@ -219,8 +217,8 @@ fn or_nothing(alloc: Global, step: StepResult) -> Outcome
     ensures { result ≡ or_nothing step }
 {
     match step {
-        StepResult::Taken(outcome) => outcome,
-        StepResult::Dropped(_) => Outcome::nothing(alloc),
+        Ok(outcome) => outcome,
+        Err(_) => Outcome::nothing(alloc),
     }
 }
 

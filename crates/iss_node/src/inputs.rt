@@ -35,17 +35,17 @@ impl<M: Sequenced> NodeState<M> {
         M::laws();
         let _setup = &self.setup;
         if !self.leads(leader) {
-            return Ok(StepResult::Dropped(Why::NotLeader));
+            return Ok(Err(Why::NotLeader));
         }
         if !self.is_credible(claims) {
-            return Ok(StepResult::Dropped(Why::BadClaim));
+            return Ok(Err(Why::BadClaim));
         }
         if !self.has_leaves(leader) {
-            return Ok(StepResult::Dropped(Why::NoKeys));
+            return Ok(Err(Why::NoKeys));
         }
         match self.judged_step(alloc, leader, input) {
-            Ok(effects) => Ok(StepResult::Taken(self.apply_effects(alloc, leader, effects)?)),
-            Err(StepRefusal::Refused(refusal)) => Ok(StepResult::Dropped(Why::Refused(refusal))),
+            Ok(effects) => Ok(Ok(self.apply_effects(alloc, leader, effects)?)),
+            Err(StepRefusal::Refused(refusal)) => Ok(Err(Why::Refused(refusal))),
             Err(StepRefusal::NoMemory) => Err(NoMemory),
             Err(StepRefusal::Spent) => unreachable!(),
         }

@@ -78,12 +78,13 @@ impl<M: Sequenced> Node<M> {
         epochs_are_fair();
         let standing = Standing::new();
         let layout = Layout::of(setup, Epoch(0), 0, &standing);
-        let segments = start_segments::<M>(alloc, setup, directory, Epoch(0), &layout, me)?;
+        let own_setup = setup.copy()?;
         let windows = Windows::new(alloc, setup)?;
         let chains = Chains::new(alloc, setup.version)?;
         let ballots = Ballots::new(alloc, setup, directory)?;
+        let segments = start_segments::<M>(alloc, setup, directory, Epoch(0), &layout, me)?;
         let state = NodeState {
-            setup: setup.copy()?,
+            setup: own_setup,
             me,
             directory: directory.share(),
             epoch: Epoch(0),
@@ -148,11 +149,11 @@ impl<M: Sequenced> Node<M> {
         // An event that runs out of memory midway leaves the node stale.
         self.stale = true;
         match self.state.kept_turn(alloc, event) {
-            Ok(StepResult::Taken(outcome)) => {
+            Ok(Ok(outcome)) => {
                 self.stale = false;
                 Answer::Taken(outcome)
             }
-            Ok(StepResult::Dropped(why)) => {
+            Ok(Err(why)) => {
                 self.stale = false;
                 Answer::Dropped(why)
             }
@@ -184,11 +185,11 @@ impl<M: Sequenced> Node<M> {
         let epoch = self.state.epoch;
         self.stale = true;
         match self.state.turn(alloc, event) {
-            Ok(StepResult::Taken(outcome)) => {
+            Ok(Ok(outcome)) => {
                 self.stale = false;
                 Answer::Taken(replayed(outcome))
             }
-            Ok(StepResult::Dropped(why)) => {
+            Ok(Err(why)) => {
                 self.stale = false;
                 Answer::Dropped(why)
             }
@@ -305,8 +306,8 @@ impl<M: Sequenced> NodeState<M> {
         ensures same { IsSameLog self.old self.new }
     {
         match self.turn(alloc, event)? {
-            StepResult::Taken(outcome) => Ok(StepResult::Taken(self.keep_entered(alloc, outcome)?)),
-            StepResult::Dropped(why) => Ok(StepResult::Dropped(why)),
+            Ok(outcome) => Ok(Ok(self.keep_entered(alloc, outcome)?)),
+            Err(why) => Ok(Err(why)),
         }
     }
 

@@ -35,7 +35,7 @@ impl<M: Sequenced> NodeState<M> {
     {
         match unwrap::<M>(alloc, &self.setup, bytes)? {
             Some(parcel) => self.take_parcel(alloc, parcel),
-            None => Ok(StepResult::Dropped(Why::NotPacket)),
+            None => Ok(Err(Why::NotPacket)),
         }
     }
 
@@ -123,7 +123,7 @@ impl<M: Sequenced> NodeState<M> {
         if is_next(self.epoch, epoch) {
             return self.keep_early(alloc, message);
         }
-        Ok(StepResult::Dropped(Why::OtherEpoch))
+        Ok(Err(Why::OtherEpoch))
     }
 
     // Takes a module's message of the current epoch.
@@ -150,10 +150,10 @@ impl<M: Sequenced> NodeState<M> {
         ensures later { IsLater self.old self.new }
     {
         if self.early.len() >= EARLY_MOST {
-            return Ok(StepResult::Dropped(Why::EarlyFull));
+            return Ok(Err(Why::EarlyFull));
         }
         self.early.push(message)?;
-        Ok(StepResult::Taken(Outcome::nothing(alloc)))
+        Ok(Ok(Outcome::nothing(alloc)))
     }
 }
 

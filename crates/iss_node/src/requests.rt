@@ -36,16 +36,16 @@ impl<M: Sequenced> NodeState<M> {
         ensures later { IsLater self.old self.new }
     {
         if !self.is_signed(&request) {
-            return Ok(StepResult::Dropped(Why::BadRequest));
+            return Ok(Err(Why::BadRequest));
         }
         if self.knows(request.id) {
-            return Ok(StepResult::Dropped(Why::Known));
+            return Ok(Err(Why::Known));
         }
         if !is_inside(&self.windows, request.id) {
-            return Ok(StepResult::Dropped(Why::OutOfWindow));
+            return Ok(Err(Why::OutOfWindow));
         }
         self.wait(request)?;
-        Ok(StepResult::Taken(Outcome::nothing(alloc)))
+        Ok(Ok(Outcome::nothing(alloc)))
     }
 
     // Whether a request's client signed it.

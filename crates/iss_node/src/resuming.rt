@@ -257,8 +257,8 @@ fn was_taken(step: StepResult) -> bool
     ensures { result ≡ was_taken step }
 {
     match step {
-        StepResult::Taken(_) => true,
-        StepResult::Dropped(_) => false,
+        Ok(_) => true,
+        Err(_) => false,
     }
 }
 

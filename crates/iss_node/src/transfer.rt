@@ -30,7 +30,7 @@ impl<M: Sequenced> NodeState<M> {
         ensures same { IsSameNode self.old self.new }
     {
         let bytes = pack_ask(alloc, self.setup.version, self.me, self.epoch)?;
-        Ok(StepResult::Taken(one_send(alloc, peer, bytes)?))
+        Ok(Ok(one_send(alloc, peer, bytes)?))
     }
 
     /// Answers an ask with the values of an epoch, if the node has its certificate and all of its slots. Otherwise
@@ -48,18 +48,18 @@ impl<M: Sequenced> NodeState<M> {
         ensures same { IsSameNode self.old self.new }
     {
         let Some(cert) = self.ballots.cert_at(epoch) else {
-            return Ok(StepResult::Dropped(Why::NoCert));
+            return Ok(Err(Why::NoCert));
         };
         let cert = copy_of_cert(alloc, cert)?;
         let Some(values) = self.values_of(alloc, epoch)? else {
-            return Ok(StepResult::Dropped(Why::NoCert));
+            return Ok(Err(Why::NoCert));
         };
         let piece = Piece {
             epoch,
             values,
             cert,
         };
-        Ok(StepResult::Taken(self.hand_out_piece(alloc, from, &piece)?))
+        Ok(Ok(self.hand_out_piece(alloc, from, &piece)?))
     }
 
     // The values of an epoch, if the log has all of its slots.
@@ -110,15 +110,15 @@ impl<M: Sequenced> NodeState<M> {
         ensures same { IsSameNode self.old self.new }
     {
         if piece.epoch.0 < self.epoch.0 {
-            return Ok(StepResult::Dropped(Why::NotNeeded));
+            return Ok(Err(Why::NotNeeded));
         }
         match self.adoption(alloc, &piece)? {
-            Adoption::WrongEpoch => Ok(StepResult::Dropped(Why::OtherEpoch)),
-            Adoption::BadCert => Ok(StepResult::Dropped(Why::BadClaim)),
-            Adoption::WrongChain { .. } => Ok(StepResult::Dropped(Why::WrongChain)),
+            Adoption::WrongEpoch => Ok(Err(Why::OtherEpoch)),
+            Adoption::BadCert => Ok(Err(Why::BadClaim)),
+            Adoption::WrongChain { .. } => Ok(Err(Why::WrongChain)),
             Adoption::Adopt { hashed } => {
                 let outcome = self.adopt(alloc, piece, hashed)?;
-                Ok(StepResult::Taken(outcome))
+                Ok(Ok(outcome))
             }
         }
     }

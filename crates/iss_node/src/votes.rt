@@ -76,12 +76,12 @@ impl<M: Sequenced> NodeState<M> {
         ensures same { IsSameNode self.old self.new }
     {
         if is_far(self.epoch, vote.epoch) {
-            return Ok(StepResult::Dropped(Why::OtherEpoch));
+            return Ok(Err(Why::OtherEpoch));
         }
         match self.ballots.take(vote)? {
-            Taking::Counted => Ok(StepResult::Taken(Outcome::nothing(alloc))),
-            Taking::BadSignature => Ok(StepResult::Dropped(Why::BadClaim)),
-            Taking::Known => Ok(StepResult::Dropped(Why::Known)),
+            Taking::Counted => Ok(Ok(Outcome::nothing(alloc))),
+            Taking::BadSignature => Ok(Err(Why::BadClaim)),
+            Taking::Known => Ok(Err(Why::Known)),
         }
     }
 }

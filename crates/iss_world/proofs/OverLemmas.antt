@@ -1,6 +1,9 @@
 -- What each call of a kept node over a disk in memory does to the core that it refines.
-use Rattle.std.proofs.Common.{◌≡◌, inl, inr, ℕ, ◌≤◌, ◌<◌, ◌^◌, Bool, true, false, List, [], ◌∷◌, Option, Some, None, reverse, refl, sym, ap, ◌∙◌, subst, true≢false}
+use Rattle.std.proofs.Common.{◌≡◌, inl, inr, ℕ, ◌≤◌, ◌<◌, ◌^◌, Bool, true, false, List, [], ◌∷◌, Option, Some, None, reverse, refl, sym, ap, ◌∙◌, subst, true≢false, Result, Ok, Err}
 use Rattle.std.proofs.lemmas.Bool.{le-leb, lt-leb}
+use Rattle.iss_node.specs.declared.answers.Answer.TheVariants.{Dropped as Node_dropped, NoMemory as Node_no_memory, Stale as Node_stale, Taken as Node_taken}
+use Rattle.iss_node.specs.declared.answers.Answer.{Answer as NodeAnswer}
+use Rattle.iss_disk.specs.declared.errors.Failed.{Failed}
 use Rattle.iss_base.proofs.Lists.{some-injective}
 use Rattle.iss_rules.specs.declared.events.NodeEvent.{NodeEvent}
 use Rattle.iss_rules.specs.declared.events.Why.{Why}
@@ -20,8 +23,6 @@ use Rattle.iss_keep.specs.Entries.{NamesNode, spell_event}
 use Rattle.iss_keep.specs.Recovery.{AreNamed, Recovers}
 use Rattle.iss_keep.specs.State.{KeptRefinesCore, KeptState, RefinesStored, stored_as}
 use Rattle.iss_keep.specs.Steps.{IsAnswer, IsAttached, IsDamaged, IsDrop, IsJournaled, IsSame, IsTaken, IsTurn, ShowsAsBefore, makes_stale}
-use Rattle.iss_keep.specs.declared.answers.Answer.{Answer}
-use Rattle.iss_keep.specs.declared.answers.Answer.TheVariants.{Dropped as Kept_dropped, Failed, NoMemory, Stale, Taken as Kept_taken}
 use Rattle.iss_log.specs.LogState.{GoesOn}
 use Rattle.iss_model.specs.Node.{Core, Dropped, Stepped, Taken, initial_core, step}
 use Rattle.iss_model.specs.Frames.{frame_of}
@@ -161,18 +162,18 @@ module _ {M Msg : Type 0} (m : Module Msg) (refines : Relation M Msg) where
       abbrev stepped : Stepped Msg
       stepped = step_of old.setup m old.me.0 c event
 
-      abbrev Written : Answer → Type 0
+      abbrev Written : Result NodeAnswer Failed → Type 0
       Written answer = IsJournaled state_of m refines event old new answer
 
       -- an answer that leaves the node fresh
       abbrev StoresOn : Type 0
       StoresOn = (z : Stored Msg) → RefinesStored m refines old z → new.stale ≡ false → RefinesStored m refines new (stored_after old.setup m old.me.0 z event)
 
-      synced-now : (answer : Answer) → Written answer → IfTold (history_of new.disk.file) (λ file. Shows version_1 new.entries file.kept)
+      synced-now : (answer : Result NodeAnswer Failed) → Written answer → IfTold (history_of new.disk.file) (λ file. Shows version_1 new.entries file.kept)
       synced-now answer w = written-synced old.entries w.entry (state_of old.disk) (state_of new.disk) new.entries answer w.written (stored-kept new.disk.file) over.synced
 
       kept-turn : (outcome : Outcome) → IsOfNodes old.setup.n event → IsSetupOf m old.setup → IsTurn m refines (IsOfNodes old.setup.n event) stepped new outcome →
-          Written (Kept_taken outcome) → StoresOn → IsKeptTurn m refines d event stepped new outcome
+          Written (Ok (Node_taken outcome)) → StoresOn → IsKeptTurn m refines d event stepped new outcome
       kept-turn outcome of good t w stores =
           let calls = passes-kept d.passes (calls_of new.disk) (subst (λ (p : Passes). Runs 4 p (calls_of new.disk) true) over.calls w.written.device) in
           let later : after_step (core_of_kept (formats_of old.setup m) (rules_of old.setup) m old.me.0 d.kept)
@@ -192,13 +193,13 @@ module _ {M Msg : Type 0} (m : Module Msg) (refines : Relation M Msg) where
               ]);
               made = made-still (event ∷ d.kept) t.turn.core later;
               saved = λ z. saved-of-still (event ∷ d.kept) (saved_of new.node.state.saved) on.saved;
-              synced = synced-now (Kept_taken outcome) w;
+              synced = synced-now (Ok (Node_taken outcome)) w;
               calls = calls.1;
             };
             made = t.made;
           }
 
-      dropped-answer : (why : Why) → IsDrop m refines c stepped new why → Written (Kept_dropped why) → StoresOn → (stepped ≡ Dropped why) × RefinesMachine m refines new c d
+      dropped-answer : (why : Why) → IsDrop m refines c stepped new why → Written (Ok (Node_dropped why)) → StoresOn → (stepped ≡ Dropped why) × RefinesMachine m refines new c d
       dropped-answer why t w stores =
           let on = stores st for-old t.at.fresh in
           let none : stored_after old.setup m old.me.0 st event ≡ st =
@@ -211,13 +212,13 @@ module _ {M Msg : Type 0} (m : Module Msg) (refines : Relation M Msg) where
               named = named-still d.kept over.named;
               made = made-still d.kept c over.made;
               saved = λ z. saved-of-still d.kept (saved_of new.node.state.saved) (on.saved ∙ ap (λ (x : Stored Msg). x.saved) none);
-              synced = synced-now (Kept_dropped why) w;
+              synced = synced-now (Ok (Node_dropped why)) w;
               calls = w.written.device ∙ over.calls;
             },
           )
 
-      stop-answer : IsTaken stepped → Written Failed → new.stale ≡ true → (new.stale ≡ true → ShowsAsBefore old new) → IsStop m refines c d stepped new
-      stop-answer t w stale shown =
+      stop-answer : (failed : Failed) → IsTaken stepped → Written (Err failed) → new.stale ≡ true → (new.stale ≡ true → ShowsAsBefore old new) → IsStop m refines c d stepped new
+      stop-answer failed t w stale shown =
           let calls = passes-failed d.passes (calls_of new.disk) (subst (λ (p : Passes). Runs 4 p (calls_of new.disk) false) over.calls w.written.device) in
           record {
             turn = t.0;
@@ -229,19 +230,19 @@ module _ {M Msg : Type 0} (m : Module Msg) (refines : Relation M Msg) where
               named = named-still d.kept over.named;
               made = made-still d.kept c over.made;
               saved = λ z. absurd (true≢false z);
-              synced = synced-now Failed w;
+              synced = synced-now (Err failed) w;
               calls = calls.1;
             };
           }
 
       -- The answer of a kept node determines what became of its core and disk.
-      pub answered : (answer : Answer) → IsOfNodes old.setup.n event → IsSetupOf m old.setup → IsAnswer m refines (IsOfNodes old.setup.n event) c stepped new answer → Written answer →
+      pub answered : (answer : Result NodeAnswer Failed) → IsOfNodes old.setup.n event → IsSetupOf m old.setup → IsAnswer m refines (IsOfNodes old.setup.n event) c stepped new answer → Written answer →
           StoresOn → new.stale ≡ makes_stale answer → (new.stale ≡ true → ShowsAsBefore old new) → HasAnswered m refines c d event stepped new answer
-      answered (Kept_taken outcome) of good t w stores stale shown = kept-turn outcome of good t w stores
-      answered (Kept_dropped why) of good t w stores stale shown = dropped-answer why t w stores
-      answered Failed of good t w stores stale shown = stop-answer t w stale shown
-      answered Stale of good t w stores stale shown = t
-      answered NoMemory of good t w stores stale shown = tt
+      answered (Ok (Node_taken outcome)) of good t w stores stale shown = kept-turn outcome of good t w stores
+      answered (Ok (Node_dropped why)) of good t w stores stale shown = dropped-answer why t w stores
+      answered (Err failed) of good t w stores stale shown = stop-answer failed t w stale shown
+      answered (Ok Node_stale) of good t w stores stale shown = t
+      answered (Ok Node_no_memory) of good t w stores stale shown = tt
 
       -- If the event was journaled, the log was extended and the epoch did not fall.
       module _ (good : IsSetupOf m old.setup) (outcome : Outcome) (k : IsKeptTurn m refines d event stepped new outcome) where

@@ -1,8 +1,11 @@
 -- One step of a kept node refines the step of its core.
 use Rattle.std.proofs.Common.{inl, inr, ◌≡◌, ℕ, ◌<◌, ◌≤◌, Bool, true, false, cond, List, ◌∷◌, ◌++◌, length, take, set, slice_get, Some, None, reverse, refl, sym, ap, ◌∙◌, subst, arith}
-use Rattle.std.specs.Prelude.{eqb}
+use Rattle.std.specs.Prelude.{eqb, Result, Ok, Err}
 use Rattle.std.proofs.lemmas.Bool.Decides.{eqb_tells}
 use Rattle.std.proofs.lemmas.List.{take_all}
+use Rattle.iss_node.specs.declared.answers.Answer.TheVariants.{Dropped as Node_dropped, Taken as Node_taken}
+use Rattle.iss_node.specs.declared.answers.Answer.{Answer as NodeAnswer}
+use Rattle.iss_disk.specs.declared.errors.Failed.{Failed}
 use Rattle.iss_base.specs.Lists.{push_all, set_at}
 use Rattle.iss_base.proofs.Lists.{set_at-same, some-injective}
 use Rattle.iss_keep.proofs.TakenLemmas.{log-cut, log-long}
@@ -19,8 +22,6 @@ use Rattle.iss_rules.specs.declared.events.Why.TheVariants.{Stopped}
 use Rattle.iss_disk.specs.declared.memory.MemoryDisk.{MemoryDisk}
 use Rattle.iss_keep.specs.State.{KeptRefinesCore, KeptState}
 use Rattle.iss_keep.specs.Steps.{IsSame}
-use Rattle.iss_keep.specs.declared.answers.Answer.{Answer}
-use Rattle.iss_keep.specs.declared.answers.Answer.TheVariants.{Dropped as Kept_dropped, Failed, Taken as Kept_taken}
 use Rattle.iss_network.specs.Network.{Network}
 use Rattle.iss_node.specs.Steps.{IsMade, IsOfNodes}
 use Rattle.iss_node.specs.declared.answers.Outcome.{Outcome}
@@ -210,7 +211,7 @@ module _ {M Msg : Type 0} (m : Module Msg) (refines : Relation M Msg) where
         subst (λ (k : ℕ). claims ≡ claims_at (formats_of v.setup m) (rules_of v.setup) m k (w.held.net.cores i) event) (r.places i g at)
         (subst (λ (s : Setup). claims ≡ claims_at (formats_of s m) (rules_of s) m g.me.0 (w.held.net.cores i) event) (r.setups i g at) (f (w.held.net.cores i) there))
 
-    module _ (later : KeptState M Msg MemoryDisk) (lt : i < length v.nodes) (same : IsSame g later) (nodes : IsOfNodes v.setup.n event) (answer : Answer)
+    module _ (later : KeptState M Msg MemoryDisk) (lt : i < length v.nodes) (same : IsSame g later) (nodes : IsOfNodes v.setup.n event) (answer : Result NodeAnswer Failed)
         (f : (c : Core Msg) (d : Disk) → RefinesMachine m refines g c d → d.failed ≡ false → IsOfNodes g.setup.n event →
         HasAnswered m refines c d event (step (formats_of g.setup m) (rules_of g.setup) m g.me.0 c event) later answer) where
       abbrev step_there : Machines Msg → Stepped Msg
@@ -225,27 +226,27 @@ module _ {M Msg : Type 0} (m : Module Msg) (refines : Relation M Msg) where
           ∙ ap (λ (s : Setup). step (formats_of s m) (rules_of s) m g.me.0 (w.held.net.cores i) event) (sym (r.setups i g at))
 
       -- The answer, case by case.
-      answer-is : (w : Machines Msg) → RefinesMachines m refines v w → (w.disks i).failed ≡ false → (a : Answer) → answer ≡ a →
+      answer-is : (w : Machines Msg) → RefinesMachines m refines v w → (w.disks i).failed ≡ false → (a : Result NodeAnswer Failed) → answer ≡ a →
           HasAnswered m refines (w.held.net.cores i) (w.disks i) event (step_there w) later a
       answer-is w st working a is =
           let named : IsOfNodes g.setup.n event = subst (λ (s : Setup). IsOfNodes s.n event) (sym (r.setups i g at)) nodes in
-          subst (λ (z : Answer). HasAnswered m refines (w.held.net.cores i) (w.disks i) event (step_there w) later z) is
+          subst (λ (z : Result NodeAnswer Failed). HasAnswered m refines (w.held.net.cores i) (w.disks i) event (step_there w) later z) is
           (f (w.held.net.cores i) (w.disks i) (st.cores i g at) working named)
 
       -- The event was dropped, and nothing has changed.
-      pub step-dropped : (why : Why) → answer ≡ Kept_dropped why → (w : Machines Msg) → RefinesMachines m refines v w → (w.disks i).failed ≡ false →
+      pub step-dropped : (why : Why) → answer ≡ Ok (Node_dropped why) → (w : Machines Msg) → RefinesMachines m refines v w → (w.disks i).failed ≡ false →
           HasChanged m refines (Some i) (v_later v i g later r lt at) (kept_to v.setup w i event (step_here w)) (Lost why)
       step-dropped why is w st working =
-          let t = answer-is w st working (Kept_dropped why) is in
+          let t = answer-is w st working (Ok (Node_dropped why)) is in
           let dropped : step_here w ≡ Dropped why = same-step w ∙ t.0 in
           subst (λ (s : Stepped Msg). HasChanged m refines (Some i) (v_later v i g later r lt at) (kept_to v.setup w i event s) (Lost why)) (sym dropped)
           (runs-later v i g later r lt at w w st t.1 (λ j e. (refl, refl)) st.network st.signed st.hashed, refl, refl)
 
       -- The disk failed before the event was journaled.
-      pub step-stopped : answer ≡ Failed → (w : Machines Msg) → RefinesMachines m refines v w → (w.disks i).failed ≡ false →
+      pub step-stopped : (failed : Failed) → answer ≡ Err failed → (w : Machines Msg) → RefinesMachines m refines v w → (w.disks i).failed ≡ false →
           HasChanged m refines (Some i) (v_later v i g later r lt at) (kept_to v.setup w i event (step_here w)) (Lost Stopped)
-      step-stopped is w st working =
-          let t = answer-is w st working Failed is in
+      step-stopped failed is w st working =
+          let t = answer-is w st working (Err failed) is in
           let taken : step_here w ≡ Taken t.turn = same-step w ∙ t.step_is in
           let stopped : kept_to v.setup w i event (Taken t.turn) ≡ lost_by (with_disk w i (fails (w.disks i))) Stopped =
           ap (λ (b : Bool). cond b (with_disks w (kept_at w i event) (stepped_to v.setup w.held i (Taken t.turn))) (lost_by (with_disk w i (fails (w.disks i))) Stopped)) t.no_room in
@@ -253,9 +254,9 @@ module _ {M Msg : Type 0} (m : Module Msg) (refines : Relation M Msg) where
           (runs-disk v i g later r lt at w (fails (w.disks i)) st t.over, refl, refl)
 
       -- The event was accepted and journaled.
-      module _ (outcome : Outcome) (is : answer ≡ Kept_taken outcome) (w : Machines Msg) (st : RefinesMachines m refines v w) (working : (w.disks i).failed ≡ false) where
+      module _ (outcome : Outcome) (is : answer ≡ Ok (Node_taken outcome)) (w : Machines Msg) (st : RefinesMachines m refines v w) (working : (w.disks i).failed ≡ false) where
         pub turn-kept : IsKeptTurn m refines (w.disks i) event (step_there w) later outcome
-        turn-kept = answer-is w st working (Kept_taken outcome) is
+        turn-kept = answer-is w st working (Ok (Node_taken outcome)) is
 
         good-there : IsSetupOf m g.setup
         good-there = subst (λ (s : Setup). IsSetupOf m s) (sym (r.setups i g at)) r.good

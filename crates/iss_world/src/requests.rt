@@ -18,16 +18,18 @@ use std::alloc::Global;
 pub fn request_packet<M: Sequenced>(
     alloc: Global,
     members: &Members,
-    id: ReqId,
+    client: u8,
+    number: u32,
     payload: &Bytes,
 ) -> Result<Bytes, NoMemory>
-    requires client { id.client < members.now.clients }
-    requires leaf { id.number < 2 ^ members.now.keys }
+    requires client { client < members.now.clients }
+    requires leaf { number < 2 ^ members.now.keys }
     requires payload { length payload.now ≤ 256 }
     ensures { IfOk result (λ bytes. bytes ≡ (formats_of members.now M.spec).wrap
-        (record { from = 255; epoch = 0; body = OfRequest (request_of members.now id.client id.number payload.now) })) }
+        (record { from = 255; epoch = 0; body = OfRequest (request_of members.now client number payload.now) })) }
 {
-    let mut keys = members.directory().keys_of_client(alloc, id.client);
+    let id = ReqId { client, number };
+    let mut keys = members.directory().keys_of_client(alloc, client);
     let request = Request {
         id,
         payload: payload.copy()?,

@@ -20,9 +20,8 @@ use crate::requests::request_packet;
 use crate::strings::Strings;
 use iss_disk::MemoryDisk;
 use iss_keep::Kept;
-use iss_log::Log;
 use iss_network::{Network, Sent};
-use iss_request::{Bytes, Epoch, Kind, NoMemory, ReqId, Setup, Value};
+use iss_request::{NoMemory, Setup};
 use iss_rules::{NodeEvent, Why};
 use iss_sb::Sequenced;
 use iss_schedule::Event;
@@ -98,11 +97,8 @@ impl<M: Sequenced> Simulation<M> {
                 number,
                 payload,
             } => {
-                let id = ReqId {
-                    client: *client,
-                    number: *number,
-                };
-                self.request(alloc, *core, id, payload)
+                let packet = request_packet::<M>(alloc, &self.members, *client, *number, payload)?;
+                self.take(alloc, *core, NodeEvent::Packet(packet))
             }
             Event::Propose { core } => self.take(alloc, *core, NodeEvent::Propose),
             Event::Timeout { core, leader } => {
@@ -113,31 +109,25 @@ impl<M: Sequenced> Simulation<M> {
             Event::Lose { packet } => Ok(self.lose(*packet)),
             Event::Pump => self.pump(alloc),
             Event::Calm { pumps } => self.calm(alloc, *pumps),
-            Event::Hold { core } => Ok(self.hold(*core)),
-            Event::Free { core } => Ok(self.free(*core)),
-            Event::Drop { core } => Ok(self.clear(*core)),
+            Event::Hold { core } => {
+                self.network.hold(*core);
+                Ok(EventOutcome::Done)
+            }
+            Event::Free { core } => {
+                self.network.free(*core);
+                Ok(EventOutcome::Done)
+            }
+            Event::Drop { core } => {
+                self.network.drop_for(*core);
+                Ok(EventOutcome::Done)
+            }
             Event::Restart { core } => self.restart(*core),
             Event::Crash { core, calls } => Ok(self.crash(*core, *calls)),
-            Event::Bytes { core, bytes } => self.inject(alloc, *core, bytes),
+            Event::Bytes { core, bytes } => {
+                let _setup = self.members.setup();
+                self.take(alloc, *core, NodeEvent::Packet(bytes.copy()?))
+            }
         }
-    }
-
-    // A core receives the packet of a client's request.
-    fn request(
-        &mut self,
-        alloc: Global,
-        core: u32,
-        id: ReqId,
-        payload: &Bytes,
-    ) -> Result<EventOutcome, NoMemory>
-        requires range { IsInRange self.old.setup (Event.Request core id.client id.number payload.now) }
-        requires standing { RefinesSome M.spec M.refines self.old }
-        ensures happened { IfOk result (Follows M.spec M.refines self.old self.new
-            (by_core core) (λ W w. apply_event W w (Event.Request core id.client id.number payload.now))) }
-        ensures same { self.new.setup ≡ self.old.setup }
-    {
-        let packet = request_packet::<M>(alloc, &self.members, id, payload)?;
-        self.take(alloc, core, NodeEvent::Packet(packet))
     }
 
     // Delivers a packet to its core, also one that was delivered or lost before (a duplicate).
@@ -227,39 +217,6 @@ impl<M: Sequenced> Simulation<M> {
         Ok(EventOutcome::Done)
     }
 
-    // Holds a core: pumps no longer deliver to it.
-    fn hold(&mut self, core: u32) -> EventOutcome
-        requires { core < cores_of self.old.setup }
-        ensures happened { Follows M.spec M.refines self.old self.new
-            by_none (λ W w. done (with_packets w (held_to w.held.net.network core true))) result }
-        ensures same { self.new.setup ≡ self.old.setup }
-    {
-        self.network.hold(core);
-        EventOutcome::Done
-    }
-
-    // Frees a core: pumps deliver to it again.
-    fn free(&mut self, core: u32) -> EventOutcome
-        requires { core < cores_of self.old.setup }
-        ensures happened { Follows M.spec M.refines self.old self.new
-            by_none (λ W w. done (with_packets w (held_to w.held.net.network core false))) result }
-        ensures same { self.new.setup ≡ self.old.setup }
-    {
-        self.network.free(core);
-        EventOutcome::Done
-    }
-
-    // Loses all packets in flight for a core.
-    fn clear(&mut self, core: u32) -> EventOutcome
-        requires { core < cores_of self.old.setup }
-        ensures happened { Follows M.spec M.refines self.old self.new
-            by_none (λ W w. done (with_packets w (cleared w.held.net.network core))) result }
-        ensures same { self.new.setup ≡ self.old.setup }
-    {
-        self.network.drop_for(core);
-        EventOutcome::Done
-    }
-
     // Restarts a core: it recovers from what its disk has synced. Packets in flight for it stay, and so does whether it
     // is held.
     // rule: Recovery: A recovered core is that of its kept events; it sends nothing and its packets still wait
@@ -285,20 +242,6 @@ impl<M: Sequenced> Simulation<M> {
     {
         self.nodes[core as usize].fuse(calls as u64);
         EventOutcome::Done
-    }
-
-    // Byzantine delivery: a core receives bytes that no core sent. Only for modules that tolerate Byzantine nodes.
-    fn inject(&mut self, alloc: Global, core: u32, bytes: &Bytes) -> Result<EventOutcome, NoMemory>
-        requires kind { self.old.setup.kind ≡ Kind.Byzantine }
-        requires core { core < cores_of self.old.setup }
-        requires standing { RefinesSome M.spec M.refines self.old }
-        ensures happened { IfOk result (Follows M.spec M.refines self.old self.new
-            (by_core core) (λ W w. injects W w core bytes.now)) }
-        ensures same { self.new.setup ≡ self.old.setup }
-    {
-        let _setup = self.members.setup();
-        let packet = bytes.copy()?;
-        self.take(alloc, core, NodeEvent::Packet(packet))
     }
 
     /// The set-up of the cluster.

@@ -17,9 +17,9 @@ use crate::ends::{EventOutcome, Evidence};
 use crate::members::Members;
 use crate::simulation::Simulation;
 use crate::strings::Strings;
-use iss_disk::MemoryDisk;
-use iss_keep::{Answer, Kept};
-use iss_node::Outcome;
+use iss_disk::{Failed, MemoryDisk};
+use iss_keep::Kept;
+use iss_node::{Answer, Outcome};
 use iss_request::{Epoch, NoMemory, Seq, Value};
 use iss_rules::{NodeEvent, Why};
 use iss_sb::{Claim, Sequenced};
@@ -62,7 +62,7 @@ fn values_from<M: Sequenced>(node: &Kept<M, MemoryDisk>, slots: usize) -> &[Valu
 fn take_with_savepoint<M: Sequenced>(
     node: &mut Kept<M, MemoryDisk>,
     event: NodeEvent,
-) -> (Answer, usize, Epoch)
+) -> (Result<Answer, Failed>, usize, Epoch)
     ensures answer { AnswersMachine M.spec M.refines node.old node.new event result.0 }
     ensures slots { result.1 ≡ length node.old.node.state.log.entries }
     ensures epoch { result.2.0 ≡ node.old.node.state.epoch }
@@ -151,10 +151,10 @@ impl<M: Sequenced> Simulation<M> {
     {
         let (answer, slots, epoch) = take_with_savepoint(&mut self.nodes[core as usize], event);
         match answer {
-            Answer::Taken(outcome) => self.taken(alloc, core, &outcome, slots, epoch),
-            Answer::Dropped(why) => Ok(EventOutcome::Lost(why)),
-            Answer::Failed => Ok(EventOutcome::Lost(Why::Stopped)),
-            Answer::NoMemory | Answer::Stale => Err(NoMemory),
+            Ok(Answer::Taken(outcome)) => self.taken(alloc, core, &outcome, slots, epoch),
+            Ok(Answer::Dropped(why)) => Ok(EventOutcome::Lost(why)),
+            Ok(Answer::NoMemory | Answer::Stale) => Err(NoMemory),
+            Err(Failed) => Ok(EventOutcome::Lost(Why::Stopped)),
         }
     }
 

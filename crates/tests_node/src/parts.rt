@@ -7,8 +7,8 @@ use std::alloc::Global;
 use std::process::Abort;
 use std::test::Fail;
 
-// Parts of a snapshot: where each begins and ends. In the first of two these are its next leaf, its third value, its only
-// request, vote and early packet, and the count of its certificates.
+// Parts of a snapshot: where each begins and ends. In the first of two these are its next leaf, its third value, its
+// only request, vote and early packet, and the count of its certificates.
 const LEAF: (usize, usize) = (23, 27);
 
 const VALUE: (usize, usize) = (21, 23);

@@ -6,8 +6,9 @@ use crate::relay_config;
 use iss_cluster::start_node;
 use iss_disk::{Disk, MemoryDisk};
 use iss_journal::{AttachError, Journal};
-use iss_keep::{Answer, Kept};
+use iss_keep::Kept;
 use iss_keys::{Directory, Keys};
+use iss_node::Answer;
 use iss_packet::{Packet, PacketKind};
 use iss_request::{Bytes, Epoch, NodeId, ReqId, Request, Writer, write_request};
 use iss_rules::NodeEvent;
@@ -61,7 +62,7 @@ fn take(
 ) -> Result<Option<Bytes>, Fail> {
     let bytes = Bytes::of(Vec::from_slice(alloc, packet)?);
     match kept.take(NodeEvent::Packet(bytes)) {
-        Answer::Taken(outcome) => match outcome.sends.into_vec().pop() {
+        Ok(Answer::Taken(outcome)) => match outcome.sends.into_vec().pop() {
             Some((_to, sent)) => Ok(Some(sent)),
             None => Ok(None),
         },

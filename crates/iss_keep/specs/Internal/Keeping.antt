@@ -3,6 +3,7 @@
 use Rattle.std.specs.Prelude.{◌≡◌, ℕ, ◌≤◌, true, false, List, length, Option, None, Some, Result, Ok, Err, OnOk, IsErrOf}
 use Rattle.iss_disk.specs.Calls.{Device}
 use Rattle.iss_disk.specs.declared.errors.EndError.{EndError}
+use Rattle.iss_disk.specs.declared.errors.Failed.{Failed}
 use Rattle.iss_disk.specs.declared.errors.EndError.TheVariants.{Failed as Disk_failed, NoMemory as Disk_no_memory}
 use Rattle.iss_journal.specs.Frames.{max_entry}
 use Rattle.iss_journal.specs.Sound.{JournalState}
@@ -23,8 +24,6 @@ use Rattle.iss_sb.specs.Evidence.{Module}
 use Rattle.iss_rebuilt.specs.Stored.{Kept, kept_of}
 use Rattle.iss_keep.specs.Entries.{spell_event}
 use Rattle.iss_keep.specs.Steps.{IsTaken, IsWritten, makes_stale}
-use Rattle.iss_keep.specs.declared.answers.Answer.{Answer}
-use Rattle.iss_keep.specs.declared.answers.Answer.TheVariants.{Dropped as Kept_dropped, Failed, NoMemory, Stale, Taken as Kept_taken}
 
 -- This answer is right for the step of each core that the node refines.
 abbrev pub Answers : {M Msg : Type 0} → Module Msg → Relation M Msg → NodeEvent → NodeView M Msg → NodeView M Msg →
@@ -73,33 +72,30 @@ HasNoted {Msg = Msg} m refines event old new = (c : Core Msg) (turn : Turn Msg) 
 
 -- The state of the node after an event of which this entry is kept, by answer.
 abbrev pub HasStepped : {M Msg : Type 0} → Module Msg → Relation M Msg → NodeEvent → (old new : NodeView M Msg) →
-    List ℕ → Answer → Type 0
-HasStepped m refines event old new entry (Kept_taken outcome) = Answers m refines event old new (Node_taken outcome)
+    List ℕ → Result NodeAnswer Failed → Type 0
+HasStepped m refines event old new entry (Ok (Node_taken outcome)) = Answers m refines event old new (Node_taken outcome)
     × IsKeptAs m refines event old entry × HasNoted m refines event old new
-HasStepped m refines event old new entry (Kept_dropped why) = Answers m refines event old new (Node_dropped why)
+HasStepped m refines event old new entry (Ok (Node_dropped why)) = Answers m refines event old new (Node_dropped why)
     × (saved_of new.state.saved ≡ saved_of old.state.saved)
-HasStepped m refines event old new entry Failed =
+HasStepped m refines event old new entry (Err failed) =
     ShowsSame old new × Takes m refines event old × IsKeptAs m refines event old entry
-HasStepped m refines event old new entry Stale = ⊥
-HasStepped m refines event old new entry NoMemory = ShowsSame old new
+HasStepped m refines event old new entry (Ok Node_stale) = ⊥
+HasStepped m refines event old new entry (Ok Node_no_memory) = ShowsSame old new
 
 -- If the entry was appended, the outcome is released and the node stays as it is. Otherwise the node retreats.
-abbrev pub HasEnded : {M Msg : Type 0} → Outcome → ℕ → ℕ → NodeView M Msg → NodeView M Msg → Answer → Type 0
-HasEnded outcome slots epoch old new (Kept_taken given) = (given ≡ outcome) × (new ≡ old)
-HasEnded outcome slots epoch old new (Kept_dropped why) = ⊥
-HasEnded outcome slots epoch old new Failed = HasRetreated old new slots epoch
-HasEnded outcome slots epoch old new Stale = ⊥
-HasEnded outcome slots epoch old new NoMemory = HasRetreated old new slots epoch
+abbrev pub HasEnded : {M Msg : Type 0} → Outcome → ℕ → ℕ → NodeView M Msg → NodeView M Msg → Result NodeAnswer Failed → Type 0
+HasEnded outcome slots epoch old new (Ok (Node_taken given)) = (given ≡ outcome) × (new ≡ old)
+HasEnded outcome slots epoch old new (Ok (Node_dropped why)) = ⊥
+HasEnded outcome slots epoch old new (Err failed) = HasRetreated old new slots epoch
+HasEnded outcome slots epoch old new (Ok Node_stale) = ⊥
+HasEnded outcome slots epoch old new (Ok Node_no_memory) = HasRetreated old new slots epoch
 
 -- What the caller receives, given the node's answer and the result of the append. An event that was not accepted is not
 -- appended.
-abbrev pub released : {A : Type 0} → NodeAnswer → Result A EndError → Answer
-released (Node_taken outcome) (Ok x) = Kept_taken outcome
-released (Node_dropped why) (Ok x) = Kept_dropped why
-released Node_no_memory (Ok x) = NoMemory
-released Node_stale (Ok x) = NoMemory
-released made (Err Disk_failed) = Failed
-released made (Err Disk_no_memory) = NoMemory
+abbrev pub released : {A : Type 0} → NodeAnswer → Result A EndError → Result NodeAnswer Failed
+released made (Ok x) = Ok made
+released made (Err Disk_failed) = Err (record {})
+released made (Err Disk_no_memory) = Ok Node_no_memory
 
 -- ---- what each of the four functions needs and leaves
 

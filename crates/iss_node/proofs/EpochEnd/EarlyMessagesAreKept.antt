@@ -1,5 +1,5 @@
 -- A message of the current epoch is taken, and one of the next epoch is kept.
-use Rattle.std.proofs.Common.{arith, ◌≡◌, ℕ, suc, true, false, List, eqb, refl, sym, ap, ◌∙◌, subst}
+use Rattle.std.proofs.Common.{arith, ◌≡◌, ℕ, suc, true, false, List, eqb, refl, sym, ap, ◌∙◌, subst, Err}
 use Rattle.std.proofs.lemmas.Bool.Decides.{nat_tests}
 use Rattle.iss_rules.specs.Concrete.{rules_of}
 use Rattle.iss_rules.specs.Formats.{formats_of}
@@ -10,7 +10,6 @@ use Rattle.iss_rules.specs.declared.events.Why.TheVariants.{OtherEpoch}
 use Rattle.iss_node.specs.Internal.Shape.{IsNodeState}
 use Rattle.iss_node.specs.State.{RefinesPast, StateView, core_of}
 use Rattle.iss_node.specs.Steps.{IsStep}
-use Rattle.iss_node.specs.declared.answers.StepResult.TheVariants.{Dropped as Result_dropped}
 use Rattle.iss_request.specs.declared.ids.NodeId.{NodeId}
 use Rattle.iss_sb.specs.Evidence.{Item, Module}
 use Rattle.iss_sb.specs.declared.effects.Input.TheVariants.{Receive}
@@ -49,5 +48,5 @@ module _ {M Msg : Type 0} (m : Module Msg) (refines : M → Params → ℕ → L
   next-step w from e l msg a is h = subst (λ (z : Stepped Msg). IsStep m refines (core_of v past) z w a) (sym (message-next (formats_of v.setup m) from e l.0 msg is)) h
 
   pub other-is : (from e : ℕ) (l : NodeId) (msg : Msg) → eqb e v.epoch ≡ false → eqb e (suc v.epoch) ≡ false →
-      IsStep m refines (core_of v past) (takes_message (formats_of v.setup m) (rules_of v.setup) m v.me.0 (core_of v past) from e l.0 msg) v (Result_dropped OtherEpoch)
+      IsStep m refines (core_of v past) (takes_message (formats_of v.setup m) (rules_of v.setup) m v.me.0 (core_of v past) from e l.0 msg) v (Err OtherEpoch)
   other-is from e l msg a b = record { step_is = message-other (formats_of v.setup m) from e l.0 msg a b; refined = record { core = refl; tied = tied } }

@@ -1,11 +1,12 @@
 -- A leaf is kept for the vote at the end of an epoch, and the next epoch begins open.
-use Rattle.std.proofs.Common.{arith, inl, inr, [], ◌≡◌, ℕ, suc, ◌+◌, ◌*◌, ◌^◌, ◌<◌, ◌≤◌, Bool, true, false, List, length, None, Some, Result, Ok, Err, refl, sym, ap, ◌∙◌, subst, true≢false, nat_le}
-use Rattle.std.specs.Prelude.{OnOk, is_some, slice_get}
+use Rattle.std.proofs.Common.{arith, inl, inr, [], ◌≡◌, ℕ, suc, ◌+◌, ◌*◌, ◌^◌, ◌<◌, ◌≤◌, true, false, List, length, None, Result, Ok, Err, refl, sym, ap, ◌∙◌, subst, true≢false}
+use Rattle.std.specs.Prelude.{OnOk, slice_get, Err, Ok, Result}
 use Rattle.std.proofs.lemmas.Bool.Decides.{leb_tells}
 use Rattle.iss_base.proofs.Lists.{none-some}
 use Rattle.iss_checkpoint.specs.declared.votes.Vote.{Vote}
 use Rattle.iss_keys.specs.KeyStates.{KeyState, left_of}
 use Rattle.iss_model.specs.Node.{Stepped}
+use Rattle.iss_rules.specs.declared.events.Why.{Why}
 use Rattle.iss_node.proofs.EpochEnd.NextEpochStarts.{is-over}
 use Rattle.iss_node.proofs.EpochEnd.VoteRefines.{next-refined, whole}
 use Rattle.iss_node.proofs.Log.LogIsDelivered.{has-slots}
@@ -14,12 +15,10 @@ use Rattle.iss_node.specs.Internal.Inputs.{HasAppliedEffects, IsInputTaken}
 use Rattle.iss_node.specs.Internal.Ready.{HasLeaves, IsOpen, IsReady, IsToComplete, IsTried, MayVote, RefinesSome, is_full}
 use Rattle.iss_node.specs.Internal.Shape.{IsNode, IsNodeState}
 use Rattle.iss_node.specs.Internal.Votes.{IsVoted}
-use Rattle.iss_node.specs.State.{NodeView, RefinesPast, StateView, core_of, led}
+use Rattle.iss_node.specs.State.{NodeView, RefinesPast, StateView, core_of}
 use Rattle.iss_node.specs.Steps.{IsLater, IsNextEpoch, IsStep}
 use Rattle.iss_node.specs.declared.answers.Early.{Early}
 use Rattle.iss_node.specs.declared.answers.Outcome.{Outcome}
-use Rattle.iss_node.specs.declared.answers.StepResult.{StepResult}
-use Rattle.iss_node.specs.declared.answers.StepResult.TheVariants.{Dropped as Result_dropped, Taken as Result_taken}
 use Rattle.iss_request.specs.declared.errors.NoMemory.{NoMemory}
 use Rattle.iss_request.specs.declared.ids.NodeId.{NodeId}
 use Rattle.iss_request.specs.declared.ids.Slot.{Slot}
@@ -87,20 +86,20 @@ module _ {M Msg : Type 0} (m : Module Msg) (refines : M → Params → ℕ → L
 
   -- ---- after a step
 
-  pub to-complete : (v w : StateView M Msg) (stepped : Past Msg → Stepped Msg) (a : StepResult) → RefinesSome m refines v →
+  pub to-complete : (v w : StateView M Msg) (stepped : Past Msg → Stepped Msg) (a : Result Outcome Why) → RefinesSome m refines v →
       ((past : Past Msg) → RefinesPast m refines v past → IsStep m refines (core_of v past) (stepped past) w a) → IsTried v w a → IsToComplete m refines w a
-  to-complete v w stepped (Result_taken o) some answer tried =
+  to-complete v w stepped (Ok o) some answer tried =
       let s = answer some.0 some.1 in
       record { refined = (s.turn.core.past, s.turned.refined.tied); leaf = λ full. tried }
-  to-complete v w stepped (Result_dropped why) some answer tried = tt
+  to-complete v w stepped (Err why) some answer tried = tt
 
   -- In an open epoch, also a dropped message leaves a state to go on from.
-  pub ready-after : (v w : StateView M Msg) (stepped : Past Msg → Stepped Msg) (a : StepResult) → IsOpen m refines v →
+  pub ready-after : (v w : StateView M Msg) (stepped : Past Msg → Stepped Msg) (a : Result Outcome Why) → IsOpen m refines v →
       ((past : Past Msg) → RefinesPast m refines v past → IsStep m refines (core_of v past) (stepped past) w a) → IsTried v w a → IsReady m refines w
-  ready-after v w stepped (Result_taken o) open_now answer tried =
+  ready-after v w stepped (Ok o) open_now answer tried =
       let s = answer open_now.refined.0 open_now.refined.1 in
       record { refined = (s.turn.core.past, s.turned.refined.tied); leaf = λ full. tried }
-  ready-after v w stepped (Result_dropped why) open_now answer tried =
+  ready-after v w stepped (Err why) open_now answer tried =
       subst (λ (z : StateView M Msg). IsReady m refines z) (sym tried)
       (record { refined = open_now.refined; leaf = λ full. absurd (true≢false (sym full ∙ open_now.lasts)) })
 

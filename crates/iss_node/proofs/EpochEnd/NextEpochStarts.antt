@@ -1,5 +1,5 @@
 -- The next epoch starts.
-use Rattle.std.proofs.Common.{arith, ◌≡◌, ℕ, ◌+◌, ◌^◌, ◌<◌, Bool, true, false, List, [], ◌∷◌, Option, length, reverse, refl, sym, ap, ◌∙◌, subst, nat_le}
+use Rattle.std.proofs.Common.{arith, ◌≡◌, ℕ, ◌+◌, ◌^◌, ◌<◌, Bool, true, false, List, [], ◌∷◌, Option, length, reverse, sym, ap, ◌∙◌, subst, nat_le}
 use Rattle.std.specs.List.{filter}
 use Rattle.iss_layout.specs.Layout.{Conduct, Ended, IsStanding, Plan, plan_by, slots_from}
 use Rattle.iss_rules.specs.Concrete.{rules_of}

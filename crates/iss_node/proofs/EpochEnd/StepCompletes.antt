@@ -10,6 +10,7 @@ use Rattle.iss_rules.specs.Parcels.{Formats}
 use Rattle.iss_model.specs.Node.{Core, Early as Kept_early, Stepped, Turn, advance_epochs, ended, ends, finish_step, or_unchanged, takes_each, takes_early, then_turn, unchanged}
 use Rattle.iss_rules.specs.Past.{Past, is_complete}
 use Rattle.iss_rules.specs.Rules.{Rules}
+use Rattle.iss_rules.specs.declared.events.Why.{Why}
 use Rattle.iss_node.proofs.Steps.EntriesCompose.{both-entered, later-entered, nothing-entered}
 use Rattle.iss_node.specs.Entered.{IsEntered}
 use Rattle.iss_node.proofs.Steps.OutcomesCompose.{both-made, nothing, nothing-made, nothing-sent}
@@ -18,8 +19,6 @@ use Rattle.iss_node.specs.State.{RefinesBareCore, RefinesPast, StateView, core_o
 use Rattle.iss_node.specs.Steps.{IsEnded, IsLater, IsMade, IsStep, IsStepOf, IsTurnBehind, IsTurnOf, IsTurned}
 use Rattle.iss_node.specs.declared.answers.Early.{Early}
 use Rattle.iss_node.specs.declared.answers.Outcome.{Outcome}
-use Rattle.iss_node.specs.declared.answers.StepResult.{StepResult}
-use Rattle.iss_node.specs.declared.answers.StepResult.TheVariants.{Dropped as Result_dropped, Taken as Result_taken}
 use Rattle.iss_request.specs.declared.setups.Setup.{Setup}
 use Rattle.iss_request.specs.declared.ids.NodeId.{NodeId}
 use Rattle.iss_sb.specs.Calls.{AreToNodes}
@@ -38,10 +37,10 @@ module _ {M Msg : Type 0} (m : Module Msg) (refines : M → Params → ℕ → L
 
   -- ---- a step that was tried
 
-  pub tried-taken : (v w : StateView M Msg) (c : Core Msg) (step : Stepped Msg) (o : Outcome) → IsStep m refines c step w (Result_taken o) → IsTurned m refines (or_unchanged c step) w o
+  pub tried-taken : (v w : StateView M Msg) (c : Core Msg) (step : Stepped Msg) (o : Outcome) → IsStep m refines c step w (Ok o) → IsTurned m refines (or_unchanged c step) w o
   tried-taken v w c step o h = subst (λ (z : Stepped Msg). IsTurned m refines (or_unchanged c z) w o) (sym h.step_is) h.turned
 
-  pub tried-dropped : (v w : StateView M Msg) (c : Core Msg) (step : Stepped Msg) (why : _) (o : Outcome) → IsStep m refines c step w (Result_dropped why) → o ≡ nothing → IsTurned m refines (or_unchanged c step) w o
+  pub tried-dropped : (v w : StateView M Msg) (c : Core Msg) (step : Stepped Msg) (why : _) (o : Outcome) → IsStep m refines c step w (Err why) → o ≡ nothing → IsTurned m refines (or_unchanged c step) w o
   tried-dropped v w c step why o h none = subst (λ (z : Stepped Msg). IsTurned m refines (or_unchanged c z) w o) (sym h.step_is) (record {
     refined = h.refined;
     made = nothing-made c o none;
@@ -50,12 +49,12 @@ module _ {M Msg : Type 0} (m : Module Msg) (refines : M → Params → ℕ → L
   })
 
   -- The outcome of an early message that was tried.
-  pub tried-so : (v w : StateView M Msg) (stepped : Formats Msg → Rules → ℕ → Core Msg → Stepped Msg) (a : StepResult) (o : Outcome) → o ≡ or_nothing a → IsStepOf m refines v stepped w a →
+  pub tried-so : (v w : StateView M Msg) (stepped : Formats Msg → Rules → ℕ → Core Msg → Stepped Msg) (a : Result Outcome Why) (o : Outcome) → o ≡ or_nothing a → IsStepOf m refines v stepped w a →
       IsTurnOf m refines v (λ F R me c. or_unchanged c (stepped F R me c)) w o
-  tried-so v w stepped (Result_taken p) o is h = λ past tied.
+  tried-so v w stepped (Ok p) o is h = λ past tied.
       subst (λ (z : Outcome). IsTurned m refines (or_unchanged (core_of v past) (stepped (formats_of v.setup m) (rules_of v.setup) v.me.0 (core_of v past))) w z) (sym is)
       (tried-taken v w (core_of v past) (stepped (formats_of v.setup m) (rules_of v.setup) v.me.0 (core_of v past)) p (h past tied))
-  tried-so v w stepped (Result_dropped why) o is h = λ past tied.
+  tried-so v w stepped (Err why) o is h = λ past tied.
       tried-dropped v w (core_of v past) (stepped (formats_of v.setup m) (rules_of v.setup) v.me.0 (core_of v past)) why o (h past tied) is
 
   -- ---- a turn that does not fill the epoch, and one that does
@@ -113,7 +112,7 @@ module _ {M Msg : Type 0} (m : Module Msg) (refines : M → Params → ℕ → L
 
   -- The completion of a step that was accepted.
   pub settled-taken : (v w : StateView M Msg) (first last : Outcome) → IsTurnBehind m refines v (λ F R me t. advance_epochs F R m me t) first w last → (c : Core Msg) (step : Stepped Msg) →
-      IsStep m refines c step v (Result_taken first) → IsStep m refines c (finish_step (formats_of v.setup m) (rules_of v.setup) m v.me.0 step) w (Result_taken last)
+      IsStep m refines c step v (Ok first) → IsStep m refines c (finish_step (formats_of v.setup m) (rules_of v.setup) m v.me.0 step) w (Ok last)
   settled-taken v w first last h c step s = record {
     turn = advance_epochs (formats_of v.setup m) (rules_of v.setup) m v.me.0 s.turn;
     step_is = ap (λ (z : Stepped Msg). finish_step (formats_of v.setup m) (rules_of v.setup) m v.me.0 z) s.step_is;
@@ -121,7 +120,7 @@ module _ {M Msg : Type 0} (m : Module Msg) (refines : M → Params → ℕ → L
   }
 
   pub settled-dropped : (v : StateView M Msg) (why : _) (c : Core Msg) (step : Stepped Msg) →
-      IsStep m refines c step v (Result_dropped why) → IsStep m refines c (finish_step (formats_of v.setup m) (rules_of v.setup) m v.me.0 step) v (Result_dropped why)
+      IsStep m refines c step v (Err why) → IsStep m refines c (finish_step (formats_of v.setup m) (rules_of v.setup) m v.me.0 step) v (Err why)
   settled-dropped v why c step s = record { step_is = ap (λ (z : Stepped Msg). finish_step (formats_of v.setup m) (rules_of v.setup) m v.me.0 z) s.step_is; refined = s.refined }
 
   -- ---- an early message

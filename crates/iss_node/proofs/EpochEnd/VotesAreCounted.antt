@@ -1,5 +1,5 @@
 -- Counting a vote refines the model's step.
-use Rattle.std.proofs.Common.{◌≡◌, ℕ, suc, Bool, true, false, cond, not, List, [], ◌∷◌, ◌++◌, nat_lt, refl, sym, ap, ◌∙◌, subst}
+use Rattle.std.proofs.Common.{◌≡◌, ℕ, suc, Bool, true, false, cond, not, List, [], ◌∷◌, ◌++◌, nat_lt, refl, sym, ap, ◌∙◌, subst, Ok, Err}
 use Rattle.iss_ballots.specs.Ballots.{AreKept, BallotsState, is_held, is_true, stable_by}
 use Rattle.iss_checkpoint.specs.Votes.{Voters, voters_of}
 use Rattle.iss_checkpoint.specs.declared.votes.Cert.{Cert}
@@ -17,7 +17,6 @@ use Rattle.iss_node.proofs.Steps.OutcomesCompose.{nothing, nothing-made, nothing
 use Rattle.iss_node.specs.Internal.Shape.{IsNodeState}
 use Rattle.iss_node.specs.State.{RefinesPast, StateRefinesCore, StateView}
 use Rattle.iss_node.specs.Steps.{IsHeldStep}
-use Rattle.iss_node.specs.declared.answers.StepResult.TheVariants.{Dropped as Result_dropped, Taken as Result_taken}
 use Rattle.iss_node.specs.declared.answers.Outcome.{Outcome}
 use Rattle.iss_request.specs.declared.setups.Setup.{Setup}
 use Rattle.iss_sb.specs.Evidence.{Item, Module}
@@ -62,7 +61,7 @@ module _ {M Msg : Type 0} (m : Module Msg) (refines : M → Params → ℕ → L
       (record { state = record { core = h.state.core; tied = ballots-tied ballots c.past h.state.tied }; kept = k })
 
   -- A vote on an epoch too far ahead.
-  pub vote-far : (vote : Vote) (c : Core Msg) → StateRefinesCore m refines v c → nat_lt (suc v.epoch) vote.epoch.0 ≡ true → IsHeldStep m refines (Unit {0}) c (takes_vote (rules_of v.setup) c vote) v (Result_dropped OtherEpoch)
+  pub vote-far : (vote : Vote) (c : Core Msg) → StateRefinesCore m refines v c → nat_lt (suc v.epoch) vote.epoch.0 ≡ true → IsHeldStep m refines (Unit {0}) c (takes_vote (rules_of v.setup) c vote) v (Err OtherEpoch)
   vote-far vote c h far =
       let epoch : v.epoch ≡ c.past.epoch = h.state.tied.epoch in
       let away : nat_lt (suc c.past.epoch) vote.epoch.0 ≡ true = ap (λ (e : ℕ). nat_lt (suc e) vote.epoch.0) (sym epoch) ∙ far in
@@ -79,13 +78,13 @@ module _ {M Msg : Type 0} (m : Module Msg) (refines : M → Params → ℕ → L
     verified : (b : Bool) → is_true ballots.voters vote ≡ b → all_verify (rules_of v.setup) (claim_of_vote (rules_of v.setup) vote ∷ []) ≡ b
     verified b q = true-verified v.setup ballots.voters vote voters-are ∙ q
 
-    pub vote-bad : (is_true ballots.voters vote ≡ false) × AreKept ballots c.votes c.certs → IsHeldStep m refines (Unit {0}) c (takes_vote (rules_of v.setup) c vote) w (Result_dropped BadClaim)
+    pub vote-bad : (is_true ballots.voters vote ≡ false) × AreKept ballots c.votes c.certs → IsHeldStep m refines (Unit {0}) c (takes_vote (rules_of v.setup) c vote) w (Err BadClaim)
     vote-bad k = record {
       step_is = vote-step (rules_of v.setup) c vote false false _ close (verified false k.0) refl;
       refined = ballots-held w ballots c c.votes c.certs is h k.1;
     }
 
-    pub vote-known : (is_true ballots.voters vote ≡ true) × (is_held c.votes c.certs vote ≡ true) × AreKept ballots c.votes c.certs → IsHeldStep m refines (Unit {0}) c (takes_vote (rules_of v.setup) c vote) w (Result_dropped Known)
+    pub vote-known : (is_true ballots.voters vote ≡ true) × (is_held c.votes c.certs vote ≡ true) × AreKept ballots c.votes c.certs → IsHeldStep m refines (Unit {0}) c (takes_vote (rules_of v.setup) c vote) w (Err Known)
     vote-known k = record {
       step_is = vote-step (rules_of v.setup) c vote false true true close (verified true k.0) k.1;
       refined = ballots-held w ballots c c.votes c.certs is h k.2;
@@ -93,7 +92,7 @@ module _ {M Msg : Type 0} (m : Module Msg) (refines : M → Params → ℕ → L
 
     pub vote-counted : (asked : Type 0) (o : Outcome) → o ≡ nothing →
         (is_true ballots.voters vote ≡ true) × (is_held c.votes c.certs vote ≡ false) × AreKept ballots (vote ∷ c.votes) (stable_by ballots.voters (vote ∷ c.votes) vote ++ c.certs) →
-        IsHeldStep m refines asked c (takes_vote (rules_of v.setup) c vote) w (Result_taken o)
+        IsHeldStep m refines asked c (takes_vote (rules_of v.setup) c vote) w (Ok o)
     vote-counted asked o none k =
         let kept : AreKept ballots (vote ∷ c.votes) (stable_by (voters_of v.setup (keys_of v.setup)) (vote ∷ c.votes) vote ++ c.certs) =
         subst (λ (z : Voters). AreKept ballots (vote ∷ c.votes) (stable_by z (vote ∷ c.votes) vote ++ c.certs)) voters-are k.2 in

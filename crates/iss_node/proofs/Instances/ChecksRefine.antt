@@ -1,6 +1,6 @@
 -- The checks before an input agree with the model's step.
 use Rattle.std.proofs.Common.{◌≡◌, ◌≢◌, ℕ, Bool, true, false, List, [], ◌∷◌, ◌++◌, cond, not, Option, Some, None, Result, Ok, Err, IfOk, refl, sym, ap, ◌∙◌, subst, true≢false}
-use Rattle.std.specs.Prelude.{OnOk, is_some}
+use Rattle.std.specs.Prelude.{OnOk, is_some, Err, Ok}
 use Rattle.iss_layout.specs.Layout.{Plan, leads}
 use Rattle.iss_log.specs.LogState.{GoesOn}
 use Rattle.iss_rules.specs.Concrete.{rules_of}
@@ -16,8 +16,7 @@ use Rattle.iss_node.specs.Internal.Inputs.{HasAppliedEffects, IsChained, IsHande
 use Rattle.iss_node.specs.Internal.Ready.{IsReadInput}
 use Rattle.iss_node.specs.Internal.Shape.{IsNodeState}
 use Rattle.iss_node.specs.State.{RefinesBareCore, RefinesPast, StateView, core_of, led}
-use Rattle.iss_node.specs.Steps.{IsLater, IsStep, IsTurnOf, IsTurned}
-use Rattle.iss_node.specs.declared.answers.StepResult.TheVariants.{Dropped as Result_dropped, Taken as Result_taken}
+use Rattle.iss_node.specs.Steps.{IsLater, IsSameNode, IsStep, IsTurnOf, IsTurned}
 use Rattle.iss_node.specs.declared.answers.Outcome.{Outcome}
 use Rattle.iss_node.proofs.Instances.InputRefines.{addressed-next, made-next, parts-next}
 use Rattle.iss_request.specs.declared.ids.NodeId.{NodeId}
@@ -58,6 +57,9 @@ later-same u v s i l b k = record { setup = s; me = i; saved = k; log = goes-sam
 
 pub later-refl : {M Msg : Type 0} (u : StateView M Msg) → IsLater u u
 later-refl u = later-same u u refl refl refl refl refl
+
+pub same-on : {M Msg : Type 0} (u v w : StateView M Msg) → IsSameNode u v → IsLater v w → IsSameNode u w
+same-on u v w g h = record { setup = h.setup ∙ g.setup; me = h.me ∙ g.me; saved = h.saved ∙ g.saved; log = goes-trans u.log.entries v.log.entries w.log.entries g.log h.log }
 
 four : {Msg : Type 0} (a a' d d' b b' : Bool) (w w' : Option Refusal) (turn : Turn Msg) → a ≡ a' → d ≡ d' → b ≡ b' → w ≡ w' →
     cond (not a) (Dropped NotLeader) (cond (not d) (Dropped BadClaim) (cond (not b) (Dropped NoKeys) (by_verdict w turn)))
@@ -140,7 +142,7 @@ some-there (Some x) h = (x, refl)
 module _ {M Msg : Type 0} (m : Module Msg) (refines : M → Params → ℕ → List (Item Msg) → Type 0) (F : Formats Msg)
     (v : StateView M Msg) (l : ℕ) (input : Input Msg) (leading : true ≡ is_some (led v.segments l)) (past : Past Msg) (tied : RefinesPast m refines v past) where
   pub drops-claims : false ≡ all_verify (rules_of v.setup) (claims_of_input m (params_of (rules_of v.setup) m v.me.0 past l) input) →
-      IsStep m refines (core_of v past) (try_step F (rules_of v.setup) m v.me.0 (core_of v past) l input) v (Result_dropped BadClaim)
+      IsStep m refines (core_of v past) (try_step F (rules_of v.setup) m v.me.0 (core_of v past) l input) v (Err BadClaim)
   drops-claims claims = record {
     step_is = instance-is m refines v past tied l F input true false _ _ (leads-is m refines v past tied l true leading) (sym claims) refl refl;
     refined = same-parts m refines v past tied;
@@ -148,7 +150,7 @@ module _ {M Msg : Type 0} (m : Module Msg) (refines : M → Params → ℕ → L
 
   module _ (claims : true ≡ all_verify (rules_of v.setup) (claims_of_input m (params_of (rules_of v.setup) m v.me.0 past l) input)) where
     pub drops-keys : ((g : SegmentState M) → led v.segments l ≡ Some g → AreKeysOf v.me.0 v.setup.keys v.keys → false ≡ has_leaves m g.params v.keys.used) →
-        IsStep m refines (core_of v past) (try_step F (rules_of v.setup) m v.me.0 (core_of v past) l input) v (Result_dropped NoKeys)
+        IsStep m refines (core_of v past) (try_step F (rules_of v.setup) m v.me.0 (core_of v past) l input) v (Err NoKeys)
     drops-keys leaves =
         let g = some-there (led v.segments l) leading in
         record {
@@ -158,7 +160,7 @@ module _ {M Msg : Type 0} (m : Module Msg) (refines : M → Params → ℕ → L
 
     module _ (leaves : (g : SegmentState M) → led v.segments l ≡ Some g → AreKeysOf v.me.0 v.setup.keys v.keys → true ≡ has_leaves m g.params v.keys.used) where
       pub drops-refused : (w : StateView M Msg) (why : Refusal) → (w ≡ v) × IsVerdictAt m refines v l input (Some why) →
-          IsStep m refines (core_of v past) (try_step F (rules_of v.setup) m v.me.0 (core_of v past) l input) w (Result_dropped (Refused why))
+          IsStep m refines (core_of v past) (try_step F (rules_of v.setup) m v.me.0 (core_of v past) l input) w (Err (Refused why))
       drops-refused w why h =
           let g = some-there (led v.segments l) leading in
           record {
@@ -167,7 +169,7 @@ module _ {M Msg : Type 0} (m : Module Msg) (refines : M → Params → ℕ → L
           }
 
       pub takes-input : (w : StateView M Msg) (o : Outcome) → IsVerdictAt m refines v l input None → IsTurned m refines (step_unjudged F (rules_of v.setup) m v.me.0 (core_of v past) l input) w o →
-          IsStep m refines (core_of v past) (try_step F (rules_of v.setup) m v.me.0 (core_of v past) l input) w (Result_taken o)
+          IsStep m refines (core_of v past) (try_step F (rules_of v.setup) m v.me.0 (core_of v past) l input) w (Ok o)
       takes-input w o h turn =
           let g = some-there (led v.segments l) leading in
           record {

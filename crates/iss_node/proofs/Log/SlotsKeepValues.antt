@@ -2,6 +2,7 @@ use Rattle.std.proofs.Common.{arith, zero, suc, slice_get, ◌≡◌, ◌≢◌,
 use Rattle.std.specs.Prelude.{IsSome}
 use Rattle.std.proofs.lemmas.Bool.Decides.{nat_tests}
 use Rattle.iss_base.specs.Lists.{first_of}
+use Rattle.iss_model.proofs.Rows.{first-assoc}
 use Rattle.iss_log.specs.LogState.{LogState, IsFill, ahead_at, value_at}
 use Rattle.iss_log.specs.declared.log.Fill.{Fill}
 use Rattle.iss_log.specs.declared.log.Fill.TheVariants.{Filled, Already, Past}
@@ -15,10 +16,6 @@ given-append (e ∷ ds) d s = elim (e.0.0 == s) as (λ b. (if b then Some e.1 el
   | true ↦ refl
   | false ↦ given-append ds d s
 ]
-
-first-assoc : {A : Type 0} (a b c : Option A) → first_of (first_of a b) c ≡ first_of a (first_of b c)
-first-assoc None b c = refl
-first-assoc (Some x) b c = refl
 
 not-none : (o : Option Value) → IsSome o → o ≢ None
 not-none None h e = cc

@@ -1,6 +1,5 @@
 -- The bytes of an entry, its certificates, and the packets in it are read as the model reads them.
-use Rattle.std.proofs.Common.{arith, inl, inr, ◌≡◌, ℕ, suc, ◌+◌, ◌-◌, ◌<◌, ◌≤◌, ◌&&◌, Bool, true, false, cond, not, nat_le, List, [], ◌∷◌, ◌++◌, length, take, drop, get_or, Option, Some, None, refl, sym, ap, ◌∙◌, subst, add-one, append_assoc}
-use Rattle.std.specs.Prelude.{option_map}
+use Rattle.std.proofs.Common.{arith, inl, inr, ◌≡◌, ℕ, suc, ◌+◌, ◌-◌, ◌<◌, ◌≤◌, Bool, true, false, cond, nat_le, List, [], ◌∷◌, ◌++◌, length, take, drop, get_or, Option, Some, None, refl, sym, ap, ◌∙◌, add-one, append_assoc}
 use Rattle.std.proofs.Math.Seq.{take-suc}
 use Rattle.std.proofs.lemmas.Bool.Decides.{leb_tells}
 use Rattle.std.proofs.lemmas.List.{take-append-drop}
@@ -11,19 +10,16 @@ use Rattle.iss_checkpoint.specs.declared.votes.Cert.{Cert}
 use Rattle.iss_keys.specs.Directories.{DirectoryView}
 use Rattle.iss_model.specs.Frames.{Frame, frame_of}
 use Rattle.iss_model.specs.Node.{Early as Kept_early, early_most}
-use Rattle.iss_node.specs.Internal.Parcels.{IsFromNode, seen_some}
 use Rattle.iss_node.specs.Internal.Rebuilding.{AreWhole, IsWhole, kept_early}
-use Rattle.iss_node.specs.Internal.Shape.{AreFrom, IsNodeState}
-use Rattle.iss_node.specs.State.{StateView, seen_early, seen_one}
-use Rattle.iss_node.specs.declared.answers.Early.{Early}
+use Rattle.iss_node.specs.Internal.Shape.{IsNodeState}
+use Rattle.iss_node.specs.State.{StateView}
 use Rattle.iss_rebuilt.specs.Reading.{Rebuilt, early_each, early_in, reads_entry, reads_parsed, reads_snapshot, with_early}
 use Rattle.iss_request.specs.Fields.{Bad, Good}
 use Rattle.iss_request.specs.Parsing.{all_of}
 use Rattle.iss_request.specs.declared.requests.Value.{Value}
 use Rattle.iss_request.specs.declared.setups.Setup.{Setup}
 use Rattle.iss_rules.proofs.Checked.{cert-same}
-use Rattle.iss_rules.specs.Concrete.{keys_of, rules_of}
-use Rattle.iss_rules.specs.Formats.{whole}
+use Rattle.iss_rules.specs.Concrete.{rules_of}
 use Rattle.iss_rules.specs.Past.{log_of}
 use Rattle.iss_rules.specs.Votes.{is_true_cert}
 use Rattle.iss_sb.specs.Evidence.{Module}
@@ -146,13 +142,3 @@ module _ {Msg : Type 0} (W : Frame Msg) (e : ℕ) where
       let n = early-count packets xs h in
       sym (ap (λ (os : Option (List (Kept_early Msg))). kept_early os) h
       ∙ ap (λ (b : Bool). cond b (Some xs) None) (test-few xs (omega (arith, n, few))))
-
--- ---- at a node
-
-pub seen-next : {Msg : Type 0} (xs : List (Early Msg)) (x : Early Msg) → seen_early (xs ++ x ∷ []) ≡ seen_early xs ++ seen_one x ∷ []
-seen-next [] x = refl
-seen-next (y ∷ xs) x = ap (λ (zs : List (Kept_early _)). seen_one y ∷ zs) (seen-next xs x)
-
-pub from-next : {Msg : Type 0} (n : ℕ) (xs : List (Early Msg)) (x : Early Msg) → AreFrom n xs → x.from.0 < n → AreFrom n (xs ++ x ∷ [])
-from-next n [] x h lt = (lt, tt)
-from-next n (y ∷ xs) x h lt = (h.0, from-next n xs x h.1 lt)

@@ -1,11 +1,8 @@
 -- A node that read snapshots, one after the other, refines what the model rebuilds of them, and wakes as that does.
-use Rattle.std.proofs.Common.{arith, inl, inr, ◌≡◌, ℕ, suc, ◌+◌, ◌<◌, ◌≤◌, Bool, true, false, is_some, nat_le, List, [], ◌∷◌, ◌++◌, length, take, get_or, reverse, Option, Some, None, refl, sym, ap, ◌∙◌, subst, add-one}
-use Rattle.std.specs.Prelude.{option_map}
+use Rattle.std.proofs.Common.{arith, inl, inr, ◌≡◌, ℕ, ◌+◌, ◌<◌, ◌≤◌, false, is_some, nat_le, List, [], ◌∷◌, ◌++◌, length, take, get_or, reverse, Option, Some, None, refl, sym, ap, ◌∙◌, subst, add-one}
 use Rattle.std.proofs.Math.Seq.{take-suc}
 use Rattle.std.proofs.lemmas.Bool.Decides.{leb_tells}
 use Rattle.std.proofs.lemmas.List.{reverse-append, take_all}
-use Rattle.iss_checkpoint.specs.declared.votes.Cert.{Cert}
-use Rattle.iss_checkpoint.specs.declared.votes.Vote.{Vote}
 use Rattle.iss_model.specs.Frames.{Frame, frame_of}
 use Rattle.iss_model.specs.Node.{Core, Early as Kept_early, Turn, initial_core, takes_each, then_turn, unchanged}
 use Rattle.iss_node.proofs.EpochEnd.EpochEndRefines.{complete-is}

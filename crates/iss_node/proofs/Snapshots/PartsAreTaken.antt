@@ -1,25 +1,21 @@
 -- The requests and votes of a snapshot are taken as the model takes them, up to the first that is dropped.
-use Rattle.std.proofs.Common.{◌≡◌, ℕ, suc, Bool, true, false, cond, not, List, [], ◌∷◌, ◌++◌, Option, Some, None, refl, sym, ap, ◌∙◌, subst}
-use Rattle.std.specs.Prelude.{nat_lt}
+use Rattle.std.proofs.Common.{◌≡◌, ℕ, suc, Bool, true, false, cond, not, List, [], ◌∷◌, ◌++◌, Option, Some, None, refl, sym, ap, ◌∙◌, subst, Result, Ok, Err}
+use Rattle.std.specs.Prelude.{nat_lt, Err, Ok, Result}
 use Rattle.iss_checkpoint.specs.declared.votes.Vote.{Vote}
-use Rattle.iss_log.specs.LogState.{GoesOn}
 use Rattle.iss_model.specs.Frames.{Frame, frame_of}
-use Rattle.iss_model.specs.Node.{Core, Dropped, Early, Stepped, Taken, is_counted, is_known, takes_request, takes_vote}
+use Rattle.iss_model.specs.Node.{Core, Dropped, Stepped, is_counted, is_known, takes_request, takes_vote}
 use Rattle.iss_node.proofs.Instances.ChecksRefine.{goes-trans, later-refl}
 use Rattle.iss_node.proofs.Steps.VotesDoNotMatter.{held-step, request-held}
 use Rattle.iss_node.specs.Internal.Rebuilding.{AreTaken, was_taken}
 use Rattle.iss_node.specs.State.{StateRefinesCore, StateView}
 use Rattle.iss_node.specs.Steps.{IsHeldStep, IsHeldStepOf, IsLater, IsSameNode, IsStepOf}
-use Rattle.iss_node.specs.declared.answers.StepResult.{StepResult}
-use Rattle.iss_node.specs.declared.answers.StepResult.TheVariants.{Dropped as Result_dropped, Taken as Result_taken}
 use Rattle.iss_rebuilt.specs.Reading.{core_of_step, takes_requests, takes_votes}
+use Rattle.iss_node.specs.declared.answers.Outcome.{Outcome}
 use Rattle.iss_request.specs.declared.ids.NodeId.{NodeId}
 use Rattle.iss_request.specs.declared.requests.Request.{Request}
 use Rattle.iss_request.specs.declared.setups.Setup.{Setup}
 use Rattle.iss_rules.specs.Concrete.{rules_of}
-use Rattle.iss_rules.specs.Formats.{formats_of}
 use Rattle.iss_rules.specs.Past.{before_own}
-use Rattle.iss_rules.specs.Rules.{Rules}
 use Rattle.iss_rules.specs.Votes.{all_verify, claim_of_vote}
 use Rattle.iss_rules.specs.declared.events.Why.{Why}
 use Rattle.iss_sb.specs.Evidence.{Item, Module}
@@ -55,13 +51,13 @@ votes-more W (x ∷ done) v rest (Some c) = votes-more W done v rest (core_of_st
 -- ---- at a node
 
 module _ {M Msg : Type 0} (m : Module Msg) (refines : M → Params → ℕ → List (Item Msg) → Type 0) where
-  pub step-taken : (v w : StateView M Msg) (o : Option (Core Msg)) (step : Core Msg → Stepped Msg) (asked : Type 0) (a : StepResult) → AreTaken m refines o v true →
+  pub step-taken : (v w : StateView M Msg) (o : Option (Core Msg)) (step : Core Msg → Stepped Msg) (asked : Type 0) (a : Result Outcome Why) → AreTaken m refines o v true →
       ((c : Core Msg) → StateRefinesCore m refines v c → IsHeldStep m refines asked c (step c) w a) → AreTaken m refines (then_step o step) w (was_taken a)
   step-taken v w None step asked a h all = absurd h
-  step-taken v w (Some c) step asked (Result_taken o) h all =
+  step-taken v w (Some c) step asked (Ok o) h all =
       let k = all c h in
       subst (λ (s : Stepped Msg). AreTaken m refines (core_of_step s) w true) (sym k.step_is) k.turned.refined
-  step-taken v w (Some c) step asked (Result_dropped why) h all =
+  step-taken v w (Some c) step asked (Err why) h all =
       let k = all c h in
       subst (λ (s : Stepped Msg). AreTaken m refines (core_of_step s) w false) (sym k.step_is) tt
 
@@ -75,7 +71,7 @@ module _ {M Msg : Type 0} (m : Module Msg) (refines : M → Params → ℕ → L
     setup-same = same.setup
 
     -- a request
-    pub request-taken : (later : IsLater now w) (done : List Request) (q : Request) (c : Core Msg) (a : StepResult) →
+    pub request-taken : (later : IsLater now w) (done : List Request) (q : Request) (c : Core Msg) (a : Result Outcome Why) →
         IsStepOf m refines now (λ F R me d. takes_request R m me d q) w a →
         AreTaken m refines (takes_requests (frame_of v.setup m) v.me.0 done (Some c)) now true →
         AreTaken m refines (then_step (takes_requests (frame_of v.setup m) v.me.0 done (Some c)) (λ d. takes_request (rules_of v.setup) m v.me.0 d q)) w (was_taken a)
@@ -86,7 +82,7 @@ module _ {M Msg : Type 0} (m : Module Msg) (refines : M → Params → ℕ → L
         (subst (λ (s : Setup). IsHeldStep m refines (Unit {0}) d (takes_request (rules_of s) m now.me.0 d q) w a) same.setup (held d k)))
 
     -- a vote
-    pub vote-taken : (done : List Vote) (vote : Vote) (c : Core Msg) (a : StepResult) →
+    pub vote-taken : (done : List Vote) (vote : Vote) (c : Core Msg) (a : Result Outcome Why) →
         IsHeldStepOf m refines (Unit {0}) now (λ F R me d. takes_vote R d vote) w a →
         AreTaken m refines (takes_votes (frame_of v.setup m) done (Some c)) now true →
         AreTaken m refines (then_step (takes_votes (frame_of v.setup m) done (Some c)) (λ d. takes_vote (rules_of v.setup) d vote)) w (was_taken a)
@@ -196,9 +192,6 @@ module _ {Msg : Type 0} (W : Frame Msg) (me : ℕ) where
       (votes-keep vs c (takes_requests W me qs (Some c)) (requests-keep qs c (Some c) (record { past = refl; flight = refl; early = refl })))
 
 -- ---- set-up and identity
-
-pub same-on-later : {M Msg : Type 0} (v w x : StateView M Msg) → IsSameNode v w → IsLater w x → IsSameNode v x
-same-on-later v w x h g = record { setup = g.setup ∙ h.setup; me = g.me ∙ h.me; saved = g.saved ∙ h.saved; log = goes-trans v.log.entries w.log.entries x.log.entries h.log g.log }
 
 pub same-trans : {M Msg : Type 0} (v w x : StateView M Msg) → IsSameNode v w → IsSameNode w x → IsSameNode v x
 same-trans v w x h g = record { setup = g.setup ∙ h.setup; me = g.me ∙ h.me; saved = g.saved ∙ h.saved; log = goes-trans v.log.entries w.log.entries x.log.entries h.log g.log }

@@ -1,68 +1,38 @@
 -- The values of an epoch fill the slots that have none, and then the log ends with the epoch. This needs no certificate:
 -- a piece has one, and an epoch of a snapshot was ended by the node itself.
-use Rattle.std.proofs.Common.{arith, inl, inr, ◌≡◌, ℕ, suc, ◌+◌, ◌-◌, ◌*◌, ◌^◌, ◌<◌, ◌≤◌, Bool, true, false, ◌&&◌, ◌==◌, ◌||◌, cond, List, [], ◌∷◌, ◌++◌, Option, Some, None, length, length-append, reverse, refl, sym, ap, ◌∙◌, subst, le_antisymm}
+use Rattle.std.proofs.Common.{arith, inl, inr, ◌≡◌, ℕ, suc, ◌+◌, ◌-◌, ◌*◌, ◌<◌, ◌≤◌, Bool, ◌||◌, cond, List, [], ◌∷◌, ◌++◌, Option, Some, None, length, length-append, reverse, refl, sym, ap, ◌∙◌, subst, le_antisymm}
 use Rattle.std.specs.Prelude.{fold}
 use Rattle.std.proofs.lemmas.Bool.Decides.{leb_tells}
-use Rattle.std.proofs.lemmas.List.{append-nil, length-reverse, reverse-reverse}
-use Rattle.iss_ballots.specs.Ballots.{AreKept, BallotsState}
+use Rattle.std.proofs.lemmas.List.{append-nil, length-reverse}
+use Rattle.iss_ballots.specs.Ballots.{BallotsState}
 use Rattle.iss_base.specs.Lists.{Extends, first_of, nth, oldest}
-use Rattle.iss_base.proofs.Lists.{and-true, eqb-same, extends-length, extends-refl, first-some, is-eq, none-some, nth-beyond, nth-some, oldest-all}
+use Rattle.iss_base.proofs.Lists.{eqb-same, extends-length, extends-refl, first-some, none-some, nth-beyond, nth-some, oldest-all}
 use Rattle.iss_buckets.specs.Waiting.{AreNew, absent}
-use Rattle.iss_checkpoint.specs.Votes.{Voters, is_cert, voters_of}
-use Rattle.iss_checkpoint.specs.declared.votes.Cert.{Cert}
-use Rattle.iss_checkpoint.specs.declared.votes.Vote.{Vote}
-use Rattle.iss_keys.specs.Directories.{DirectoryView}
-use Rattle.iss_log.specs.Chains.{ChainsState, IsChainOf, chain_of, end_of, strings_from}
+use Rattle.iss_log.specs.Chains.{ChainsState, IsChainOf}
 use Rattle.iss_log.specs.LogState.{LogState, value_at}
-use Rattle.iss_model.proofs.Casts.{adopts-sound, kept-sound}
-use Rattle.iss_rules.proofs.Checked.{cert-same, end-same, strings-same}
 use Rattle.iss_rules.proofs.Logs.{Settled, log-chain, log-kept, IsLog}
 use Rattle.iss_rules.proofs.Longest.{Bounded}
 use Rattle.iss_rules.proofs.Pieces.{adopts-later, adopts-settled}
-use Rattle.iss_model.proofs.Steps.{IsAdopted}
-use Rattle.iss_rules.proofs.Windows.{are-windows}
 use Rattle.iss_rules.specs.Concrete.{rules_of}
-use Rattle.iss_rules.specs.Formats.{formats_of}
-use Rattle.iss_rules.specs.Parcels.{Formats}
-use Rattle.iss_rules.specs.Votes.{cert_on, keeping}
-use Rattle.iss_model.specs.Node.{Core, Early as Kept_early, Turn, adopts_piece, after_growth, grown_strings, in_next_epoch, joined, returned, takes_each, then_turn}
+use Rattle.iss_model.specs.Node.{Core, after_growth, in_next_epoch, joined, returned}
 use Rattle.iss_rules.specs.Past.{Past, Piece, adopted_at, adopts, before_own, cell, log_of}
-use Rattle.iss_rules.specs.Rules.{Rules}
 use Rattle.iss_model.specs.Sound.{IsSoundCore}
 use Rattle.iss_node.proofs.EpochEnd.EpochEndRefines.{IsOver}
-use Rattle.iss_node.proofs.Steps.EntriesCompose.{entry-of}
-use Rattle.iss_node.proofs.Steps.VotesDoNotMatter.{each-held, held-entered, onward-held, with_turn}
-use Rattle.iss_node.proofs.Instances.ChecksRefine.{goes-trans}
-use Rattle.iss_node.proofs.EpochEnd.LeafIsKept.{lasts-at}
-use Rattle.iss_node.proofs.EpochEnd.NextEpochStarts.{next-parts}
-use Rattle.iss_node.proofs.Log.LogIsDelivered.{epoch-cell, goes-on, has-slots, log-is, nothing-adopted, start-is}
+use Rattle.iss_node.proofs.Log.LogIsDelivered.{epoch-cell, goes-on, log-is, nothing-adopted, start-is}
 use Rattle.iss_node.proofs.Log.EpochSlots.{given-at, not-empty}
-use Rattle.iss_node.proofs.Log.LogIsExtended.{AreRefiled, are-refiled, bf-long, bf-part, bounded, grown-is}
+use Rattle.iss_node.proofs.Log.LogIsExtended.{AreRefiled, are-refiled, bf-long, bf-part, bounded}
 use Rattle.iss_node.specs.Flights.{FlightState, IsCompleted}
 use Rattle.iss_node.specs.Internal.Growth.{IsGrown, and_values, waits_on}
-use Rattle.iss_node.specs.Internal.Inputs.{HasAppliedDeliveries, IsChained}
-use Rattle.iss_node.specs.Internal.Ready.{IsOpen, MayAdopt}
 use Rattle.iss_node.specs.Internal.Shape.{IsNodeState}
-use Rattle.iss_node.specs.State.{RefinesBareCore, RefinesPast, StateView, bare, core_of, seen_early, slot_value}
-use Rattle.iss_node.specs.Entered.{IsEntryOf}
-use Rattle.iss_node.specs.Steps.{IsHeldTurn, IsLater, IsNextEpoch, IsSameNode, IsTurnBehind, IsTurned}
-use Rattle.iss_node.specs.Internal.Transfers.{IsAdoptedBy, at_slots}
-use Rattle.iss_node.specs.declared.answers.Early.{Early}
-use Rattle.iss_node.specs.declared.answers.Outcome.{Outcome}
+use Rattle.iss_node.specs.State.{RefinesPast, StateView, core_of, slot_value}
+use Rattle.iss_node.specs.Internal.Transfers.{at_slots}
 use Rattle.iss_request.specs.Log.{has_id, log_ids}
-use Rattle.iss_request.specs.declared.ids.NodeId.{NodeId}
 use Rattle.iss_request.specs.declared.ids.ReqId.{ReqId}
 use Rattle.iss_request.specs.declared.requests.Request.{Request}
 use Rattle.iss_request.specs.declared.requests.Value.{Value}
-use Rattle.iss_request.specs.declared.setups.Setup.{Setup}
-use Rattle.iss_sb.specs.Calls.{AreToNodes}
 use Rattle.iss_sb.specs.Evidence.{Item, Module, delivered}
 use Rattle.iss_sb.specs.declared.effects.Params.{Params}
-use Rattle.iss_sb.specs.declared.effects.To.{To}
 use Rattle.iss_segment.specs.Ground.{noted_before}
-use Rattle.iss_transfer.specs.Adoption.{adopted_log, adoption, has_shape, log_before, said_in, same_end}
-use Rattle.iss_transfer.specs.declared.adopting.Adoption.TheVariants.{Adopt, BadCert, WrongChain, WrongEpoch}
-use Rattle.iss_transfer.specs.declared.pieces.Piece.{Piece as Sent_piece}
 use Rattle.iss_window.specs.Kept.{RefinesNoted}
 
 module _ {M Msg : Type 0} (m : Module Msg) (refines : M → Params → ℕ → List (Item Msg) → Type 0)

@@ -1,5 +1,5 @@
 -- Asking for an epoch and handing one out refines the model's step.
-use Rattle.std.proofs.Common.{arith, ◌≡◌, ℕ, suc, ◌*◌, ◌<◌, ◌≤◌, Bool, true, false, cond, not, List, [], ◌∷◌, ◌++◌, Option, Some, None, drop, length, nat_le, nat_lt, reverse, take, refl, sym, ap, ◌∙◌, subst}
+use Rattle.std.proofs.Common.{arith, ◌≡◌, ℕ, suc, ◌*◌, ◌<◌, ◌≤◌, Bool, true, false, cond, not, List, [], ◌∷◌, ◌++◌, Option, Some, None, drop, length, nat_le, nat_lt, reverse, take, refl, sym, ap, ◌∙◌, subst, Ok, Err}
 use Rattle.std.proofs.lemmas.Bool.{leb-true}
 use Rattle.std.proofs.lemmas.Bool.Decides.{nat_tests}
 use Rattle.std.proofs.lemmas.List.{length-reverse, length-take-le, reverse-append, reverse-reverse, take-append-drop}
@@ -17,7 +17,6 @@ use Rattle.iss_rules.specs.declared.events.Why.TheVariants.{NoCert}
 use Rattle.iss_node.proofs.Log.LogIsDelivered.{start-is}
 use Rattle.iss_node.specs.State.{StateRefinesCore, StateView}
 use Rattle.iss_node.specs.Steps.{IsHeldStep}
-use Rattle.iss_node.specs.declared.answers.StepResult.TheVariants.{Dropped as Result_dropped, Taken as Result_taken}
 use Rattle.iss_node.specs.Internal.Transfers.{IsHandedPiece, held_values}
 use Rattle.iss_node.specs.declared.answers.Outcome.{Outcome}
 use Rattle.iss_packet.specs.Packets.{spell_packet}
@@ -98,11 +97,11 @@ module _ {M Msg : Type 0} (m : Module Msg) (refines : M → Params → ℕ → L
       ∙ ap (λ (k : ℕ). nat_lt k (suc e * v.setup.epoch)) (ap (λ (ys : List Value). length ys) log-is ∙ length-reverse v.log.entries)
       ∙ lt-of-le (suc e * v.setup.epoch) (length v.log.entries) t q
 
-  pub hands-short : (o : Option Cert) (cert : Cert) → o ≡ Some cert → None ≡ held_values v e → IsHeldStep m refines (Unit {0}) c (hands_out F R m v.me.0 c to.0 e o) v (Result_dropped NoCert)
+  pub hands-short : (o : Option Cert) (cert : Cert) → o ≡ Some cert → None ≡ held_values v e → IsHeldStep m refines (Unit {0}) c (hands_out F R m v.me.0 c to.0 e o) v (Err NoCert)
   hands-short o cert is gone = let short = lacks false (none-held _ _ gone) in record { step_is = rw (is, short) refl; refined = h }
 
   pub hands-so : (o : Option Cert) (p : Piece) (out : Outcome) → o ≡ Some p.cert → Some p.values ≡ held_values v e → p.epoch.0 ≡ e → IsHandedPiece v to p out → to.0 < v.setup.n → (asked : Type 0) →
-      IsHeldStep m refines asked c (hands_out F R m v.me.0 c to.0 e o) v (Result_taken out)
+      IsHeldStep m refines asked c (hands_out F R m v.me.0 c to.0 e o) v (Ok out)
   hands-so o p out is held epoch handed low asked =
       let both = some-held _ _ _ held in
       let full = lacks true both.0 in

@@ -1,5 +1,5 @@
 -- Taking a piece refines the model's step.
-use Rattle.std.proofs.Common.{arith, ◌≡◌, ℕ, suc, ◌≤◌, Bool, true, false, ◌&&◌, cond, eqb, if◌then◌else◌, not, List, length, reverse, nat_lt, refl, sym, ap, ap₂, ◌∙◌, subst}
+use Rattle.std.proofs.Common.{arith, ◌≡◌, ℕ, suc, ◌≤◌, Bool, true, false, ◌&&◌, cond, eqb, if◌then◌else◌, not, List, length, reverse, nat_lt, refl, sym, ap, ap₂, ◌∙◌, subst, Ok, Err}
 use Rattle.std.proofs.lemmas.Bool.Decides.{nat_tests}
 use Rattle.std.proofs.lemmas.List.{length-reverse, reverse-reverse}
 use Rattle.iss_checkpoint.specs.Votes.{Voters, voters_of}
@@ -20,7 +20,6 @@ use Rattle.iss_node.proofs.Log.LogIsDelivered.{start-is}
 use Rattle.iss_node.specs.Internal.Shape.{IsNodeState}
 use Rattle.iss_node.specs.State.{StateRefinesCore, StateView}
 use Rattle.iss_node.specs.Steps.{IsHeldStep}
-use Rattle.iss_node.specs.declared.answers.StepResult.TheVariants.{Dropped as Result_dropped, Taken as Result_taken}
 use Rattle.iss_node.specs.Internal.Transfers.{IsAdoptedBy}
 use Rattle.iss_node.specs.declared.answers.Outcome.{Outcome}
 use Rattle.iss_request.specs.declared.requests.Value.{Value}
@@ -120,13 +119,13 @@ module _ {M Msg : Type 0} (m : Module Msg) (refines : M → Params → ℕ → L
 
     -- A piece that is refused.
     pub piece-refused : (found : Adoption) → ((xs : List Value) → IsChainOf v.chains xs → found ≡ adoption v.setup (voters_of v.setup v.directory) xs v.epoch p) →
-        (why : Why) → ((t : Stepped Msg) → step_by t found ≡ Dropped why) → IsHeldStep m refines (Unit {0}) c (takes_piece F R m v.me.0 c p) v (Result_dropped why)
+        (why : Why) → ((t : Stepped Msg) → step_by t found ≡ Dropped why) → IsHeldStep m refines (Unit {0}) c (takes_piece F R m v.me.0 c p) v (Err why)
     piece-refused found is why means = record { step_is = step-is found is ∙ means (Taken turn); refined = h }
 
     -- A piece that is adopted.
     pub piece-taken : (found : Adoption) → ((xs : List Value) → IsChainOf v.chains xs → found ≡ adoption v.setup (voters_of v.setup v.directory) xs v.epoch p) →
         (strings : List (List ℕ)) → found ≡ Adopt strings → (w : StateView M Msg) (o : Outcome) → IsAdoptedBy m refines v p strings w o →
-        IsHeldStep m refines (Unit {0}) c (takes_piece F R m v.me.0 c p) w (Result_taken o)
+        IsHeldStep m refines (Unit {0}) c (takes_piece F R m v.me.0 c p) w (Ok o)
     piece-taken found is strings good w o adopted = record {
       turn = turn;
       step_is = step-is found is ∙ ap (λ (z : Adoption). step_by (Taken turn) z) good;

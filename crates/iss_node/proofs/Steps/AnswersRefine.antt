@@ -1,5 +1,5 @@
 -- A node's answers follow from the steps of its parts.
-use Rattle.std.proofs.Common.{arith, inl, inr, ◌≡◌, ℕ, ◌≤◌, Bool, false, List, [], ◌∷◌, ◌++◌, length, length-append, take, None, refl, sym, ap, ◌∙◌, subst, true≢false}
+use Rattle.std.proofs.Common.{arith, inl, inr, ◌≡◌, ℕ, ◌≤◌, Bool, false, List, [], ◌∷◌, ◌++◌, length, length-append, take, None, refl, sym, ap, ◌∙◌, subst, true≢false, Result, Ok, Err}
 use Rattle.iss_log.specs.LogState.{GoesOn}
 use Rattle.iss_rules.specs.Concrete.{rules_of}
 use Rattle.iss_rules.specs.Formats.{formats_of}
@@ -11,8 +11,6 @@ use Rattle.iss_node.specs.State.{NodeView, RefinesCore, StateView}
 use Rattle.iss_node.specs.Steps.{IsAnswer, IsEnteredAnswer, IsHeldStepOf, IsKeptStepOf, IsOfNodes, IsTurn}
 use Rattle.iss_node.specs.declared.answers.Answer.TheVariants.{Dropped as Node_dropped, Taken as Node_taken}
 use Rattle.iss_node.specs.declared.answers.Outcome.{Outcome}
-use Rattle.iss_node.specs.declared.answers.StepResult.{StepResult}
-use Rattle.iss_node.specs.declared.answers.StepResult.TheVariants.{Dropped as Result_dropped, Taken as Result_taken}
 use Rattle.iss_request.specs.declared.requests.Value.{Value}
 use Rattle.iss_sb.specs.Evidence.{Item, Module}
 use Rattle.iss_sb.specs.declared.effects.Params.{Params}
@@ -21,7 +19,7 @@ module _ {M Msg : Type 0} (m : Module Msg) (refines : M → Params → ℕ → L
   abbrev pub asked : Type 0
   asked = IsOfNodes v.setup.n event
 
-  pub answer-taken : (o : Outcome) → IsHeldStepOf m refines asked v (λ F R me c. step F R m me c event) w (Result_taken o) → (c : Core Msg) → RefinesCore m refines (record { state = v; stale = s }) c →
+  pub answer-taken : (o : Outcome) → IsHeldStepOf m refines asked v (λ F R me c. step F R m me c event) w (Ok o) → (c : Core Msg) → RefinesCore m refines (record { state = v; stale = s }) c →
       IsAnswer m refines asked c (step (formats_of v.setup m) (rules_of v.setup) m v.me.0 c event) (record { state = w; stale = s }) (Node_taken o)
   answer-taken o h c st =
       let all = h c st.held in
@@ -31,7 +29,7 @@ module _ {M Msg : Type 0} (m : Module Msg) (refines : M → Params → ℕ → L
         turned = record { refined = record { fresh = st.fresh; held = all.turned.refined }; made = all.turned.made; entered = tt; addressed = all.turned.addressed };
       }
 
-  pub answer-dropped : (why : Why) → IsHeldStepOf m refines asked v (λ F R me c. step F R m me c event) w (Result_dropped why) → (c : Core Msg) → RefinesCore m refines (record { state = v; stale = s }) c →
+  pub answer-dropped : (why : Why) → IsHeldStepOf m refines asked v (λ F R me c. step F R m me c event) w (Err why) → (c : Core Msg) → RefinesCore m refines (record { state = v; stale = s }) c →
       IsAnswer m refines asked c (step (formats_of v.setup m) (rules_of v.setup) m v.me.0 c event) (record { state = w; stale = s }) (Node_dropped why)
   answer-dropped why h c st =
       let all = h c st.held in
@@ -41,10 +39,10 @@ module _ {M Msg : Type 0} (m : Module Msg) (refines : M → Params → ℕ → L
   fresh-core q (inl t) = absurd (true≢false (sym t ∙ q))
   fresh-core q (inr h) = h
 
-  pub node-taken : (o : Outcome) → IsHeldStepOf m refines asked v (λ F R me c. step F R m me c event) w (Result_taken o) → s ≡ false → IsNode m refines (record { state = v; stale = s }) → IsNode m refines (record { state = w; stale = s })
+  pub node-taken : (o : Outcome) → IsHeldStepOf m refines asked v (λ F R me c. step F R m me c event) w (Ok o) → s ≡ false → IsNode m refines (record { state = v; stale = s }) → IsNode m refines (record { state = w; stale = s })
   node-taken o h q n = let c = fresh-core q n in let a = answer-taken o h c.0 c.1 in inr (a.turn.core, a.turned.refined)
 
-  pub node-dropped : (why : Why) → IsHeldStepOf m refines asked v (λ F R me c. step F R m me c event) w (Result_dropped why) → s ≡ false → IsNode m refines (record { state = v; stale = s }) → IsNode m refines (record { state = w; stale = s })
+  pub node-dropped : (why : Why) → IsHeldStepOf m refines asked v (λ F R me c. step F R m me c event) w (Err why) → s ≡ false → IsNode m refines (record { state = v; stale = s }) → IsNode m refines (record { state = w; stale = s })
   node-dropped why h q n = let c = fresh-core q n in let a = answer-dropped why h c.0 c.1 in inr (c.0, a.refined)
 
 -- ---- an event that is replayed
@@ -67,13 +65,13 @@ answer-replayed m refines asked c stepped new o p is a =
 -- ---- an event that was taken as one of its own
 
 module _ {M Msg : Type 0} (m : Module Msg) (refines : M → Params → ℕ → List (Item Msg) → Type 0) (v w : StateView M Msg) (s : Bool) (event : NodeEvent) where
-  abbrev IsKept : StepResult → Type 0
+  abbrev IsKept : Result Outcome Why → Type 0
   IsKept a = IsKeptStepOf m refines (IsOfNodes v.setup.n event) v (λ F R me c. step F R m me c event) w a
 
   abbrev stepped : Core Msg → Stepped Msg
   stepped c = step (formats_of v.setup m) (rules_of v.setup) m v.me.0 c event
 
-  pub kept-answer : (o : Outcome) → IsKept (Result_taken o) → (c : Core Msg) → RefinesCore m refines (record { state = v; stale = s }) c →
+  pub kept-answer : (o : Outcome) → IsKept (Ok o) → (c : Core Msg) → RefinesCore m refines (record { state = v; stale = s }) c →
       IsAnswer m refines (IsOfNodes v.setup.n event) c (stepped c) (record { state = w; stale = s }) (Node_taken o)
   kept-answer o h c st =
       let all = h c st.held in
@@ -83,27 +81,27 @@ module _ {M Msg : Type 0} (m : Module Msg) (refines : M → Params → ℕ → L
         turned = record { refined = record { fresh = st.fresh; held = all.turned.refined }; made = all.turned.made; entered = tt; addressed = all.turned.addressed };
       }
 
-  pub kept-drop : (why : Why) → IsKept (Result_dropped why) → (c : Core Msg) → RefinesCore m refines (record { state = v; stale = s }) c →
+  pub kept-drop : (why : Why) → IsKept (Err why) → (c : Core Msg) → RefinesCore m refines (record { state = v; stale = s }) c →
       IsAnswer m refines (IsOfNodes v.setup.n event) c (stepped c) (record { state = w; stale = s }) (Node_dropped why)
   kept-drop why h c st =
       let all = h c st.held in
       record { step_is = all.step_is; refined = record { fresh = st.fresh; held = all.refined.0 } }
 
   -- what takes its place
-  pub kept-entry : (o : Outcome) → IsKept (Result_taken o) → (c : Core Msg) → RefinesCore m refines (record { state = v; stale = s }) c → IsEnteredAnswer m v (stepped c) w (Node_taken o)
+  pub kept-entry : (o : Outcome) → IsKept (Ok o) → (c : Core Msg) → RefinesCore m refines (record { state = v; stale = s }) c → IsEnteredAnswer m v (stepped c) w (Node_taken o)
   kept-entry o h c st =
       let all = h c st.held in
       subst (λ (x : Stepped Msg). IsEnteredAnswer m v x w (Node_taken o)) (sym all.step_is) all.turned.entered
 
-  pub kept-nothing : (why : Why) → IsKept (Result_dropped why) → (c : Core Msg) → RefinesCore m refines (record { state = v; stale = s }) c → IsEnteredAnswer m v (stepped c) w (Node_dropped why)
+  pub kept-nothing : (why : Why) → IsKept (Err why) → (c : Core Msg) → RefinesCore m refines (record { state = v; stale = s }) c → IsEnteredAnswer m v (stepped c) w (Node_dropped why)
   kept-nothing why h c st =
       let all = h c st.held in
       subst (λ (x : Stepped Msg). IsEnteredAnswer m v x w (Node_dropped why)) (sym all.step_is) all.refined.1
 
-  pub node-kept : (o : Outcome) → IsKept (Result_taken o) → s ≡ false → IsNode m refines (record { state = v; stale = s }) → IsNode m refines (record { state = w; stale = s })
+  pub node-kept : (o : Outcome) → IsKept (Ok o) → s ≡ false → IsNode m refines (record { state = v; stale = s }) → IsNode m refines (record { state = w; stale = s })
   node-kept o h q n = let c = fresh-core m refines v v s event q n in let a = kept-answer o h c.0 c.1 in inr (a.turn.core, a.turned.refined)
 
-  pub node-kept-dropped : (why : Why) → IsKept (Result_dropped why) → s ≡ false → IsNode m refines (record { state = v; stale = s }) → IsNode m refines (record { state = w; stale = s })
+  pub node-kept-dropped : (why : Why) → IsKept (Err why) → s ≡ false → IsNode m refines (record { state = v; stale = s }) → IsNode m refines (record { state = w; stale = s })
   node-kept-dropped why h q n = let c = fresh-core m refines v v s event q n in let a = kept-drop why h c.0 c.1 in inr (c.0, a.refined)
 
 -- ---- the log that a stale node reports

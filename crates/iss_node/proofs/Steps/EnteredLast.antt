@@ -7,7 +7,6 @@ use Rattle.iss_rules.specs.Parcels.{Formats}
 use Rattle.iss_rules.specs.Rules.{Rules}
 use Rattle.iss_rules.specs.declared.events.NodeEvent.{NodeEvent}
 use Rattle.iss_sb.specs.Evidence.{Module}
-use Rattle.iss_sb.specs.declared.effects.Input.{Input}
 
 -- of a core, and of one that entered its epoch
 abbrev pub IsLast : {Msg : Type 0} → Core Msg → Option (Core Msg) → Type 0

@@ -1,5 +1,5 @@
 -- A snapshot that fits an entry takes the event's place, and is noted.
-use Rattle.std.proofs.Common.{◌≡◌, ℕ, suc, ◌==◌, ◌&&◌, Bool, true, false, cond, nat_le, List, [], ◌∷◌, ◌++◌, Option, Some, None, length, option_map, refl, sym, ap, ◌∙◌, subst}
+use Rattle.std.proofs.Common.{◌≡◌, ℕ, suc, ◌&&◌, Bool, true, false, cond, nat_le, List, [], ◌∷◌, Option, Some, None, length, refl, sym, ap, ◌∙◌, subst, Ok, Err}
 use Rattle.iss_base.specs.Lists.{below}
 use Rattle.iss_ballots.specs.Ballots.{AreKept}
 use Rattle.iss_checkpoint.specs.declared.votes.Cert.{Cert}
@@ -7,18 +7,16 @@ use Rattle.iss_checkpoint.specs.declared.votes.Vote.{Vote}
 use Rattle.iss_journal.specs.Frames.{max_entry}
 use Rattle.iss_log.specs.LogState.{GoesOn}
 use Rattle.iss_model.specs.Frames.{frame_of}
-use Rattle.iss_model.specs.Node.{Core, Dropped as Step_dropped, Stepped, Taken as Step_taken, Turn, step}
+use Rattle.iss_model.specs.Node.{Core, step}
 use Rattle.iss_node.proofs.Steps.EnteredLast.{IsLast, step-last}
 use Rattle.iss_node.proofs.Steps.SavedAfter.{saved-after}
-use Rattle.iss_node.specs.Entered.{IsHeldEntered, IsKeptEntry, encoded_by, saved_by, saved_with, storable_of}
+use Rattle.iss_node.specs.Entered.{IsHeldEntered, IsKeptEntry, encoded_by, saved_by, saved_with}
 use Rattle.iss_node.specs.Internal.Storing.{HasNoted, is_entry, storable}
 use Rattle.iss_node.specs.Saved.{HasSaved, SavedState, holds, saved_of}
 use Rattle.iss_node.specs.State.{RefinesPast, StateRefinesCore, StateView, bare}
-use Rattle.iss_node.specs.Steps.{IsHeldStep, IsHeldStepOf, IsKeptStep, IsKeptStepOf, IsMade, IsOfNodes, IsSameLog, IsSameNode}
+use Rattle.iss_node.specs.Steps.{IsHeldStepOf, IsKeptStepOf, IsOfNodes, IsSameLog, IsSameNode}
 use Rattle.iss_node.specs.declared.answers.Outcome.{Outcome}
-use Rattle.iss_node.specs.declared.answers.StepResult.{StepResult}
-use Rattle.iss_node.specs.declared.answers.StepResult.TheVariants.{Dropped as Result_dropped, Taken as Result_taken}
-use Rattle.iss_rebuilt.specs.Stored.{Saved, is_storable, new_certs, saved_after, snapshot_of}
+use Rattle.iss_rebuilt.specs.Stored.{is_storable, new_certs, snapshot_of}
 use Rattle.iss_request.specs.declared.ids.NodeId.{NodeId}
 use Rattle.iss_request.specs.declared.requests.Value.{Value}
 use Rattle.iss_request.specs.declared.setups.Setup.{Setup}
@@ -127,8 +125,8 @@ module _ {M Msg : Type 0} (m : Module Msg) (refines : M → Params → ℕ → L
 
   -- The whole step.
   pub kept-taken : (event : NodeEvent) (o p : Outcome) → p ≡ record o { entered = storable o.entered } → HasNoted w (storable o.entered) new →
-      IsHeldStepOf m refines (IsOfNodes v.setup.n event) v (λ F R me c. step F R m me c event) w (Result_taken o) →
-      IsKeptStepOf m refines (IsOfNodes v.setup.n event) v (λ F R me c. step F R m me c event) new (Result_taken p)
+      IsHeldStepOf m refines (IsOfNodes v.setup.n event) v (λ F R me c. step F R m me c event) w (Ok o) →
+      IsKeptStepOf m refines (IsOfNodes v.setup.n event) v (λ F R me c. step F R m me c event) new (Ok p)
   kept-taken event o p out has all c h =
       let k = all c h in
       let setup : new.setup ≡ w.setup = ap (λ (z : StateView M Msg). z.setup) is in
@@ -152,8 +150,8 @@ module _ {M Msg : Type 0} (m : Module Msg) (refines : M → Params → ℕ → L
       }
 
   -- A step that was dropped notes nothing.
-  pub kept-dropped : (event : NodeEvent) (why : Why) → IsHeldStepOf m refines (IsOfNodes v.setup.n event) v (λ F R me c. step F R m me c event) w (Result_dropped why) →
-      IsKeptStepOf m refines (IsOfNodes v.setup.n event) v (λ F R me c. step F R m me c event) w (Result_dropped why)
+  pub kept-dropped : (event : NodeEvent) (why : Why) → IsHeldStepOf m refines (IsOfNodes v.setup.n event) v (λ F R me c. step F R m me c event) w (Err why) →
+      IsKeptStepOf m refines (IsOfNodes v.setup.n event) v (λ F R me c. step F R m me c event) w (Err why)
   kept-dropped event why all c h = let k = all c h in record { step_is = k.step_is; refined = (k.refined, same.saved) }
 
   -- The log was at most extended.

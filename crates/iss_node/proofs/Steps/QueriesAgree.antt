@@ -30,7 +30,7 @@ length-seen : {Msg : Type 0} (xs : List (Early Msg)) → length (seen_early xs) 
 length-seen [] = refl
 length-seen (x ∷ xs) = ap suc (length-seen xs)
 
-seen-more : {Msg : Type 0} (xs : List (Early Msg)) (x : Early Msg) → seen_early (xs ++ x ∷ []) ≡ seen_early xs ++ seen_one x ∷ []
+pub seen-more : {Msg : Type 0} (xs : List (Early Msg)) (x : Early Msg) → seen_early (xs ++ x ∷ []) ≡ seen_early xs ++ seen_one x ∷ []
 seen-more [] x = refl
 seen-more (y ∷ xs) x = ap (λ (ys : List (Kept_early _)). seen_one y ∷ ys) (seen-more xs x)
 

@@ -9,7 +9,7 @@ use Rattle.std.specs.Ordering.{is_eq, nat_cmp}
 use Rattle.iss_base.proofs.Lists.{same_number}
 use Rattle.iss_checkpoint.specs.declared.votes.Cert.{Cert}
 use Rattle.iss_node.specs.Saved.{HasSaved, SavedState, holds, saved_of}
-use Rattle.iss_rebuilt.specs.Stored.{Saved, nothing_saved, saved_after}
+use Rattle.iss_rebuilt.specs.Stored.{nothing_saved, saved_after}
 use Rattle.iss_rules.specs.Votes.{cert_on}
 use Rattle.iss_snapshot.specs.declared.snapshots.Snapshot.{Snapshot}
 

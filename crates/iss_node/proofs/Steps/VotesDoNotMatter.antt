@@ -1,6 +1,6 @@
 -- A step that reads no votes does the same at a core with votes and certificates, and keeps them.
-use Rattle.std.proofs.Common.{◌≡◌, ℕ, suc, ◌==◌, Bool, true, false, cond, not, List, [], ◌∷◌, ◌++◌, Option, Some, None, refl, sym, ap, ◌∙◌, subst}
-use Rattle.std.specs.Prelude.{nat_lt, length}
+use Rattle.std.proofs.Common.{◌≡◌, ℕ, suc, ◌==◌, Bool, true, false, cond, not, List, [], ◌∷◌, ◌++◌, Option, Some, None, refl, sym, ap, ◌∙◌, subst, Result, Ok, Err}
+use Rattle.std.specs.Prelude.{nat_lt, length, Err, Ok, Result}
 use Rattle.iss_base.specs.Lists.{first_of}
 use Rattle.iss_ballots.specs.Ballots.{AreKept, BallotsState}
 use Rattle.iss_checkpoint.specs.declared.votes.Cert.{Cert}
@@ -22,8 +22,7 @@ use Rattle.iss_node.specs.Internal.Casts.{casting}
 use Rattle.iss_node.specs.State.{RefinesBareCore, StateRefinesCore, StateView, bare, holding}
 use Rattle.iss_node.specs.Entered.{IsEntered, IsHeldEntered}
 use Rattle.iss_node.specs.Steps.{IsHeldStep, IsHeldStepOf, IsLater, IsStep, IsStepOf}
-use Rattle.iss_node.specs.declared.answers.StepResult.{StepResult}
-use Rattle.iss_node.specs.declared.answers.StepResult.TheVariants.{Dropped as Result_dropped, Taken as Result_taken}
+use Rattle.iss_node.specs.declared.answers.Outcome.{Outcome}
 use Rattle.iss_request.specs.declared.ids.Slot.{Slot}
 use Rattle.iss_request.specs.declared.requests.Request.{Request}
 use Rattle.iss_sb.specs.Evidence.{Item, Module}
@@ -156,7 +155,7 @@ module _ {M Msg : Type 0} (m : Module Msg) (refines : M → Params → ℕ → L
     kept = subst (λ (b : BallotsState). AreKept b c.votes c.certs) (sym later.ballots) h.kept;
   }
 
-  pub held-step : (step : Formats Msg → Rules → ℕ → Core Msg → Stepped Msg) (asked : Type 0) (a : StepResult) →
+  pub held-step : (step : Formats Msg → Rules → ℕ → Core Msg → Stepped Msg) (asked : Type 0) (a : Result Outcome Why) →
       ((F : Formats Msg) (R : Rules) (me : ℕ) (votes : List Vote) (certs : List Cert) (c : Core Msg) → step F R me (holding votes certs c) ≡ with_step F R m me votes certs (step F R me c)) →
       IsStepOf m refines v step w a → IsHeldStepOf m refines asked v step w a
   held-step step asked a frame all c h = go a (at-core m refines v (bare c) h.state (λ d. IsStep m refines d (step (formats_of v.setup m) (rules_of v.setup) v.me.0 d) w a) all)
@@ -164,8 +163,8 @@ module _ {M Msg : Type 0} (m : Module Msg) (refines : M → Params → ℕ → L
       by-frame : step (formats_of v.setup m) (rules_of v.setup) v.me.0 c ≡ with_step (formats_of v.setup m) (rules_of v.setup) m v.me.0 c.votes c.certs (step (formats_of v.setup m) (rules_of v.setup) v.me.0 (bare c))
       by-frame = frame (formats_of v.setup m) (rules_of v.setup) v.me.0 c.votes c.certs (bare c)
 
-      go : (a : StepResult) → IsStep m refines (bare c) (step (formats_of v.setup m) (rules_of v.setup) v.me.0 (bare c)) w a → IsHeldStep m refines asked c (step (formats_of v.setup m) (rules_of v.setup) v.me.0 c) w a
-      go (Result_taken o) s = record {
+      go : (a : Result Outcome Why) → IsStep m refines (bare c) (step (formats_of v.setup m) (rules_of v.setup) v.me.0 (bare c)) w a → IsHeldStep m refines asked c (step (formats_of v.setup m) (rules_of v.setup) v.me.0 c) w a
+      go (Ok o) s = record {
         turn = with_turn (formats_of v.setup m) (rules_of v.setup) m v.me.0 c.votes c.certs s.turn;
         step_is = by-frame ∙ ap (λ (z : Stepped Msg). with_step (formats_of v.setup m) (rules_of v.setup) m v.me.0 c.votes c.certs z) s.step_is;
         turned = record {
@@ -175,7 +174,7 @@ module _ {M Msg : Type 0} (m : Module Msg) (refines : M → Params → ℕ → L
           addressed = λ k. s.turned.addressed;
         };
       }
-      go (Result_dropped why) s = record {
+      go (Err why) s = record {
         step_is = by-frame ∙ ap (λ (z : Stepped Msg). with_step (formats_of v.setup m) (rules_of v.setup) m v.me.0 c.votes c.certs z) s.step_is;
         refined = held-parts c (bare c) h s.refined;
       }

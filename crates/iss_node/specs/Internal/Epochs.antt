@@ -1,15 +1,14 @@
 -- How the end of an epoch changes a node: the policy and the windows learn what joined the log, and fresh instances
 -- start for the leaders of the next epoch.
-use Rattle.std.specs.Prelude.{◌≡◌, ◌<◌, ℕ, [], ◌∷◌, ◌++◌, List, None, Some, is_some, reverse, Option}
+use Rattle.std.specs.Prelude.{◌≡◌, ◌<◌, ℕ, [], ◌∷◌, ◌++◌, List, None, Some, is_some, reverse, Option, Err, Ok, Result}
 use Rattle.std.specs.List.{filter}
 use Rattle.iss_base.specs.Lists.{first_of}
 use Rattle.iss_layout.specs.Layout.{Ended, IsGoodPlan, IsStanding, Plan, conduct_of, leads, plan_by, segment, slots_from}
 use Rattle.iss_rules.specs.Concrete.{keys_of}
 use Rattle.iss_model.specs.Node.{is_nil_at}
+use Rattle.iss_rules.specs.declared.events.Why.{Why}
 use Rattle.iss_node.specs.State.{StateView, led}
 use Rattle.iss_node.specs.declared.answers.Outcome.{Outcome}
-use Rattle.iss_node.specs.declared.answers.StepResult.{StepResult}
-use Rattle.iss_node.specs.declared.answers.StepResult.TheVariants.{Dropped as Result_dropped, Taken as Result_taken}
 use Rattle.iss_request.specs.declared.ids.NodeId.{NodeId}
 use Rattle.iss_request.specs.declared.ids.ReqId.{ReqId}
 use Rattle.iss_request.specs.declared.setups.Setup.{Setup}
@@ -31,9 +30,9 @@ appended a b = record {
 }
 
 -- The outcome of a step, which is empty if the event was dropped.
-abbrev pub or_nothing : StepResult → Outcome
-or_nothing (Result_taken outcome) = outcome
-or_nothing (Result_dropped why) = record { sends = []; own = []; early = []; hashed = []; entered = None }
+abbrev pub or_nothing : Result Outcome Why → Outcome
+or_nothing (Ok outcome) = outcome
+or_nothing (Err why) = record { sends = []; own = []; early = []; hashed = []; entered = None }
 
 -- These identities were noted, in order.
 abbrev pub notes : Noted → List ReqId → Noted

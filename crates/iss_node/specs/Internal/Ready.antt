@@ -1,15 +1,15 @@
 -- What the steps of a node rely on: the state refines some history, and the leaf for the vote is kept. A step is taken
 -- only if a leaf is left behind it, so an epoch that fills up has one. Early messages are tried only in an open epoch.
-use Rattle.std.specs.Prelude.{◌≡◌, ℕ, ◌+◌, ◌<◌, ◌≤◌, Bool, true, false, is_some, length, nat_le, List, Some}
+use Rattle.std.specs.Prelude.{◌≡◌, ℕ, ◌+◌, ◌<◌, ◌≤◌, Bool, true, false, is_some, length, nat_le, List, Some, Err, Ok, Result}
 use Rattle.iss_checkpoint.specs.Votes.{voters_of}
 use Rattle.iss_keys.specs.KeyStates.{left_of}
+use Rattle.iss_rules.specs.declared.events.Why.{Why}
 use Rattle.iss_node.specs.State.{RefinesPast, StateView, led}
-use Rattle.iss_node.specs.declared.answers.StepResult.{StepResult}
-use Rattle.iss_node.specs.declared.answers.StepResult.TheVariants.{Dropped as Result_dropped, Taken as Result_taken}
 use Rattle.iss_model.specs.Node.{claims_of_input}
 use Rattle.iss_node.specs.Steps.{IsNodeInput}
 use Rattle.iss_rules.specs.Concrete.{rules_of}
 use Rattle.iss_rules.specs.Past.{Past, leads_in, params_of}
+use Rattle.iss_node.specs.declared.answers.Outcome.{Outcome}
 use Rattle.iss_sb.specs.Calls.{Relation}
 use Rattle.iss_sb.specs.Evidence.{Module}
 use Rattle.iss_sb.specs.declared.effects.Claim.{Claim}
@@ -74,14 +74,14 @@ pub record MayVote {M Msg : Type 0} (m : Module Msg) (refines : Relation M Msg) 
   pub leaf : 1 ≤ left_of v.keys
 
 -- A step of an instance that was taken left a leaf. One that was dropped changed nothing.
-abbrev pub IsTried : {M Msg : Type 0} → StateView M Msg → StateView M Msg → StepResult → Type 0
-IsTried old new (Result_taken outcome) = 1 ≤ left_of new.keys
-IsTried old new (Result_dropped why) = new ≡ old
+abbrev pub IsTried : {M Msg : Type 0} → StateView M Msg → StateView M Msg → Result Outcome Why → Type 0
+IsTried old new (Ok outcome) = 1 ≤ left_of new.keys
+IsTried old new (Err why) = new ≡ old
 
 -- A step that was taken is to be completed.
-abbrev pub IsToComplete : {M Msg : Type 0} → Module Msg → Relation M Msg → StateView M Msg → StepResult → Type 0
-IsToComplete m refines v (Result_taken outcome) = IsReady m refines v
-IsToComplete m refines v (Result_dropped why) = Unit {0}
+abbrev pub IsToComplete : {M Msg : Type 0} → Module Msg → Relation M Msg → StateView M Msg → Result Outcome Why → Type 0
+IsToComplete m refines v (Ok outcome) = IsReady m refines v
+IsToComplete m refines v (Err why) = Unit {0}
 
 -- The state refines some history, and the check of the piece says to adopt it.
 pub record MayAdopt {M Msg : Type 0} (m : Module Msg) (refines : Relation M Msg) (v : StateView M Msg) (p : Piece)

@@ -1,19 +1,19 @@
 -- How a node continues with a snapshot, part by part.
-use Rattle.std.specs.Prelude.{◌≡◌, ℕ, suc, ◌<◌, ◌-◌, ◌==◌, ◌&&◌, nat_le, not, cond, Bool, true, false, List, [], ◌∷◌, ◌++◌, length, reverse, ◌^◌, Option, Some, None}
-use Rattle.iss_ballots.specs.Ballots.{AreKept, BallotsState}
+use Rattle.std.specs.Prelude.{◌≡◌, ℕ, suc, ◌<◌, ◌-◌, ◌==◌, ◌&&◌, nat_le, cond, Bool, true, false, List, [], ◌∷◌, ◌++◌, length, reverse, ◌^◌, Option, Some, None, Err, Ok, Result}
+use Rattle.iss_ballots.specs.Ballots.{AreKept}
 use Rattle.iss_checkpoint.specs.declared.votes.Cert.{Cert}
 use Rattle.iss_checkpoint.specs.declared.votes.Vote.{Vote}
 use Rattle.iss_keys.specs.Directories.{node_secret}
 use Rattle.iss_model.specs.Frames.{Frame}
 use Rattle.iss_model.specs.Node.{Core, Early as Kept_early, early_most}
+use Rattle.iss_rules.specs.declared.events.Why.{Why}
 use Rattle.iss_node.specs.Internal.Shape.{AreFrom}
 use Rattle.iss_node.specs.Rebuilding.{HasRead}
 use Rattle.iss_node.specs.State.{StateRefinesCore, StateView, seen_early}
 use Rattle.iss_node.specs.declared.answers.Early.{Early}
-use Rattle.iss_node.specs.declared.answers.StepResult.{StepResult}
-use Rattle.iss_node.specs.declared.answers.StepResult.TheVariants.{Dropped as Result_dropped, Taken as Result_taken}
 use Rattle.iss_rebuilt.specs.Reading.{Rebuilt, are_new}
 use Rattle.iss_rebuilt.specs.Stored.{Saved}
+use Rattle.iss_node.specs.declared.answers.Outcome.{Outcome}
 use Rattle.iss_request.specs.declared.requests.Value.{Value}
 use Rattle.iss_rules.specs.Concrete.{rules_of}
 use Rattle.iss_rules.specs.Past.{Past, is_complete}
@@ -74,9 +74,9 @@ pub record HasBegun {M Msg : Type 0} (leaf : ℕ) (certs : List Cert) (old new :
 -- ---- results
 
 -- whether a step was taken
-abbrev pub was_taken : StepResult → Bool
-was_taken (Result_taken outcome) = true
-was_taken (Result_dropped why) = false
+abbrev pub was_taken : Result Outcome Why → Bool
+was_taken (Ok outcome) = true
+was_taken (Err why) = false
 
 -- All were taken, and the state refines the core after them; or one is refused.
 abbrev pub AreTaken : {M Msg : Type 0} → Module Msg → Relation M Msg → Option (Core Msg) → StateView M Msg → Bool →

@@ -1,6 +1,6 @@
 -- The invariants of a simulation and of a world, whatever happened to them: a good set-up, a kept node for each core,
 -- a network between that many cores.
-use Rattle.std.specs.Prelude.{◌≡◌, ◌<◌, ℕ, false, List, [], ◌∷◌, length, None, Some, slice_get}
+use Rattle.std.specs.Prelude.{◌≡◌, ℕ, false, length, None, Some, slice_get}
 use Rattle.iss_model.specs.Run.{cores_of, node_of}
 use Rattle.iss_rules.specs.Setups.{IsSetupOf}
 use Rattle.iss_network.specs.Network.{Network}

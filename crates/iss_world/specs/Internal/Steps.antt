@@ -1,14 +1,15 @@
 -- One step of a core in the world: test what it claims, step and journal, test what it made, book it and post it.
 -- Where the disk fails nothing of the step comes out.
-use Rattle.std.specs.Prelude.{◌≡◌, ◌≤◌, ℕ, true, false, cond, List, Option, Some, None, length, option_map, reverse, slice_get, take}
+use Rattle.std.specs.Prelude.{◌≡◌, ◌≤◌, ℕ, true, false, cond, List, Option, Some, None, length, option_map, reverse, slice_get, take, Result, Ok, Err}
+use Rattle.iss_node.specs.declared.answers.Answer.TheVariants.{Dropped as Node_dropped, NoMemory as Node_no_memory, Stale as Node_stale, Taken as Node_taken}
+use Rattle.iss_node.specs.declared.answers.Answer.{Answer as NodeAnswer}
+use Rattle.iss_disk.specs.declared.errors.Failed.{Failed}
 use Rattle.iss_base.specs.Lists.{first_of, set_at}
 use Rattle.iss_rules.specs.Ends.{End, Forged}
 use Rattle.iss_rules.specs.declared.events.NodeEvent.{NodeEvent}
 use Rattle.iss_rules.specs.declared.events.Why.TheVariants.{Stopped}
 use Rattle.iss_disk.specs.declared.memory.MemoryDisk.{MemoryDisk}
 use Rattle.iss_keep.specs.State.{KeptState}
-use Rattle.iss_keep.specs.declared.answers.Answer.{Answer}
-use Rattle.iss_keep.specs.declared.answers.Answer.TheVariants.{Dropped as Kept_dropped, Failed, NoMemory, Stale, Taken as Kept_taken}
 use Rattle.iss_model.specs.Node.{Core, Dropped, Stepped, Taken, Turn}
 use Rattle.iss_model.specs.Run.{Held, after_step, by_forged, collision_in, early_of, first_forged, node_of}
 use Rattle.iss_model.specs.Frames.{frame_of, step_in}
@@ -72,19 +73,19 @@ pub record IsStop {M Msg : Type 0} (m : Module Msg) (refines : Relation M Msg) (
 
 -- The answer of a kept node that refined this core with this disk.
 abbrev pub HasAnswered : {M Msg : Type 0} → Module Msg → Relation M Msg → Core Msg → Disk → NodeEvent → Stepped Msg →
-    KeptState M Msg MemoryDisk → Answer → Type 0
-HasAnswered m refines c d event stepped new (Kept_taken outcome) = IsKeptTurn m refines d event stepped new outcome
-HasAnswered m refines c d event stepped new (Kept_dropped why) = (stepped ≡ Dropped why)
+    KeptState M Msg MemoryDisk → Result NodeAnswer Failed → Type 0
+HasAnswered m refines c d event stepped new (Ok (Node_taken outcome)) = IsKeptTurn m refines d event stepped new outcome
+HasAnswered m refines c d event stepped new (Ok (Node_dropped why)) = (stepped ≡ Dropped why)
     × RefinesMachine m refines new c d
-HasAnswered m refines c d event stepped new Failed = IsStop m refines c d stepped new
-HasAnswered m refines c d event stepped new Stale = ⊥
-HasAnswered m refines c d event stepped new NoMemory = Unit {0}
+HasAnswered m refines c d event stepped new (Err failed) = IsStop m refines c d stepped new
+HasAnswered m refines c d event stepped new (Ok Node_stale) = ⊥
+HasAnswered m refines c d event stepped new (Ok Node_no_memory) = Unit {0}
 
 -- The answer to an event that names existing nodes, for each core that the kept node refined over a working disk.
 abbrev pub AnswersMachine : {M Msg : Type 0} → Module Msg → Relation M Msg → (old new : KeptState M Msg MemoryDisk) →
-    NodeEvent → Answer → Type 0
-AnswersMachine {Msg = Msg} m refines old new event answer = (c : Core Msg) (d : Disk) → RefinesMachine m refines old c d →
-    d.failed ≡ false → IsOfNodes old.setup.n event → HasAnswered m refines c d event
+    NodeEvent → Result NodeAnswer Failed → Type 0
+AnswersMachine {Msg = Msg} m refines old new event answer = (c : Core Msg) (d : Disk) →
+    RefinesMachine m refines old c d → d.failed ≡ false → IsOfNodes old.setup.n event → HasAnswered m refines c d event
     (step_in (frame_of old.setup m) old.me.0 c event) new answer
 
 -- A core whose disk works takes an event whose own claims were tested.

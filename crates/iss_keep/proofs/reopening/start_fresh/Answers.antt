@@ -1,5 +1,5 @@
 use Rattle.std.proofs.Common.{◌∙◌}
-use Rattle.iss_keep.proofs.KeptLemmas.{own-number}
+use Rattle.iss_node.proofs.Snapshots.KeysAreOwn.{own-number}
 use Rattle.iss_keep.proofs.reopening.start_fresh.Goals as goal
 
 pub keys_of_node-keys-requires : goal.keys_of_node-keys-requires

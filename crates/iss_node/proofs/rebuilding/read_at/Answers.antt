@@ -1,4 +1,4 @@
-use Rattle.std.proofs.Common.{◌≡◌, ◌∙◌, [], ℕ, List, None, Some, Result, Err, get_or, subst}
+use Rattle.std.proofs.Common.{◌≡◌, ◌∙◌, [], ℕ, List, None, Some, Result, Err, subst}
 use Rattle.std.proofs.lemmas.List.{get_or_default}
 use Rattle.iss_model.specs.Frames.{frame_of}
 use Rattle.iss_node.proofs.Snapshots.NodeIsWoken.{refused-none}

@@ -1,4 +1,4 @@
-use Rattle.std.proofs.Common.{◌≡◌, length, ap, arith}
+use Rattle.std.proofs.Common.{length, ap, arith}
 use Rattle.iss_keys.proofs.DirectoryLemmas.{length-clients}
 use Rattle.tests_node.proofs.snapshots.client_keys.Goals as goal
 

@@ -5,7 +5,7 @@ use Rattle.iss_node.proofs.Snapshots.NodeIsWoken.{all-next, all-read, first-bad}
 use Rattle.iss_node.specs.Rebuilding.{IsFirstBad, IsOf, IsReadOn}
 use Rattle.iss_node.specs.declared.rebuilding.RebuildError.{RebuildError}
 use Rattle.iss_node.specs.declared.rebuilding.RebuildError.TheVariants.{BadEntry}
-use Rattle.iss_rebuilt.specs.Reading.{Rebuilt, reads_entry, rebuilt, woken_of}
+use Rattle.iss_rebuilt.specs.Reading.{Rebuilt, reads_entry, woken_of}
 use Rattle.iss_request.specs.declared.ids.NodeId.{NodeId}
 use Rattle.iss_request.specs.declared.setups.Setup.{Setup}
 use Rattle.iss_node.proofs.node.Node.rebuild.Goals as goal

@@ -1,4 +1,4 @@
-use Rattle.std.proofs.Common.{ap, rules, ◌≡◌, ◌∙◌, Bool, false, None, refl, sym, subst}
+use Rattle.std.proofs.Common.{ap, rules, ◌≡◌, ◌∙◌, Bool, false, None, refl, sym, subst, Ok}
 use Rattle.iss_rules.specs.Concrete.{rules_of}
 use Rattle.iss_rules.specs.Formats.{formats_of}
 use Rattle.iss_model.specs.Node.{step}
@@ -8,7 +8,6 @@ use Rattle.iss_node.specs.Internal.Shape.{IsNode}
 use Rattle.iss_node.specs.State.{NodeView, RefinesCore, StateView}
 use Rattle.iss_node.specs.Steps.{IsHeldStepOf, IsOfNodes, IsTurn}
 use Rattle.iss_node.specs.declared.answers.Outcome.{Outcome}
-use Rattle.iss_node.specs.declared.answers.StepResult.TheVariants.{Taken as Result_taken}
 use Rattle.iss_node.proofs.EpochEnd.LeafIsKept.{refines-some}
 use Rattle.iss_node.proofs.node.Node.replay.Goals as goal
 
@@ -18,24 +17,24 @@ invariant_of-self g c =
     let v = c.self.inside.state in
     let fresh : c.self.inside.stale ≡ false = search rules in
     let was = subst (λ (s : Bool). IsNode m g.M.Sequenced.refines (record { state = v; stale = s })) fresh c.self.invariant in
-    let answer = rw c.in-Ok-Taken.field-0-is at c.in-Ok-Taken.ensures.answer in
-    let taken : IsHeldStepOf m g.M.Sequenced.refines (IsOfNodes v.setup.n c.args.event) v (λ F R me d. step F R m me d c.args.event) c.turn.new.self (Result_taken c.in-Ok-Taken.outcome) = rw (← c.self-inside.view_is) answer in
+    let answer = rw c.in-Ok-Ok.field-0-is at c.in-Ok-Ok.ensures.answer in
+    let taken : IsHeldStepOf m g.M.Sequenced.refines (IsOfNodes v.setup.n c.args.event) v (λ F R me d. step F R m me d c.args.event) c.turn.new.self (Ok c.in-Ok-Ok.outcome) = rw (← c.self-inside.view_is) answer in
     subst (λ (z : StateView g.row.M.Denot g.row.M-Msg.Denot). IsNode m g.M.Sequenced.refines (record { state = z; stale = false })) (sym (ap (λ z. z.state) c.self-inside-2.view_is))
-    (node-taken m g.M.Sequenced.refines v c.turn.new.self false c.args.event c.in-Ok-Taken.outcome taken refl was)
+    (node-taken m g.M.Sequenced.refines v c.turn.new.self false c.args.event c.in-Ok-Ok.outcome taken refl was)
 
-pub returns-in-Ok-Taken-clause-answer : goal.returns-in-Ok-Taken-clause-answer
-returns-in-Ok-Taken-clause-answer g c = λ d st.
+pub returns-in-Ok-Ok-clause-answer : goal.returns-in-Ok-Ok-clause-answer
+returns-in-Ok-Ok-clause-answer g c = λ d st.
     let m = g.M.Sequenced.spec in
     let v = c.self.inside.state in
     let fresh : c.self.inside.stale ≡ false = search rules in
     let here : RefinesCore m g.M.Sequenced.refines (record { state = v; stale = c.self.inside.stale }) d = subst (λ (n : NodeView g.row.M.Denot g.row.M-Msg.Denot). RefinesCore m g.M.Sequenced.refines n d) (sym c.self.view_is) st in
     let there = subst (λ (s : Bool). RefinesCore m g.M.Sequenced.refines (record { state = v; stale = s }) d) fresh here in
-    let answer = rw c.in-Ok-Taken.field-0-is at c.in-Ok-Taken.ensures.answer in
-    let taken : IsHeldStepOf m g.M.Sequenced.refines (IsOfNodes v.setup.n c.args.event) v (λ F R me e. step F R m me e c.args.event) c.turn.new.self (Result_taken c.in-Ok-Taken.outcome) = rw (← c.self-inside.view_is) answer in
+    let answer = rw c.in-Ok-Ok.field-0-is at c.in-Ok-Ok.ensures.answer in
+    let taken : IsHeldStepOf m g.M.Sequenced.refines (IsOfNodes v.setup.n c.args.event) v (λ F R me e. step F R m me e c.args.event) c.turn.new.self (Ok c.in-Ok-Ok.outcome) = rw (← c.self-inside.view_is) answer in
     let kept : Outcome → Outcome = λ z. record z { entered = None } in
-    let is : c.replayed.result ≡ kept c.in-Ok-Taken.outcome = c.replayed.ensures ∙ ap kept c.in-Ok-Taken.outcome-is in
-    let turned = answer-replayed m g.M.Sequenced.refines (IsOfNodes v.setup.n c.args.event) d (step (formats_of v.setup m) (rules_of v.setup) m v.me.0 d c.args.event) (record { state = c.turn.new.self; stale = false }) c.in-Ok-Taken.outcome c.replayed.result is
-    (answer-taken m g.M.Sequenced.refines v c.turn.new.self false c.args.event c.in-Ok-Taken.outcome taken d there) in
+    let is : c.replayed.result ≡ kept c.in-Ok-Ok.outcome = c.replayed.ensures ∙ ap kept c.in-Ok-Ok.outcome-is in
+    let turned = answer-replayed m g.M.Sequenced.refines (IsOfNodes v.setup.n c.args.event) d (step (formats_of v.setup m) (rules_of v.setup) m v.me.0 d c.args.event) (record { state = c.turn.new.self; stale = false }) c.in-Ok-Ok.outcome c.replayed.result is
+    (answer-taken m g.M.Sequenced.refines v c.turn.new.self false c.args.event c.in-Ok-Ok.outcome taken d there) in
     subst (λ (z : StateView g.row.M.Denot g.row.M-Msg.Denot). IsTurn m g.M.Sequenced.refines (IsOfNodes c.args.self.now.state.setup.n c.args.event) (step (formats_of c.args.self.now.state.setup m) (rules_of c.args.self.now.state.setup) m c.args.self.now.state.me.0 d c.args.event) (record { state = z; stale = false }) c.replayed.result)
     (sym (ap (λ z. z.state) c.self-inside-2.view_is))
     (subst (λ (n : NodeView g.row.M.Denot g.row.M-Msg.Denot). IsTurn m g.M.Sequenced.refines (IsOfNodes n.state.setup.n c.args.event) (step (formats_of n.state.setup m) (rules_of n.state.setup) m n.state.me.0 d c.args.event) (record { state = c.turn.new.self; stale = false }) c.replayed.result)

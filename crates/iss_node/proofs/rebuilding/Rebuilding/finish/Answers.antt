@@ -1,8 +1,8 @@
-use Rattle.std.proofs.Common.{◌≡◌, Some, subst, sym}
+use Rattle.std.proofs.Common.{Some, subst, sym}
 use Rattle.iss_model.specs.Frames.{frame_of}
 use Rattle.iss_node.proofs.Snapshots.NodeIsWoken.{is-open, wakes, woken-so}
 use Rattle.iss_node.specs.Rebuilding.{IsOf, RebuildingView, RefinesRebuilt}
-use Rattle.iss_rebuilt.specs.Reading.{Rebuilt, woken, woken_of}
+use Rattle.iss_rebuilt.specs.Reading.{woken, woken_of}
 use Rattle.iss_node.proofs.rebuilding.Rebuilding.finish.Goals as goal
 
 pub take_each-requires-clause-lasts : goal.take_each-requires-clause-lasts

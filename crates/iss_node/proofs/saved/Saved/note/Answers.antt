@@ -1,4 +1,4 @@
-use Rattle.std.proofs.Common.{arith, ◌≡◌, ◌∙◌, ◌<◌, length}
+use Rattle.std.proofs.Common.{arith, ◌∙◌}
 use Rattle.iss_node.proofs.Steps.SavedAfter.{held-next}
 use Rattle.iss_node.specs.Saved.{holds}
 use Rattle.iss_node.proofs.saved.Saved.note.Goals as goal

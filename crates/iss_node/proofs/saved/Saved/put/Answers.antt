@@ -1,7 +1,7 @@
-use Rattle.std.proofs.Common.{◌≡◌, ◌∙◌, ℕ, suc, ◌||◌, nat_le, cond, true, Bool, refl, subst}
+use Rattle.std.proofs.Common.{suc, nat_le, refl, subst}
 use Rattle.iss_node.proofs.Steps.SavedAfter.{put-below}
 use Rattle.iss_node.specs.Internal.Marks.{HasPut}
-use Rattle.iss_node.specs.Saved.{SavedState, holds}
+use Rattle.iss_node.specs.Saved.{SavedState}
 use Rattle.iss_node.proofs.saved.Saved.put.Goals as goal
 
 pub returns : goal.returns

@@ -1,4 +1,4 @@
-use Rattle.std.proofs.Common.{arith, ◌≡◌, ◌+◌, ℕ, true, Bool, ap, sym, ◌∙◌, subst, refl}
+use Rattle.std.proofs.Common.{◌≡◌, ◌+◌, true, sym, subst, refl}
 use Rattle.iss_node.proofs.Steps.SavedAfter.{moved-up}
 use Rattle.iss_node.specs.Internal.Marks.{HoldsTheSame}
 use Rattle.iss_node.specs.Saved.{SavedState, stray}

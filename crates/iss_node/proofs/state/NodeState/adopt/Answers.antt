@@ -2,7 +2,8 @@ use Rattle.std.proofs.Common.{◌≡◌, ◌∙◌, ℕ, List, Some, ap, arith, 
 use Rattle.std.proofs.lemmas.Result.{IfOk-weaker}
 use Rattle.iss_ballots.specs.Ballots.{AreKept, BallotsState}
 use Rattle.iss_model.specs.Node.{takes_each, then_turn}
-use Rattle.iss_node.proofs.StateTransfer.AdoptionRefines.{adopted-all, adopted-open, adopted-fits, kept-same, same-on}
+use Rattle.iss_node.proofs.StateTransfer.AdoptionRefines.{adopted-all, adopted-open, adopted-fits, kept-same}
+use Rattle.iss_node.proofs.Instances.ChecksRefine.{same-on}
 use Rattle.iss_node.specs.Entered.{IsEntryOf}
 use Rattle.iss_node.specs.Internal.Inputs.{HasAppliedDeliveries}
 use Rattle.iss_node.specs.Internal.Shape.{IsNodeState}

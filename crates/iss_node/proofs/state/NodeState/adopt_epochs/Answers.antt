@@ -1,4 +1,4 @@
-use Rattle.std.proofs.Common.{arith, rules, ◌≡◌, ◌∙◌, ◌++◌, ◌∷◌, [], List, ap, sym, subst, length}
+use Rattle.std.proofs.Common.{arith, rules, ◌≡◌, ◌∙◌, ◌++◌, [], List, ap, sym, subst}
 use Rattle.std.proofs.lemmas.List.{append-nil, nil_from_length}
 use Rattle.iss_node.proofs.Instances.ChecksRefine.{later-refl, later-trans}
 use Rattle.iss_node.proofs.Snapshots.EpochsAreAdopted.{adopts-next}

@@ -1,9 +1,8 @@
-use Rattle.std.proofs.Common.{◌≡◌, ◌∙◌, ◌≤◌, ◌^◌, [], ap, subst, sym}
+use Rattle.std.proofs.Common.{◌∙◌, ◌≤◌, ◌^◌, [], ap, subst, sym}
 use Rattle.iss_ballots.specs.Ballots.{AreKept}
 use Rattle.iss_keys.specs.Directories.{node_secret}
 use Rattle.iss_keys.specs.KeyStates.{KeyState}
 use Rattle.iss_node.proofs.Snapshots.KeysAreOwn.{own-leaf, own-number}
-use Rattle.iss_node.specs.Internal.Shape.{IsNodeState}
 use Rattle.iss_node.specs.State.{StateView}
 use Rattle.iss_node.proofs.state.NodeState.begin_anew.Goals as goal
 

@@ -1,4 +1,4 @@
-use Rattle.std.proofs.Common.{◌≡◌, ◌∙◌, ℕ, List, ap, refl, subst, sym}
+use Rattle.std.proofs.Common.{◌∙◌, ℕ, List, ap, subst, sym}
 use Rattle.iss_checkpoint.specs.declared.votes.Cert.{Cert}
 use Rattle.iss_node.proofs.Snapshots.SnapshotContinues.{not-continued, read-result, resumed-on, resumed-refused}
 use Rattle.iss_node.specs.Internal.Rebuilding.{HasBegun, IsReadAs, continues, kept_early}

@@ -1,8 +1,9 @@
-use Rattle.std.proofs.Common.{arith, ◌≡◌, ◌∙◌, ◌<◌, ◌≤◌, List, Option, Some, None, length, refl, sym, ap, subst}
+use Rattle.std.proofs.Common.{arith, ◌∙◌, ◌<◌, List, Option, Some, sym, ap, subst}
 use Rattle.std.proofs.lemmas.List.{take_all}
 use Rattle.std.specs.Prelude.{IfSome, option_map}
 use Rattle.iss_model.specs.Frames.{frame_of}
-use Rattle.iss_node.proofs.Snapshots.BytesAreRead.{early-all, early-bad, early-many, early-on, from-next, seen-next}
+use Rattle.iss_node.proofs.Snapshots.BytesAreRead.{early-all, early-bad, early-many, early-on}
+use Rattle.iss_node.proofs.Steps.QueriesAgree.{from-more, seen-more}
 use Rattle.iss_node.specs.Internal.Shape.{AreFrom}
 use Rattle.iss_node.specs.State.{seen_early, seen_one}
 use Rattle.iss_node.specs.declared.answers.Early.{Early}
@@ -27,9 +28,9 @@ loop-packet-preserved g c =
       read =
           early-on W c.args.self.now.epoch c.args.packets.now c.loop-packet.packet-index c.packet-item.result (seen_early c.loop-packet.early.items) (seen_one c.in-Some.message) (omega (arith, c.loop-packet-test.true)) c.packet-item.is
           h.read (sym c.in_ok-message.ensures.read ∙ ap (λ (o : Option (Early g.row.M-Msg.Denot)). option_map (λ x. seen_one x) o) c.in-Some.is)
-          ∙ ap (λ xs. Some xs) (sym (ap (λ (xs : List (Early g.row.M-Msg.Denot)). seen_early xs) more ∙ seen-next c.loop-packet.early.items c.in-Some.message));
+          ∙ ap (λ xs. Some xs) (sym (ap (λ (xs : List (Early g.row.M-Msg.Denot)). seen_early xs) more ∙ seen-more c.loop-packet.early.items c.in-Some.message));
       from = subst (λ (xs : List (Early g.row.M-Msg.Denot)). AreFrom c.args.self.now.setup.n xs) (sym more)
-          (from-next c.args.self.now.setup.n c.loop-packet.early.items c.in-Some.message h.from (subst (λ (o : Option (Early g.row.M-Msg.Denot)). IfSome o (λ x. x.from.0 < c.args.self.now.setup.n)) c.in-Some.is c.in_ok-message.ensures.from));
+          (from-more c.args.self.now.setup.n c.loop-packet.early.items c.in-Some.message h.from (subst (λ (o : Option (Early g.row.M-Msg.Denot)). IfSome o (λ x. x.from.0 < c.args.self.now.setup.n)) c.in-Some.is c.in_ok-message.ensures.from));
     }
 
 pub returns-clause-read : goal.returns-clause-read

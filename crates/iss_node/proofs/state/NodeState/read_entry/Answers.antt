@@ -1,4 +1,4 @@
-use Rattle.std.proofs.Common.{◌≡◌, ℕ, List, [], Option, None, Some, Result, Err, ap, subst, sym}
+use Rattle.std.proofs.Common.{◌≡◌, List, [], Option, None, Some, Result, Err, ap, subst, sym}
 use Rattle.std.specs.Prelude.{option_map}
 use Rattle.std.proofs.lemmas.Result.{IfOk-weaker}
 use Rattle.iss_model.specs.Frames.{frame_of}

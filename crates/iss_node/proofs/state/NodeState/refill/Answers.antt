@@ -1,4 +1,4 @@
-use Rattle.std.proofs.Common.{◌≡◌, Bool, Some, true, false, subst}
+use Rattle.std.proofs.Common.{Bool, Some, true, false, subst}
 use Rattle.std.proofs.lemmas.Result.{IfOk-weaker}
 use Rattle.iss_model.specs.Frames.{frame_of}
 use Rattle.iss_model.specs.Node.{Core}

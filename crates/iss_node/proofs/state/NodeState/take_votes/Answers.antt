@@ -1,4 +1,4 @@
-use Rattle.std.proofs.Common.{arith, rules, ◌≡◌, ◌∙◌, ◌++◌, ◌∷◌, [], List, Bool, Some, true, false, ap, sym, subst}
+use Rattle.std.proofs.Common.{arith, rules, ◌≡◌, ◌∙◌, ◌++◌, [], List, Bool, Some, true, ap, sym, subst}
 use Rattle.std.proofs.lemmas.List.{append-nil, nil_from_length}
 use Rattle.iss_model.specs.Frames.{frame_of}
 use Rattle.iss_model.specs.Node.{takes_vote}

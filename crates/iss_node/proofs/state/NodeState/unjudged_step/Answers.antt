@@ -1,8 +1,7 @@
-use Rattle.std.proofs.Common.{◌≡◌, Err, Ok, Result, subst}
+use Rattle.std.proofs.Common.{◌≡◌, Ok, Result, subst}
 use Rattle.std.proofs.lemmas.Result.{IfOk-weaker}
 use Rattle.iss_node.proofs.Instances.InputKeepsInvariant.{good-input, input-taken, leads-there, no-leaves, placed, same-shape}
 use Rattle.iss_node.specs.Internal.Inputs.{IsInputTaken}
-use Rattle.iss_node.specs.State.{StateView}
 use Rattle.iss_sb.specs.declared.effects.Effects.{Effects}
 use Rattle.iss_sb.specs.declared.effects.StepError.{StepError}
 use Rattle.iss_segment.specs.Answers.{IsInstanceStep}

@@ -1,4 +1,4 @@
-use Rattle.std.proofs.Common.{◌<◌, ◌≤◌, length, arith}
+use Rattle.std.proofs.Common.{◌<◌, length, arith}
 use Rattle.iss_world.proofs.PostLemmas.{send-next}
 use Rattle.iss_world.proofs.simulation.Simulation.post_all.Goals as goal
 

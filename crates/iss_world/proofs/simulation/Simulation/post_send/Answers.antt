@@ -1,4 +1,4 @@
-use Rattle.std.proofs.Common.{◌≡◌, ◌∙◌, ap, arith, sym, Bool, List, ℕ, true, false}
+use Rattle.std.proofs.Common.{◌≡◌, ◌∙◌, ap, arith, sym, List, ℕ, true, false}
 use Rattle.std.specs.List.{filter}
 use Rattle.iss_base.specs.Lists.{below}
 use Rattle.iss_model.specs.Run.{cores_of, posted_to}

@@ -1,4 +1,4 @@
-use Rattle.std.proofs.Common.{◌<◌, ◌∙◌, ◌++◌, List, ℕ, length, arith, ap, refl, subst, sym}
+use Rattle.std.proofs.Common.{◌<◌, ◌++◌, List, ℕ, length, arith, ap, refl, subst, sym}
 use Rattle.std.proofs.lemmas.Option.{slice_get_read}
 use Rattle.iss_base.specs.Lists.{push_all}
 use Rattle.iss_model.specs.Run.{booked, cores_of, posted_all}
