@@ -11,8 +11,8 @@ pub struct Poll {
     pub digest: [u8; 32],
 }
 
-/// The body of a message. `NewView` starts a round with the sender's highest prepareQC. `Prepare` proposes a node, whose
-/// parent is the one that `just` certifies. `PreCommit`, `Commit` and `Decide` broadcast the certificates of the three
+/// The body of a message. `NewView` starts a round with the sender's highest prepareQC. `Prepare` proposes a node with
+/// the parent that `just` certifies. `PreCommit`, `Commit` and `Decide` broadcast the certificates of the three
 /// phases. `Vote` is a vote of a phase.
 #[derive(Drop)]
 pub enum Body {

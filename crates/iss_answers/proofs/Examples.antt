@@ -4,7 +4,7 @@ use Rattle.std.specs.Fmt.{digits}
 use Rattle.hex.specs.Hex.{encode_with}
 use Rattle.iss_request.specs.declared.ids.ReqId.{ReqId}
 use Rattle.iss_reply.specs.declared.clients.Refusal.TheVariants.{BadReply, Twice}
-use Rattle.iss_reply.specs.declared.clients.Taken.TheVariants.{Counted, Accepted, Late, Refused}
+use Rattle.iss_reply.specs.declared.clients.Taken.TheVariants.{Accepted, Late, Refused}
 use Rattle.iss_reply.specs.declared.replies.Reply.{Reply}
 use Rattle.iss_answers.specs.Lines.{reply_line}
 use Rattle.iss_answers.specs.Printed.{end_line, taken_line}

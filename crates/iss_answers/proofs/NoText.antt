@@ -1,8 +1,7 @@
 -- A text with a bad line is the text of no replies.
-use Rattle.std.proofs.Common.{◌≡◌, ◌⊎◌, inl, inr, ℕ, ◌+◌, ◌≤◌, List, [], ◌∷◌, ◌++◌, length, length-append, map, append_assoc, append-nil, refl, sym, ap, ◌∙◌, subst, arith}
+use Rattle.std.proofs.Common.{◌≡◌, ◌⊎◌, inl, inr, ℕ, ◌+◌, ◌≤◌, List, [], ◌∷◌, ◌++◌, length, length-append, map, append_assoc, append-nil, sym, ap, ◌∙◌, subst, arith}
 use Rattle.std.proofs.lemmas.List.{length-map}
 use Rattle.std.specs.List.{AllByRecursion}
-use Rattle.iss_request.specs.declared.setups.Setup.{Setup}
 use Rattle.iss_reply.specs.declared.replies.Reply.{Reply}
 use Rattle.iss_schedule.specs.Words.{ended}
 use Rattle.iss_schedule.specs.Schedules.{most_events}

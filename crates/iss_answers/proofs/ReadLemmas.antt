@@ -1,5 +1,5 @@
 -- Where the reader of replies is, line by line, and why it refuses one.
-use Rattle.std.proofs.Common.{◌≡◌, ◌≢◌, inl, inr, ℕ, ◌+◌, ◌<◌, ◌≤◌, List, [], ◌∷◌, ◌++◌, length, length-append, map, refl, sym, ap, ◌∙◌, subst, arith}
+use Rattle.std.proofs.Common.{◌≡◌, inl, ℕ, ◌+◌, ◌<◌, ◌≤◌, List, [], ◌∷◌, ◌++◌, length, length-append, map, sym, ap, ◌∙◌, subst, arith}
 use Rattle.std.proofs.lemmas.List.{length-map, map-append}
 use Rattle.std.specs.List.{AllByRecursion}
 use Rattle.iss_reply.specs.declared.replies.Reply.{Reply}
@@ -13,7 +13,7 @@ use Rattle.iss_schedule.specs.declared.errors.ReadError.{ReadError}
 use Rattle.iss_schedule.specs.declared.errors.ReadError.TheVariants.{BadLine, NoMemory}
 use Rattle.iss_schedule.proofs.BadLines.PrefixesAreRead.{past}
 use Rattle.iss_texts.specs.Bodies.{IsBadNext, last_line}
-use Rattle.iss_texts.specs.Internal.Refusals.{IsBehindRefused, IsNextRefused}
+use Rattle.iss_texts.specs.Internal.Refusals.{IsNextRefused}
 use Rattle.iss_texts.proofs.BodyLemmas.{next-bad}
 use Rattle.iss_answers.specs.Internal.Reading.{IsBodyRefused, IsLineRefused}
 use Rattle.iss_answers.specs.Lines.{IsInRange, reply_line}

@@ -1,8 +1,7 @@
 -- What is printed for a text of replies: a line for each reply that a new client refuses, one for each answer that it
 -- accepts, and a last line. That is `end ok`, or `short` with the least identity of which a reply was counted and no
 -- answer accepted.
-use Rattle.std.specs.Prelude.{◌≡◌, ◌⊎◌, ℕ, ◌+◌, ◌<◌, ◌≤◌, Bool, true, false, not, ◌&&◌, if◌then◌else◌, List, [], ◌∷◌, ◌++◌, length, reverse, codes, decimal, Option, Some, None}
-use Rattle.iss_base.specs.Lists.{In}
+use Rattle.std.specs.Prelude.{◌≡◌, ◌⊎◌, ℕ, ◌+◌, ◌<◌, ◌≤◌, true, false, List, [], ◌∷◌, ◌++◌, length, reverse, codes, decimal, Option, Some, None}
 use Rattle.iss_request.specs.declared.ids.ReqId.{ReqId}
 use Rattle.iss_request.specs.declared.requests.Value.{Value}
 use Rattle.iss_request.specs.declared.setups.Setup.{Setup}
@@ -14,9 +13,7 @@ use Rattle.iss_reply.specs.declared.clients.Taken.{Taken}
 use Rattle.iss_reply.specs.declared.clients.Taken.TheVariants.{Counted, Accepted, Late, Refused}
 use Rattle.iss_reply.specs.declared.replies.Reply.{Reply}
 use Rattle.iss_answers.specs.Lines.{id_word}
-use Rattle.iss_answers.specs.Texts.{IsTold}
 use Rattle.iss_answers.specs.declared.printing.Printed.{Printed}
-use Rattle.iss_answers.specs.declared.told.Told.{Told}
 
 -- ---- lines; each ends with a line feed
 

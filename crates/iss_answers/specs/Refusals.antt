@@ -1,5 +1,5 @@
 -- Why a text is not one of replies: its first line that may not stand in its place, and the first reason.
-use Rattle.std.specs.Prelude.{◌≡◌, ◌≢◌, ◌⊎◌, ℕ, ◌+◌, ◌≤◌, List, [], ◌∷◌, ◌++◌, length, map}
+use Rattle.std.specs.Prelude.{◌≡◌, ◌≢◌, ◌⊎◌, ℕ, ◌+◌, ◌≤◌, List, ◌++◌, length, map}
 use Rattle.std.specs.List.{AllByRecursion}
 use Rattle.iss_request.specs.declared.setups.Setup.{Setup}
 use Rattle.iss_reply.specs.declared.replies.Reply.{Reply}

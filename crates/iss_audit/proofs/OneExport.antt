@@ -8,7 +8,7 @@ use Rattle.iss_request.specs.declared.requests.Value.{Value}
 use Rattle.iss_request.specs.declared.setups.Setup.{Setup}
 use Rattle.iss_checkpoint.specs.Certificates.{parse_cert, spell_cert}
 use Rattle.iss_checkpoint.specs.declared.votes.Cert.{Cert}
-use Rattle.iss_schedule.specs.Schedules.{IsKnown, header_lines}
+use Rattle.iss_schedule.specs.Schedules.{header_lines}
 use Rattle.iss_schedule.specs.Words.{Lacks, ended, word_of}
 use Rattle.iss_schedule.proofs.BadLines.LinesHaveTheirForm.{AreWhole, meets, whole_append, whole_header}
 use Rattle.iss_schedule.proofs.OneScheduleAText.{same_lines}

@@ -5,7 +5,7 @@ use Rattle.std.proofs.lemmas.Bool.{lt-ltb}
 use Rattle.std.proofs.lemmas.Bool.Decides.{nat_tests}
 use Rattle.iss_base.specs.Lists.{In}
 use Rattle.iss_base.specs.Quorum.{count_below}
-use Rattle.iss_base.proofs.Lists.{and-true, in_append, some-injective}
+use Rattle.iss_base.proofs.Lists.{in_append}
 use Rattle.iss_base.proofs.Quorum.{count-mono}
 use Rattle.iss_request.specs.Setup.{IsFewFaulty, IsGoodSetup}
 use Rattle.iss_request.specs.declared.requests.Value.{Value}
@@ -16,13 +16,13 @@ use Rattle.iss_request.specs.declared.ids.NodeId.{NodeId}
 use Rattle.iss_sb.specs.Evidence.{has_node, is_correct}
 use Rattle.iss_sb.proofs.Quorums.{count-nodes}
 use Rattle.iss_model.specs.Runs.{IsPrefix}
-use Rattle.iss_reply.specs.Clients.{AreHonest, IsReplyOf, cluster_of, is_signed}
+use Rattle.iss_reply.specs.Clients.{IsReplyOf, cluster_of}
 use Rattle.iss_reply.specs.Replies.{Replying, and_reply, replies_below, replies_to, replying, reply_at}
 use Rattle.iss_reply.specs.declared.replies.Reply.{Reply}
 use Rattle.iss_reply.proofs.LawLemmas.{own-reply, reply-longer}
 use Rattle.iss_answers.specs.Printed.{AreBelieved}
 use Rattle.iss_answers.proofs.BeliefLemmas.{all-believed}
-use Rattle.iss_believed.specs.Believed.{AreUnforged, IsAmong, longer, longest, made_by, replies_of_nodes}
+use Rattle.iss_believed.specs.Believed.{AreUnforged, longer, longest, made_by, replies_of_nodes}
 
 -- ---- at most f nodes are faulty
 

@@ -1,6 +1,6 @@
 -- The replies of a run: each correct node replies to the requests of its log, as the report prints it. These logs are
 -- prefixes of one log, the longest of them. What a client accepts of such replies is that log's answer.
-use Rattle.std.specs.Prelude.{◌≡◌, ℕ, zero, suc, ◌<◌, nat_lt, true, if◌then◌else◌, List, [], ◌∷◌, ◌++◌, length}
+use Rattle.std.specs.Prelude.{◌≡◌, ℕ, zero, suc, nat_lt, true, if◌then◌else◌, List, [], ◌++◌, length}
 use Rattle.iss_base.specs.Lists.{In}
 use Rattle.iss_request.specs.declared.requests.Value.{Value}
 use Rattle.iss_request.specs.declared.setups.Setup.{Setup}

@@ -1,5 +1,5 @@
 -- What a correct node exports is certified: its certificates are of correct logs, and correct logs are one.
-use Rattle.std.proofs.Common.{◌≡◌, inl, inr, ◌⊎◌, ℕ, suc, ◌+◌, ◌*◌, ◌==◌, ◌<◌, ◌≤◌, Bool, true, false, cond, if◌then◌else◌, List, [], ◌∷◌, ◌++◌, length, take, reverse, append_assoc, append-nil, length-append, Option, Some, None, true≢false, refl, sym, ap, ap₂, ◌∙◌, subst, arith}
+use Rattle.std.proofs.Common.{◌≡◌, inl, inr, ◌⊎◌, ℕ, suc, ◌+◌, ◌*◌, ◌==◌, ◌<◌, ◌≤◌, Bool, true, false, if◌then◌else◌, List, [], ◌∷◌, ◌++◌, length, take, reverse, append_assoc, append-nil, length-append, Option, Some, true≢false, refl, sym, ap, ap₂, ◌∙◌, subst, arith}
 use Rattle.std.specs.List.{AllByRecursion}
 use Rattle.std.specs.Prelude.{nat_le}
 use Rattle.std.proofs.lemmas.Bool.{leb-true}
@@ -7,9 +7,9 @@ use Rattle.std.proofs.lemmas.List.{length-reverse, reverse-append, take-append-l
 use Rattle.std.proofs.Math.Seq.{take-append_seam}
 use Rattle.hex.specs.Hex.{IsBytes}
 use Rattle.iss_base.specs.Heights.{IsHeight}
-use Rattle.iss_base.specs.Lists.{In, oldest}
+use Rattle.iss_base.specs.Lists.{In}
 use Rattle.iss_base.proofs.Lists.{and-true, in_append, in_left, in_right, is-eq, oldest-part}
-use Rattle.iss_audit.specs.Exports.{AreBytes, EachEpoch, IsCertOf, IsCertified, IsRangedCert, IsValue, IsWhole as IsWholeEpoch, keys_of, log_of, stated_in}
+use Rattle.iss_audit.specs.Exports.{AreBytes, EachEpoch, IsCertOf, IsCertified, IsRangedCert, IsValue, IsWhole as IsWholeEpoch, keys_of, log_of}
 use Rattle.iss_audit.specs.declared.exports.CertifiedEpoch.{CertifiedEpoch}
 use Rattle.iss_checkpoint.specs.Certificates.{IsSpelledCert, cert_row, spell_cert}
 use Rattle.iss_checkpoint.specs.Votes.{voters_of}
@@ -26,7 +26,7 @@ use Rattle.iss_model.specs.Node.{Core}
 use Rattle.iss_model.specs.Run.{Held}
 use Rattle.iss_model.specs.Runs.{IsPrefix, pasts_of}
 use Rattle.iss_request.specs.Digest.{digest}
-use Rattle.iss_request.specs.Fields.{Bad, Good, IsBad, IsReadAgain, Parsed}
+use Rattle.iss_request.specs.Fields.{IsBad, IsReadAgain, Parsed}
 use Rattle.iss_request.specs.Formats.{parse_value, spell_value}
 use Rattle.iss_request.specs.Setup.{IsGoodSetup, quorum_of_kind}
 use Rattle.iss_request.specs.declared.requests.Value.{Value}

@@ -1,5 +1,5 @@
 -- A certified log is a prefix of a correct node's log, unless two strings collide.
-use Rattle.std.proofs.Common.{◌≡◌, inl, inr, ◌⊎◌, ℕ, suc, ◌+◌, ◌*◌, ◌≤◌, Bool, true, false, List, [], ◌∷◌, ◌++◌, length, take, drop, append-nil, length-append, true≢false, refl, sym, ap, ◌∙◌, subst, arith}
+use Rattle.std.proofs.Common.{◌≡◌, inl, inr, ◌⊎◌, ℕ, suc, ◌+◌, ◌*◌, Bool, true, false, List, [], ◌∷◌, ◌++◌, length, take, drop, append-nil, length-append, true≢false, refl, sym, ap, ◌∙◌, subst, arith}
 use Rattle.std.specs.List.{AllByRecursion}
 use Rattle.std.proofs.lemmas.List.{length-take-le, take-append-drop}
 use Rattle.iss_audit.specs.Exports.{EachEpoch, IsCertified, IsValue, IsWhole as IsWholeEpoch, keys_of, log_of}
@@ -8,7 +8,7 @@ use Rattle.iss_audit.proofs.EpochLemmas.{log-push}
 use Rattle.iss_base.specs.Lists.{In, same_bytes}
 use Rattle.iss_base.specs.Quorum.{mem}
 use Rattle.iss_base.proofs.Lists.{in_append, in_left, in_right, same_bytes-is, same_bytes-refl}
-use Rattle.iss_checkpoint.specs.Votes.{vote_statement, voters_of}
+use Rattle.iss_checkpoint.specs.Votes.{voters_of}
 use Rattle.iss_checkpoint.proofs.SignedLemmas.{signer-among}
 use Rattle.iss_composition.specs.Checkpoints.{scheme_of}
 use Rattle.iss_log.specs.Chains.{chain_of}

@@ -3,12 +3,10 @@ use Rattle.std.proofs.Common.{◌≡◌, ℕ, ◌*◌, Bool, true, List, [], len
 use Rattle.iss_audit.specs.Exports.{EachEpoch, IsCertified, IsCertifiedText, IsWhole as IsWholeEpoch, keys_of, log_of}
 use Rattle.iss_audit.specs.declared.exports.CertifiedEpoch.{CertifiedEpoch}
 use Rattle.iss_audit.specs.declared.exports.Export.{Export}
-use Rattle.iss_base.specs.Lists.{In}
-use Rattle.iss_checkpoint.specs.Votes.{vote_statement, voters_of}
+use Rattle.iss_checkpoint.specs.Votes.{voters_of}
 use Rattle.iss_composition.specs.Checkpoints.{scheme_of}
 use Rattle.iss_composition.specs.Cluster.{AllSpelled}
 use Rattle.iss_composition.proofs.Reached.{good-reach}
-use Rattle.iss_model.specs.Runs.{pasts_of}
 use Rattle.iss_request.specs.declared.setups.Setup.{Setup}
 use Rattle.iss_rules.specs.Concrete.{rules_of}
 use Rattle.iss_rules.specs.Past.{Past, log_of as past_log}

@@ -1,5 +1,5 @@
 -- A text that is short has few lines: each epoch's certificate holds a signature, which is long.
-use Rattle.std.proofs.Common.{◌≡◌, ℕ, zero, suc, ◌+◌, ◌*◌, ◌==◌, ◌<◌, ◌≤◌, Bool, true, false, if◌then◌else◌, List, [], ◌∷◌, ◌++◌, codes, length, map, length-append, refl, sym, ap, ◌∙◌, subst, arith}
+use Rattle.std.proofs.Common.{◌≡◌, ℕ, ◌+◌, ◌*◌, ◌==◌, ◌<◌, ◌≤◌, Bool, true, false, if◌then◌else◌, List, [], ◌∷◌, ◌++◌, codes, length, map, length-append, refl, sym, ap, ◌∙◌, arith}
 use Rattle.std.specs.Int.{to_be_bytes, w64}
 use Rattle.std.specs.List.{flat_map}
 use Rattle.std.specs.Prelude.{nat_le}
@@ -7,16 +7,14 @@ use Rattle.hex.proofs.HexLemmas.{length-encode_with}
 use Rattle.hex.specs.Hex.{lower_digits}
 use Rattle.iss_base.specs.Heights.{digests_of_height, has_two_levels}
 use Rattle.iss_base.proofs.Lists.{and-true, is-eq}
-use Rattle.iss_audit.specs.Exports.{EachEpoch, IsCertified, IsWhole as IsWholeEpoch, body_lines, cert_line, epoch_lines, keys_of, last_line, lines_of, text_of, value_line}
+use Rattle.iss_audit.specs.Exports.{EachEpoch, IsCertified, IsWhole as IsWholeEpoch, body_lines, cert_line, epoch_lines, keys_of, last_line, text_of, value_line}
 use Rattle.iss_audit.specs.declared.exports.CertifiedEpoch.{CertifiedEpoch}
 use Rattle.iss_audit.proofs.OneExport.{length-lines}
 use Rattle.iss_checkpoint.specs.Certificates.{cert_row, spell_cert}
 use Rattle.iss_checkpoint.specs.Votes.{voters_of}
-use Rattle.iss_checkpoint.specs.declared.votes.Cert.{Cert}
 use Rattle.iss_checkpoint.proofs.CertGrammar.{cert-related}
 use Rattle.iss_keys.proofs.DirectoryLemmas.{node-root, verified-by}
 use Rattle.iss_request.specs.Setup.{IsGoodSetup, quorum_of_kind}
-use Rattle.iss_request.specs.declared.requests.Value.{Value}
 use Rattle.iss_request.specs.declared.setups.Kind.{Kind}
 use Rattle.iss_request.specs.declared.setups.Kind.TheVariants.{Byzantine, Stopping}
 use Rattle.iss_request.specs.declared.setups.Setup.{Setup}

@@ -59,7 +59,8 @@ pub fn respond<L: Links, D: Disk>(
     ensures links_fail { IsErrOf result NodeError.LinksFault → UsesLinks order.entry × IsStarted order.entry input.now }
     ensures disk_fails { IsErrOf result NodeError.DiskFault → UsesDisk order.entry × IsStarted order.entry input.now }
     ensures links { HasCause (L.faults links.old) (L.faults links.new) (IsErrOf result NodeError.LinksFault) }
-    ensures disk { HasDiskCause (D.state disk.old).faults (D.state disk.new).faults (IsErrOf result NodeError.DiskFault) }
+    ensures disk { HasDiskCause (D.state disk.old).faults (D.state disk.new).faults
+        (IsErrOf result NodeError.DiskFault) }
     ensures same_links { ¬ UsesLinks order.entry → links.new ≡ links.old }
     ensures same_disk { ¬ UsesDisk order.entry → disk.new ≡ disk.old }
     ensures refused { IfOk result (λ a. a.outcome ≡ Outcome.RefusedConfiguration →

@@ -196,7 +196,8 @@ pub fn run_node<L: Links, D: Disk>(
     ensures links_fail { IsErrOf result NodeError.LinksFault → IsStarted (ModelNode order.entry) input.now }
     ensures disk_fails { IsErrOf result NodeError.DiskFault → IsStarted (ModelNode order.entry) input.now }
     ensures links { HasCause (L.faults links.old) (L.faults links.new) (IsErrOf result NodeError.LinksFault) }
-    ensures disk { HasDiskCause (D.state disk.old).faults (D.state disk.new).faults (IsErrOf result NodeError.DiskFault) }
+    ensures disk { HasDiskCause (D.state disk.old).faults (D.state disk.new).faults
+        (IsErrOf result NodeError.DiskFault) }
     ensures refused { IfOk result (λ a. a.outcome ≡ Outcome.RefusedConfiguration →
         (links.new ≡ links.old) × (disk.new ≡ disk.old)) }
 {
@@ -221,7 +222,8 @@ fn run_one<L: Links, D: Disk>(
     ensures links_fail { IsErrOf result NodeError.LinksFault → order.entry.node < (setup_of config.now).n }
     ensures disk_fails { IsErrOf result NodeError.DiskFault → order.entry.node < (setup_of config.now).n }
     ensures links { HasCause (L.faults links.old) (L.faults links.new) (IsErrOf result NodeError.LinksFault) }
-    ensures disk { HasDiskCause (D.state disk.old).faults (D.state disk.new).faults (IsErrOf result NodeError.DiskFault) }
+    ensures disk { HasDiskCause (D.state disk.old).faults (D.state disk.new).faults
+        (IsErrOf result NodeError.DiskFault) }
     ensures refused { IfOk result (λ a. a.outcome ≡ Outcome.RefusedConfiguration →
         (links.new ≡ links.old) × (disk.new ≡ disk.old)) }
 {
@@ -244,7 +246,8 @@ fn run_existing<L: Links, D: Disk>(
     ensures ok { IfOk result (λ a. Under config.now.module (IsOfNode config.now order.entry.node (L.ends links.old)
         (L.ends links.new) ((D.state disk.old).files order.entry.file.now) (D.state disk.new).history a)) }
     ensures links { HasCause (L.faults links.old) (L.faults links.new) (IsErrOf result NodeError.LinksFault) }
-    ensures disk { HasDiskCause (D.state disk.old).faults (D.state disk.new).faults (IsErrOf result NodeError.DiskFault) }
+    ensures disk { HasDiskCause (D.state disk.old).faults (D.state disk.new).faults
+        (IsErrOf result NodeError.DiskFault) }
 {
     // Its values are in range: there are at most ten nodes.
     let _config = config.config();
@@ -264,7 +267,8 @@ fn attach<L: Links, D: Disk>(
     ensures ends { OnOk result (L.ends links.new ≡ L.ends links.old) }
     ensures file { OnOk result ((D.state disk.new).history ≡ (D.state disk.old).files order.entry.file.now) }
     ensures links { HasCause (L.faults links.old) (L.faults links.new) (IsErrOf result NodeError.LinksFault) }
-    ensures disk { HasDiskCause (D.state disk.old).faults (D.state disk.new).faults (IsErrOf result NodeError.DiskFault) }
+    ensures disk { HasDiskCause (D.state disk.old).faults (D.state disk.new).faults
+        (IsErrOf result NodeError.DiskFault) }
 {
     links.attach(order.port, order.node, 1)?;
     match disk.attach(order.file) {
@@ -286,7 +290,8 @@ fn run_by_module<L: Links, D: Disk>(
     ensures ok { IfOk result (λ a. Under config.now.module (IsOfNode config.now me.0 (L.ends links.old)
         (L.ends links.new) (D.state disk.old).history (D.state disk.new).history a)) }
     ensures links { HasCause (L.faults links.old) (L.faults links.new) (IsErrOf result NodeError.LinksFault) }
-    ensures disk { HasDiskCause (D.state disk.old).faults (D.state disk.new).faults (IsErrOf result NodeError.DiskFault) }
+    ensures disk { HasDiskCause (D.state disk.old).faults (D.state disk.new).faults
+        (IsErrOf result NodeError.DiskFault) }
 {
     match config.config().module {
         1 => run_node_under::<Relay, L, D>(alloc, config, me, links, disk),
@@ -311,7 +316,8 @@ fn run_node_under<M: Sequenced, L: Links, D: Disk>(
     ensures ok { IfOk result (λ a. IsOfNode config.now me.0 (L.ends links.old) (L.ends links.new)
         (D.state disk.old).history (D.state disk.new).history a M.Msg M.spec) }
     ensures links { HasCause (L.faults links.old) (L.faults links.new) (IsErrOf result NodeError.LinksFault) }
-    ensures disk { HasDiskCause (D.state disk.old).faults (D.state disk.new).faults (IsErrOf result NodeError.DiskFault) }
+    ensures disk { HasDiskCause (D.state disk.old).faults (D.state disk.new).faults
+        (IsErrOf result NodeError.DiskFault) }
 {
     let config = config.config();
     let fresh = start_node::<M>(alloc, config, me)?;

@@ -81,7 +81,8 @@ fn answer<I: Source, L: Links, D: Disk>(
         (links.new ≡ links.old) × (disk.new ≡ disk.old)) }
     ensures source { HasCause (I.faults input.old) (I.faults input.new) (IsErrOf result AnswerError.SourceFailed) }
     ensures links { HasCause (L.faults links.old) (L.faults links.new) (IsErrOf result AnswerError.LinksFailed) }
-    ensures disk { HasDiskCause (D.state disk.old).faults (D.state disk.new).faults (IsErrOf result AnswerError.DiskFailed) }
+    ensures disk { HasDiskCause (D.state disk.old).faults (D.state disk.new).faults
+        (IsErrOf result AnswerError.DiskFailed) }
 {
     match read_words(alloc, words) {
         Ok(order) => answer_order(alloc, order, input, links, disk),
@@ -112,7 +113,8 @@ fn answer_order<I: Source, L: Links, D: Disk>(
         (links.new ≡ links.old) × (disk.new ≡ disk.old)) }
     ensures source { HasCause (I.faults input.old) (I.faults input.new) (IsErrOf result AnswerError.SourceFailed) }
     ensures links { HasCause (L.faults links.old) (L.faults links.new) (IsErrOf result AnswerError.LinksFailed) }
-    ensures disk { HasDiskCause (D.state disk.old).faults (D.state disk.new).faults (IsErrOf result AnswerError.DiskFailed) }
+    ensures disk { HasDiskCause (D.state disk.old).faults (D.state disk.new).faults
+        (IsErrOf result AnswerError.DiskFailed) }
 {
     if !reads(order) {
         return Ok(respond(alloc, order, &[], links, disk)?);

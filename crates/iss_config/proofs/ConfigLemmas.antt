@@ -1,5 +1,5 @@
 -- What a table holds, and the configuration that it is.
-use Rattle.std.proofs.Common.{◌≡◌, ℕ, ℤ, suc, pos, ◌≤◌, List, [], ◌∷◌, length, Option, Some, None, String, Global, refl, sym, ap, subst, arith, inl, inr, codes, option_and_then}
+use Rattle.std.proofs.Common.{◌≡◌, ℕ, ℤ, suc, pos, ◌≤◌, List, [], ◌∷◌, length, Option, Some, None, String, Global, refl, ap, subst, arith, inl, inr, codes, option_and_then}
 use Rattle.std.proofs.lemmas.Option.{same_Some}
 use Rattle.std.specs.Option.{IfNone}
 use Rattle.std.specs.List.Sorted.{IsStrictlySortedBy}
@@ -13,7 +13,7 @@ use Rattle.iss_request.specs.declared.setups.Kind.{Kind}
 use Rattle.iss_request.specs.declared.setups.Kind.TheVariants.{Byzantine, Stopping}
 use Rattle.iss_schedule.specs.Headers.{IsOneOf, module_rows, row_of}
 use Rattle.iss_schedule.specs.Schedules.{IsKnown}
-use Rattle.iss_config.specs.Configs.{IsInRange, entries_of, members_of, setup_of, whole}
+use Rattle.iss_config.specs.Configs.{entries_of, setup_of, whole}
 use Rattle.iss_config.specs.Internal.{HasNumber, Holds, HoldsProtocol, HoldsSizes, HoldsWork, IsTableOf, count_of, integer_at, protocol_of, sizes_of, work_of}
 use Rattle.iss_config.specs.declared.parts.Protocol.{Protocol}
 use Rattle.iss_config.specs.declared.parts.Sizes.{Sizes}

@@ -37,8 +37,8 @@ abbrev pub Restarts : List File → List File → Type 0
 Restarts [] new = new ≡ []
 Restarts (file ∷ past) new = (new ≡ restarted file ∷ file ∷ past) ⊎ ((new ≡ file ∷ past) × (file ≡ restarted file))
 
--- Where a disk works: on the file of this name. A disk that is borrowed is known by the number of its borrow, and behind
--- that by those of the disk that it borrows, so that whoever lent a disk knows it again.
+-- Where a disk works: on the file of this name. A disk that is borrowed is known by the number of its borrow, and
+-- behind that by those of the disk that it borrows, so that whoever lent a disk knows it again.
 pub record Place : Type 0 where
   pub name : List ℕ
   pub borrows : List ℕ

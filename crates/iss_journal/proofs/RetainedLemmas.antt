@@ -14,6 +14,13 @@ use Rattle.iss_journal.specs.declared.shared.SharedEntries.{SharedEntries}
 use Rattle.iss_journal.proofs.FrameLemmas.{frames-push}
 use Rattle.iss_journal.proofs.Retaining.{behind-next, behind-retained, filter-retained, retained-again, retained-event, retained-next, retained-split, retained-twice}
 
+-- ---- offsets
+
+-- Of the end of an entry in two parts.
+pub past : (end len : ℕ) (head body : List ℕ) → len ≡ length body →
+    end + (5 + (length head + len)) ≡ end + (5 + length (head ++ body))
+past end len head body is = omega (arith, is, length-append head body)
+
 -- ---- gates
 
 pub snapshots-next : (at : ℕ) (all : List (List ℕ)) (x : List ℕ) → snapshot_places at (all ++ x ∷ [])

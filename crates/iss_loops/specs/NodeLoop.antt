@@ -163,7 +163,7 @@ pub record HasLooped (events : List NodeEvent) (has : List NodeEvent → Type 0)
   pub grown : GrowsTo events later
   pub loops : (told : List End) → ends ≡ Some told → HasRun (loop told) later ends_now
 
--- The disk failed at an event. The journal has the events before it, and perhaps this one. Nothing was sent of this one.
+-- The disk failed at an event. The journal has the events before it, and perhaps this one, of which nothing was sent.
 pub record IsCut (B : NodeBehavior) (leaves : List NodeEvent → NodeEvent → Type 0) (events : List NodeEvent)
     (ends : Option (List End)) (progress : NodeProgress) (ends_now : Option (List End)) : Type 0 where
   pub kept : List NodeEvent

@@ -28,7 +28,7 @@ turn-same c k l a b d e x y f g h p q o r =
     ∙ (ap (λ (z : List Claim). record { core = c; entered = l; sends = b; own = e; early = z; strings = f }) o
     ∙ ap (λ (z : List (List ℕ)). record { core = c; entered = l; sends = b; own = e; early = y; strings = z }) r)))
 
-first-assoc : {A : Type 0} (a b c : Option A) → first_of (first_of a b) c ≡ first_of a (first_of b c)
+pub first-assoc : {A : Type 0} (a b c : Option A) → first_of (first_of a b) c ≡ first_of a (first_of b c)
 first-assoc None b c = refl
 first-assoc (Some x) b c = refl
 

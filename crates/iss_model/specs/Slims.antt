@@ -1,7 +1,7 @@
 -- Old instances may be retired. The slim part of a core has the core's log in place of all that its log was made of in
 -- earlier epochs: the instances of these epochs, and the pieces that were adopted. It has no votes of epochs with a
 -- certificate. Cores with equal slim parts take each event alike, so a replica may forget the rest.
-use Rattle.std.specs.Prelude.{◌≡◌, ℕ, ◌+◌, ◌≤◌, ◌<◌, Bool, not, List, [], Option, Some, None, length, is_some}
+use Rattle.std.specs.Prelude.{◌≡◌, ℕ, ◌+◌, ◌≤◌, ◌<◌, List, [], Option, Some, None, length}
 use Rattle.std.specs.List.{filter}
 use Rattle.iss_checkpoint.specs.declared.votes.Cert.{Cert}
 use Rattle.iss_checkpoint.specs.declared.votes.Vote.{Vote}

@@ -1,8 +1,8 @@
 -- All that a core took can be encoded, and so can each value of its log.
-use Rattle.std.proofs.Common.{◌≡◌, inl, inr, ℕ, ◌≤◌, ◌<◌, ◌-◌, Bool, true, false, cond, eqb, List, [], ◌∷◌, length, Some, None, refl, sym, ◌∙◌, subst, arith, le_trans}
+use Rattle.std.proofs.Common.{◌≡◌, inl, inr, ℕ, ◌≤◌, ◌<◌, ◌-◌, List, [], ◌∷◌, length, Some, refl, sym, ◌∙◌, subst, arith, le_trans}
 use Rattle.std.proofs.lemmas.Bool.Decides.{leb_tells}
-use Rattle.iss_base.specs.Lists.{Extends, In, nth}
-use Rattle.iss_base.proofs.Lists.{extends-refl, extends-tail, first-cases, none-some, nth-in, same_pair, set_at2-other, set_at2-same}
+use Rattle.iss_base.specs.Lists.{Extends, In}
+use Rattle.iss_base.proofs.Lists.{extends-refl, extends-tail, first-cases, none-some, same_pair, set_at2-other, set_at2-same}
 use Rattle.iss_request.specs.declared.requests.Value.{Value}
 use Rattle.iss_request.specs.declared.setups.Setup.{Setup}
 use Rattle.iss_sb.specs.declared.effects.Input.{Input}

@@ -50,8 +50,8 @@ JournalsRecover {Msg} s M =
     let st = stored W spell me events in st.core.past.epoch < 2 ^ 64 →
     IsRecovered W event_in me (reverse (retained (reverse st.entries))) st
 
--- So the snapshot of a core that an event lets enter an epoch is too long, or has an encoding: what is kept of the event
--- is the event itself only where its snapshot is too long.
+-- So the snapshot of a core that an event lets enter an epoch is too long, or has an encoding: what is kept of the
+-- event is the event itself only where its snapshot is too long.
 abbrev pub SnapshotsFit : {Msg : Type 0} → Setup → Module Msg → Type 0
 SnapshotsFit {Msg} s M =
     let W = frame_of s M in

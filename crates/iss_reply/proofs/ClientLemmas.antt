@@ -1,5 +1,5 @@
 -- What a client counts, and why it may believe an accepted answer.
-use Rattle.std.proofs.Common.{◌≡◌, refl, sym, ap, subst, ◌∙◌, inl, inr, ◌⊎◌, IsTrue, ◌↔◌, ℕ, zero, suc, ◌+◌, ◌<◌, Bool, true, false, true≢false, cond, ◌&&◌, ◌||◌, ◌==◌, List, [], ◌∷◌, ◌++◌, length, map, Option, Some, None, arith}
+use Rattle.std.proofs.Common.{◌≡◌, refl, sym, ap, subst, ◌∙◌, inl, inr, ◌⊎◌, IsTrue, ◌↔◌, ℕ, ◌+◌, ◌<◌, Bool, true, false, true≢false, cond, ◌&&◌, ◌||◌, ◌==◌, List, [], ◌∷◌, ◌++◌, length, map, Option, Some, None, arith}
 use Rattle.std.specs.Prelude.{not, nat_lt, slice_get, unwrap_or, IsSomeAnd, OnErr, Result, Ok, Err}
 use Rattle.std.proofs.Common.{◌/◌, take}
 use Rattle.std.proofs.lemmas.Bool.{lt-ltb}

@@ -1,6 +1,5 @@
 use Rattle.std.proofs.Common.{arith, ◌≡◌, ℕ, suc, ◌+◌, ◌<◌, Bool, true, false, List, [], ◌∷◌, cond, ◌||◌, length, drop, get_or, refl, sym, ap, ◌∙◌, subst, add-one, drop-cons}
 use Rattle.std.specs.Prelude.{not, nat_lt, ◌==◌, ◌≤◌, Some, None}
-use Rattle.std.specs.List.{list_any}
 use Rattle.std.proofs.lemmas.Bool.Decides.{nat_tests}
 use Rattle.iss_layout.specs.Layout.{Plan, bucket_of, bucket_owner}
 use Rattle.iss_rules.specs.Concrete.{number_of, rules_of}

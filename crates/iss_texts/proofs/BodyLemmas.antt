@@ -1,5 +1,5 @@
 -- What a bad rest of a text says, and that a good one has no fault.
-use Rattle.std.proofs.Common.{◌≡◌, ◌≢◌, inl, inr, ℕ, ◌+◌, ◌<◌, ◌≤◌, List, [], ◌∷◌, ◌++◌, length, length-append, refl, sym, ap, subst, ◌∙◌, arith}
+use Rattle.std.proofs.Common.{◌≡◌, ◌≢◌, inl, inr, ℕ, ◌+◌, ◌≤◌, List, [], ◌∷◌, ◌++◌, length, length-append, refl, sym, ap, subst, ◌∙◌, arith}
 use Rattle.iss_schedule.specs.BadLines.{IsNext}
 use Rattle.iss_schedule.specs.Schedules.{most_events}
 use Rattle.iss_schedule.specs.Words.{Lacks}

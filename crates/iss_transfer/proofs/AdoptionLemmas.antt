@@ -4,7 +4,7 @@ use Rattle.sha2.proofs.Facts256.{length-sha256}
 use Rattle.iss_base.specs.Lists.{In, same_bytes}
 use Rattle.iss_base.proofs.Lists.{and-true, ends-same, is-eq, same_bytes-is, some-injective}
 use Rattle.iss_keys.specs.Directories.{DirectoryView, VerifiesBy}
-use Rattle.iss_log.specs.Chains.{ChainsState, IsChainOf, chain_from, chain_of, end_from, end_of, linked, next_end, strings_from, strings_of, value_link}
+use Rattle.iss_log.specs.Chains.{ChainsState, IsChainOf, chain_from, chain_of, end_from, end_of, linked, strings_from, strings_of, value_link}
 use Rattle.iss_log.specs.declared.chains.End.{End}
 use Rattle.iss_log.proofs.ChainLemmas.{end-chain, end-from, strings-more}
 use Rattle.iss_request.specs.Digest.{digest}

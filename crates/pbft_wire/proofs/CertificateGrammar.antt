@@ -6,9 +6,9 @@ use Rattle.std.specs.List.{flat_map}
 use Rattle.iss_base.proofs.Lists.{and-true, both}
 use Rattle.iss_request.specs.Fields.{Good}
 use Rattle.iss_request.specs.Formats.{is_signature, spell_value}
-use Rattle.iss_request.specs.Parsing.{byte, number}
+use Rattle.iss_request.specs.Parsing.{number}
 use Rattle.iss_request.proofs.OneSpelling.{done_good, signature_again, signature_parts}
-use Rattle.iss_request.proofs.ParserLemmas.{byte_again, byte_parts, done_parts, test_parts, test_passed, then_good, then_parts}
+use Rattle.iss_request.proofs.ParserLemmas.{done_parts, test_parts, test_passed, then_good, then_parts}
 use Rattle.iss_sb.specs.Signers.{are_signers, is_signer, parse_signed, signer_of, spell_signed}
 use Rattle.iss_sb.proofs.Ascending.{IsExact, IsText, ascending-again, ascending-parts, in-front}
 use Rattle.iss_sb.proofs.SignerGrammar.{signed-exact}

@@ -49,7 +49,7 @@ asks p me xs (Cast slot batch) = if may_cast p me (state p me xs) slot.0 then So
 asks p me xs (Receive from msg) = asked_by p (state p me xs) (accepts xs) from.0 msg.body
 asks p me xs Timeout = None
 
--- ---- Bodies that are sent: first the answer, then the proposal that the input triggers; a step has at most one of both
+-- ---- Bodies that are sent: first the answer, then the proposal that the input triggers (at most one of each)
 
 -- a vote, to the leader of the view's round
 abbrev pub voted : Params → ℕ → List ℕ → List (To × Body)

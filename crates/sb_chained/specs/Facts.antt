@@ -60,7 +60,8 @@ pub record IsCertified (p : Params) (w : World Message) (view : ℕ) (d : List �
 -- The certificate in each message that a replica received, if it is valid, is votes of a quorum.
 abbrev pub AreCertified : Params → World Message → Type 0
 AreCertified p w = (i view : ℕ) (x : Item Message) (from : NodeId) (msg : Message) → In x (w i) →
-    x.input ≡ Receive from msg → is_good p view (inside msg.body) ≡ true → IsCertified p w view (digest_of (inside msg.body))
+    x.input ≡ Receive from msg → is_good p view (inside msg.body) ≡ true →
+    IsCertified p w view (digest_of (inside msg.body))
 
 -- ---- Nodes and branches whose strings were hashed
 

@@ -1,7 +1,7 @@
 -- Echo, a small Byzantine broadcast (3f+1 nodes, module 6). The leader sends a batch to all. Each node echoes the
 -- digest of the first batch that it took at a slot. Echoes of a quorum decide what the node itself took there. Batches
 -- are known by the digest of their string; what is taken is echoed once, with the next leaf, or two at the leader.
-use Rattle.std.specs.Prelude.{◌≡◌, ℕ, ◌+◌, ◌*◌, ◌^◌, ◌<◌, ◌==◌, ◌&&◌, ◌||◌, Bool, true, false, not, cond, nat_lt, nat_le, List, [], ◌∷◌, ◌++◌, length, Option, Some, None, is_some, if◌then◌else◌}
+use Rattle.std.specs.Prelude.{◌≡◌, ℕ, ◌+◌, ◌^◌, ◌<◌, ◌==◌, ◌&&◌, ◌||◌, Bool, true, false, not, cond, nat_lt, nat_le, List, [], ◌∷◌, ◌++◌, length, Option, Some, None, is_some, if◌then◌else◌}
 use Rattle.std.specs.Int.{to_be_bytes, w64}
 use Rattle.iss_base.specs.Lists.{first_of, same_bytes}
 use Rattle.iss_base.specs.Quorum.{count_below}

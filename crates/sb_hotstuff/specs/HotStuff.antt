@@ -68,8 +68,10 @@ shows phase view c =
 abbrev pub answers_heard : Params → State → State → ℕ → Body → List (To × Body)
 answers_heard p s k from (Prepare view what just) =
     if may_prepare p s from view what just then voted p 1 view (node_digest p view what just) else []
-answers_heard p s k from (PreCommit view shown) = if may_second p s view shown then voted p 2 view (digest_of shown) else []
-answers_heard p s k from (Commit view shown) = if may_third p s view shown then voted p 3 view (digest_of shown) else []
+answers_heard p s k from (PreCommit view shown) =
+    if may_second p s view shown then voted p 2 view (digest_of shown) else []
+answers_heard p s k from (Commit view shown) =
+    if may_third p s view shown then voted p 3 view (digest_of shown) else []
 answers_heard p s k from (Vote phase view d) =
     if keeps_vote p s from phase view d && is_reached p k phase view d
     then (To_all, shows phase view (certificate p k phase view d)) ∷ [] else []

@@ -51,7 +51,8 @@ impl Node {
     ) -> Result<Outcome, NoMemory>
         ensures { IfOk result (λ o. (s : State) (from : NodeId) (sig : List ℕ) → RefinesState self.old s →
             may_prepare context.now.p.now s from.0 view what just.now ≡ true →
-            Does context.now.p.now self.old self.new s (Input.Receive from (signed (Prepare view what just.now) sig)) o) }
+            Does context.now.p.now self.old self.new s
+            (Input.Receive from (signed (Prepare view what just.now) sig)) o) }
     {
         let parent = just.digest();
         let node = hash_node(context.alloc, context.p, None, &parent, &what)?;

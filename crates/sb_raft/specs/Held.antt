@@ -1,8 +1,6 @@
 -- What the parts of Raft's code hold: a log as its entries, with counts of the slots that they fill, and its committed
 -- index.
 use Rattle.std.specs.Prelude.{◌≡◌, ◌≤◌, ℕ, suc, ◌+◌, ◌==◌, ◌&&◌, Bool, false, cond, nat_le, List, [], ◌∷◌, drop, length, take}
-use Rattle.iss_request.specs.declared.ids.Slot.{Slot}
-use Rattle.iss_request.specs.declared.requests.Value.{Value}
 use Rattle.raft_wire.specs.declared.entries.Entry.{Entry}
 use Rattle.sb_raft.specs.Logs.{filled, merged, stay}
 use Rattle.sb_raft.specs.Rules.{log_limit}

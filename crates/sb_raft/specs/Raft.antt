@@ -1,6 +1,6 @@
 -- Raft as a module (Ongaro and Ousterhout, 2014): 2f+1 replicas of which f may stop. Its state is the fold of the step
 -- over what a replica took; the committed part of the log decides the slots.
-use Rattle.std.specs.Prelude.{ℕ, ◌+◌, ◌*◌, ◌==◌, true, List, [], ◌∷◌, take, Option, Some, None, if◌then◌else◌}
+use Rattle.std.specs.Prelude.{ℕ, true, List, [], ◌∷◌, take, Option, Some, None, if◌then◌else◌}
 use Rattle.iss_request.specs.declared.ids.Slot.{Slot}
 use Rattle.iss_request.specs.declared.requests.Batch.{Batch}
 use Rattle.iss_request.specs.declared.requests.Value.{Value}

@@ -1,6 +1,6 @@
 -- A node accepts at most one batch at a slot: it accepts only while it leads term 1, and then its log fills one more
 -- slot.
-use Rattle.std.proofs.Common.{◌≡◌, ℕ, zero, suc, ◌+◌, ◌<◌, ◌≤◌, Bool, true, false, cond, if◌then◌else◌, List, [], ◌∷◌, ◌++◌, refl, sym, subst, ap, ◌∙◌, inl, inr, Option, Some, None, arith, true≢false}
+use Rattle.std.proofs.Common.{◌≡◌, ℕ, zero, suc, ◌+◌, ◌<◌, ◌≤◌, Bool, true, false, cond, if◌then◌else◌, List, [], ◌∷◌, ◌++◌, refl, sym, subst, ap, ◌∙◌, inl, inr, Some, arith, true≢false}
 use Rattle.std.specs.Prelude.{◌==◌}
 use Rattle.iss_base.specs.Lists.{In, nth}
 use Rattle.iss_base.proofs.Lists.{is-eq, some-injective}
@@ -16,7 +16,6 @@ use Rattle.iss_sb.specs.Legal.{AreMade}
 use Rattle.iss_sb.specs.Laws.{AcceptsOnce}
 use Rattle.iss_sb.proofs.Legal.{legal-reached, once-made}
 use Rattle.iss_sb.proofs.Worlds.{accepts-cases}
-use Rattle.raft_wire.specs.declared.entries.Entry.{Entry}
 use Rattle.iss_sb.specs.declared.content.Content.TheVariants.{Holds}
 use Rattle.raft_wire.specs.declared.messages.Message.{Message}
 use Rattle.sb_raft.specs.Facts.{AreOnce}

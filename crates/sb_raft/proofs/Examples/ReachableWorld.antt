@@ -1,6 +1,6 @@
 -- The premises of the laws and facts can be met, also behind a later term: a reachable world in which node 0 commits and
 -- delivers in term 1, and then node 1 is elected in term 2, repairs the log of node 2, and commits the rest.
-use Rattle.std.proofs.Common.{◌≡◌, ◌<◌, ℕ, sym, ap, subst, ◌∙◌, inr, Bool, true, false, cond, eqb, List, [], ◌∷◌, take, Some, refl, inl, arith}
+use Rattle.std.proofs.Common.{◌≡◌, ℕ, sym, ap, subst, ◌∙◌, inr, Bool, true, false, cond, eqb, List, [], ◌∷◌, take, Some, refl, inl, arith}
 use Rattle.iss_base.specs.Lists.{In}
 use Rattle.iss_base.proofs.Lists.{eqb-other}
 use Rattle.iss_request.specs.Formats.{count_field, parse_batch, parse_count, parse_rest, parse_value, spell_batch, spell_count, spell_value}

@@ -1,12 +1,10 @@
 -- A step delivers the slots that the newly committed entries fill.
-use Rattle.std.proofs.Common.{◌≡◌, ℕ, zero, suc, ◌<◌, ◌≤◌, ◌==◌, Bool, true, false, if◌then◌else◌, List, [], ◌∷◌, ◌++◌, length, drop, get_or, refl, sym, subst, ap, ◌∙◌, Some, None, inl, inr, arith}
+use Rattle.std.proofs.Common.{◌≡◌, ℕ, suc, ◌<◌, ◌==◌, Bool, true, false, if◌then◌else◌, List, [], ◌∷◌, ◌++◌, length, drop, get_or, refl, sym, ap, ◌∙◌, Some, None}
 use Rattle.std.proofs.Math.Seq.{drop-cons}
 use Rattle.iss_base.specs.Lists.{In}
-use Rattle.iss_base.proofs.Lists.{eqb-same, is-eq}
 use Rattle.iss_request.specs.Slots.{AreAscending}
 use Rattle.iss_request.specs.declared.ids.Slot.{Slot}
 use Rattle.iss_request.specs.declared.requests.Value.{Value}
-use Rattle.iss_sb.specs.Calls.{AllIn, slots_of}
 use Rattle.iss_sb.specs.Paired.{paired, value_with}
 use Rattle.iss_sb.proofs.Paired.{pair-value, paired-none, paired-slot, value-pair}
 use Rattle.iss_sb.proofs.Slots.{another, drop-slot}

@@ -1,4 +1,4 @@
-use Rattle.std.proofs.Common.{◌≡◌, ◌<◌, ◌∙◌, ap, arith, length, reverse, subst, sym, take}
+use Rattle.std.proofs.Common.{◌<◌, ◌∙◌, ap, arith, length, reverse, subst, sym, take}
 use Rattle.iss_reply.specs.Clients.{Cluster, HasTaken, outcome}
 use Rattle.iss_answers.proofs.WrittenLemmas.{line-more, newest-first}
 use Rattle.iss_answers.proofs.printing.take_all.Goals as goal

@@ -1,5 +1,5 @@
 use Rattle.std.proofs.lemmas.Result.{err_from_is_err_and}
-use Rattle.iss_answers.proofs.ReadLemmas.{at-end, at-reply, bad-reply, no-next}
+use Rattle.iss_answers.proofs.ReadLemmas.{at-end, at-reply, no-next}
 use Rattle.iss_answers.proofs.reading.read_lines.Goals as goal
 
 pub returns-in_err-line-clause-bad : goal.returns-in_err-line-clause-bad

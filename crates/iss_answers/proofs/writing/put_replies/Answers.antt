@@ -1,6 +1,6 @@
 use Rattle.std.proofs.Common.{◌≡◌, ◌<◌, ◌^◌, ◌∙◌, [], Some, arith, subst}
 use Rattle.iss_reply.specs.Replies.{Replying, reply_at, replying}
-use Rattle.iss_answers.proofs.WrittenLemmas.{lines-all, lines-more, lines-none, replied, stopped}
+use Rattle.iss_answers.proofs.WrittenLemmas.{lines-more, lines-none, replied}
 use Rattle.iss_answers.proofs.writing.put_replies.Goals as goal
 
 pub requests-init : goal.requests-init

@@ -1,5 +1,4 @@
-use Rattle.std.proofs.Common.{◌<◌, true, ◌≡◌, ℕ, List}
-use Rattle.iss_request.specs.declared.requests.Value.{Value}
+use Rattle.std.proofs.Common.{ℕ}
 use Rattle.iss_model.proofs.Ranges.{at-cores}
 use Rattle.iss_theorems.specs.Headline.{course_after, held_after, shown}
 use Rattle.iss_rules.proofs.Nodes.{correct-below}

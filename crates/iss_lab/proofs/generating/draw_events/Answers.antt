@@ -1,4 +1,4 @@
-use Rattle.std.proofs.Common.{◌≡◌, ◌∙◌, ◌-◌, ◌+◌, ◌++◌, ap, List, ℕ, ◌<◌, arith}
+use Rattle.std.proofs.Common.{◌∙◌, ◌-◌, ◌+◌, ◌++◌, ap, List, ℕ, ◌<◌, arith}
 use Rattle.iss_schedule.specs.declared.schedules.Event.{Event}
 use Rattle.iss_lab.specs.Generated.{drawn_event, drawn_events}
 use Rattle.iss_lab.proofs.GeneratedLemmas.{one_more}

@@ -1,5 +1,4 @@
-use Rattle.std.proofs.Common.{◌≡◌, ◌∙◌, ◌≤◌, Bool, true, false, length, refl, sym, arith}
-use Rattle.std.specs.Prelude.{nat_lt}
+use Rattle.std.proofs.Common.{◌∙◌, ◌≤◌, true, false, length, refl, sym, arith}
 use Rattle.iss_rules.specs.Judge.{any_marked}
 use Rattle.iss_request.specs.Log.{ids}
 use Rattle.iss_segment.proofs.MarksLemmas.{judged, judged-outside, judged-unsigned, not-large}

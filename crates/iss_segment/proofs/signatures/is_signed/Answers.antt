@@ -1,4 +1,4 @@
-use Rattle.std.proofs.Common.{◌∙◌, ◌≤◌, ◌+◌, ℕ, List, ap, arith, length, sym, take}
+use Rattle.std.proofs.Common.{◌∙◌, ◌≤◌, ℕ, List, ap, arith, length}
 use Rattle.iss_rules.specs.Concrete.{request_statement}
 use Rattle.iss_segment.proofs.Signed.{signed-is}
 use Rattle.iss_segment.proofs.signatures.is_signed.Goals as goal

@@ -1,12 +1,7 @@
-use Rattle.std.proofs.Common.{arith, ℕ, ◌≡◌, ◌+◌, ◌++◌, List, length, length-append}
+use Rattle.std.proofs.Common.{arith, ◌+◌, ◌++◌, length}
 use Rattle.iss_journal.specs.SharedViews.{shared_in}
-use Rattle.iss_journal.proofs.RetainedLemmas.{count-event, end-after, ends-event, kept-after, shown-after, snapshots-event, with-event}
+use Rattle.iss_journal.proofs.RetainedLemmas.{count-event, end-after, ends-event, kept-after, past, shown-after, snapshots-event, with-event}
 use Rattle.iss_journal.proofs.retained.Retained.add_event.Goals as goal
-
--- the offset after an entry in two parts
-past : (end len : ℕ) (head body : List ℕ) → len ≡ length body →
-    end + (5 + (length head + len)) ≡ end + (5 + length (head ++ body))
-past end len head body is = omega (arith, is, length-append head body)
 
 pub invariant_of-self : goal.invariant_of-self
 invariant_of-self c =

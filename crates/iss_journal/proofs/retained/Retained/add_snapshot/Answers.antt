@@ -1,14 +1,9 @@
-use Rattle.std.proofs.Common.{rules, arith, ℕ, ◌≡◌, ◌∙◌, ◌+◌, true, false, ◌++◌, [], ◌∷◌, List, length, length-append, take, ap}
+use Rattle.std.proofs.Common.{rules, arith, ℕ, ◌≡◌, ◌∙◌, ◌+◌, true, false, ◌++◌, [], ◌∷◌, List, length, take, ap}
 use Rattle.std.specs.List.{filter}
 use Rattle.iss_journal.specs.Retained.{is_snapshot, retained}
 use Rattle.iss_journal.specs.SharedViews.{shared_in}
-use Rattle.iss_journal.proofs.RetainedLemmas.{count-snapshot, end-after, ends-snapshot, first-within, kept-after, longer_fewer, shown-after, snapshots-more, space_fewer, with-snapshot}
+use Rattle.iss_journal.proofs.RetainedLemmas.{count-snapshot, end-after, ends-snapshot, first-within, kept-after, longer_fewer, past, shown-after, snapshots-more, space_fewer, with-snapshot}
 use Rattle.iss_journal.proofs.retained.Retained.add_snapshot.Goals as goal
-
--- the offset after an entry in two parts
-past : (end len : ℕ) (head body : List ℕ) → len ≡ length body →
-    end + (5 + (length head + len)) ≡ end + (5 + length (head ++ body))
-past end len head body is = omega (arith, is, length-append head body)
 
 -- what is left of the entries, and the snapshot
 added : (es mid new : List (List ℕ)) (n : ℕ) (x : List ℕ) → retained es ≡ es → n ≡ length (filter is_snapshot es) →

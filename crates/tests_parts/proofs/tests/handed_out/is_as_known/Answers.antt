@@ -1,4 +1,4 @@
-use Rattle.std.proofs.Common.{◌≡◌, ◌≤◌, ◌∙◌, ◌^◌, length, ap, arith, sym, subst}
+use Rattle.std.proofs.Common.{◌≤◌, ◌^◌, length, ap, arith, sym, subst}
 use Rattle.std.proofs.Math.Pow.{pow_mono}
 use Rattle.std.specs.Prelude.{IfSome, slice_get}
 use Rattle.iss_keys.specs.Directories.{DirectoryView}
