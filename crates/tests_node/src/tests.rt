@@ -1,5 +1,6 @@
 //! Tests of public calls only.
 use crate::pbft_config;
+use crate::snapshots::disk_with;
 use iss_cluster::{NodeFailure, RunningNode, node, start_node};
 use iss_disk::{Disk, MemoryDisk};
 use iss_links::{Arrival, FailingLinks, Links, MemoryLinks};
@@ -19,10 +20,10 @@ const TWO_TURNS: &[u8] =
       clients = 8\nkeys = 4\nrequests = 0\nturns = 2\n";
 
 // Runs the node of a configuration over a disk, with these links.
-fn run_over<L: Links>(
+fn run_over(
     alloc: Global,
     text: &[u8],
-    links: &mut L,
+    links: &mut FailingLinks,
     disk: &mut MemoryDisk,
 ) -> Result<Result<Bytes, NodeFailure>, Fail> {
     let config = pbft_config(alloc, text)?;
@@ -34,14 +35,28 @@ fn run_over<L: Links>(
     Ok(ran)
 }
 
-// Runs the node over links in memory.
-fn run(
+// Links in memory, of whose calls those with the given numbers fail.
+fn links_of(alloc: Global, failing: &[u64]) -> Result<FailingLinks, Fail> {
+    let failing = Vec::from_slice(alloc, failing)?;
+    Ok(FailingLinks::new(MemoryLinks::new(alloc)?, failing))
+}
+
+// Why a run of two turns fails.
+fn failure_of(
     alloc: Global,
-    text: &[u8],
+    links: &mut FailingLinks,
     disk: &mut MemoryDisk,
-) -> Result<Result<Bytes, NodeFailure>, Fail> {
-    let mut links = MemoryLinks::new(alloc)?;
-    run_over(alloc, text, &mut links, disk)
+) -> Result<Option<NodeFailure>, Fail> {
+    match run_over(alloc, TWO_TURNS, links, disk)? {
+        Ok(_) => Ok(None),
+        Err(failure) => Ok(Some(failure)),
+    }
+}
+
+// What a run over links that never fail prints.
+fn printed(alloc: Global, text: &[u8], disk: &mut MemoryDisk) -> Result<Bytes, Fail> {
+    let mut links = links_of(alloc, &[])?;
+    Ok(run_over(alloc, text, &mut links, disk)??)
 }
 
 // Checks that a run prints this text, and that its journal has grown.
@@ -53,23 +68,24 @@ fn check_run(
     text: &[u8],
 ) -> Result<(), Fail> {
     let before = disk.length()?;
-    let printed = run(alloc, config, disk)??;
-    assert_eq!(rt; printed.as_slice(), text);
+    let found = printed(alloc, config, disk)?;
+    assert_eq!(rt; found.as_slice(), text);
     let now = disk.length()?;
     assert!(rt; before < now);
     Ok(())
 }
 
-// Checks that a run fails so.
+// Checks that a run over links of which these calls fail fails so.
 fn check_fails(
     rt: &impl Abort,
-    run: Result<Bytes, NodeFailure>,
+    alloc: Global,
+    disk: &mut MemoryDisk,
+    failing: &[u64],
     wanted: NodeFailure,
 ) -> Result<(), Fail> {
-    match run {
-        Ok(_) => assert!(rt; false),
-        Err(failure) => assert_eq!(rt; failure, wanted),
-    }
+    let mut links = links_of(alloc, failing)?;
+    let failure = failure_of(alloc, &mut links, disk)?;
+    assert_eq!(rt; failure, Some(wanted));
     Ok(())
 }
 
@@ -81,10 +97,7 @@ fn new_disk(alloc: Global) -> Result<MemoryDisk, Fail> {
 
 // A disk whose call number `calls` fails, and no other.
 fn failing_disk(alloc: Global, calls: usize) -> Result<MemoryDisk, Fail> {
-    let mut outcomes = Vec::new(alloc);
-    for _ in 0..calls {
-        outcomes.push(true)?;
-    }
+    let mut outcomes = vec![in alloc; true; calls]?;
     outcomes.push(false)?;
     Ok(new_disk(alloc)?.with_outcomes(outcomes))
 }
@@ -125,12 +138,9 @@ fn a_node_goes_on_from_its_journal(rt: HostRuntime) -> Result<(), Fail> {
 // An open gate, and no whole entry behind it.
 #[test]
 fn a_damaged_journal_is_refused(rt: HostRuntime) -> Result<(), Fail> {
-    let mut disk = new_disk(rt.alloc())?;
-    disk.reserve(2, 3)?;
-    disk.write_at(0, &[1, 0, 0])?;
-    disk.sync()?;
-    let answer = run(rt.alloc(), TWO_TURNS, &mut disk)?;
-    check_fails(&rt, answer, NodeFailure::Damaged { at: 0 })?;
+    let mut disk = disk_with(rt.alloc(), &[1, 0, 0])?;
+    let damaged = NodeFailure::Damaged { at: 0 };
+    check_fails(&rt, rt.alloc(), &mut disk, &[], damaged)?;
     let length = disk.length()?;
     assert_eq!(&rt; length, 3);
     Ok(())
@@ -139,45 +149,48 @@ fn a_damaged_journal_is_refused(rt: HostRuntime) -> Result<(), Fail> {
 #[test]
 fn a_failing_disk_is_a_fault(rt: HostRuntime) -> Result<(), Fail> {
     let mut disk = failing_disk(rt.alloc(), 0)?;
-    let answer = run(rt.alloc(), TWO_TURNS, &mut disk)?;
-    check_fails(&rt, answer, NodeFailure::DiskFault)
+    check_fails(&rt, rt.alloc(), &mut disk, &[], NodeFailure::DiskFault)
+}
+
+// Checks that a run fails whose disk fails at a call, and that the next one prints something.
+fn check_recovers(rt: &impl Abort, alloc: Global, calls: usize) -> Result<(), Fail> {
+    let mut disk = failing_disk(alloc, calls)?;
+    check_fails(rt, alloc, &mut disk, &[], NodeFailure::DiskFault)?;
+    let found = printed(alloc, TWO_TURNS, &mut disk)?;
+    assert!(rt; 0 < found.len());
+    Ok(())
 }
 
 // Whether attaching fails, or the first append, or the second: the next run goes on from what was kept.
 #[test]
 fn a_node_recovers_from_each_failing_call(rt: HostRuntime) -> Result<(), Fail> {
-    for step in 0..3 {
-        let mut disk = failing_disk(rt.alloc(), 2 + 3 * step)?;
-        let answer = run(rt.alloc(), TWO_TURNS, &mut disk)?;
-        check_fails(&rt, answer, NodeFailure::DiskFault)?;
-        let printed = run(rt.alloc(), TWO_TURNS, &mut disk)??;
-        assert!(&rt; 0 < printed.as_slice().len());
+    for calls in [2, 5, 8] {
+        check_recovers(&rt, rt.alloc(), calls)?;
     }
     Ok(())
+}
+
+// What arrives at the node behind a run whose disk fails at a call.
+fn sent_before(alloc: Global, calls: usize) -> Result<(Option<NodeFailure>, Arrival), Fail> {
+    let mut disk = failing_disk(alloc, calls)?;
+    let mut links = links_of(alloc, &[])?;
+    let failure = failure_of(alloc, &mut links, &mut disk)?;
+    Ok((failure, links.take(0)?))
 }
 
 // To attach a new journal and to append its first entry takes more than five calls. Before that nothing is sent.
 #[test]
 fn an_event_that_was_not_kept_sends_nothing(rt: HostRuntime) -> Result<(), Fail> {
     for calls in 0..5 {
-        let mut disk = failing_disk(rt.alloc(), calls)?;
-        let mut links = MemoryLinks::new(rt.alloc())?;
-        let answer = run_over(rt.alloc(), TWO_TURNS, &mut links, &mut disk)?;
-        check_fails(&rt, answer, NodeFailure::DiskFault)?;
-        match links.take(0)? {
-            Arrival::Nothing => assert!(&rt; true),
-            _ => assert!(&rt; false),
-        }
+        let (failure, arrival) = sent_before(rt.alloc(), calls)?;
+        assert_eq!(&rt; failure, Some(NodeFailure::DiskFault));
+        assert!(&rt; matches!(&arrival, Arrival::Nothing));
     }
     Ok(())
 }
 
 #[test]
 fn failing_links_are_a_fault(rt: HostRuntime) -> Result<(), Fail> {
-    let mut failing = Vec::new(rt.alloc());
-    failing.push(0)?;
-    let mut links = FailingLinks::new(MemoryLinks::new(rt.alloc())?, failing);
     let mut disk = new_disk(rt.alloc())?;
-    let answer = run_over(rt.alloc(), TWO_TURNS, &mut links, &mut disk)?;
-    check_fails(&rt, answer, NodeFailure::LinksFault)
+    check_fails(&rt, rt.alloc(), &mut disk, &[0], NodeFailure::LinksFault)
 }

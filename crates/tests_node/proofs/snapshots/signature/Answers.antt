@@ -1,5 +1,5 @@
 use Rattle.std.proofs.Common.{ℕ, ◌<◌, ◌^◌, sym, subst}
-use Rattle.tests_node.proofs.snapshots.request.Goals as goal
+use Rattle.tests_node.proofs.snapshots.signature.Goals as goal
 
 -- a key of height 2 has four leaves
 pub sign_request-requires-clause-leaf : goal.sign_request-requires-clause-leaf
