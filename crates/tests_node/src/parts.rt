@@ -2,7 +2,7 @@
 ghost use Rattle.std.specs.Prelude.{◌<◌};
 
 use crate::snapshots::{
-    AT_FIRST, AT_SECOND, BEHIND, FIRST, OPENS, SECOND, check_opens, cut, file_of, put_all, request,
+    AT_FIRST, AT_SECOND, BEHIND, FIRST, OPENS, check_opens, cut, file_of, joined, request,
     two_snapshots,
 };
 use iss_journal::AttachError;
@@ -37,15 +37,26 @@ const CERT: (usize, usize) = (6819, 11296);
 // Node 1 asks for epoch 1, as an early packet behind its length.
 const EARLY_ASK: &[u8] = &[0, 0, 0, 16, 1, 3, 1, 0, 0, 0, 0, 0, 0, 0, 1, 0, 0, 0, 0, 0];
 
-// Checks a journal of these entries, each in pieces.
+// Checks a journal of these entries.
 fn check(
     rt: &impl Abort,
     alloc: Global,
-    entries: &[&[&[u8]]],
+    entries: &[&[u8]],
     expected: Result<(), AttachError>,
 ) -> Result<(), Fail> {
     let file = file_of(alloc, entries)?;
     check_opens(rt, alloc, &file, expected)
+}
+
+// The first snapshot with these bytes in place of a part.
+fn with_part(
+    alloc: Global,
+    all: &[u8],
+    part: (usize, usize),
+    bytes: &[u8],
+) -> Result<Vec<u8>, Fail> {
+    let before = cut(all, (FIRST.0, part.0));
+    joined(alloc, &[before, bytes, cut(all, (part.1, FIRST.1))])
 }
 
 // Checks a journal of the first snapshot, which has these bytes in place of a part.
@@ -56,9 +67,8 @@ fn check_with(
     part: ((usize, usize), &[u8]),
     expected: Result<(), AttachError>,
 ) -> Result<(), Fail> {
-    let ((from, to), bytes) = part;
-    let pieces = [cut(all, (FIRST.0, from)), bytes, cut(all, (to, FIRST.1))];
-    check(rt, alloc, &[&pieces], expected)
+    let entry = with_part(alloc, all, part.0, part.1)?;
+    check(rt, alloc, &[&entry], expected)
 }
 
 // This number of copies of an item, behind the last two bytes of their count.
@@ -138,22 +148,26 @@ fn a_waiting_request_is_inside_the_window(rt: HostRuntime) -> Result<(), Fail> {
 
 // The first snapshot whose third value has the request that waits.
 fn with_request_in_log(alloc: Global, all: &[u8]) -> Result<Vec<u8>, Fail> {
-    let mut value = Vec::from_slice(alloc, &[1, 1])?;
-    value.extend_from_slice(cut(all, WAITING))?;
-    Ok(value)
+    let before = cut(all, (FIRST.0, VALUE.0));
+    let behind = cut(all, (VALUE.1, FIRST.1));
+    joined(alloc, &[before, &[1, 1], cut(all, WAITING), behind])
 }
 
-// The snapshot opens where no request waits, and the third value is no batch.
+// The first snapshot where no request waits, and whose third value is no batch.
+fn with_no_request(alloc: Global, all: &[u8]) -> Result<Vec<u8>, Fail> {
+    let before = cut(all, (FIRST.0, VALUE.0));
+    let between = cut(all, (VALUE.1, WAITING_COUNT.0));
+    let behind = cut(all, (WAITING.1, FIRST.1));
+    joined(alloc, &[before, &[0], between, &[0, 0], behind])
+}
+
 #[test]
 fn a_waiting_request_is_not_in_the_log(rt: HostRuntime) -> Result<(), Fail> {
     let alloc = rt.alloc();
     let all = two_snapshots(alloc, false)?;
-    let value = with_request_in_log(alloc, &all)?;
-    check_with(&rt, alloc, &all, (VALUE, &value), AT_FIRST)?;
-    let before = cut(&all, (FIRST.0, VALUE.0));
-    let between = cut(&all, (VALUE.1, WAITING_COUNT.0));
-    let behind = cut(&all, (WAITING.1, FIRST.1));
-    let empty = [before, &[0], between, &[0, 0], behind];
+    let ordered = with_request_in_log(alloc, &all)?;
+    check(&rt, alloc, &[&ordered], AT_FIRST)?;
+    let empty = with_no_request(alloc, &all)?;
     check(&rt, alloc, &[&empty], OPENS)
 }
 
@@ -169,12 +183,10 @@ fn certified(alloc: Global, all: &[u8], votes: &[u8]) -> Result<Vec<u8>, Fail> {
     let before = cut(all, (FIRST.0, CERT_COUNT.0));
     let between = cut(all, (CERT_COUNT.1, VOTE_COUNT.0));
     let behind = cut(all, (VOTE.1, FIRST.1));
-    let mut entry = Vec::new(alloc);
-    put_all(
-        &mut entry,
+    joined(
+        alloc,
         &[before, &[0, 1], cut(all, CERT), between, votes, behind],
-    )?;
-    Ok(entry)
+    )
 }
 
 #[test]
@@ -182,17 +194,25 @@ fn a_snapshot_has_no_vote_for_a_certified_epoch(rt: HostRuntime) -> Result<(), F
     let alloc = rt.alloc();
     let all = two_snapshots(alloc, false)?;
     let voted = certified(alloc, &all, cut(&all, (VOTE_COUNT.0, VOTE.1)))?;
-    check(&rt, alloc, &[&[&voted]], AT_FIRST)
+    check(&rt, alloc, &[&voted], AT_FIRST)
+}
+
+// The second snapshot with its certificate twice.
+fn certified_twice(alloc: Global, all: &[u8]) -> Result<Vec<u8>, Fail> {
+    let before = cut(all, (BEHIND.0, SECOND_COUNT.0));
+    let behind = cut(all, (CERT.1, BEHIND.1));
+    joined(
+        alloc,
+        &[before, &[0, 2], cut(all, CERT), cut(all, CERT), behind],
+    )
 }
 
 #[test]
 fn a_certificate_stands_once_in_a_snapshot(rt: HostRuntime) -> Result<(), Fail> {
     let alloc = rt.alloc();
     let all = two_snapshots(alloc, false)?;
-    let before = cut(&all, (BEHIND.0, SECOND_COUNT.0));
-    let behind = cut(&all, (CERT.1, BEHIND.1));
-    let twice = [before, &[0, 2], cut(&all, CERT), cut(&all, CERT), behind];
-    check(&rt, alloc, &[&[cut(&all, FIRST)], &twice], AT_SECOND)
+    let twice = certified_twice(alloc, &all)?;
+    check(&rt, alloc, &[cut(&all, FIRST), &twice], AT_SECOND)
 }
 
 #[test]
@@ -200,12 +220,12 @@ fn a_certificate_stands_in_one_snapshot(rt: HostRuntime) -> Result<(), Fail> {
     let alloc = rt.alloc();
     let all = two_snapshots(alloc, false)?;
     let certified = certified(alloc, &all, &[0, 0])?;
-    check(&rt, alloc, &[&[&certified]], OPENS)?;
+    check(&rt, alloc, &[&certified], OPENS)?;
     let at = certified.len() as u64 + 5;
     check(
         &rt,
         alloc,
-        &[&[&certified], &[cut(&all, BEHIND)]],
+        &[&certified, cut(&all, BEHIND)],
         Err(AttachError::Damaged { at }),
     )
 }
@@ -215,12 +235,15 @@ fn a_certificate_stands_in_one_snapshot(rt: HostRuntime) -> Result<(), Fail> {
 fn an_event_behind_the_last_snapshot_is_read(rt: HostRuntime) -> Result<(), Fail> {
     let alloc = rt.alloc();
     let all = two_snapshots(alloc, false)?;
-    let first = cut(&all, FIRST);
-    let second = cut(&all, BEHIND);
-    check(&rt, alloc, &[&[first], &[&[9]], &[second]], OPENS)?;
-    check(&rt, alloc, &[&[first], &[&[9]]], AT_SECOND)?;
-    check(&rt, alloc, &[&[first], &[&[4, 2]]], OPENS)?;
-    check(&rt, alloc, &[&[first], &[&[4, 3]]], AT_SECOND)
+    check(
+        &rt,
+        alloc,
+        &[cut(&all, FIRST), &[9], cut(&all, BEHIND)],
+        OPENS,
+    )?;
+    check(&rt, alloc, &[cut(&all, FIRST), &[9]], AT_SECOND)?;
+    check(&rt, alloc, &[cut(&all, FIRST), &[4, 2]], OPENS)?;
+    check(&rt, alloc, &[cut(&all, FIRST), &[4, 3]], AT_SECOND)
 }
 
 // Checks the first snapshot with these requests behind the last two bytes of their count, and request 1 as an event.
@@ -231,15 +254,10 @@ fn check_event(
     requests: &[u8],
     expected: Result<(), AttachError>,
 ) -> Result<(), Fail> {
+    let entry = with_part(alloc, all, (WAITING_COUNT.0, WAITING.1), requests)?;
     let packet = request(alloc, 1)?;
-    let before = cut(all, (FIRST.0, WAITING_COUNT.0));
-    let behind = cut(all, (WAITING.1, FIRST.1));
-    check(
-        rt,
-        alloc,
-        &[&[before, requests, behind], &[&[1], &packet]],
-        expected,
-    )
+    let event = joined(alloc, &[&[1], &packet])?;
+    check(rt, alloc, &[&entry, &event], expected)
 }
 
 // An event that the node would drop: the request that waits, once more.

@@ -123,11 +123,11 @@ fn go_on_with_restarts(
     Ok(sent)
 }
 
-// The file of these entries, each in pieces.
-pub(crate) fn file_of(alloc: Global, entries: &[&[&[u8]]]) -> Result<Vec<u8>, Fail> {
+// The file of these entries.
+pub(crate) fn file_of(alloc: Global, entries: &[&[u8]]) -> Result<Vec<u8>, Fail> {
     let mut file = Vec::new(alloc);
-    for pieces in entries {
-        put_entry(&mut file, pieces)?;
+    for entry in entries {
+        put_entry(&mut file, &[entry])?;
     }
     file.push(0)?;
     Ok(file)
@@ -145,11 +145,18 @@ fn put_entry(file: &mut Vec<u8>, pieces: &[&[u8]]) -> Result<(), Fail> {
 }
 
 // Appends pieces.
-pub(crate) fn put_all(file: &mut Vec<u8>, pieces: &[&[u8]]) -> Result<(), Fail> {
+fn put_all(file: &mut Vec<u8>, pieces: &[&[u8]]) -> Result<(), Fail> {
     for piece in pieces {
         file.extend_from_slice(piece)?;
     }
     Ok(())
+}
+
+// These pieces, one behind the other.
+pub(crate) fn joined(alloc: Global, pieces: &[&[u8]]) -> Result<Vec<u8>, Fail> {
+    let mut all = Vec::new(alloc);
+    put_all(&mut all, pieces)?;
+    Ok(all)
 }
 
 // Appends the entries that a journal reads.
@@ -191,6 +198,15 @@ fn entries_behind(alloc: Global, packets: &[&[u8]]) -> Result<Vec<u8>, Fail> {
     Ok(file)
 }
 
+// The entries of a snapshot and of two packets behind it.
+fn entries_with(alloc: Global, first: &[u8], second: &[u8]) -> Result<Vec<u8>, Fail> {
+    let mut file = Vec::new(alloc);
+    put_entry(&mut file, &[SNAPSHOT])?;
+    put_entry(&mut file, &[&[1], first])?;
+    put_entry(&mut file, &[&[1], second])?;
+    Ok(file)
+}
+
 #[test]
 fn a_snapshot_takes_the_place_of_the_event_that_ended_an_epoch(
     rt: HostRuntime,
@@ -198,10 +214,9 @@ fn a_snapshot_takes_the_place_of_the_event_that_ended_an_epoch(
     let alloc = rt.alloc();
     let own = vote(alloc, 0)?;
     let other = vote(alloc, 1)?;
-    let (own, other) = (own.as_slice(), other.as_slice());
-    let mut found = entries_behind(alloc, &[&[0], &[1], &[2], own, other])?;
-    found.push(0)?;
-    let wanted = file_of(alloc, &[&[SNAPSHOT], &[&[1], own], &[&[1], other]])?;
+    let packets: [&[u8]; 5] = [&[0], &[1], &[2], own.as_slice(), other.as_slice()];
+    let found = entries_behind(alloc, &packets)?;
+    let wanted = entries_with(alloc, own.as_slice(), other.as_slice())?;
     assert_eq!(rt; found.as_slice(), wanted.as_slice());
     Ok(())
 }
@@ -236,12 +251,10 @@ pub(crate) fn request(alloc: Global, number: u32) -> Result<Vec<u8>, Fail>
     requires { number < 4 }
 {
     let sig = signature(alloc, number)?;
-    let mut packet = Vec::new(alloc);
-    put_all(
-        &mut packet,
+    joined(
+        alloc,
         &[HEAD, &number.to_be_bytes(), NO_PAYLOAD, sig.as_slice()],
-    )?;
-    Ok(packet)
+    )
 }
 
 // Node 1 asks for epoch 0.
@@ -353,7 +366,7 @@ fn check_damaged(
 #[test]
 fn a_snapshot_is_damaged_at_each_byte(rt: HostRuntime) -> Result<(), Fail> {
     let alloc = rt.alloc();
-    let file = file_of(alloc, &[&[SNAPSHOT]])?;
+    let file = file_of(alloc, &[SNAPSHOT])?;
     check_opens(&rt, alloc, &file, OPENS)?;
     for at in 1..file.len().saturating_sub(1) {
         check_damaged(&rt, alloc, &file, at, 0)?;
@@ -364,7 +377,7 @@ fn a_snapshot_is_damaged_at_each_byte(rt: HostRuntime) -> Result<(), Fail> {
 // In the file of both snapshots: the first one, the gate of the second, and that one.
 pub(crate) const FIRST: (usize, usize) = (5, 4559);
 
-pub(crate) const SECOND: usize = 4559;
+const SECOND: usize = 4559;
 
 pub(crate) const BEHIND: (usize, usize) = (4564, 11302);
 
@@ -392,7 +405,7 @@ pub(crate) fn cut(bytes: &[u8], (from, to): (usize, usize)) -> &[u8] {
 fn a_snapshot_that_would_lose_something_is_damaged(rt: HostRuntime) -> Result<(), Fail> {
     let alloc = rt.alloc();
     let all = two_snapshots(alloc, false)?;
-    let file = file_of(alloc, &[&[cut(&all, FIRST)], &[cut(&all, BEHIND)]])?;
+    let file = file_of(alloc, &[cut(&all, FIRST), cut(&all, BEHIND)])?;
     check_opens(&rt, alloc, &file, OPENS)?;
     for at in OF_FIRST {
         check_damaged(&rt, alloc, &file, at, 0)?;
@@ -400,6 +413,6 @@ fn a_snapshot_that_would_lose_something_is_damaged(rt: HostRuntime) -> Result<()
     for at in OF_SECOND {
         check_damaged(&rt, alloc, &file, at, SECOND)?;
     }
-    let swapped = file_of(alloc, &[&[cut(&all, BEHIND)], &[cut(&all, FIRST)]])?;
+    let swapped = file_of(alloc, &[cut(&all, BEHIND), cut(&all, FIRST)])?;
     check_opens(&rt, alloc, &swapped, AT_FIRST)
 }
