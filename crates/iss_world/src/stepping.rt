@@ -7,10 +7,9 @@ ghost use Rattle.iss_model.specs.Frames.{claims_at_in, frame_of};
 ghost use Rattle.iss_keep.specs.State.{KeptRefinesCore};
 ghost use Rattle.iss_keep.specs.Steps.{IsSame};
 ghost use Rattle.iss_node.specs.Steps.{IsOfNodes, savepoint_of};
-ghost use Rattle.iss_model.specs.Courses.{Machines};
 ghost use Rattle.iss_world.specs.Books.{AddsStrings};
-ghost use Rattle.iss_world.specs.Refines.{Follows, IsLeftBy, RefinesMachines, RefinesSome, by_core};
-ghost use Rattle.iss_world.specs.Internal.Steps.{AnswersMachine, CompletesTurn, FollowsStep, IsWorking, MayRetreat, Reveals};
+ghost use Rattle.iss_world.specs.Refines.{Follows, RefinesSome, by_core};
+ghost use Rattle.iss_world.specs.Internal.Steps.{AnswersMachine, CompletesTurn, FollowsStep, IsLeftAt, IsWorking, MayRetreat, Reveals};
 
 use crate::claims::{Claims, book_own};
 use crate::ends::{EventOutcome, Evidence};
@@ -122,8 +121,7 @@ impl<M: Sequenced> Simulation<M> {
     // rule: Evidence: Of all cores the one that read the evidence is stale, and those whose disk has failed
     fn stop_at(&mut self, core: u32)
         requires core { core < cores_of self.old.setup }
-        ensures left { (w : Machines M.Msg) → RefinesMachines M.spec M.refines self.old w →
-            IsLeftBy M.spec M.refines (Some core) self.new w }
+        ensures left { IsLeftAt M.spec M.refines self.old self.new core }
         ensures same { self.new.setup ≡ self.old.setup }
     {
         let node = &mut self.nodes[core as usize];

@@ -27,7 +27,7 @@ use Rattle.iss_sb.specs.Calls.{Relation}
 use Rattle.iss_sb.specs.Evidence.{Module}
 use Rattle.iss_sb.specs.declared.effects.Claim.{Claim}
 use Rattle.iss_world.specs.Books.{AreHashed, AreSigned}
-use Rattle.iss_world.specs.Refines.{HasChanged, RefinesMachine, RefinesMachines, end_of}
+use Rattle.iss_world.specs.Refines.{HasChanged, IsLeftBy, RefinesMachine, RefinesMachines, end_of}
 use Rattle.iss_world.specs.State.{SimulationState}
 use Rattle.iss_world.specs.declared.ends.EventOutcome.{EventOutcome}
 use Rattle.iss_world.specs.declared.ends.Evidence.{Evidence}
@@ -127,6 +127,11 @@ CompletesTurn {Msg = Msg} m refines old new core before outcome r = (w : Machine
     (t : Turn Msg) → IsBehind m refines old w event core t before → IsMade t outcome →
     HasChanged m refines (Some core) new
     (with_disks w (kept_at w core event) (stepped_to old.setup w.held core (Taken t))) r
+
+-- A core read the evidence: all machines that the simulation refined are left so by it.
+abbrev pub IsLeftAt : {M Msg : Type 0} → Module Msg → Relation M Msg → (old new : SimulationState M Msg) → ℕ → Type 0
+IsLeftAt {Msg = Msg} m refines old new core = (w : Machines Msg) → RefinesMachines m refines old w →
+    IsLeftBy m refines (Some core) new w
 
 -- The node of this core may go back to this savepoint.
 abbrev pub MayRetreat : {M Msg : Type 0} → SimulationState M Msg → ℕ → Savepoint → Type 0
