@@ -13,7 +13,7 @@ ghost use Rattle.iss_node.specs.Steps.{savepoint_of};
 use crate::answers::{makes_stale, release};
 use crate::fresh::Fresh;
 use crate::keeping::journal_and_apply;
-use crate::reopening::open;
+use crate::reopening::{open, put};
 use iss_disk::{Disk, Failed, Fused};
 use iss_journal::{AttachError, Journal};
 use iss_keys::SharedDirectory;
@@ -140,7 +140,7 @@ impl<M: Sequenced, D: Disk> Kept<M, D> {
             &mut self.journal,
         ) {
             Ok(node) => {
-                self.node = node;
+                put(&mut self.node, node);
                 self.stale = false;
                 Ok(())
             }
@@ -168,7 +168,19 @@ impl<M: Sequenced, D: Disk> Kept<M, D> {
     pub fn into_disk(self) -> D
         ensures { result ≡ self.disk }
     {
-        self.journal.into_disk()
+        let Kept {
+            alloc: _,
+            setup,
+            directory,
+            me: _,
+            node,
+            journal,
+            stale: _,
+        } = self;
+        drop(setup);
+        drop(directory);
+        drop(node);
+        journal.into_disk()
     }
 
     /// Whether the node has to be reopened. So it is at first, and after `Failed`, `NoMemory`, a restart, a retreat or
