@@ -1,5 +1,5 @@
 -- What an answer says about the journal's disk.
-use Rattle.std.proofs.Common.{◌≡◌, inl, inr, ℕ, true, List, [], ◌∷◌, Option, Result, Ok, Err, IsErr, IsErrAnd, refl, sym, ap, ◌∙◌, subst, true≢false}
+use Rattle.std.proofs.Common.{◌≡◌, inl, inr, ℕ, true, List, [], ◌∷◌, Option, Result, Ok, Err, refl, sym, ap, ◌∙◌, subst}
 use Rattle.iss_disk.specs.Calls.{Device, HasCause, IfTold}
 use Rattle.iss_disk.specs.File.{File, settled}
 use Rattle.iss_journal.specs.Frames.{damaged, Reads, version_1}
@@ -35,11 +35,6 @@ loses-none before now P Q none h = record {
 
 pub no-error : {A E : Type 0} (x : A) (e : E) → ◌≡◌ {A = Result A E} (Ok x) (Err e) → ⊥
 no-error x e h = cc
-
--- What `?` hands on of an error.
-pub from-residual : {T E : Type 0} (r : Result T E) (error : E) → IsErr r × IsErrAnd r (λ e. e ≡ error) → r ≡ Err error
-from-residual (Ok x) error h = absurd (true≢false (sym h.0))
-from-residual {T = T} {E = E} (Err e) error h = ap (λ (z : E). let q : Result T E = Err z in q) h.1
 
 same-error : {A E : Type 0} (e d : E) → ◌≡◌ {A = Result A E} (Err e) (Err d) → e ≡ d
 same-error e d h = cc

@@ -25,7 +25,13 @@ pub(crate) fn release(made: Answer, kept: Result<(), EndError>) -> Result<Answer
 {
     match kept {
         Ok(()) => Ok(made),
-        Err(EndError::Failed) => Err(Failed),
-        Err(EndError::NoMemory) => Ok(Answer::NoMemory),
+        Err(EndError::Failed) => {
+            drop(made);
+            Err(Failed)
+        }
+        Err(EndError::NoMemory) => {
+            drop(made);
+            Ok(Answer::NoMemory)
+        }
     }
 }

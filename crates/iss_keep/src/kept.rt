@@ -8,16 +8,17 @@ ghost use Rattle.iss_keep.specs.Steps.{AnswersEvent, HasRetreated, IsJournaled, 
 ghost use Rattle.iss_keep.specs.Steps.{OnlyDisk, Refuses, ShowsAsBefore, StoresEvent, makes_stale};
 ghost use Rattle.iss_rules.specs.Setups.{IsSetupOf};
 ghost use Rattle.iss_node.specs.State.{IsMember};
+ghost use Rattle.iss_node.specs.Steps.{savepoint_of};
 
 use crate::answers::{makes_stale, release};
 use crate::fresh::Fresh;
 use crate::keeping::journal_and_apply;
-use crate::reopening::open;
+use crate::reopening::{open, put};
 use iss_disk::{Disk, Failed, Fused};
 use iss_journal::{AttachError, Journal};
 use iss_keys::SharedDirectory;
-use iss_node::{Answer, Node};
-use iss_request::{Epoch, NoMemory, NodeId, Setup};
+use iss_node::{Answer, Node, Savepoint};
+use iss_request::{NoMemory, NodeId, Setup};
 use iss_rules::NodeEvent;
 use iss_sb::Sequenced;
 use std::alloc::Global;
@@ -139,7 +140,7 @@ impl<M: Sequenced, D: Disk> Kept<M, D> {
             &mut self.journal,
         ) {
             Ok(node) => {
-                self.node = node;
+                put(&mut self.node, node);
                 self.stale = false;
                 Ok(())
             }
@@ -167,7 +168,19 @@ impl<M: Sequenced, D: Disk> Kept<M, D> {
     pub fn into_disk(self) -> D
         ensures { result ≡ self.disk }
     {
-        self.journal.into_disk()
+        let Kept {
+            alloc: _,
+            setup,
+            directory,
+            me: _,
+            node,
+            journal,
+            stale: _,
+        } = self;
+        drop(setup);
+        drop(directory);
+        drop(node);
+        journal.into_disk()
     }
 
     /// Whether the node has to be reopened. So it is at first, and after `Failed`, `NoMemory`, a restart, a retreat or
@@ -178,15 +191,21 @@ impl<M: Sequenced, D: Disk> Kept<M, D> {
         self.stale
     }
 
-    /// Truncates the log to its first `slots` slots and sets the epoch back. The node is stale, and reports this log
-    /// and epoch until it is reopened.
-    pub fn retreat(&mut self, slots: usize, epoch: Epoch)
-        requires slots { slots ≤ length self.old.node.state.log.entries }
-        requires epoch { epoch.0 ≤ self.old.node.state.epoch }
-        ensures { HasRetreated self.old self.new slots epoch.0 }
+    /// Where the node is now, to which it can retreat.
+    pub fn savepoint(&self) -> Savepoint
+        ensures { result ≡ savepoint_of self.now.node }
+    {
+        self.node.savepoint()
+    }
+
+    /// Truncates the log to the slots of a savepoint and sets its epoch. The node is stale, and reports this log and
+    /// epoch until it is reopened.
+    pub fn retreat(&mut self, to: Savepoint)
+        requires { to.slots ≤ length self.old.node.state.log.entries }
+        ensures { HasRetreated self.old self.new to }
     {
         self.stale = true;
-        self.node.retreat(slots, epoch);
+        self.node.retreat(to);
     }
 }
 

@@ -18,6 +18,7 @@ use iss_request::{NoMemory, NodeId, Setup};
 use iss_sb::Sequenced;
 use iss_snapshot::snapshots::KIND;
 use std::alloc::Global;
+use std::mem;
 
 /// A node that took no event, with unused keys.
 pub(crate) fn start_fresh<M: Sequenced>(
@@ -77,7 +78,10 @@ fn read_at<M: Sequenced>(
     requires { k < length (shared_in entries.now) }
     ensures { IfOk result (HasReadOn M.spec M.refines (slice_index_or (shared_in entries.now) k []) rebuilding) }
 {
-    let entry = entries.get(alloc, k)?;
+    let Ok(entry) = entries.get(alloc, k) else {
+        drop(rebuilding);
+        return Err(NoMemory);
+    };
     rebuilding.read(&entry)
 }
 
@@ -129,7 +133,10 @@ fn replay_entry<M: Sequenced>(
         return Ok(false);
     };
     match node.replay(alloc, event) {
-        Answer::Taken(_outcome) => Ok(true),
+        Answer::Taken(outcome) => {
+            drop(outcome);
+            Ok(true)
+        }
         Answer::Dropped(_why) => Ok(false),
         Answer::NoMemory => Err(NoMemory),
         Answer::Stale => Err(NoMemory),
@@ -201,8 +208,20 @@ fn recover<M: Sequenced, D: Disk>(
         return Err(AttachError::NoMemory);
     };
     let mut node = rebuild::<M, D>(alloc, setup, directory, me, journal, front)?;
-    replay_behind(alloc, setup, &mut node, journal, front)?;
-    Ok(node)
+    match replay_behind(alloc, setup, &mut node, journal, front) {
+        Ok(()) => Ok(node),
+        Err(error) => {
+            drop(node);
+            Err(error)
+        }
+    }
+}
+
+/// Replaces a node.
+pub(crate) fn put<M: Sequenced>(place: &mut Node<M>, node: Node<M>)
+    ensures { place.new ≡ node }
+{
+    drop(mem::replace(place, node));
 }
 
 /// Attaches the journal and recovers the node from its entries. `Failed` if the disk failed, `Damaged` as `recover`

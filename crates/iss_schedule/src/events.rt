@@ -147,6 +147,70 @@ impl<'a> Ranges<'a> {
         Some((core, NodeId(node as u8)))
     }
 
+    // The arguments of a proposal.
+    fn propose_in(&self, words: &mut Words) -> Option<Event>
+        ensures { Reads event_words (IsInRange self.now.setup.now) (text_of_name Name.Propose ∷ words.old) result }
+    {
+        let core = self.core_in(words)?;
+        Some(Event::Propose { core })
+    }
+
+    // The arguments of a delivery.
+    fn deliver_in(&self, words: &mut Words) -> Option<Event>
+        ensures { Reads event_words (IsInRange self.now.setup.now) (text_of_name Name.Deliver ∷ words.old) result }
+    {
+        let packet = packet_in(words)?;
+        Some(Event::Deliver { packet })
+    }
+
+    // The arguments of a loss.
+    fn lose_in(&self, words: &mut Words) -> Option<Event>
+        ensures { Reads event_words (IsInRange self.now.setup.now) (text_of_name Name.Lose ∷ words.old) result }
+    {
+        let packet = packet_in(words)?;
+        Some(Event::Lose { packet })
+    }
+
+    // The arguments of a calm.
+    fn calm_in(&self, words: &mut Words) -> Option<Event>
+        ensures { Reads event_words (IsInRange self.now.setup.now) (text_of_name Name.Calm ∷ words.old) result }
+    {
+        let pumps = pumps_in(words)?;
+        Some(Event::Calm { pumps })
+    }
+
+    // The arguments of a hold.
+    fn hold_in(&self, words: &mut Words) -> Option<Event>
+        ensures { Reads event_words (IsInRange self.now.setup.now) (text_of_name Name.Hold ∷ words.old) result }
+    {
+        let core = self.core_in(words)?;
+        Some(Event::Hold { core })
+    }
+
+    // The arguments of a release.
+    fn free_in(&self, words: &mut Words) -> Option<Event>
+        ensures { Reads event_words (IsInRange self.now.setup.now) (text_of_name Name.Free ∷ words.old) result }
+    {
+        let core = self.core_in(words)?;
+        Some(Event::Free { core })
+    }
+
+    // The arguments of a drop.
+    fn drop_in(&self, words: &mut Words) -> Option<Event>
+        ensures { Reads event_words (IsInRange self.now.setup.now) (text_of_name Name.Drop ∷ words.old) result }
+    {
+        let core = self.core_in(words)?;
+        Some(Event::Drop { core })
+    }
+
+    // The arguments of a restart.
+    fn restart_in(&self, words: &mut Words) -> Option<Event>
+        ensures { Reads event_words (IsInRange self.now.setup.now) (text_of_name Name.Restart ∷ words.old) result }
+    {
+        let core = self.core_in(words)?;
+        Some(Event::Restart { core })
+    }
+
     // The arguments of a timeout.
     fn timeout_in(&self, words: &mut Words) -> Option<Event>
         ensures { Reads event_words (IsInRange self.now.setup.now) (text_of_name Name.Timeout ∷ words.old) result }
@@ -225,22 +289,22 @@ impl<'a> Ranges<'a> {
         ensures { IfOk result (Reads event_words (IsInRange self.now.setup.now)
             (text_of_name name ∷ words.old)) }
     {
-        Ok(match name {
-            Name::Request => self.request_in(alloc, words)?,
-            Name::Propose => self.core_in(words).map(|core| Event::Propose { core }),
-            Name::Timeout => self.timeout_in(words),
-            Name::Ask => self.ask_in(words),
-            Name::Deliver => packet_in(words).map(|packet| Event::Deliver { packet }),
-            Name::Lose => packet_in(words).map(|packet| Event::Lose { packet }),
-            Name::Pump => words.is_done().then_some(Event::Pump),
-            Name::Calm => pumps_in(words).map(|pumps| Event::Calm { pumps }),
-            Name::Hold => self.core_in(words).map(|core| Event::Hold { core }),
-            Name::Free => self.core_in(words).map(|core| Event::Free { core }),
-            Name::Drop => self.core_in(words).map(|core| Event::Drop { core }),
-            Name::Restart => self.core_in(words).map(|core| Event::Restart { core }),
-            Name::Crash => self.crash_in(words),
-            Name::Bytes => self.injection_in(alloc, words)?,
-        })
+        match name {
+            Name::Request => self.request_in(alloc, words),
+            Name::Propose => Ok(self.propose_in(words)),
+            Name::Timeout => Ok(self.timeout_in(words)),
+            Name::Ask => Ok(self.ask_in(words)),
+            Name::Deliver => Ok(self.deliver_in(words)),
+            Name::Lose => Ok(self.lose_in(words)),
+            Name::Pump => Ok(words.is_done().then_some(Event::Pump)),
+            Name::Calm => Ok(self.calm_in(words)),
+            Name::Hold => Ok(self.hold_in(words)),
+            Name::Free => Ok(self.free_in(words)),
+            Name::Drop => Ok(self.drop_in(words)),
+            Name::Restart => Ok(self.restart_in(words)),
+            Name::Crash => Ok(self.crash_in(words)),
+            Name::Bytes => self.injection_in(alloc, words),
+        }
     }
 }
 

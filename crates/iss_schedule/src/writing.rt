@@ -142,6 +142,14 @@ fn put_one(out: &mut Vec<u8>, name: Name, number: u64) -> Result<(), NoMemory>
     put_number(out, number)
 }
 
+fn put_two(out: &mut Vec<u8>, name: Name, first: u64, second: u64) -> Result<(), NoMemory>
+    ensures { OnOk result (out.new.items ≡ out.old.items ++ text_of_name name ++ 32 ∷ decimal first
+        ++ 32 ∷ decimal second) }
+{
+    put_one(out, name, first)?;
+    put_number(out, second)
+}
+
 // Appends an event.
 fn put_event(alloc: Global, out: &mut Vec<u8>, event: &Event) -> Result<(), NoMemory>
     ensures { OnOk result (out.new.items ≡ out.old.items ++ spell_event event.now) }
@@ -153,19 +161,16 @@ fn put_event(alloc: Global, out: &mut Vec<u8>, event: &Event) -> Result<(), NoMe
             number,
             payload,
         } => {
-            put_one(out, Name::Request, u64::from(*core))?;
-            put_number(out, u64::from(*client))?;
+            put_two(out, Name::Request, u64::from(*core), u64::from(*client))?;
             put_number(out, u64::from(*number))?;
             put_bytes(alloc, out, payload.as_slice())
         }
         Event::Propose { core } => put_one(out, Name::Propose, u64::from(*core)),
         Event::Timeout { core, leader } => {
-            put_one(out, Name::Timeout, u64::from(*core))?;
-            put_number(out, u64::from(leader.0))
+            put_two(out, Name::Timeout, u64::from(*core), u64::from(leader.0))
         }
         Event::Ask { core, peer } => {
-            put_one(out, Name::Ask, u64::from(*core))?;
-            put_number(out, u64::from(peer.0))
+            put_two(out, Name::Ask, u64::from(*core), u64::from(peer.0))
         }
         Event::Deliver { packet } => put_one(out, Name::Deliver, *packet),
         Event::Lose { packet } => put_one(out, Name::Lose, *packet),
@@ -176,8 +181,7 @@ fn put_event(alloc: Global, out: &mut Vec<u8>, event: &Event) -> Result<(), NoMe
         Event::Drop { core } => put_one(out, Name::Drop, u64::from(*core)),
         Event::Restart { core } => put_one(out, Name::Restart, u64::from(*core)),
         Event::Crash { core, calls } => {
-            put_one(out, Name::Crash, u64::from(*core))?;
-            put_number(out, u64::from(*calls))
+            put_two(out, Name::Crash, u64::from(*core), u64::from(*calls))
         }
         Event::Bytes { core, bytes } => {
             put_one(out, Name::Bytes, u64::from(*core))?;

@@ -1,4 +1,5 @@
-use Rattle.std.proofs.Common.{◌≡◌, List, [], Option, true, refl, subst, ◌⊎◌, inl, inr}
+use Rattle.std.proofs.Common.{◌≡◌, List, [], Option, Bool, true, false, refl, subst, ◌⊎◌, inl, inr}
+use Rattle.std.specs.Prelude.{◌&&◌}
 use Rattle.clap.specs.Words.{App, Row, Text, Kinds, IsAmong, fault_of, is_simple, is_simple_and_free, subcommand_of}
 use Rattle.clap.specs.declared.error.ErrorKind.{ErrorKind}
 use Rattle.clap.specs.declared.error.ErrorKind.TheVariants.{OutOfMemory}
@@ -9,9 +10,12 @@ pub commands_are_free : is_simple_and_free commands ≡ true
 unfolding clap_on_literals
 commands_are_free = refl
 
+first_of_both : (x y : Bool) → (x && y) ≡ true → x ≡ true
+first_of_both true y e = refl
+first_of_both false y e = e
+
 commands_are_simple : is_simple commands ≡ true
-unfolding clap_on_literals
-commands_are_simple = refl
+commands_are_simple = first_of_both _ _ commands_are_free
 
 -- what a parse says, at the commands
 pub taken_of : (a : App) (ws : List Text) → a ≡ commands → (is_simple_and_free a ≡ true → fault_of a ws ≡ []) → fault_of commands ws ≡ []

@@ -1,6 +1,7 @@
 //! What the words of a call ask for, read by `clap`.
 #![tactic(auto)]
 
+mod forms;
 mod numbers;
 mod orders;
 mod reading;

@@ -2,7 +2,7 @@
 use std::alloc::AllocError;
 
 /// What the words of a call ask for.
-#[derive(Clone, Copy, Debug, PartialEq, Eq)]
+#[derive(Clone, Copy)]
 pub enum Order<'a> {
     /// The report of a schedule.
     Replay,
@@ -23,7 +23,7 @@ pub enum Order<'a> {
 }
 
 /// Which node runs. End i of the cluster's links is at port `port + i`, and the journal is the file of this name.
-#[derive(Clone, Copy, Debug, PartialEq, Eq)]
+#[derive(Clone, Copy)]
 pub struct NodeOrder<'a> {
     pub node: u32,
     pub port: u16,

@@ -1,11 +1,13 @@
 //! Reading the words of a call.
-ghost use Rattle.std.specs.Prelude.{◌≡◌, ◌≢◌, ◌↔◌, ℕ, [], Err, IfNone, IfOk, IfSome, IsTrue, codes, false, map, option_map, string_bytes};
-ghost use Rattle.clap.specs.Words.{app_of, fault_of, first_of, found_of, kind_of, new_app, rows_of, subcommand_of, subcommand_rows_of, with_rule, with_subcommand};
+ghost use Rattle.std.specs.Prelude.{◌≡◌, ◌≢◌, ◌↔◌, ℕ, List, [], Err, IfNone, IfOk, IfSome, IsTrue, Some, codes, false, map, option_map, string_bytes};
+ghost use Rattle.clap.specs.Words.{App, Row, Text, app_of, fault_of, first_of, found_of, kind_of, rows_of, subcommand_of, subcommand_rows_of, with_rule};
 ghost use Rattle.clap.specs.declared.Command.TheViews.{out-Command};
-ghost use Rattle.iss_words.specs.Commands.{Asks, IsOrder, IsPort, cluster, commands, export, lab, node, top, with_audits, with_replies, with_runs, word_rule};
+ghost use Rattle.iss_words.specs.Commands.{Asks, IsOrder, IsPort, commands, top, word_rule};
+ghost use Rattle.iss_words.specs.Forms.{see, see_all, with_commands, with_form, with_words};
 ghost use Rattle.iss_words.specs.Numbers.{IsNumberAt};
 ghost use Rattle.iss_words.specs.declared.orders.Order.{Order};
 
+use crate::forms::{Form, forms};
 use crate::numbers::read_number;
 use crate::orders::{NodeOrder, Order, WordsError};
 use clap::error::ErrorKind;
@@ -20,13 +22,18 @@ pub fn read_words<'a>(alloc: Global, words: &'a [String]) -> Result<Order<'a>, W
         ¬ Asks (map string_bytes words.entry.now) order }
 {
     let matches = matches_of(alloc, words)?;
-    match matches.subcommand() {
-        Some((name, inner)) => match order_of(name, inner) {
-            Some(order) => Ok(order),
-            None => Err(WordsError::Refused),
-        },
-        None => Err(WordsError::Refused),
-    }
+    order_in(&matches).ok_or(WordsError::Refused)
+}
+
+// What is asked for by the command that was found.
+fn order_in<'a>(matches: &ArgMatches<'a>) -> Option<Order<'a>>
+    ensures some { IfSome result (λ order. (name : Text) × (rows : List Row)
+        × (subcommand_rows_of matches.now ≡ Some (name, rows)) × IsOrder name rows order) }
+    ensures none { IfNone result ((order : Order) (name : Text) (rows : List Row) →
+        subcommand_rows_of matches.now ≡ Some (name, rows) → ¬ IsOrder name rows order) }
+{
+    let (name, inner) = matches.subcommand()?;
+    order_of(name, inner)
 }
 
 // What is asked for by the name of a command and its positionals.
@@ -131,13 +138,18 @@ fn matches_of<'a>(alloc: Global, words: &'a [String]) -> Result<ArgMatches<'a>, 
     };
     match command.try_get_matches_from(words) {
         Ok(matches) => Ok(matches),
-        Err(error) => {
-            if is_memory(&error) {
-                Err(WordsError::NoMemory)
-            } else {
-                Err(WordsError::Refused)
-            }
-        }
+        Err(error) => Err(refusal(&error)),
+    }
+}
+
+// Why words were not read, given `clap`'s error.
+fn refusal(error: &Error) -> WordsError
+    ensures { result ≡ WordsError.Refused → kind_of error.now ≢ ErrorKind.OutOfMemory }
+{
+    if is_memory(error) {
+        WordsError::NoMemory
+    } else {
+        WordsError::Refused
     }
 }
 
@@ -148,78 +160,62 @@ fn is_memory(error: &Error) -> bool
 }
 
 // The commands, as `clap` sees them.
-// rule: Program: The words are one command with its positionals
 fn commands<'a>(alloc: Global) -> Result<Command<'a>, AllocError>
     ensures { IfOk result (λ c. app_of c ≡ commands) }
 {
-    let command = with_command(with_audits(alloc)?, cluster(alloc)?)?;
-    with_command(command, node(alloc)?)
+    with_commands(alloc, top(alloc), forms())
 }
 
-// The commands on runs, on replies and on certified logs.
-fn with_audits<'a>(alloc: Global) -> Result<Command<'a>, AllocError>
-    ensures shape { IfOk result (λ c. app_of c ≡ with_audits) }
-    ensures globals { IfOk result (λ c. (out-Command c).has_globals ≡ false) }
+// The command with these commands more under it.
+fn with_commands<'a>(
+    alloc: Global,
+    above: Command<'a>,
+    forms: &[Form],
+) -> Result<Command<'a>, AllocError>
+    ensures { IfOk result (λ c. app_of c ≡ with_commands (app_of above.entry) (see_all forms.now)) }
 {
-    let command = with_command(with_replies(alloc)?, export(alloc)?)?;
-    with_command(command, Command::new(alloc, "audit"))
+    match forms {
+        [] => Ok(above),
+        [form, others @ ..] => {
+            let command = with_form(alloc, above, form)?;
+            with_commands(alloc, command, others)
+        }
+    }
 }
 
-// The commands on runs and on replies.
-fn with_replies<'a>(alloc: Global) -> Result<Command<'a>, AllocError>
-    ensures shape { IfOk result (λ c. app_of c ≡ with_replies) }
-    ensures globals { IfOk result (λ c. (out-Command c).has_globals ≡ false) }
+// The command with one more command under it.
+fn with_form<'a>(alloc: Global, above: Command<'a>, form: &Form) -> Result<Command<'a>, AllocError>
+    ensures { IfOk result (λ c. app_of c ≡ with_form (app_of above.entry) (see form.now)) }
 {
-    let command = with_command(with_runs(alloc)?, Command::new(alloc, "replies"))?;
-    with_command(command, Command::new(alloc, "answers"))
-}
-
-// The commands that print the runs of schedules.
-fn with_runs<'a>(alloc: Global) -> Result<Command<'a>, AllocError>
-    ensures shape { IfOk result (λ c. app_of c ≡ with_runs) }
-    ensures globals { IfOk result (λ c. (out-Command c).has_globals ≡ false) }
-{
-    let command = with_command(top(alloc), Command::new(alloc, "replay"))?;
-    with_command(command, lab(alloc)?)
+    match with_words(alloc, Command::new(alloc, form.name), form.words) {
+        Ok(command) => above.subcommand(command),
+        Err(error) => Err(error),
+    }
 }
 
 fn top<'a>(alloc: Global) -> Command<'a>
-    ensures shape { app_of result ≡ top }
-    ensures globals { (out-Command result).has_globals ≡ false }
+    ensures { app_of result ≡ top }
 {
     Command::new(alloc, "iss").subcommand_required(true)
 }
 
-fn lab<'a>(alloc: Global) -> Result<Command<'a>, AllocError>
-    ensures shape { IfOk result (λ c. app_of c ≡ lab) }
-    ensures globals { IfOk result (λ c. (out-Command c).has_globals ≡ false) }
+// The command with these positionals more.
+fn with_words<'a>(
+    alloc: Global,
+    command: Command<'a>,
+    ids: &[&'a str],
+) -> Result<Command<'a>, AllocError>
+    ensures shape { IfOk result (λ c. app_of c ≡ with_words (app_of command.entry) (map (λ w. w.now) ids.now)) }
+    ensures globals { IfOk result
+        (λ c. (out-Command command.entry).has_globals ≡ false → (out-Command c).has_globals ≡ false) }
 {
-    let command = Command::new(alloc, "lab");
-    let command = with_word(alloc, command, "number")?;
-    with_word(alloc, command, "events")
-}
-
-fn export<'a>(alloc: Global) -> Result<Command<'a>, AllocError>
-    ensures shape { IfOk result (λ c. app_of c ≡ export) }
-    ensures globals { IfOk result (λ c. (out-Command c).has_globals ≡ false) }
-{
-    with_word(alloc, Command::new(alloc, "export"), "core")
-}
-
-fn cluster<'a>(alloc: Global) -> Result<Command<'a>, AllocError>
-    ensures shape { IfOk result (λ c. app_of c ≡ cluster) }
-    ensures globals { IfOk result (λ c. (out-Command c).has_globals ≡ false) }
-{
-    with_word(alloc, Command::new(alloc, "cluster"), "port")
-}
-
-fn node<'a>(alloc: Global) -> Result<Command<'a>, AllocError>
-    ensures shape { IfOk result (λ c. app_of c ≡ node) }
-    ensures globals { IfOk result (λ c. (out-Command c).has_globals ≡ false) }
-{
-    let command = with_word(alloc, Command::new(alloc, "node"), "node")?;
-    let command = with_word(alloc, command, "port")?;
-    with_word(alloc, command, "file")
+    match ids {
+        [] => Ok(command),
+        [id, others @ ..] => {
+            let command = with_word(alloc, command, *id)?;
+            with_words(alloc, command, others)
+        }
+    }
 }
 
 // The command with one more positional.
@@ -233,14 +229,4 @@ fn with_word<'a>(
         (λ c. (out-Command command.entry).has_globals ≡ false → (out-Command c).has_globals ≡ false) }
 {
     command.arg(Arg::new(alloc, id).required(true))
-}
-
-// The command with one more command under it.
-fn with_command<'a>(above: Command<'a>, below: Command<'a>) -> Result<Command<'a>, AllocError>
-    requires { (out-Command below).has_globals ≡ false }
-    ensures shape { IfOk result (λ c. app_of c ≡ with_subcommand (app_of above.entry) (app_of below.entry).top) }
-    ensures globals { IfOk result
-        (λ c. (out-Command above.entry).has_globals ≡ false → (out-Command c).has_globals ≡ false) }
-{
-    above.subcommand(below)
 }

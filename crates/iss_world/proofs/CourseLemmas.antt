@@ -1,6 +1,7 @@
 -- Deliveries in sequence up to one that stops the run, and events that affect only the network.
 use Rattle.std.specs.Prelude.{option_map}
 use Rattle.std.proofs.Common.{◌≡◌, ℕ, zero, suc, ◌+◌, ◌-◌, ◌<◌, ◌≤◌, Bool, true, false, cond, List, [], ◌∷◌, ◌++◌, length, take, drop, get_or, Option, Some, None, Result, IfOk, refl, sym, ap, ◌∙◌, subst, arith}
+use Rattle.iss_base.proofs.Lists.{none-some}
 use Rattle.iss_base.specs.Lists.{nth}
 use Rattle.iss_rules.specs.Concrete.{request_of, rules_of}
 use Rattle.iss_rules.specs.Formats.{formats_of}
@@ -65,6 +66,16 @@ module _ {S : Type 0} (D : Driver S) where
   each-append (x ∷ xs) ys w =
       unless-append (delivers D w x).ended (delivers D w x) refl (delivers_each D (xs ++ ys)) (delivers_each D xs) (delivers_each D ys)
       (λ k. each-append xs ys k)
+
+  unless-goes : (o : Option End) (d : Upshot S) (more : S → Upshot S) → d.ended ≡ o → ((x : S) → (more x).ended ≡ None → (more x).lost ≡ None) →
+      (unless o d more).ended ≡ None → (unless o d more).lost ≡ None
+  unless-goes None d more is goes e = goes d.state e
+  unless-goes (Some end) d more is goes e = absurd (none-some end (sym e ∙ is))
+
+  -- If no delivery stops the run, all of them together are not lost.
+  each-goes : (xs : List ℕ) (w : S) → (delivers_each D xs w).ended ≡ None → (delivers_each D xs w).lost ≡ None
+  each-goes [] w e = refl
+  each-goes (x ∷ xs) w e = unless-goes (delivers D w x).ended (delivers D w x) (delivers_each D xs) refl (λ k. each-goes xs k) e
 
   calms-plus : (i k : ℕ) (w : S) → calms D (i + k) w ≡ unless (calms D i w).ended (calms D i w) (calms D k)
   calms-plus zero k w = let e : zero + k ≡ k = omega arith in ap (λ (n : ℕ). calms D n w) e
@@ -221,12 +232,26 @@ module _ {M Msg : Type 0} (m : Module Msg) (refines : Relation M Msg) where
         ap (λ (n : ℕ). calms D n w) whole ∙ calms-plus D i rest w ∙ ap (λ (z : Upshot (Machines Msg)). unless z.ended z (calms D rest)) now ∙ calms-quiet D rest u quiet in
         subst (λ (z : Upshot (Machines Msg)). HasChanged m refines None later z Done) (sym all) (st, refl, refl)
 
-  -- The packets in flight, while the simulation has not changed.
-  pub happened-pumped : (v same later : SimulationState M Msg) (w : Machines Msg) (packets : List ℕ) (r : EventOutcome) → same ≡ v → packets ≡ due v.network → RefinesMachines m refines v w →
-      HasChanged m refines (reader_of_each (driver_of same.setup m) packets w) later (delivers_each (driver_of same.setup m) packets w) r →
-      HasChanged m refines (reader_of_pump (driver_of v.setup m) w) later (pumps (driver_of v.setup m) w) r
-  happened-pumped v same later w packets r e is st d =
-      there-pumped v.setup same.setup later w (ap (λ (z : SimulationState M Msg). z.setup) e) w packets r (is ∙ ap (λ (u : Network). due u) st.network) d
+  -- An event that was not lost and did not stop the run was applied.
+  pub going-is : (d : Upshot (Machines Msg)) → d.lost ≡ None → d.ended ≡ None → d ≡ done d.state
+  going-is d l e i = record { state = d.state; lost = l i; ended = e i }
+
+  -- A pump is a calm of one.
+  other-reader : (reader : Option ℕ) (later : SimulationState M Msg) (w : Machines Msg) (r : EventOutcome) → HasChanged m refines None later (done w) r → HasChanged m refines reader later (done w) r
+  other-reader reader later w Done h = h
+  other-reader reader later w (Lost why) h = h
+  other-reader reader later w (Ended end) h = absurd (none-some (end_of end) h.2)
+
+  once : (later : SimulationState M Msg) (r : EventOutcome) (reader : Option ℕ) (o : Option End) (d : Upshot (Machines Msg)) → d.ended ≡ o → (d.ended ≡ None → d.lost ≡ None) →
+      HasChanged m refines (reader_at o reader None) later (unless o d (λ z. done z)) r → HasChanged m refines reader later d r
+  once later r reader None d e goes h =
+      subst (λ (z : Upshot (Machines Msg)). HasChanged m refines reader later z r) (sym (going-is d (goes e) e)) (other-reader reader later d.state r h)
+  once later r reader (Some end) d e goes h = h
+
+  pub once-pumped : (W : Driver (Machines Msg)) (later : SimulationState M Msg) (w : Machines Msg) (r : EventOutcome) →
+      HasChanged m refines (reader_of_calm W 1 w) later (calms W 1 w) r → HasChanged m refines (reader_of_pump W w) later (pumps W w) r
+  once-pumped W later w r h =
+      once later r (reader_of_pump W w) (pumps W w).ended (pumps W w) refl (each-goes W (due (W.network w)) w) h
 
   -- A fact about an event carries over to an equal event.
   pub at-event : (v later : SimulationState M Msg) (o : Result EventOutcome NoMemory) (e is : Event) → e ≡ is →
@@ -234,7 +259,3 @@ module _ {M Msg : Type 0} (m : Module Msg) (refines : Relation M Msg) where
       IfOk o (λ r. (w : Machines Msg) → RefinesMachines m refines v w → HasChanged m refines (reader_of (driver_of v.setup m) w e) later (apply_event (driver_of v.setup m) w e) r)
   at-event v later o e is same h =
       subst (λ (z : Event). IfOk o (λ r. (w : Machines Msg) → RefinesMachines m refines v w → HasChanged m refines (reader_of (driver_of v.setup m) w z) later (apply_event (driver_of v.setup m) w z) r)) (sym same) h
-
-  -- An event that was not lost and did not stop the run was applied.
-  pub going-is : (d : Upshot (Machines Msg)) → d.lost ≡ None → d.ended ≡ None → d ≡ done d.state
-  going-is d l e i = record { state = d.state; lost = l i; ended = e i }

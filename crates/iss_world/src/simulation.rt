@@ -4,11 +4,11 @@ ghost use Rattle.iss_base.specs.Lists.{nth};
 ghost use Rattle.iss_model.specs.Run.{cores_of, node_of};
 ghost use Rattle.iss_model.specs.Courses.{begin_machines, with_disk, with_packets};
 ghost use Rattle.iss_model.specs.Disks.{fused};
-ghost use Rattle.iss_model.specs.Driver.{apply_event, calms, delivers, delivers_each, done, injects, loses, pumps};
+ghost use Rattle.iss_model.specs.Driver.{apply_event, calms, delivers, delivers_each, done, injects, loses};
 ghost use Rattle.iss_rules.specs.Setups.{IsSetupOf};
 ghost use Rattle.iss_network.specs.Network.{cleared, due, held_to};
 ghost use Rattle.iss_schedule.specs.Events.{IsInRange};
-ghost use Rattle.iss_theorems.specs.Readers.{addressee, reader_of, reader_of_calm, reader_of_each, reader_of_pump};
+ghost use Rattle.iss_theorems.specs.Readers.{addressee, reader_of, reader_of_calm, reader_of_each};
 ghost use Rattle.iss_world.specs.Refines.{Follows, InMachines, RefinesMachines, RefinesSome, ShowsCore, by_core, by_none};
 ghost use Rattle.iss_world.specs.State.{AreBetweenCores};
 
@@ -107,7 +107,7 @@ impl<M: Sequenced> Simulation<M> {
             Event::Ask { core, peer } => self.take(alloc, *core, NodeEvent::AskFrom(*peer)),
             Event::Deliver { packet } => self.deliver(alloc, *packet),
             Event::Lose { packet } => Ok(self.lose(*packet)),
-            Event::Pump => self.pump(alloc),
+            Event::Pump => self.calm(alloc, 1),
             Event::Calm { pumps } => self.calm(alloc, *pumps),
             Event::Hold { core } => {
                 self.network.hold(*core);
@@ -170,16 +170,6 @@ impl<M: Sequenced> Simulation<M> {
         ensures found { IfOk result (λ packets. packets.items ≡ due self.old.network) }
     {
         self.network.due(alloc)
-    }
-
-    // Delivers all packets in flight for cores that are not held, ascending. Stops if a delivery reveals evidence.
-    fn pump(&mut self, alloc: Global) -> Result<EventOutcome, NoMemory>
-        requires { RefinesSome M.spec M.refines self.old }
-        ensures happened { IfOk result (Follows M.spec M.refines self.old self.new reader_of_pump pumps) }
-        ensures same { self.new.setup ≡ self.old.setup }
-    {
-        let packets = self.due(alloc)?;
-        self.deliver_each(alloc, packets.as_slice())
     }
 
     // Delivers these packets in order. Stops if a delivery reveals evidence.

@@ -1,38 +1,39 @@
 //! Proposals of view 0: batches that are cast to the leader, and the leader's PrePrepares.
-ghost use Rattle.std.specs.Prelude.{◌≡◌, ◌≤◌, ◌*◌, ◌+◌, length, IfOk};
+ghost use Rattle.std.specs.Prelude.{◌≡◌, ◌≤◌, ◌*◌, ◌+◌, length, true, IfOk, OnOk};
 ghost use Rattle.iss_keys.specs.KeyStates.{left_of};
+ghost use Rattle.iss_sb.specs.Calls.{IsNothing};
 ghost use Rattle.pbft_wire.specs.Signed.{PrePrepare};
 ghost use Rattle.sb_pbft.specs.Internal.Refines.{Does, HasAccepted, held, is_free, may_cast, may_take};
 
 use crate::pbft::Pbft;
 use crate::proposals::Proposal;
-use crate::sending::{send_prepare, sign_at};
+use crate::sending::{send_pre_prepare, send_prepare};
 use crate::settling::Touched;
 use crate::tallies::Envelope;
 use iss_keys::Keys;
 use iss_request::{Batch, NoMemory, NodeId, Slot, Value};
-use iss_sb::{Effects, Input, Params, To};
+use iss_sb::{Effects, Input, Params};
 use pbft_views::has_slot;
-use pbft_wire::signing::PRE_PREPARE;
-use pbft_wire::{Body, Mark, Message, string_of};
+use pbft_wire::{Mark, Message, string_of};
 use sb_context::Context;
 
-// Accepts a batch at a slot. Returns the value that holds it, the value's digest, and the effects: an accepted batch
-// and a hashed string.
+// Accepts a batch at a slot: the effects tell the batch and a hashed string. Returns the value that holds the batch,
+// and the value's digest.
 fn accept(
     context: &Context<Pbft>,
     slot: Slot,
     batch: Batch,
-) -> Result<(Value, [u8; 32], Effects<Message>), NoMemory>
-    ensures { IfOk result (λ r. HasAccepted context.now.p.now slot batch r.0 r.1 r.2) }
+    effects: &mut Effects<Message>,
+) -> Result<(Value, [u8; 32]), NoMemory>
+    ensures { IfOk result (λ r. IsNothing effects.old →
+        HasAccepted context.now.p.now slot batch r.0 r.1 effects.new) }
 {
-    let mut effects = Effects::nothing(context.alloc);
     effects.accepted = Some((slot, batch.copy()?));
     let value = Value::Batch(batch);
     let string = string_of(context.alloc, context.p, &value)?;
     let digest = context.p.directory.directory().digest(string.as_slice());
     effects.hashed.push(string)?;
-    Ok((value, digest, effects))
+    Ok((value, digest))
 }
 
 impl Pbft {
@@ -72,27 +73,38 @@ impl Pbft {
         ensures { IfOk result (λ e.
             Does context.now.p.now self.old self.new (Input.Cast slot batch) keys.old keys.new e) }
     {
+        let mut effects = Effects::nothing(context.alloc);
         if !self.may_cast(context.p, slot) {
-            return Ok(Effects::nothing(context.alloc));
+            return Ok(effects);
         }
-        let (value, digest, mut effects) = accept(context, slot, batch)?;
+        self.propose(context, slot, batch, keys, &mut effects)?;
+        Ok(effects)
+    }
+
+    // What follows a cast at a slot where the leader may propose.
+    fn propose(
+        &mut self,
+        context: &Context<Pbft>,
+        slot: Slot,
+        batch: Batch,
+        keys: &mut Keys,
+        effects: &mut Effects<Message>,
+    ) -> Result<(), NoMemory>
+        requires enough { 2 * length context.now.p.now.slots + 1 ≤ left_of keys.old }
+        requires may { may_cast context.now.p.now self.old slot.0 ≡ true }
+        ensures { OnOk result (IsNothing effects.old →
+            Does context.now.p.now self.old self.new (Input.Cast slot batch) keys.old keys.new effects.new) }
+    {
+        let (value, digest) = accept(context, slot, batch, effects)?;
         let view = 0;
         let mark = Mark { slot, view, digest };
-        let sig = sign_at(context, PRE_PREPARE, &mark, keys)?;
-        let said = value.copy()?;
-        let tag = sig.copy()?;
-        let body = Body::PrePrepare {
-            view,
-            slot,
-            value: said,
-        };
-        effects.sends.push((To::All, Message { body, sig: tag }))?;
+        let sig = send_pre_prepare(context, &mark, &value, keys, &mut effects.sends)?;
         let proposal = Proposal { value, digest, sig };
         self.proposals.put(view, slot, proposal)?;
         let answers = false;
         let touched = Touched { view, answers };
-        self.settle_at(context, touched, slot, keys, &mut effects)?;
-        Ok(effects)
+        self.settle_at(context, touched, slot, keys, effects)?;
+        Ok(())
     }
 
     // A backup accepts the leader's PrePrepare and sends its Prepare to all.
@@ -107,11 +119,31 @@ impl Pbft {
         ensures { IfOk result (λ e. Does context.now.p.now self.old self.new (Input.Receive offer.from
             (PrePrepare offer.view offer.slot (Value.Batch batch) offer.sig)) keys.old keys.new e) }
     {
+        let mut effects = Effects::nothing(context.alloc);
         if !self.may_take(context.p, offer.from, offer.view, offer.slot) {
-            return Ok(Effects::nothing(context.alloc));
+            return Ok(effects);
         }
+        self.follow(context, offer, batch, keys, &mut effects)?;
+        Ok(effects)
+    }
+
+    // What follows a PrePrepare that a backup may take.
+    fn follow(
+        &mut self,
+        context: &Context<Pbft>,
+        offer: Envelope,
+        batch: Batch,
+        keys: &mut Keys,
+        effects: &mut Effects<Message>,
+    ) -> Result<(), NoMemory>
+        requires enough { 2 * length context.now.p.now.slots + 1 ≤ left_of keys.old }
+        requires may { may_take context.now.p.now self.old offer.from.0 offer.view offer.slot.0 ≡ true }
+        ensures { OnOk result (IsNothing effects.old →
+            Does context.now.p.now self.old self.new (Input.Receive offer.from
+            (PrePrepare offer.view offer.slot (Value.Batch batch) offer.sig)) keys.old keys.new effects.new) }
+    {
         let slot = offer.slot;
-        let (value, digest, mut effects) = accept(context, slot, batch)?;
+        let (value, digest) = accept(context, slot, batch, effects)?;
         let view = 0;
         let mark = Mark { slot, view, digest };
         send_prepare(context, &mark, keys, &mut effects.sends)?;
@@ -120,7 +152,7 @@ impl Pbft {
         self.proposals.put(view, slot, proposal)?;
         let answers = false;
         let touched = Touched { view, answers };
-        self.settle_at(context, touched, slot, keys, &mut effects)?;
-        Ok(effects)
+        self.settle_at(context, touched, slot, keys, effects)?;
+        Ok(())
     }
 }

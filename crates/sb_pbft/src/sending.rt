@@ -3,7 +3,9 @@ ghost use Rattle.std.specs.Prelude.{◌≡◌, ◌<◌, ◌≤◌, ℕ, ◌∷�
 ghost use Rattle.iss_keys.specs.Directories.{AreKeysOf};
 ghost use Rattle.iss_keys.specs.KeyStates.{left_of};
 ghost use Rattle.iss_sb.specs.Statements.{signature};
+ghost use Rattle.iss_sb.specs.declared.effects.To.TheVariants.{All as To_all};
 ghost use Rattle.pbft_views.specs.Choice.{choice};
+ghost use Rattle.pbft_wire.specs.Signed.{PrePrepare};
 ghost use Rattle.pbft_wire.specs.Statements.{digest_of, state_at};
 ghost use Rattle.sb_pbft.specs.Makes.{DraftCommit, DraftNewView, DraftPrepare, DraftViewChange, choice_sigs};
 ghost use Rattle.sb_pbft.specs.Internal.Refines.{Sent};
@@ -11,7 +13,7 @@ ghost use Rattle.sb_pbft.specs.Internal.Refines.{Sent};
 use crate::pbft::Pbft;
 use crate::proposals::Choices;
 use iss_keys::Keys;
-use iss_request::{Bytes, NoMemory, Seq, Slot};
+use iss_request::{Bytes, NoMemory, Seq, Slot, Value};
 use iss_sb::{To, sign};
 use pbft_views::choice_digest;
 use pbft_wire::signing::{COMMIT, PRE_PREPARE, PREPARE};
@@ -34,6 +36,35 @@ pub fn sign_at(
 {
     let statement = state_at(context.alloc, context.p, kind, mark)?;
     sign(&statement, keys)
+}
+
+/// Signs the PrePrepare of this value and sends it to all. Returns the signature.
+pub fn send_pre_prepare(
+    context: &Context<Pbft>,
+    mark: &Mark,
+    value: &Value,
+    keys: &mut Keys,
+    sends: &mut Seq<(To, Message)>,
+) -> Result<Bytes, NoMemory>
+    requires { 0 < left_of keys.old }
+    ensures sig { IfOk result (λ s. (me : ℕ) → AreKeysOf me context.now.p.now.setup.keys keys.old →
+        s ≡ signature context.now.p.now me keys.old.used
+        (state_at context.now.p.now 1 mark.now.view mark.now.slot.0 mark.now.digest)) }
+    ensures used { OnOk result (keys.new ≡ record keys.old { used = keys.old.used + 1 }) }
+    ensures left { OnOk result (left_of keys.new + 1 ≡ left_of keys.old) }
+    ensures sent { IfOk result (λ s.
+        sends.new ≡ sends.old ++ (To_all, PrePrepare mark.now.view mark.now.slot value.now s) ∷ []) }
+{
+    let sig = sign_at(context, PRE_PREPARE, mark, keys)?;
+    let said = value.copy()?;
+    let tag = sig.copy()?;
+    let body = Body::PrePrepare {
+        view: mark.view,
+        slot: mark.slot,
+        value: said,
+    };
+    sends.push((To::All, Message { body, sig: tag }))?;
+    Ok(sig)
 }
 
 /// Signs a Prepare and sends it to all.

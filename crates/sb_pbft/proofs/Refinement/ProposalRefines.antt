@@ -118,15 +118,15 @@ module _ (p : Params) (m : Pbft) (slot : Slot) (batch : Batch) where
       go false = omega arith
 
   pub cast-sent : (m.me.0 == p.leader.0) ≡ true →
-      (x said : Value) (d sig tag : List ℕ) (k l : KeyState) (s t : List (To × Message)) → x ≡ Value_batch batch →
-      d ≡ digest_of p (Value_batch batch) → said ≡ x → tag ≡ sig →
+      (x : Value) (d sig : List ℕ) (k l : KeyState) (s t : List (To × Message)) → x ≡ Value_batch batch →
+      d ≡ digest_of p (Value_batch batch) →
       l ≡ record k { used = k.used + 1 } → ((me : ℕ) → AreKeysOf me p.setup.keys k → sig ≡ signature p me k.used (state_at p 1 0 slot.0 d)) → s ≡ [] →
-      t ≡ s ++ (To_all, PrePrepare 0 slot said tag) ∷ [] → Sent p (first_draft p m.me.0 (Some (slot, batch))) k l [] t
-  cast-sent leads x said d sig tag k l s t is hash same twin used signed none put =
+      t ≡ s ++ (To_all, PrePrepare 0 slot x sig) ∷ [] → Sent p (first_draft p m.me.0 (Some (slot, batch))) k l [] t
+  cast-sent leads x d sig k l s t is hash used signed none put =
       subst (λ (ds : List Draft). Sent p ds k l [] t) (sym (leader-draft leads))
-      (sent-one p (DraftPrePrepare slot (Value_batch batch)) (PrePrepare 0 slot said tag) k l [] t used
-      (λ me own. ap (λ (z : Value). PrePrepare 0 slot z tag) (same ∙ is) ∙ ap (λ (z : List ℕ). PrePrepare 0 slot (Value_batch batch) z) (twin ∙ signed me own ∙ ap (λ (z : List ℕ). signature p me k.used (state_at p 1 0 slot.0 z)) hash))
-      refl (put ∙ ap (λ (z : List (To × Message)). z ++ (To_all, PrePrepare 0 slot said tag) ∷ []) none))
+      (sent-one p (DraftPrePrepare slot (Value_batch batch)) (PrePrepare 0 slot x sig) k l [] t used
+      (λ me own. ap (λ (z : Value). PrePrepare 0 slot z sig) is ∙ ap (λ (z : List ℕ). PrePrepare 0 slot (Value_batch batch) z) (signed me own ∙ ap (λ (z : List ℕ). signature p me k.used (state_at p 1 0 slot.0 z)) hash))
+      refl (put ∙ ap (λ (z : List (To × Message)). z ++ (To_all, PrePrepare 0 slot x sig) ∷ []) none))
 
   pub told-sent : (m.me.0 == p.leader.0) ≡ false → (d : List ℕ) (k l : KeyState) (s t : List (To × Message)) →
       d ≡ digest_of p (Value_batch batch) → s ≡ [] → Sent p (DraftPrepare 0 slot d ∷ []) k l s t →

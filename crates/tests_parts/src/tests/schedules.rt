@@ -3,25 +3,21 @@ use iss_schedule::{read, write};
 use std::alloc::Global;
 use std::test::Fail;
 
-const HEADER: &str =
-    "iss 1\nmodule relay\nf 0\nepoch 3\nbuckets 3\nbatch 4\nwindow 8\npolicy simple\nclients 1\nkeys 4\nfaulty none\n";
-
-const EVENTS: &str =
-    "request 0 0 0 aa\nrequest 2 0 15 -\nrequest 1 0 7 00ff10\npropose 0\ntimeout 1 2\nask 2 0\n\
-     deliver 18446744073709551615\nlose 0\npump\ncalm 1000\ncalm 1\nhold 2\nfree 2\ndrop 1\n\
-     restart 2\ncrash 0 0\ncrash 1 1000\n";
+const TEXT: &[u8] =
+    b"iss 1\nmodule relay\nf 0\nepoch 3\nbuckets 3\nbatch 4\nwindow 8\npolicy simple\nclients 1\nkeys 4\nfaulty none\n\
+      request 0 0 0 aa\nrequest 2 0 15 -\nrequest 1 0 7 00ff10\npropose 0\ntimeout 1 2\nask 2 0\n\
+      deliver 18446744073709551615\nlose 0\npump\ncalm 1000\ncalm 1\nhold 2\nfree 2\ndrop 1\n\
+      restart 2\ncrash 0 0\ncrash 1 1000\n";
 
 // Whether reading and writing this schedule gives the same text.
-fn is_written_back(alloc: Global, header: &str, events: &str) -> Result<bool, Fail> {
-    let mut text = String::from_str(alloc, header)?;
-    text.push_str(events)?;
-    let schedule = read(alloc, text.as_bytes())?;
+fn is_written_back(alloc: Global, text: &[u8]) -> Result<bool, Fail> {
+    let schedule = read(alloc, text)?;
     let written = write(alloc, &schedule)?;
-    Ok(written.as_slice() == text.as_bytes())
+    Ok(written.as_slice() == text)
 }
 
 #[test]
 fn a_schedule_is_written_as_it_was_read(rt: HostRuntime) -> Result<(), Fail> {
-    assert!(rt; is_written_back(rt.alloc(), HEADER, EVENTS)?);
+    assert!(rt; is_written_back(rt.alloc(), TEXT)?);
     Ok(())
 }

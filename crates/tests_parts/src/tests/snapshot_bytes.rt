@@ -1,33 +1,52 @@
 //! Snapshots in bytes: one of an epoch of empty batches, whose bytes are another program's, with each cut of it; one
 //! with early packets; what has no encoding.
-use iss_request::{Batch, Bytes, DecodeError, Epoch, Seq, Value};
+use iss_request::{Bytes, DecodeError, Epoch, Value};
 use iss_snapshot::{Snapshot, decode_snapshot, encode_snapshot};
 use std::alloc::Global;
+use std::process::Abort;
 use std::test::Fail;
 
-const BYTES: [u8; 41] = [
-    5, 0, 0, 0, 0, 0, 0, 0, 0, 0, 0, 0, 0, 0, 0, 0, 1, 1, 0, 1, 0, 1, 0, 0, 0, 0, 1, 0, 0, 0, 0, 0,
-    0, 0, 0, 0, 0, 0, 0, 0, 0,
-];
-
 // A snapshot of an epoch with three empty batches, after which one leaf is used.
-fn first(alloc: Global, from: u64, early: Seq<Bytes>) -> Result<Snapshot, Fail> {
-    let mut values = Seq::new(alloc);
-    for _ in 0..3u8 {
-        values.push(Value::Batch(Batch::new(alloc)))?;
-    }
-    let mut epochs = Seq::new(alloc);
-    epochs.push(values)?;
-    Ok(Snapshot {
-        from: Epoch(from),
-        to: Epoch(1),
-        epochs,
-        leaf: 1,
-        waiting: Seq::new(alloc),
-        certs: Seq::new(alloc),
-        votes: Seq::new(alloc),
-        early,
-    })
+const BYTES: &[u8] =
+    b"\x05\0\0\0\0\0\0\0\0\0\0\0\0\0\0\0\x01\x01\0\x01\0\x01\0\0\0\0\x01\0\0\0\0\0\0\0\0\0\0\0\0\0\0";
+
+// The same with two early packets: 01 02 03, and one without a byte.
+const EARLY: &[u8] =
+    b"\x05\0\0\0\0\0\0\0\0\0\0\0\0\0\0\0\x01\x01\0\x01\0\x01\0\0\0\0\x01\0\0\0\0\0\0\0\0\0\0\0\0\0\x02\
+      \0\0\0\x03\x01\x02\x03\0\0\0\0";
+
+fn is_empty_batch(value: &Value) -> bool {
+    matches!(value, Value::Batch(batch) if batch.len() == 0)
+}
+
+// Whether the snapshot is of that epoch and that leaf.
+fn is_expected(snapshot: &Snapshot) -> bool {
+    let [values] = snapshot.epochs.as_slice() else {
+        return false;
+    };
+    snapshot.to == Epoch(1)
+        && snapshot.leaf == 1
+        && values.len() == 3
+        && values.as_slice().iter().all(is_empty_batch)
+}
+
+fn has_early(snapshot: &Snapshot) -> bool {
+    let [one, other] = snapshot.early.as_slice() else {
+        return false;
+    };
+    one.as_slice() == [1, 2, 3].as_slice() && other.len() == 0
+}
+
+// The bytes of the snapshot of these bytes from this epoch on, and whether it is as expected, and has the packets.
+fn written_again(
+    alloc: Global,
+    bytes: &[u8],
+    from: u64,
+) -> Result<(Bytes, bool, bool), DecodeError> {
+    let mut snapshot = decode_snapshot(alloc, 1, 3, bytes)?;
+    snapshot.from = Epoch(from);
+    let again = encode_snapshot(alloc, 1, &snapshot)?;
+    Ok((again, is_expected(&snapshot), has_early(&snapshot)))
 }
 
 fn is_refused(alloc: Global, bytes: &[u8]) -> bool {
@@ -37,42 +56,33 @@ fn is_refused(alloc: Global, bytes: &[u8]) -> bool {
     )
 }
 
+// Checks that the snapshot of these bytes is as expected, has the packets or not, and is encoded as them.
+fn check_bytes(rt: &impl Abort, alloc: Global, bytes: &[u8], packets: bool) -> Result<(), Fail> {
+    let (again, expected, early) = written_again(alloc, bytes, 0)?;
+    assert!(rt; again.as_slice() == bytes && expected && early == packets);
+    Ok(())
+}
+
+fn check_cuts(rt: &impl Abort, alloc: Global, bytes: &[u8]) {
+    for cut in 0..bytes.len() {
+        assert!(rt; is_refused(alloc, &bytes[..cut]), "{cut}");
+    }
+}
+
 #[test]
 fn an_epoch_of_empty_batches_has_these_bytes(rt: HostRuntime) -> Result<(), Fail> {
-    let alloc = rt.alloc();
-    let snapshot = first(alloc, 0, Seq::new(alloc))?;
-    let bytes = encode_snapshot(alloc, 1, &snapshot)?;
-    assert_eq!(rt; bytes.as_slice(), BYTES.as_slice());
-    for cut in 0..bytes.len() {
-        assert!(rt; is_refused(alloc, &bytes.as_slice()[..cut]));
-    }
-    Ok(())
+    check_cuts(&rt, rt.alloc(), BYTES);
+    check_bytes(&rt, rt.alloc(), BYTES, false)
 }
 
 #[test]
 fn a_snapshot_decodes_again(rt: HostRuntime) -> Result<(), Fail> {
-    let alloc = rt.alloc();
-    let mut early = Seq::new(alloc);
-    early.push(Bytes::of(Vec::from_slice(alloc, &[1, 2, 3])?))?;
-    early.push(Bytes::new(alloc))?;
-    let bytes = encode_snapshot(alloc, 1, &first(alloc, 0, early)?)?;
-    assert_eq!(rt; bytes.len(), 52);
-    let snapshot = decode_snapshot(alloc, 1, 3, bytes.as_slice())?;
-    assert_eq!(rt; snapshot.to, Epoch(1));
-    assert_eq!(rt; snapshot.leaf, 1);
-    assert_eq!(rt; snapshot.epochs.len(), 1);
-    let [one, other] = snapshot.early.as_slice() else {
-        panic!(rt; "there are two early packets");
-    };
-    assert_eq!(rt; one.as_slice(), [1, 2, 3].as_slice());
-    assert_eq!(rt; other.len(), 0);
-    Ok(())
+    check_bytes(&rt, rt.alloc(), EARLY, true)
 }
 
 #[test]
 fn a_snapshot_of_no_epoch_has_no_encoding(rt: HostRuntime) -> Result<(), Fail> {
-    let alloc = rt.alloc();
-    let bytes = encode_snapshot(alloc, 1, &first(alloc, 1, Seq::new(alloc))?)?;
-    assert!(rt; is_refused(alloc, bytes.as_slice()));
+    let (bytes, ..) = written_again(rt.alloc(), BYTES, 1)?;
+    assert!(rt; is_refused(rt.alloc(), bytes.as_slice()));
     Ok(())
 }

@@ -1,178 +1,171 @@
-//! Values and packets in bytes of each version. The digests are another program's; they have no contracts, so that no
-//! goal contains their bytes. Schedules show the first version.
+//! Values and packets in bytes of each version. The digests are another program's. Schedules show the first version.
 use iss_packet::{Packet, PacketError, PacketKind};
-use iss_request::{
-    Batch, Bytes, Epoch, ReqId, Request, Value, decode_value, digest_of, encode_value,
-};
-use std::alloc::Global;
+use iss_request::{Bytes, Epoch, Request, Value, decode_value, digest_of, encode_value};
+use std::alloc::{AllocError, Global};
+use std::process::Abort;
 use std::test::Fail;
 
-// SHA-256 of 40 00, by another program.
-fn nil_digest() -> [u8; 32] {
-    [
-        0xee, 0xc4, 0x12, 0x1f, 0x2a, 0x07, 0xb6, 0x1a, 0xba, 0x16, 0x41, 0x48, 0x12, 0xaa, 0x9a,
-        0xfc, 0x39, 0xab, 0x0a, 0x13, 0x63, 0x60, 0xa5, 0xac, 0xe2, 0x24, 0x0d, 0xc1, 0x9b, 0x04,
-        0x64, 0xeb,
-    ]
-}
+/// A version, a value's bytes before its requests, how many requests it has, and its digest: that of 40 and its bytes.
+/// The last of each version is the largest batch.
+type Spelled = (u8, &'static [u8], usize, &'static [u8]);
 
-// That of 40 0100.
-fn empty_digest() -> [u8; 32] {
-    [
-        0x99, 0xf9, 0xe3, 0x8a, 0x0c, 0x70, 0x2f, 0xea, 0xc1, 0xf8, 0x83, 0x45, 0x78, 0xbf, 0xab,
-        0x5f, 0xbc, 0x8e, 0xbd, 0x9e, 0xe8, 0xba, 0x4e, 0xdf, 0x6b, 0x07, 0x86, 0xe3, 0x62, 0x10,
-        0x12, 0xdc,
-    ]
-}
+const VALUES: &[Spelled] = &[
+    (
+        1,
+        &[0],
+        0,
+        b"\xee\xc4\x12\x1f\x2a\x07\xb6\x1a\xba\x16\x41\x48\x12\xaa\x9a\xfc\
+          \x39\xab\x0a\x13\x63\x60\xa5\xac\xe2\x24\x0d\xc1\x9b\x04\x64\xeb",
+    ),
+    (
+        1,
+        &[1, 0],
+        0,
+        b"\x99\xf9\xe3\x8a\x0c\x70\x2f\xea\xc1\xf8\x83\x45\x78\xbf\xab\x5f\
+          \xbc\x8e\xbd\x9e\xe8\xba\x4e\xdf\x6b\x07\x86\xe3\x62\x10\x12\xdc",
+    ),
+    (
+        1,
+        &[1, 1],
+        1,
+        b"\x0d\x7b\xb8\xbf\xb5\xdf\x2b\x18\x25\x3d\xc9\x4b\x36\xd8\x3a\x9a\
+          \x11\x15\x25\x08\xa6\x57\x1e\xcc\x42\x8c\xc1\xd9\xaf\xbd\x86\x23",
+    ),
+    (
+        1,
+        &[1, 32],
+        32,
+        b"\x6e\xb3\xe4\x11\xac\x0e\x34\x43\x96\x1b\x23\x4f\x90\xe4\x35\x14\
+          \x10\x95\xb4\xe4\x3a\xab\xf0\x55\xfd\x30\x92\x4a\x74\x3e\x28\x9d",
+    ),
+    (
+        2,
+        &[0],
+        0,
+        b"\xee\xc4\x12\x1f\x2a\x07\xb6\x1a\xba\x16\x41\x48\x12\xaa\x9a\xfc\
+          \x39\xab\x0a\x13\x63\x60\xa5\xac\xe2\x24\x0d\xc1\x9b\x04\x64\xeb",
+    ),
+    (
+        2,
+        &[2, 0, 0],
+        0,
+        b"\x40\x67\x17\x45\xe8\x38\xdb\x1a\x53\x6b\x2f\x68\x51\x16\xfe\x69\
+          \x94\x1f\xdc\x0d\xdc\xde\xf6\x1a\x23\x7f\xdd\x70\x21\xd8\xc9\xf7",
+    ),
+    (
+        2,
+        &[2, 0, 1],
+        1,
+        b"\xa0\xe4\x82\x77\xf9\xff\xb7\xef\x56\x3a\xe3\x44\xe7\xe1\x8e\xdb\
+          \x67\xef\x55\xbb\x91\x16\x4d\x10\xe6\x42\xc5\xaf\x34\x1b\xb4\xc6",
+    ),
+    (
+        2,
+        &[2, 1, 0],
+        256,
+        b"\x01\xe3\xe8\xd4\x1f\xf8\x47\xb0\x3a\x0c\x35\xc6\x1e\x38\xe1\xec\
+          \xa9\x66\xbe\x62\xfa\x58\xb3\x69\x91\x3d\xc0\x5c\xd5\x87\xa4\x83",
+    ),
+];
 
-// That of 40 and the value `one`.
-fn batch_digest() -> [u8; 32] {
-    [
-        0x0d, 0x7b, 0xb8, 0xbf, 0xb5, 0xdf, 0x2b, 0x18, 0x25, 0x3d, 0xc9, 0x4b, 0x36, 0xd8, 0x3a,
-        0x9a, 0x11, 0x15, 0x25, 0x08, 0xa6, 0x57, 0x1e, 0xcc, 0x42, 0x8c, 0xc1, 0xd9, 0xaf, 0xbd,
-        0x86, 0x23,
-    ]
-}
-
-// In version 2, that of 40 020000.
-fn empty_digest_2() -> [u8; 32] {
-    [
-        0x40, 0x67, 0x17, 0x45, 0xe8, 0x38, 0xdb, 0x1a, 0x53, 0x6b, 0x2f, 0x68, 0x51, 0x16, 0xfe,
-        0x69, 0x94, 0x1f, 0xdc, 0x0d, 0xdc, 0xde, 0xf6, 0x1a, 0x23, 0x7f, 0xdd, 0x70, 0x21, 0xd8,
-        0xc9, 0xf7,
-    ]
-}
-
-// In version 2, that of 40 and the value `one`.
-fn batch_digest_2() -> [u8; 32] {
-    [
-        0xa0, 0xe4, 0x82, 0x77, 0xf9, 0xff, 0xb7, 0xef, 0x56, 0x3a, 0xe3, 0x44, 0xe7, 0xe1, 0x8e,
-        0xdb, 0x67, 0xef, 0x55, 0xbb, 0x91, 0x16, 0x4d, 0x10, 0xe6, 0x42, 0xc5, 0xaf, 0x34, 0x1b,
-        0xb4, 0xc6,
-    ]
-}
-
-// Request 7.1 with payload aa, and a signature of height 2 with these bytes.
-fn signed(alloc: Global) -> Result<Request, Fail> {
-    let mut sig = Vec::new(alloc);
-    sig.push(2u8)?;
+// Appends request 7.1 with payload aa, and a signature of height 2 with these bytes.
+fn put_request(bytes: &mut Vec<u8>) -> Result<(), AllocError> {
+    bytes.extend_from_slice(&[7, 0, 0, 0, 1, 0, 1, 0xaa, 2])?;
     for i in 0..2212u32 {
-        sig.push((i * 7 % 251) as u8)?;
+        bytes.push((i * 7 % 251) as u8)?;
     }
-    Ok(Request {
-        id: ReqId {
-            client: 7,
-            number: 1,
-        },
-        payload: Bytes::of(Vec::from_slice(alloc, &[0xaa])?),
-        sig: Bytes::of(sig),
-    })
+    Ok(())
 }
 
-// A batch of this many requests.
-fn many(alloc: Global, count: u32) -> Result<Value, Fail> {
-    let mut batch = Batch::new(alloc);
+// The bytes of a value with this many of that request.
+fn spelled(alloc: Global, front: &[u8], count: usize) -> Result<Vec<u8>, AllocError> {
+    let mut bytes = Vec::from_slice(alloc, front)?;
     for _ in 0..count {
-        batch.push(signed(alloc)?)?;
+        put_request(&mut bytes)?;
     }
-    Ok(Value::Batch(batch))
+    Ok(bytes)
 }
 
-fn empty(alloc: Global) -> Value {
-    Value::Batch(Batch::new(alloc))
+fn is_request(request: &Request) -> bool {
+    request.id.client == 7
+        && request.id.number == 1
+        && request.payload.as_slice() == [0xaa].as_slice()
+        && request.sig.len() == 2213
 }
 
-#[test]
-fn digests_are_of_the_spelling(rt: HostRuntime) -> Result<(), Fail> {
-    let batch = many(rt.alloc(), 1)?;
-    assert_eq!(rt; digest_of(1, &Value::Nil), nil_digest());
-    assert_eq!(rt; digest_of(1, &empty(rt.alloc())), empty_digest());
-    assert_eq!(rt; digest_of(1, &batch), batch_digest());
-    Ok(())
+// Whether the value has this many of that request.
+fn has_requests(value: &Value, count: usize) -> bool {
+    match value {
+        Value::Nil => count == 0,
+        Value::Batch(batch) => batch.len() == count && batch.as_slice().iter().all(is_request),
+    }
 }
 
-#[test]
-fn the_second_version_has_digests_of_its_own(rt: HostRuntime) -> Result<(), Fail> {
-    let batch = many(rt.alloc(), 1)?;
-    assert_eq!(rt; digest_of(2, &Value::Nil), nil_digest());
-    assert_eq!(rt; digest_of(2, &empty(rt.alloc())), empty_digest_2());
-    assert_eq!(rt; digest_of(2, &batch), batch_digest_2());
-    Ok(())
-}
-
-// The bytes of a batch of this many requests, decoded and encoded again in this version, if they are the same then.
-fn written_again(alloc: Global, version: u8, count: u32) -> Result<Option<Bytes>, Fail> {
-    let bytes = encode_value(alloc, version, &many(alloc, count)?)?;
-    let again = encode_value(
-        alloc,
-        version,
-        &decode_value(alloc, version, bytes.as_slice())?,
-    )?;
-    Ok(if again.as_slice() == bytes.as_slice() {
-        Some(again)
-    } else {
-        None
-    })
-}
-
-// Whether the largest batch of a version is written again, has this length and begins with these bytes.
-fn is_largest(
+// Whether the value of these bytes has this many requests and this digest, and is encoded as them.
+fn is_value(
     alloc: Global,
     version: u8,
-    count: u32,
-    length: usize,
-    front: &[u8],
+    bytes: &[u8],
+    count: usize,
+    digest: &[u8],
 ) -> Result<bool, Fail> {
-    match written_again(alloc, version, count)? {
-        Some(bytes) => Ok(bytes.len() == length && bytes.as_slice().starts_with(front)),
-        None => Ok(false),
-    }
-}
-
-#[test]
-fn each_version_has_its_largest_batch(rt: HostRuntime) -> Result<(), Fail> {
-    assert!(rt; is_largest(rt.alloc(), 1, 32, 71_074, &[1, 32, 7])?);
-    assert!(rt; is_largest(rt.alloc(), 2, 256, 568_579, &[2, 1, 0, 7])?);
-    Ok(())
-}
-
-fn message(alloc: Global) -> Result<Packet, Fail> {
-    Ok(Packet {
-        kind: PacketKind::Message,
-        from: 2,
-        epoch: Epoch(258),
-        leader: 1,
-        body: Bytes::of(Vec::from_slice(alloc, &[0, 1])?),
-    })
-}
-
-// Whether the packet has these bytes in this version, and is decoded from them again.
-fn is_packet(alloc: Global, version: u8, bytes: &[u8]) -> Result<bool, Fail> {
-    let sent = message(alloc)?;
-    let written = sent.encode(alloc, version)?;
-    let received = Bytes::of(Vec::from_slice(alloc, bytes)?);
-    let read = Packet::decode(alloc, version, 3, &received)?;
+    let value = decode_value(alloc, version, bytes)?;
+    let again = encode_value(alloc, version, &value)?;
     Ok(
-        written.as_slice() == bytes
-            && read.epoch == sent.epoch
-            && read.body.as_slice() == sent.body.as_slice(),
+        again.as_slice() == bytes
+            && has_requests(&value, count)
+            && digest_of(version, &value).as_slice() == digest,
     )
 }
 
-fn is_refused(alloc: Global, version: u8, bytes: &[u8]) -> Result<bool, Fail> {
-    let received = Bytes::of(Vec::from_slice(alloc, bytes)?);
-    Ok(matches!(
-        Packet::decode(alloc, version, 3, &received),
-        Err(PacketError::NotPacket)
-    ))
+fn check_values(rt: &impl Abort, alloc: Global, values: &[Spelled]) -> Result<(), Fail> {
+    for (version, front, count, digest) in values {
+        let bytes = spelled(alloc, front, *count)?;
+        assert!(rt;
+            is_value(alloc, *version, &bytes, *count, digest)?,
+            "{front:?}"
+        );
+    }
+    Ok(())
+}
+
+#[test]
+fn each_version_has_its_values_and_their_digests(rt: HostRuntime) -> Result<(), Fail> {
+    check_values(&rt, rt.alloc(), VALUES)
+}
+
+fn is_message(packet: &Packet) -> bool {
+    packet.kind == PacketKind::Message
+        && packet.from == 2
+        && packet.epoch == Epoch(258)
+        && packet.leader == 1
+        && packet.body.as_slice() == [0, 1].as_slice()
+}
+
+// The bytes of the message in this version.
+fn message(alloc: Global, version: u8) -> Result<Bytes, AllocError> {
+    let bytes = [version, 1, 2, 0, 0, 0, 0, 0, 0, 1, 2, 1, 0, 0, 0, 2, 0, 1];
+    Ok(Bytes::of(Vec::from_slice(alloc, &bytes)?))
+}
+
+// Whether these bytes are the message's in this version, and the packet that they are is encoded as them.
+fn is_written_again(alloc: Global, version: u8, bytes: &Bytes) -> Result<bool, PacketError> {
+    let packet = Packet::decode(alloc, version, 3, bytes)?;
+    let again = packet.encode(alloc, version)?;
+    Ok(is_message(&packet) && again.as_slice() == bytes.as_slice())
 }
 
 #[test]
 fn packets_begin_with_their_version(rt: HostRuntime) -> Result<(), Fail> {
-    let first = [1, 1, 2, 0, 0, 0, 0, 0, 0, 1, 2, 1, 0, 0, 0, 2, 0, 1];
-    let second = [2, 1, 2, 0, 0, 0, 0, 0, 0, 1, 2, 1, 0, 0, 0, 2, 0, 1];
-    assert!(rt; is_packet(rt.alloc(), 1, &first)?);
-    assert!(rt; is_packet(rt.alloc(), 2, &second)?);
-    assert!(rt; is_refused(rt.alloc(), 1, &second)?);
+    let first = message(rt.alloc(), 1)?;
+    let second = message(rt.alloc(), 2)?;
+    assert!(rt; is_written_again(rt.alloc(), 1, &first)?);
+    assert!(rt; is_written_again(rt.alloc(), 2, &second)?);
+    assert!(rt;
+        matches!(
+            is_written_again(rt.alloc(), 1, &second),
+            Err(PacketError::NotPacket)
+        )
+    );
     Ok(())
 }

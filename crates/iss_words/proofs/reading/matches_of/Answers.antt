@@ -1,4 +1,5 @@
-use Rattle.std.proofs.lemmas.Bool.{iff_false}
+use Rattle.std.proofs.Common.{◌≡◌}
+use Rattle.iss_words.specs.declared.orders.WordsError.TheVariants.{Refused}
 use Rattle.iss_words.proofs.CommandLemmas.{named_of, taken_of, refused_of}
 use Rattle.iss_words.proofs.reading.matches_of.Goals as goal
 
@@ -12,6 +13,7 @@ pub returns-in-Ok-try_get_matches_from-clause-named :
 returns-in-Ok-try_get_matches_from-clause-named c =
     named_of _ _ _ c.in-Ok.ensures (λ simple. (c.in-Ok-try_get_matches_from.ensures.matches simple).1)
 
-pub returns-clause-refused : goal.returns-clause-refused
-returns-clause-refused c = λ _ none.
-    refused_of _ _ _ c.in-Ok.ensures c.in-Err.ensures.kinds (iff_false c.is_memory.ensures c.if-is_memory.false) none
+pub returns-in-Err-clause-refused : goal.returns-in-Err-clause-refused
+returns-in-Err-clause-refused c = λ is none.
+    let refused : c.refusal.result ≡ Refused = cc in
+    refused_of _ _ _ c.in-Ok.ensures c.in-Err.ensures.kinds (c.refusal.ensures refused) none

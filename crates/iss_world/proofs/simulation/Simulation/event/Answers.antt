@@ -1,4 +1,5 @@
 use Rattle.std.proofs.Common.{◌≡◌, ◌∙◌, Ok, ap, false, subst, sym, true}
+use Rattle.iss_model.specs.Courses.{driver_of}
 use Rattle.iss_network.specs.Network.{Network, cleared, held_to}
 use Rattle.iss_rules.specs.Concrete.{rules_of}
 use Rattle.iss_rules.specs.Formats.{formats_of}
@@ -7,7 +8,7 @@ use Rattle.iss_schedule.specs.declared.schedules.Event.{Event}
 use Rattle.iss_world.specs.State.{SimulationState}
 use Rattle.iss_world.specs.declared.ends.EventOutcome.TheVariants.{Done}
 use Rattle.iss_world.proofs.BookLemmas.{if-ok}
-use Rattle.iss_world.proofs.CourseLemmas.{at-event, happened-asked, happened-injected, netted, not-stopping}
+use Rattle.iss_world.proofs.CourseLemmas.{at-event, happened-asked, happened-injected, netted, not-stopping, once-pumped}
 use Rattle.iss_world.proofs.simulation.Simulation.event.Goals as goal
 
 pub returns-in_ok-packet-in-Request-clause-happened : goal.returns-in_ok-packet-in-Request-clause-happened
@@ -36,11 +37,13 @@ returns-in-Deliver-clause-happened g c =
 
 pub returns-in-Pump-clause-happened : goal.returns-in-Pump-clause-happened
 returns-in-Pump-clause-happened g c =
-    at-event g.M.Sequenced.spec g.M.Sequenced.refines c.args.self.now c.pump.new.self c.pump.result c.args.event.now _ c.in-Pump.is c.pump.ensures.happened
+    at-event g.M.Sequenced.spec g.M.Sequenced.refines c.args.self.now c.calm.new.self c.calm.result c.args.event.now _ c.in-Pump.is
+    (if-ok _ _ c.calm.result c.calm.ensures.happened (λ r f w st.
+    once-pumped g.M.Sequenced.spec g.M.Sequenced.refines (driver_of c.args.self.now.setup g.M.Sequenced.spec) c.calm.new.self w r (f w st)))
 
 pub returns-in-Calm-clause-happened : goal.returns-in-Calm-clause-happened
 returns-in-Calm-clause-happened g c =
-    at-event g.M.Sequenced.spec g.M.Sequenced.refines c.args.self.now c.calm.new.self c.calm.result c.args.event.now _ c.in-Calm.is c.calm.ensures.happened
+    at-event g.M.Sequenced.spec g.M.Sequenced.refines c.args.self.now c.calm-in-Calm.new.self c.calm-in-Calm.result c.args.event.now _ c.in-Calm.is c.calm-in-Calm.ensures.happened
 
 pub returns-in-Restart-clause-happened : goal.returns-in-Restart-clause-happened
 returns-in-Restart-clause-happened g c =
