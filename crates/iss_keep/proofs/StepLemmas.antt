@@ -15,18 +15,17 @@ use Rattle.iss_rules.specs.declared.events.Why.{Why}
 use Rattle.iss_node.specs.Entered.{IsKeptEntry}
 use Rattle.iss_node.specs.Saved.{SavedState, saved_of}
 use Rattle.iss_node.specs.State.{NodeView, RefinesCore}
-use Rattle.iss_node.specs.Steps.{HasRetreated, IsEnteredAnswer, IsLeft, IsSpoiled, savepoint_of}
+use Rattle.iss_node.specs.Steps.{HasRetreated, IsEnteredAnswer, IsLeft, IsSpoiled}
 use Rattle.iss_node.specs.declared.answers.Answer.{Answer as NodeAnswer}
 use Rattle.iss_node.specs.declared.answers.Answer.TheVariants.{Dropped as Node_dropped, NoMemory as Node_no_memory, Stale as Node_stale, Taken as Node_taken}
 use Rattle.iss_node.specs.declared.answers.Outcome.{Outcome}
-use Rattle.iss_node.specs.declared.node.Savepoint.{Savepoint}
 use Rattle.iss_sb.specs.Calls.{Relation}
 use Rattle.iss_sb.specs.Evidence.{Module}
 use Rattle.iss_keep.specs.Entries.{spell_event}
 use Rattle.iss_keep.specs.Internal.Keeping.{Answers, HasAppended, HasEnded, HasJournaled, HasNoted, HasStepped, IsKeptAs, ShowsSame, Takes, entry_kept, kept_at, released}
 use Rattle.iss_keep.specs.Steps.{IsWritten, makes_stale}
 use Rattle.iss_keep.proofs.SnapshotLemmas.{kept-right, kept-short}
-use Rattle.iss_keep.proofs.TakenLemmas.{log-cut, log-long, taken-goes-on, taken-short}
+use Rattle.iss_keep.proofs.TakenLemmas.{log-cut, log-long, taken-goes-on, taken-later, taken-short}
 
 -- What a node hands out and notes, for the step of each core that it refines.
 abbrev pub Enters : {M Msg : Type 0} → Module Msg → Relation M Msg → NodeEvent → (old new : NodeView M Msg) → NodeAnswer → Type 0
@@ -108,16 +107,21 @@ module _ {M Msg : Type 0} (m : Module Msg) (refines : Relation M Msg) (event : N
       let a = answer core.0 core.1 in
       taken-goes-on m refines old taken core.0 event a.turn good core.1 a.turned.refined a.step_is setup me
 
-  -- The node can retreat to the log that it had before the step.
+  -- The node can retreat to the log and epoch that it had before the step.
   pub longer : (slots : ℕ) → slots ≡ length old.state.log.entries → slots ≤ length taken.state.log.entries
   longer slots is =
       subst (λ (k : ℕ). k ≤ length taken.state.log.entries) (sym is) (log-long old.state.log.entries taken.state.log.entries grown)
 
-  module _ (before : Savepoint) (is : before ≡ savepoint_of old) (new : NodeView M Msg) where
-    gone-back : HasRetreated taken new before → ShowsSame old new
+  pub later : (epoch : ℕ) → epoch ≡ old.state.epoch → epoch ≤ taken.state.epoch
+  later epoch is =
+      let a = answer core.0 core.1 in
+      subst (λ (k : ℕ). k ≤ taken.state.epoch) (sym is) (taken-later m refines old taken core.0 event a.turn good core.1 a.turned.refined a.step_is setup me)
+
+  module _ (slots epoch : ℕ) (length-is : slots ≡ length old.state.log.entries) (epoch-is : epoch ≡ old.state.epoch) (new : NodeView M Msg) where
+    gone-back : HasRetreated taken new slots epoch → ShowsSame old new
     gone-back h = record {
-      log = h.log ∙ ap (λ (s : Savepoint). take s.slots taken.state.log.entries) is ∙ log-cut old.state.log.entries taken.state.log.entries grown;
-      epoch = h.epoch ∙ ap (λ (s : Savepoint). s.epoch.0) is;
+      log = h.log ∙ ap (λ (k : ℕ). take k taken.state.log.entries) length-is ∙ log-cut old.state.log.entries taken.state.log.entries grown;
+      epoch = h.epoch ∙ epoch-is;
     }
 
     taken-then : Takes m refines event old
@@ -146,7 +150,7 @@ module _ {M Msg : Type 0} (m : Module Msg) (refines : Relation M Msg) (event : N
       entry-with same = subst (λ (x : Option (List ℕ)). IsKeptAs m refines event old (entry_kept x own)) (sym same) right-entry
 
       pub stepped : (r : Result (Unit {0}) EndError) → ((IsErrOf r Disk_no_memory → ⊥) → after ≡ outcome.entered) →
-          HasEnded out before taken new (released (Node_taken out) r) → HasStepped m refines event old new (entry_kept after own) (released (Node_taken out) r)
+          HasEnded out slots epoch taken new (released (Node_taken out) r) → HasStepped m refines event old new (entry_kept after own) (released (Node_taken out) r)
       stepped (Ok x) same h = (
         subst (λ (v : NodeView M Msg). Answers m refines event old v (Node_taken out)) (sym h.1) out-answer,
         entry-with (same (λ e. absurd (cc))),
@@ -155,7 +159,7 @@ module _ {M Msg : Type 0} (m : Module Msg) (refines : Relation M Msg) (event : N
       stepped (Err Disk_failed) same h = (gone-back h, taken-then, entry-with (same (λ e. absurd (cc))))
       stepped (Err Disk_no_memory) same h = gone-back h
 
-    pub same-node : (given : Outcome) (a : Result NodeAnswer Failed) → HasEnded given before taken new a → (new.state.setup ≡ old.state.setup) × (new.state.me ≡ old.state.me)
+    pub same-node : (given : Outcome) (a : Result NodeAnswer Failed) → HasEnded given slots epoch taken new a → (new.state.setup ≡ old.state.setup) × (new.state.me ≡ old.state.me)
     same-node given (Ok (Node_taken taken_out)) h = (ap (λ (v : NodeView M Msg). v.state.setup) h.1 ∙ setup, ap (λ (v : NodeView M Msg). v.state.me) h.1 ∙ me)
     same-node given (Ok (Node_dropped why)) h = absurd h
     same-node given (Err failed) h = (h.setup ∙ setup, h.me ∙ me)
@@ -163,13 +167,13 @@ module _ {M Msg : Type 0} (m : Module Msg) (refines : Relation M Msg) (event : N
     same-node given (Ok Node_no_memory) h = (h.setup ∙ setup, h.me ∙ me)
 
     -- The whole: the step, and the append of its entry.
-    pub journaled : {D : Type 0} (state : D → Device) (journal now : JournalState D) (after : Option (List ℕ)) (r : Result (Unit {0}) EndError) →
-        HasAppended state own outcome.entered after journal now r → ((given : Outcome) → HasEnded given before taken new (released (Node_taken given) r)) →
-        HasJournaled state m refines event old new journal now (Node_taken (record outcome { entered = after })) r
-    journaled state journal now after r appended ended =
+    pub journaled : {D : Type 0} (state : D → Device) (before now : JournalState D) (after : Option (List ℕ)) (r : Result (Unit {0}) EndError) →
+        HasAppended state own outcome.entered after before now r → ((given : Outcome) → HasEnded given slots epoch taken new (released (Node_taken given) r)) →
+        HasJournaled state m refines event old new before now (Node_taken (record outcome { entered = after })) r
+    journaled state before now after r appended ended =
         let given : Outcome = record outcome { entered = after } in
         record {
-          written = subst (λ (bytes : List ℕ). IsWritten journal.entries (entry_kept after bytes) (state journal.disk) (state now.disk) now.entries (released (Node_taken given) r)) own-is
+          written = subst (λ (bytes : List ℕ). IsWritten before.entries (entry_kept after bytes) (state before.disk) (state now.disk) now.entries (released (Node_taken given) r)) own-is
               (appended.written given);
           stepped = subst (λ (bytes : List ℕ). HasStepped m refines event old new (entry_kept after bytes) (released (Node_taken given) r)) own-is
               (stepped after r appended.same (ended given));

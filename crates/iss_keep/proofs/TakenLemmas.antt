@@ -147,3 +147,6 @@ module _ {M Msg : Type 0} (m : Module Msg) (refines : Relation M Msg) (old new :
       let grown = step-grown (formats_of old.state.setup m) R m old.state.me.0 slots (are-windows old.state.setup) c event t sound taken in
       turned old.state.log.entries new.state.log.entries
       (grown.0, sym log-now ∙ grown.1 ∙ ap (λ (xs : List Value). grown.0 ++ xs) before.held.state.tied.log)
+
+  pub taken-later : old.state.epoch ≤ new.state.epoch
+  taken-later = let r = taken-rises (formats_of old.state.setup m) R m old.state.me.0 c event t taken in omega (arith, r, before.held.state.tied.epoch, now.held.state.tied.epoch)

@@ -22,7 +22,6 @@ use Rattle.iss_node.specs.Steps.{IsMade, IsOfNodes}
 use Rattle.iss_node.specs.declared.answers.Answer.{Answer as NodeAnswer}
 use Rattle.iss_node.specs.declared.answers.Answer.TheVariants.{Dropped as Node_dropped, NoMemory as Node_no_memory, Stale as Node_stale, Taken as Node_taken}
 use Rattle.iss_node.specs.declared.answers.Outcome.{Outcome}
-use Rattle.iss_node.specs.declared.node.Savepoint.{Savepoint}
 use Rattle.iss_request.specs.declared.setups.Setup.{Setup}
 use Rattle.iss_sb.specs.Calls.{AreToNodes, Relation}
 use Rattle.iss_sb.specs.Evidence.{Module}
@@ -206,11 +205,11 @@ pub record OnlyDisk {M Msg D : Type 0} (old new : KeptState M Msg D) : Type 0 wh
   pub entries : new.entries ≡ old.entries
   pub same : IsSame old new
 
--- The node went back to a savepoint, and has to be reopened.
-pub record HasRetreated {M Msg D : Type 0} (old new : KeptState M Msg D) (to : Savepoint) : Type 0 where
+-- The node went back to its first slots and an earlier epoch, and has to be reopened.
+pub record HasRetreated {M Msg D : Type 0} (old new : KeptState M Msg D) (slots e : ℕ) : Type 0 where
   pub stale : new.stale ≡ true
-  pub log : new.node.state.log.entries ≡ take to.slots old.node.state.log.entries
-  pub epoch : new.node.state.epoch ≡ to.epoch.0
+  pub log : new.node.state.log.entries ≡ take slots old.node.state.log.entries
+  pub epoch : new.node.state.epoch ≡ e
   pub journal : (new.disk ≡ old.disk) × (new.entries ≡ old.entries)
   pub same : IsSame old new
 

@@ -10,8 +10,8 @@ ghost use Rattle.iss_node.specs.declared.answers.Outcome.{Outcome};
 use crate::entries::{ASK, PACKET, PROPOSE, TIMEOUT};
 use iss_disk::{Disk, EndError};
 use iss_journal::Journal;
-use iss_node::{Answer, Node, Savepoint};
-use iss_request::{Bytes, NoMemory, NodeId};
+use iss_node::{Answer, Node};
+use iss_request::{Bytes, Epoch, NoMemory, NodeId};
 use iss_rules::NodeEvent;
 use iss_sb::Sequenced;
 use std::alloc::Global;
@@ -90,7 +90,7 @@ fn append_entry<D: Disk>(
     }
 }
 
-// Appends as `append_entry` does. If that fails, the node retreats to where it was before.
+// Appends as `append_entry` does. If that fails, the node retreats to its earlier number of slots and epoch.
 // rule: Recovery: An event takes four disk calls, and is kept only if all four pass
 // rule: Persistence: An event is kept before its outcome is handed out
 #[inline(always)]
@@ -99,22 +99,23 @@ fn append_or_retreat<M: Sequenced, D: Disk>(
     journal: &mut Journal<D>,
     entry: Entry,
     entered: &mut Option<Bytes>,
-    before: Savepoint,
+    savepoint: (usize, Epoch),
 ) -> Result<(), EndError>
-    requires { MayEnd journal.old (entry_kept entered.old (entry.kind ∷ entry.content)) node.old before }
+    requires { MayEnd journal.old (entry_kept entered.old (entry.kind ∷ entry.content)) node.old savepoint.0
+        savepoint.1.0 }
     ensures appended { HasAppended D.state (entry.kind ∷ entry.content) entered.old entered.new journal.old journal.new
         result }
     ensures ended { (outcome : Outcome) →
-        HasEnded outcome before node.old node.new (released (Node_taken outcome) result) }
+        HasEnded outcome savepoint.0 savepoint.1.0 node.old node.new (released (Node_taken outcome) result) }
 {
     match append_entry(journal, entry, entered) {
         Ok(()) => Ok(()),
         Err(EndError::Failed) => {
-            node.retreat(before);
+            node.retreat(savepoint.0, savepoint.1);
             Err(EndError::Failed)
         }
         Err(EndError::NoMemory) => {
-            node.retreat(before);
+            node.retreat(savepoint.0, savepoint.1);
             Err(EndError::NoMemory)
         }
     }
@@ -136,11 +137,12 @@ fn apply_then_append<M: Sequenced, D: Disk>(
     requires entry { entry.kind ∷ entry.content ≡ spell_event event }
     ensures { HasJournaled D.state M.spec M.refines event node.old node.new journal.old journal.new made.new result }
 {
-    let before = node.savepoint();
+    let slots = node.log().entries().len();
+    let epoch = node.epoch();
     *made = node.take(alloc, event);
     match made {
         Answer::Taken(outcome) => {
-            append_or_retreat(node, journal, entry, &mut outcome.entered, before)
+            append_or_retreat(node, journal, entry, &mut outcome.entered, (slots, epoch))
         }
         _ => Ok(()),
     }

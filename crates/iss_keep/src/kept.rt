@@ -8,7 +8,6 @@ ghost use Rattle.iss_keep.specs.Steps.{AnswersEvent, HasRetreated, IsJournaled, 
 ghost use Rattle.iss_keep.specs.Steps.{OnlyDisk, Refuses, ShowsAsBefore, StoresEvent, makes_stale};
 ghost use Rattle.iss_rules.specs.Setups.{IsSetupOf};
 ghost use Rattle.iss_node.specs.State.{IsMember};
-ghost use Rattle.iss_node.specs.Steps.{savepoint_of};
 
 use crate::answers::{makes_stale, release};
 use crate::fresh::Fresh;
@@ -17,8 +16,8 @@ use crate::reopening::{open, put};
 use iss_disk::{Disk, Failed, Fused};
 use iss_journal::{AttachError, Journal};
 use iss_keys::SharedDirectory;
-use iss_node::{Answer, Node, Savepoint};
-use iss_request::{NoMemory, NodeId, Setup};
+use iss_node::{Answer, Node};
+use iss_request::{Epoch, NoMemory, NodeId, Setup};
 use iss_rules::NodeEvent;
 use iss_sb::Sequenced;
 use std::alloc::Global;
@@ -191,21 +190,15 @@ impl<M: Sequenced, D: Disk> Kept<M, D> {
         self.stale
     }
 
-    /// Where the node is now, to which it can retreat.
-    pub fn savepoint(&self) -> Savepoint
-        ensures { result ≡ savepoint_of self.now.node }
-    {
-        self.node.savepoint()
-    }
-
-    /// Truncates the log to the slots of a savepoint and sets its epoch. The node is stale, and reports this log and
-    /// epoch until it is reopened.
-    pub fn retreat(&mut self, to: Savepoint)
-        requires { to.slots ≤ length self.old.node.state.log.entries }
-        ensures { HasRetreated self.old self.new to }
+    /// Truncates the log to its first `slots` slots and sets the epoch back. The node is stale, and reports this log
+    /// and epoch until it is reopened.
+    pub fn retreat(&mut self, slots: usize, epoch: Epoch)
+        requires slots { slots ≤ length self.old.node.state.log.entries }
+        requires epoch { epoch.0 ≤ self.old.node.state.epoch }
+        ensures { HasRetreated self.old self.new slots epoch.0 }
     {
         self.stale = true;
-        self.node.retreat(to);
+        self.node.retreat(slots, epoch);
     }
 }
 

@@ -2,7 +2,7 @@
 -- and hands out what the model makes: packets in order, own claims, read claims, hashed strings. If the model drops
 -- it, nothing changes, for the same cause. Where memory runs out the node is stale, and shows the log and epoch that
 -- it had.
-use Rattle.std.specs.Prelude.{◌≡◌, ◌<◌, ◌+◌, ◌^◌, ℕ, true, List, [], Option, None, length, take, Err, Ok, Result}
+use Rattle.std.specs.Prelude.{◌≡◌, ◌<◌, ◌+◌, ◌^◌, ℕ, true, List, [], Option, None, take, Err, Ok, Result}
 use Rattle.iss_log.specs.LogState.{GoesOn}
 use Rattle.iss_rules.specs.Concrete.{rules_of}
 use Rattle.iss_rules.specs.Formats.{formats_of}
@@ -21,7 +21,6 @@ use Rattle.iss_node.specs.declared.answers.Answer.{Answer}
 use Rattle.iss_node.specs.declared.answers.Answer.TheVariants.{Dropped as Node_dropped, NoMemory as Node_no_memory, Stale as Node_stale, Taken as Node_taken}
 use Rattle.iss_node.specs.declared.answers.Early.{Early}
 use Rattle.iss_node.specs.declared.answers.Outcome.{Outcome}
-use Rattle.iss_node.specs.declared.node.Savepoint.{Savepoint}
 use Rattle.iss_sb.specs.Calls.{AreToNodes, Relation}
 use Rattle.iss_sb.specs.Evidence.{Module}
 use Rattle.iss_sb.specs.declared.effects.Input.{Input}
@@ -255,15 +254,11 @@ IsLeft old new (Node_dropped why) = Unit {0}
 IsLeft old new Node_no_memory = IsSpoiled old new
 IsLeft old new Node_stale = (old.stale ≡ true) × (new ≡ old)
 
--- Where a node is: the length of its log, and its epoch.
-abbrev pub savepoint_of : {M Msg : Type 0} → NodeView M Msg → Savepoint
-savepoint_of v = record { slots = length v.state.log.entries; epoch = record { 0 = v.state.epoch } }
-
--- The node truncated its log to the slots of a savepoint, set its epoch, and is stale.
+-- The node truncated its log to its first slots, set its epoch back, and is stale.
 -- rule: Persistence: A node that retreats keeps the given prefix of its log and takes nothing more
-pub record HasRetreated {M Msg : Type 0} (old new : NodeView M Msg) (to : Savepoint) : Type 0 where
+pub record HasRetreated {M Msg : Type 0} (old new : NodeView M Msg) (slots e : ℕ) : Type 0 where
   pub stale : new.stale ≡ true
-  pub log : new.state.log.entries ≡ take to.slots old.state.log.entries
-  pub epoch : new.state.epoch ≡ to.epoch.0
+  pub log : new.state.log.entries ≡ take slots old.state.log.entries
+  pub epoch : new.state.epoch ≡ e
   pub setup : new.state.setup ≡ old.state.setup
   pub me : new.state.me ≡ old.state.me

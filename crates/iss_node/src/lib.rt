@@ -24,6 +24,6 @@ pub mod transfer;
 pub mod votes;
 
 pub use answers::{Accepted, Answer, Outcome};
-pub use node::{Node, Savepoint};
+pub use node::Node;
 pub use rebuilding::{RebuildError, Rebuilding};
 pub use slims::nodes_stand_for_slims;

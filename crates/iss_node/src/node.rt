@@ -14,7 +14,7 @@ ghost use Rattle.iss_node.specs.Internal.Ready.{RefinesSome};
 ghost use Rattle.iss_node.specs.State.{IsMember, RefinesCore, RefinesPast, StateRefinesCore, accepted_of};
 ghost use Rattle.iss_request.specs.Log.{ids};
 ghost use Rattle.iss_node.specs.Internal.Storing.{HasNoted, is_entry, storable};
-ghost use Rattle.iss_node.specs.Steps.{HasRetreated, IsAnswer, IsEnteredAnswer, IsHeldStepOf, IsKeptStepOf, IsLeft, IsOfNodes, IsReplayed, IsSameLog, IsSameNode, savepoint_of};
+ghost use Rattle.iss_node.specs.Steps.{HasRetreated, IsAnswer, IsEnteredAnswer, IsHeldStepOf, IsKeptStepOf, IsLeft, IsOfNodes, IsReplayed, IsSameLog, IsSameNode};
 
 use crate::answers::{Accepted, Answer, Outcome, StepResult};
 use crate::flight::Flight;
@@ -39,13 +39,6 @@ use std::marker::Model;
 
 /// The length of the longest entry of a journal.
 const MAX_ENTRY: usize = 200_000_100;
-
-/// Where a node can retreat to: a number of slots of its log, and an epoch.
-#[derive(Clone, Copy)]
-pub struct Savepoint {
-    pub slots: usize,
-    pub epoch: Epoch,
-}
 
 /// One replica. It becomes stale when memory runs out, or after `retreat`: then it only reports a log and an epoch, and
 /// takes no further event.
@@ -151,7 +144,8 @@ impl<M: Sequenced> Node<M> {
         if self.stale {
             return Answer::Stale;
         }
-        let before = self.savepoint();
+        let held = self.state.log.entries().len();
+        let epoch = self.state.epoch;
         // An event that runs out of memory midway leaves the node stale.
         self.stale = true;
         match self.state.kept_turn(alloc, event) {
@@ -164,7 +158,8 @@ impl<M: Sequenced> Node<M> {
                 Answer::Dropped(why)
             }
             Err(_) => {
-                self.retreat(before);
+                self.state.log.cut(held);
+                self.state.epoch = epoch;
                 Answer::NoMemory
             }
         }
@@ -186,7 +181,8 @@ impl<M: Sequenced> Node<M> {
         if self.stale {
             return Answer::Stale;
         }
-        let before = self.savepoint();
+        let held = self.state.log.entries().len();
+        let epoch = self.state.epoch;
         self.stale = true;
         match self.state.turn(alloc, event) {
             Ok(Ok(outcome)) => {
@@ -198,7 +194,8 @@ impl<M: Sequenced> Node<M> {
                 Answer::Dropped(why)
             }
             Err(_) => {
-                self.retreat(before);
+                self.state.log.cut(held);
+                self.state.epoch = epoch;
                 Answer::NoMemory
             }
         }
@@ -222,25 +219,16 @@ impl<M: Sequenced> Node<M> {
         self.state.ballots.cert_at(epoch)
     }
 
-    /// Where the node is now, to which it can retreat.
-    pub fn savepoint(&self) -> Savepoint
-        ensures { result ≡ savepoint_of self.now }
-    {
-        Savepoint {
-            slots: self.state.log.entries().len(),
-            epoch: self.state.epoch,
-        }
-    }
-
-    /// Truncates the log to the slots of a savepoint and sets its epoch. The node is stale from then on.
+    /// Truncates the log to its first `slots` slots and sets the epoch back. The node is stale from then on.
     // rule: Persistence: A node that retreats keeps the given prefix of its log and takes nothing more
-    pub fn retreat(&mut self, to: Savepoint)
-        requires { to.slots ≤ length self.old.state.log.entries }
-        ensures { HasRetreated self.old self.new to }
+    pub fn retreat(&mut self, slots: usize, epoch: Epoch)
+        requires slots { slots ≤ length self.old.state.log.entries }
+        requires epoch { epoch.0 ≤ self.old.state.epoch }
+        ensures { HasRetreated self.old self.new slots epoch.0 }
     {
         self.stale = true;
-        self.state.log.cut(to.slots);
-        self.state.epoch = to.epoch;
+        self.state.log.cut(slots);
+        self.state.epoch = epoch;
     }
 
     /// Whether the node ran out of memory or has retreated.

@@ -81,15 +81,23 @@ impl<M: Sequenced> Rebuilding<M> {
         let Rebuilding {
             alloc,
             mut state,
-            ..
+            early: before,
         } = self;
-        match state.read_entry(alloc, bytes)? {
-            Some(early) => Ok(Some(Rebuilding {
+        drop(before);
+        match state.read_entry(alloc, bytes) {
+            Ok(Some(early)) => Ok(Some(Rebuilding {
                 alloc,
                 state,
                 early,
             })),
-            None => Ok(None),
+            Ok(None) => {
+                drop(state);
+                Ok(None)
+            }
+            Err(error) => {
+                drop(state);
+                Err(error)
+            }
         }
     }
 
@@ -106,8 +114,16 @@ impl<M: Sequenced> Rebuilding<M> {
             mut state,
             early,
         } = self;
-        let _outcome = state.take_each(alloc, Outcome::nothing(alloc), early)?;
-        Ok(Node::of(state))
+        match state.take_each(alloc, Outcome::nothing(alloc), early) {
+            Ok(outcome) => {
+                drop(outcome);
+                Ok(Node::of(state))
+            }
+            Err(error) => {
+                drop(state);
+                Err(error)
+            }
+        }
     }
 }
 

@@ -17,7 +17,7 @@ use Rattle.iss_journal.specs.Frames.{Reading, Reads, version_1}
 use Rattle.iss_journal.specs.Promises.{LosesNone, Shows}
 use Rattle.iss_keep.proofs.DiskLemmas.{attached-same, attached-synced, never-damaged, new-read, reopens-well, restarted-read, runs-all, runs-failed, runs-passed, stays-here, stored-kept, stored-told, written-synced}
 use Rattle.iss_keep.proofs.LifeLemmas.{stored-core}
-use Rattle.iss_keep.proofs.TakenLemmas.{taken-goes-on, taken-named}
+use Rattle.iss_keep.proofs.TakenLemmas.{taken-goes-on, taken-later, taken-named}
 use Rattle.iss_keep.specs.Cores.{core_of as core_of_entries, shown_of, step_of, stored_after, stored_of}
 use Rattle.iss_keep.specs.Entries.{NamesNode, spell_event}
 use Rattle.iss_keep.specs.Recovery.{AreNamed, Recovers}
@@ -244,7 +244,7 @@ module _ {M Msg : Type 0} (m : Module Msg) (refines : Relation M Msg) where
       answered (Ok Node_stale) of good t w stores stale shown = t
       answered (Ok Node_no_memory) of good t w stores stale shown = tt
 
-      -- If the event was journaled, the log was extended.
+      -- If the event was journaled, the log was extended and the epoch did not fall.
       module _ (good : IsSetupOf m old.setup) (outcome : Outcome) (k : IsKeptTurn m refines d event stepped new outcome) where
         at-new : KeptRefinesCore m refines new k.turn.core
         at-new = at-working new k.turn.core (keeps d event) k.over working
@@ -265,6 +265,9 @@ module _ {M Msg : Type 0} (m : Module Msg) (refines : Relation M Msg) where
 
         pub log-grown : GoesOn old.node.state.log.entries new.node.state.log.entries
         log-grown = taken-goes-on m refines old.node new.node c event k.turn good-node at-old.node at-new.node node-step cluster-now number-now
+
+        pub epoch-grown : old.node.state.epoch ≤ new.node.state.epoch
+        epoch-grown = taken-later m refines old.node new.node c event k.turn good-node at-old.node at-new.node node-step cluster-now number-now
 
     -- ---- a disk that is to fail
 

@@ -23,9 +23,8 @@ use Rattle.iss_disk.specs.declared.memory.MemoryDisk.{MemoryDisk}
 use Rattle.iss_keep.specs.State.{KeptRefinesCore, KeptState}
 use Rattle.iss_keep.specs.Steps.{IsSame}
 use Rattle.iss_network.specs.Network.{Network}
-use Rattle.iss_node.specs.Steps.{IsMade, IsOfNodes, savepoint_of}
+use Rattle.iss_node.specs.Steps.{IsMade, IsOfNodes}
 use Rattle.iss_node.specs.declared.answers.Outcome.{Outcome}
-use Rattle.iss_node.specs.declared.node.Savepoint.{Savepoint}
 use Rattle.iss_request.specs.declared.ids.NodeId.{NodeId}
 use Rattle.iss_request.specs.declared.requests.Value.{Value}
 use Rattle.iss_request.specs.declared.setups.Setup.{Setup}
@@ -36,7 +35,7 @@ use Rattle.iss_sb.specs.declared.effects.Claim.{Claim}
 use Rattle.iss_sb.specs.declared.effects.To.{To}
 use Rattle.iss_sb.specs.Calls.{Relation}
 use Rattle.iss_sb.specs.Evidence.{Module}
-use Rattle.iss_world.proofs.OverLemmas.{at-working, log-grown, over-shows, over-stale}
+use Rattle.iss_world.proofs.OverLemmas.{at-working, epoch-grown, log-grown, over-shows, over-stale}
 use Rattle.iss_world.specs.Books.{AreHashed, AreSigned}
 use Rattle.iss_world.specs.Internal.Shape.{IsNetworkOf, IsSimulation}
 use Rattle.iss_world.specs.Refines.{HasChanged, HasRetreated, IsLeft, IsLeftBy, RefinesMachine, RefinesMachines, RefinesOrShows, ShowsCore, end_of, shown_by}
@@ -86,18 +85,18 @@ module _ {M Msg : Type 0} (m : Module Msg) (refines : Relation M Msg) where
   -- What is left when a core read a forged claim, and retreated to where it was.
   pub forged-left : (v : SimulationState M Msg) (w : Machines Msg) (i : ℕ) (g later : KeptState M Msg MemoryDisk) → IsSimulation m v → i < length v.nodes →
       RefinesMachines m refines v w → slice_get v.nodes i ≡ Some g →
-      (here : Savepoint) → here ≡ savepoint_of g.node → later.node.state.log.entries ≡ take here.slots g.node.state.log.entries → later.node.state.epoch ≡ here.epoch.0 →
+      later.node.state.log.entries ≡ take (length g.node.state.log.entries) g.node.state.log.entries → later.node.state.epoch ≡ g.node.state.epoch →
       later.stale ≡ true → later.entries ≡ g.entries → IsSame g later →
       IsLeftBy m refines (Some i) (record { setup = v.setup; nodes = set v.nodes i later; network = v.network; signed = v.signed; hashed = v.hashed }) w
-  forged-left v w i g later r lt st at here is-here cut back gone kept same =
+  forged-left v w i g later r lt st at cut back gone kept same =
       let shown = runs-show v w r st i g at in
       let whole = take_all (length g.node.state.log.entries) g.node.state.log.entries (omega arith) in
       let retreated : HasRetreated m v.setup (node_of v.setup i) later (w.held.net.cores i) (w.disks i) =
       record {
         stale = gone;
         shows = record {
-          log = shown.log ∙ ap (λ (xs : List Value). reverse xs) (sym (cut ∙ ap (λ (s : Savepoint). take s.slots g.node.state.log.entries) is-here ∙ whole));
-          epoch = back ∙ ap (λ (s : Savepoint). s.epoch.0) is-here ∙ shown.epoch;
+          log = shown.log ∙ ap (λ (xs : List Value). reverse xs) (sym (cut ∙ whole));
+          epoch = back ∙ shown.epoch;
         };
         entries = inl (kept ∙ (st.cores i g at).entries ∙ shown-still g later same (w.disks i).kept);
       } in
@@ -262,20 +261,27 @@ module _ {M Msg : Type 0} (m : Module Msg) (refines : Relation M Msg) where
         good-there : IsSetupOf m g.setup
         good-there = subst (λ (s : Setup). IsSetupOf m s) (sym (r.setups i g at)) r.good
 
-        -- The log was extended.
+        -- The log was extended, and the epoch did not fall.
         grown : GoesOn g.node.state.log.entries later.node.state.log.entries
         grown = log-grown m refines g later same (w.held.net.cores i) (w.disks i) (st.cores i g at) working event good-there outcome turn-kept
 
-        pub slots-kept : (before : Savepoint) → before ≡ savepoint_of g.node → (k : KeptState M Msg MemoryDisk) → slice_get (set v.nodes i later) i ≡ Some k →
-            before.slots ≤ length k.node.state.log.entries
-        slots-kept before was k e =
+        pub slots-kept : (slots : ℕ) → slots ≡ length g.node.state.log.entries → (k : KeptState M Msg MemoryDisk) → slice_get (set v.nodes i later) i ≡ Some k →
+            slots ≤ length k.node.state.log.entries
+        slots-kept slots are k e =
             let far = log-long g.node.state.log.entries later.node.state.log.entries grown in
             let there : k ≡ later = some-injective k later (sym e ∙ get-set_same v.nodes i later lt) in
-            subst (λ (z : KeptState M Msg MemoryDisk). before.slots ≤ length z.node.state.log.entries) (sym there) (omega (arith, ap (λ (s : Savepoint). s.slots) was, far))
+            subst (λ (z : KeptState M Msg MemoryDisk). slots ≤ length z.node.state.log.entries) (sym there) (omega (arith, are, far))
+
+        pub epoch-kept : (epoch : ℕ) → epoch ≡ g.node.state.epoch → (k : KeptState M Msg MemoryDisk) → slice_get (set v.nodes i later) i ≡ Some k → epoch ≤ k.node.state.epoch
+        epoch-kept epoch was k e =
+            let far = epoch-grown m refines g later same (w.held.net.cores i) (w.disks i) (st.cores i g at) working event good-there outcome turn-kept in
+            let there : k ≡ later = some-injective k later (sym e ∙ get-set_same v.nodes i later lt) in
+            subst (λ (z : KeptState M Msg MemoryDisk). epoch ≤ z.node.state.epoch) (sym there) (omega (arith, was, far))
 
         -- The core took its turn, and everything else is unchanged.
-        pub behind : (before : Savepoint) → before ≡ savepoint_of g.node → IsBehind m refines (v_later v i g later r lt at) w event i turn-kept.turn before
-        behind before was =
+        pub behind : (slots epoch : ℕ) → slots ≡ length g.node.state.log.entries → epoch ≡ g.node.state.epoch →
+            IsBehind m refines (v_later v i g later r lt at) w event i turn-kept.turn slots epoch
+        behind slots epoch are was =
             let shown = runs-show v w r st i g at in
             record {
               cores = λ j k e. elim (written v.nodes i j later k lt e) [
@@ -287,11 +293,11 @@ module _ {M Msg : Type 0} (m : Module Msg) (refines : Relation M Msg) where
               hashed = st.hashed;
               log = λ k e.
                   let there : k ≡ later = some-injective k later (sym e ∙ get-set_same v.nodes i later lt) in
-                  let back : take before.slots k.node.state.log.entries ≡ g.node.state.log.entries =
-                  ap (λ (z : KeptState M Msg MemoryDisk). take before.slots z.node.state.log.entries) there ∙ ap (λ (s : Savepoint). take s.slots later.node.state.log.entries) was
+                  let back : take slots k.node.state.log.entries ≡ g.node.state.log.entries =
+                  ap (λ (z : KeptState M Msg MemoryDisk). take slots z.node.state.log.entries) there ∙ ap (λ (n : ℕ). take n later.node.state.log.entries) are
                   ∙ log-cut g.node.state.log.entries later.node.state.log.entries grown in
                   shown.log ∙ ap (λ (xs : List Value). reverse xs) (sym back);
-              epoch = ap (λ (s : Savepoint). s.epoch.0) was ∙ shown.epoch;
+              epoch = was ∙ shown.epoch;
             }
 
         pub made-there : IsMade turn-kept.turn outcome
@@ -308,8 +314,8 @@ module _ {M Msg : Type 0} (m : Module Msg) (refines : Relation M Msg) where
 
   -- ---- the effect of a turn
 
-  module _ (v : SimulationState M Msg) (i : ℕ) (r : IsSimulation m v) (lt : i < length v.nodes) (w : Machines Msg) (event : NodeEvent) (t : Turn Msg) (before : Savepoint)
-      (b : IsBehind m refines v w event i t before) where
+  module _ (v : SimulationState M Msg) (i : ℕ) (r : IsSimulation m v) (lt : i < length v.nodes) (w : Machines Msg) (event : NodeEvent) (t : Turn Msg) (slots epoch : ℕ)
+      (b : IsBehind m refines v w event i t slots epoch) where
     abbrev behind-it : ℕ → Disk
     behind-it = kept_at w i event
 
@@ -320,8 +326,8 @@ module _ {M Msg : Type 0} (m : Module Msg) (refines : Relation M Msg) where
         (subst (λ (c : Core Msg). RefinesMachine m refines k c (behind-it j)) (ap (λ (q : Bool). cond q t.core (w.held.net.cores j)) ne) (b.cores j k e))
 
     -- The core retreats.
-    module _ (g later : KeptState M Msg MemoryDisk) (at : slice_get v.nodes i ≡ Some g) (cut : later.node.state.log.entries ≡ take before.slots g.node.state.log.entries)
-        (back : later.node.state.epoch ≡ before.epoch.0) (gone : later.stale ≡ true) (kept : later.entries ≡ g.entries) (same : IsSame g later)
+    module _ (g later : KeptState M Msg MemoryDisk) (at : slice_get v.nodes i ≡ Some g) (cut : later.node.state.log.entries ≡ take slots g.node.state.log.entries)
+        (back : later.node.state.epoch ≡ epoch) (gone : later.stale ≡ true) (kept : later.entries ≡ g.entries) (same : IsSame g later)
         (net : Network) (signed : List (List ℕ)) (hashed : List (List ℕ × List ℕ)) (same_net : net ≡ v.network) (same_signed : signed ≡ v.signed) where
       -- the node that retreats has one entry more than its core's disk
       retreated : HasRetreated m v.setup (node_of v.setup i) later (w.held.net.cores i) (w.disks i)

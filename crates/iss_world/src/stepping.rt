@@ -1,12 +1,12 @@
 //! One event at a core. First the signatures that it claims are tested, then the core takes it. What the step made is
 //! then tested, recorded and posted.
-ghost use Rattle.std.specs.Prelude.{◌≡◌, ◌<◌, IfOk};
+ghost use Rattle.std.specs.Prelude.{◌≡◌, ◌<◌, IfOk, length};
 ghost use Rattle.iss_model.specs.Node.{Core};
 ghost use Rattle.iss_model.specs.Run.{cores_of};
 ghost use Rattle.iss_model.specs.Frames.{claims_at_in, frame_of};
 ghost use Rattle.iss_keep.specs.State.{KeptRefinesCore};
 ghost use Rattle.iss_keep.specs.Steps.{IsSame};
-ghost use Rattle.iss_node.specs.Steps.{IsOfNodes, savepoint_of};
+ghost use Rattle.iss_node.specs.Steps.{IsOfNodes};
 ghost use Rattle.iss_world.specs.Books.{AddsStrings};
 ghost use Rattle.iss_world.specs.Refines.{Follows, RefinesSome, by_core};
 ghost use Rattle.iss_world.specs.Internal.Steps.{AnswersMachine, CompletesTurn, FollowsStep, IsLeftAt, IsWorking, MayRetreat, Reveals};
@@ -18,8 +18,8 @@ use crate::simulation::Simulation;
 use crate::strings::Strings;
 use iss_disk::{Failed, MemoryDisk};
 use iss_keep::Kept;
-use iss_node::{Answer, Outcome, Savepoint};
-use iss_request::{NoMemory, Seq, Value};
+use iss_node::{Answer, Outcome};
+use iss_request::{Epoch, NoMemory, Seq, Value};
 use iss_rules::{NodeEvent, Why};
 use iss_sb::{Claim, Sequenced};
 use std::alloc::Global;
@@ -41,6 +41,14 @@ fn claims_at<M: Sequenced>(
     }
 }
 
+// A node's number of slots and its epoch, to which it can retreat.
+fn savepoint_of<M: Sequenced>(node: &Kept<M, MemoryDisk>) -> (usize, Epoch)
+    ensures slots { result.0 ≡ length node.now.node.state.log.entries }
+    ensures epoch { result.1.0 ≡ node.now.node.state.epoch }
+{
+    (node.log().entries().len(), node.epoch())
+}
+
 // The values of a node's log from this slot on.
 fn values_from<M: Sequenced>(node: &Kept<M, MemoryDisk>, slots: usize) -> &[Value] {
     match node.log().entries().get(slots..) {
@@ -49,18 +57,19 @@ fn values_from<M: Sequenced>(node: &Kept<M, MemoryDisk>, slots: usize) -> &[Valu
     }
 }
 
-// Steps a kept node. Also returns where it was before the event, to which it can retreat.
+// Steps a kept node. Also returns its number of slots and its epoch from before the event, to which it can retreat.
 fn take_with_savepoint<M: Sequenced>(
     node: &mut Kept<M, MemoryDisk>,
     event: NodeEvent,
-) -> (Result<Answer, Failed>, Savepoint)
+) -> (Result<Answer, Failed>, usize, Epoch)
     ensures answer { AnswersMachine M.spec M.refines node.old node.new event result.0 }
-    ensures before { result.1 ≡ savepoint_of node.old.node }
+    ensures slots { result.1 ≡ length node.old.node.state.log.entries }
+    ensures epoch { result.2.0 ≡ node.old.node.state.epoch }
     ensures same { IsSame node.old node.new }
 {
     let _setup = node.setup();
-    let before = node.savepoint();
-    (node.take(event), before)
+    let (slots, epoch) = savepoint_of(node);
+    (node.take(event), slots, epoch)
 }
 
 // The evidence that a step reveals, if any: a forged claim in a message that arrived early, or a collision. Without
@@ -125,8 +134,8 @@ impl<M: Sequenced> Simulation<M> {
         ensures same { self.new.setup ≡ self.old.setup }
     {
         let node = &mut self.nodes[core as usize];
-        let here = node.savepoint();
-        node.retreat(here);
+        let (held, entered) = savepoint_of(node);
+        node.retreat(held, entered);
     }
 
     // A core with a working disk takes an event whose claims were tested.
@@ -138,9 +147,9 @@ impl<M: Sequenced> Simulation<M> {
         ensures happened { IfOk result (FollowsStep M.spec M.refines self.old self.new core event) }
         ensures same { self.new.setup ≡ self.old.setup }
     {
-        let (answer, before) = take_with_savepoint(&mut self.nodes[core as usize], event);
+        let (answer, slots, epoch) = take_with_savepoint(&mut self.nodes[core as usize], event);
         match answer {
-            Ok(Answer::Taken(outcome)) => self.taken(alloc, core, &outcome, before),
+            Ok(Answer::Taken(outcome)) => self.taken(alloc, core, &outcome, slots, epoch),
             Ok(Answer::Dropped(why)) => Ok(EventOutcome::Lost(why)),
             Ok(Answer::NoMemory | Answer::Stale) => Err(NoMemory),
             Err(Failed) => Ok(EventOutcome::Lost(Why::Stopped)),
@@ -156,12 +165,13 @@ impl<M: Sequenced> Simulation<M> {
         alloc: Global,
         core: u32,
         outcome: &Outcome,
-        before: Savepoint,
+        slots: usize,
+        epoch: Epoch,
     ) -> Result<EventOutcome, NoMemory>
         requires core { core < cores_of self.old.setup }
-        requires retreat { MayRetreat self.old core before }
+        requires retreat { MayRetreat self.old core slots epoch.0 }
         ensures happened { IfOk result
-            (CompletesTurn M.spec M.refines self.old self.new core before outcome.now) }
+            (CompletesTurn M.spec M.refines self.old self.new core slots epoch.0 outcome.now) }
         ensures same { self.new.setup ≡ self.old.setup }
     {
         let ended = ends(
@@ -173,11 +183,11 @@ impl<M: Sequenced> Simulation<M> {
         )?;
         match ended {
             Some(end) => {
-                self.nodes[core as usize].retreat(before);
+                self.nodes[core as usize].retreat(slots, epoch);
                 Ok(EventOutcome::Ended(end))
             }
             None => {
-                let values = values_from(&self.nodes[core as usize], before.slots);
+                let values = values_from(&self.nodes[core as usize], slots);
                 self.hashed.share(&self.members, values)?;
                 let own = outcome.own.as_slice();
                 book_own(alloc, &self.members, core, own, &mut self.signed)?;

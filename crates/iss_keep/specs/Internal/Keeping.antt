@@ -19,7 +19,6 @@ use Rattle.iss_node.specs.Steps.{HasRetreated, IsAnswer, IsOfNodes}
 use Rattle.iss_node.specs.declared.answers.Answer.{Answer as NodeAnswer}
 use Rattle.iss_node.specs.declared.answers.Answer.TheVariants.{Dropped as Node_dropped, NoMemory as Node_no_memory, Stale as Node_stale, Taken as Node_taken}
 use Rattle.iss_node.specs.declared.answers.Outcome.{Outcome}
-use Rattle.iss_node.specs.declared.node.Savepoint.{Savepoint}
 use Rattle.iss_sb.specs.Calls.{Relation}
 use Rattle.iss_sb.specs.Evidence.{Module}
 use Rattle.iss_rebuilt.specs.Stored.{Kept, kept_of}
@@ -84,13 +83,12 @@ HasStepped m refines event old new entry (Ok Node_stale) = ⊥
 HasStepped m refines event old new entry (Ok Node_no_memory) = ShowsSame old new
 
 -- If the entry was appended, the outcome is released and the node stays as it is. Otherwise the node retreats.
-abbrev pub HasEnded : {M Msg : Type 0} → Outcome → Savepoint → NodeView M Msg → NodeView M Msg →
-    Result NodeAnswer Failed → Type 0
-HasEnded outcome before old new (Ok (Node_taken given)) = (given ≡ outcome) × (new ≡ old)
-HasEnded outcome before old new (Ok (Node_dropped why)) = ⊥
-HasEnded outcome before old new (Err failed) = HasRetreated old new before
-HasEnded outcome before old new (Ok Node_stale) = ⊥
-HasEnded outcome before old new (Ok Node_no_memory) = HasRetreated old new before
+abbrev pub HasEnded : {M Msg : Type 0} → Outcome → ℕ → ℕ → NodeView M Msg → NodeView M Msg → Result NodeAnswer Failed → Type 0
+HasEnded outcome slots epoch old new (Ok (Node_taken given)) = (given ≡ outcome) × (new ≡ old)
+HasEnded outcome slots epoch old new (Ok (Node_dropped why)) = ⊥
+HasEnded outcome slots epoch old new (Err failed) = HasRetreated old new slots epoch
+HasEnded outcome slots epoch old new (Ok Node_stale) = ⊥
+HasEnded outcome slots epoch old new (Ok Node_no_memory) = HasRetreated old new slots epoch
 
 -- What the caller receives, given the node's answer and the result of the append. An event that was not accepted is not
 -- appended.
@@ -116,11 +114,12 @@ pub record HasAppended {D T : Type 0} (state : D → Device) (own : List ℕ) (e
   pub same : (IsErrOf result Disk_no_memory → ⊥) → later ≡ entered
   pub attached : OnOk result (new.attached ≡ true)
 
--- An entry of these bytes may be appended, and the node may go back to this savepoint.
-pub record MayEnd {M Msg D : Type 0} (journal : JournalState D) (bytes : List ℕ) (v : NodeView M Msg)
-    (before : Savepoint) : Type 0 where
+-- An entry of these bytes may be appended, and the node may go back to this number of slots and this epoch.
+pub record MayEnd {M Msg D : Type 0} (journal : JournalState D) (bytes : List ℕ) (v : NodeView M Msg) (n e : ℕ) :
+    Type 0 where
   pub append : MayAppend journal bytes
-  pub slots : before.slots ≤ length v.state.log.entries
+  pub slots : n ≤ length v.state.log.entries
+  pub epoch : e ≤ v.state.epoch
 
 -- The node refines a core over a good set-up, and its journal is attached.
 pub record MayStep {M Msg D : Type 0} (m : Module Msg) (refines : Relation M Msg) (v : NodeView M Msg)

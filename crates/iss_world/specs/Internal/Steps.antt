@@ -15,7 +15,6 @@ use Rattle.iss_model.specs.Run.{Held, after_step, by_forged, collision_in, early
 use Rattle.iss_model.specs.Frames.{frame_of, step_in}
 use Rattle.iss_node.specs.Steps.{IsMade, IsOfNodes}
 use Rattle.iss_node.specs.declared.answers.Outcome.{Outcome}
-use Rattle.iss_node.specs.declared.node.Savepoint.{Savepoint}
 use Rattle.iss_request.specs.declared.setups.Setup.{Setup}
 use Rattle.iss_model.specs.Courses.{Machines, with_disk, with_disks}
 use Rattle.iss_model.specs.Disks.{Disk, fails, keeps, may_keep}
@@ -106,10 +105,10 @@ ends_by s signed hashed early strings = first_of (forged_in (first_forged s (rul
     (collision_in strings hashed)
 
 -- Core c accepted and journaled an event, but the outcome is not yet tested, recorded or posted. Everything else still
--- refines w. The core can go back to where it was before.
+-- refines w. The log had `slots` slots and the epoch was `at`.
 pub record IsBehind {M Msg : Type 0} (m : Module Msg) (refines : Relation M Msg)
     (v : SimulationState M Msg) (w : Machines Msg) (event : NodeEvent) (c : ℕ) (t : Turn Msg)
-    (before : Savepoint) : Type 0 where
+    (slots at : ℕ) : Type 0 where
   pub cores : (i : ℕ) (g : KeptState M Msg MemoryDisk) → slice_get v.nodes i ≡ Some g →
       RefinesMachine m refines g (set_at w.held.net.cores c t.core i) (kept_at w c event i)
   pub network : v.network ≡ w.held.net.network
@@ -117,14 +116,14 @@ pub record IsBehind {M Msg : Type 0} (m : Module Msg) (refines : Relation M Msg)
   pub hashed : AreHashed v.hashed w.held.hashed
   pub log : (g : KeptState M Msg MemoryDisk) → slice_get v.nodes c ≡ Some g →
       log_of (rules_of v.setup) m (node_of v.setup c) (w.held.net.cores c).past ≡ reverse
-      (take before.slots g.node.state.log.entries)
-  pub epoch : before.epoch.0 ≡ (w.held.net.cores c).past.epoch
+      (take slots g.node.state.log.entries)
+  pub epoch : at ≡ (w.held.net.cores c).past.epoch
 
 -- What a core made of an event that it accepted and journaled is tested, recorded and posted.
 abbrev pub CompletesTurn : {M Msg : Type 0} → Module Msg → Relation M Msg → (old new : SimulationState M Msg) → ℕ →
-    Savepoint → Outcome → EventOutcome → Type 0
-CompletesTurn {Msg = Msg} m refines old new core before outcome r = (w : Machines Msg) (event : NodeEvent)
-    (t : Turn Msg) → IsBehind m refines old w event core t before → IsMade t outcome →
+    (slots at : ℕ) → Outcome → EventOutcome → Type 0
+CompletesTurn {Msg = Msg} m refines old new core slots at outcome r = (w : Machines Msg) (event : NodeEvent)
+    (t : Turn Msg) → IsBehind m refines old w event core t slots at → IsMade t outcome →
     HasChanged m refines (Some core) new
     (with_disks w (kept_at w core event) (stepped_to old.setup w.held core (Taken t))) r
 
@@ -133,10 +132,10 @@ abbrev pub IsLeftAt : {M Msg : Type 0} → Module Msg → Relation M Msg → (ol
 IsLeftAt {Msg = Msg} m refines old new core = (w : Machines Msg) → RefinesMachines m refines old w →
     IsLeftBy m refines (Some core) new w
 
--- The node of this core may go back to this savepoint.
-abbrev pub MayRetreat : {M Msg : Type 0} → SimulationState M Msg → ℕ → Savepoint → Type 0
-MayRetreat {M = M} {Msg = Msg} v core to = (g : KeptState M Msg MemoryDisk) → slice_get v.nodes core ≡ Some g →
-    to.slots ≤ length g.node.state.log.entries
+-- The node of core c may go back to its first slots and an earlier epoch.
+abbrev pub MayRetreat : {M Msg : Type 0} → SimulationState M Msg → (core slots at : ℕ) → Type 0
+MayRetreat {M = M} {Msg = Msg} v core slots at = (g : KeptState M Msg MemoryDisk) → slice_get v.nodes core ≡ Some g →
+    (slots ≤ length g.node.state.log.entries) × (at ≤ g.node.state.epoch)
 
 -- The evidence in what a step made, if any: a forged claim in a message that arrived early, or a collision.
 abbrev pub Reveals : Setup → List (List ℕ) → List (List ℕ × List ℕ) → Outcome → Option Evidence → Type 0

@@ -14,13 +14,13 @@ of-requires g c =
     let v = c.self.inside.state in
     let r = c.self.invariant.0 in (
       (woken (frame_of v.setup m) v.me.0 r.core).core,
-      wakes m g.M.Sequenced.refines v c.self.inside.early.items r c.self.invariant.1 c.take_each.new.self c.take_each.ensures.later c.nothing.result c.in_ok-_outcome._outcome c.nothing.ensures c.in_ok-_outcome.ensures.turn,
+      wakes m g.M.Sequenced.refines v c.self.inside.early.items r c.self.invariant.1 c.take_each.new.self c.take_each.ensures.later c.nothing.result c.in-Ok.outcome c.nothing.ensures c.in-Ok.ensures.turn,
     )
 
-pub returns-clause-woken : goal.returns-clause-woken
-returns-clause-woken g c = λ r h.
+pub returns-in-Ok-clause-woken : goal.returns-in-Ok-clause-woken
+returns-in-Ok-clause-woken g c = λ r h.
     let m = g.M.Sequenced.spec in
     let v = c.self.inside.state in
     let here = subst (λ (z : RebuildingView g.row.M.Denot g.row.M-Msg.Denot). RefinesRebuilt m g.M.Sequenced.refines z r) (sym c.self.view_is) h in
     subst (λ (z : RebuildingView g.row.M.Denot g.row.M-Msg.Denot). IsOf m g.M.Sequenced.refines (woken_of (frame_of z.state.setup m) z.state.me.0 (Some r)) c.of.result) c.self.view_is
-    (woken-so m g.M.Sequenced.refines v c.self.inside.early.items r here c.take_each.new.self c.take_each.ensures.later c.nothing.result c.in_ok-_outcome._outcome c.nothing.ensures c.in_ok-_outcome.ensures.turn c.of.result c.of.ensures)
+    (woken-so m g.M.Sequenced.refines v c.self.inside.early.items r here c.take_each.new.self c.take_each.ensures.later c.nothing.result c.in-Ok.outcome c.nothing.ensures c.in-Ok.ensures.turn c.of.result c.of.ensures)

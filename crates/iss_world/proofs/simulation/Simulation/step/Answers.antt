@@ -7,7 +7,7 @@ use Rattle.iss_node.specs.declared.answers.Answer.{Answer as NodeAnswer}
 use Rattle.iss_world.specs.Refines.{RefinesMachines}
 use Rattle.iss_world.specs.State.{SimulationState}
 use Rattle.iss_world.proofs.BookLemmas.{if-ok}
-use Rattle.iss_world.proofs.StepLemmas.{behind, made-there, same-network, slots-kept, step-dropped, step-stopped, step-taken, still-running}
+use Rattle.iss_world.proofs.StepLemmas.{behind, epoch-kept, made-there, same-network, slots-kept, step-dropped, step-stopped, step-taken, still-running}
 use Rattle.iss_world.proofs.simulation.Simulation.step.Goals as goal
 
 answered : {result : Result NodeAnswer Failed} {given answer : NodeAnswer} → result ≡ Ok given → given ≡ answer → result ≡ Ok answer
@@ -52,8 +52,12 @@ taken-requires-clause-retreat g c =
     let at = slice_get_read c.self.inside.nodes.items _ c.args.core c.index_mut.result.now refl lt c.index_mut.ensures.value in
     let nodes = subst (λ (z : SimulationState _ _). IsOfNodes z.setup.n c.args.event) (sym c.self.view_is) c.requires.nodes in
     let st = subst (λ (z : SimulationState _ _). RefinesMachines g.M.Sequenced.spec g.M.Sequenced.refines z c.requires.working.0) (sym c.self.view_is) c.requires.working.1 in
-    slots-kept g.M.Sequenced.spec g.M.Sequenced.refines v c.args.core c.index_mut.result.now c.args.event c.self.invariant at c.take_with_savepoint-answer.new.node lt c.take_with_savepoint-answer.ensures.same nodes c.take_with_savepoint-answer.result.0 c.take_with_savepoint-answer.ensures.answer
-    c.in-Ok-Taken.outcome (answered c.in-Ok-Taken.is c.in-Ok-Taken.field-0-is) c.requires.working.0 st c.requires.working.2 c.take_with_savepoint-answer.result.1 c.take_with_savepoint-answer.ensures.before
+    λ k is. (
+      slots-kept g.M.Sequenced.spec g.M.Sequenced.refines v c.args.core c.index_mut.result.now c.args.event c.self.invariant at c.take_with_savepoint-answer.new.node lt c.take_with_savepoint-answer.ensures.same nodes c.take_with_savepoint-answer.result.0 c.take_with_savepoint-answer.ensures.answer
+          c.in-Ok-Taken.outcome (answered c.in-Ok-Taken.is c.in-Ok-Taken.field-0-is) c.requires.working.0 st c.requires.working.2 c.take_with_savepoint-answer.result.1 c.take_with_savepoint-answer.ensures.slots k is,
+      epoch-kept g.M.Sequenced.spec g.M.Sequenced.refines v c.args.core c.index_mut.result.now c.args.event c.self.invariant at c.take_with_savepoint-answer.new.node lt c.take_with_savepoint-answer.ensures.same nodes c.take_with_savepoint-answer.result.0 c.take_with_savepoint-answer.ensures.answer
+          c.in-Ok-Taken.outcome (answered c.in-Ok-Taken.is c.in-Ok-Taken.field-0-is) c.requires.working.0 st c.requires.working.2 c.take_with_savepoint-answer.result.2.0 c.take_with_savepoint-answer.ensures.epoch k is,
+    )
 
 pub returns-in-Ok-Taken-clause-happened : goal.returns-in-Ok-Taken-clause-happened
 returns-in-Ok-Taken-clause-happened g c =
@@ -66,7 +70,7 @@ returns-in-Ok-Taken-clause-happened g c =
     step-taken g.M.Sequenced.spec g.M.Sequenced.refines v c.args.core c.index_mut.result.now c.args.event c.self.invariant at c.take_with_savepoint-answer.new.node lt c.take_with_savepoint-answer.ensures.same nodes c.take_with_savepoint-answer.result.0 c.take_with_savepoint-answer.ensures.answer
     c.in-Ok-Taken.outcome (answered c.in-Ok-Taken.is c.in-Ok-Taken.field-0-is) w st working c.taken.new.self r
     (k w _ _ (behind g.M.Sequenced.spec g.M.Sequenced.refines v c.args.core c.index_mut.result.now c.args.event c.self.invariant at c.take_with_savepoint-answer.new.node lt c.take_with_savepoint-answer.ensures.same nodes c.take_with_savepoint-answer.result.0 c.take_with_savepoint-answer.ensures.answer
-    c.in-Ok-Taken.outcome (answered c.in-Ok-Taken.is c.in-Ok-Taken.field-0-is) w st working c.take_with_savepoint-answer.result.1 c.take_with_savepoint-answer.ensures.before)
+    c.in-Ok-Taken.outcome (answered c.in-Ok-Taken.is c.in-Ok-Taken.field-0-is) w st working c.take_with_savepoint-answer.result.1 c.take_with_savepoint-answer.result.2.0 c.take_with_savepoint-answer.ensures.slots c.take_with_savepoint-answer.ensures.epoch)
     (made-there g.M.Sequenced.spec g.M.Sequenced.refines v c.args.core c.index_mut.result.now c.args.event c.self.invariant at c.take_with_savepoint-answer.new.node lt c.take_with_savepoint-answer.ensures.same nodes c.take_with_savepoint-answer.result.0 c.take_with_savepoint-answer.ensures.answer
     c.in-Ok-Taken.outcome (answered c.in-Ok-Taken.is c.in-Ok-Taken.field-0-is) w st working))))
 

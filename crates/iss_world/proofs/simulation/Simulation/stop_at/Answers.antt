@@ -1,4 +1,4 @@
-use Rattle.std.proofs.Common.{◌<◌, length, arith, ap, refl}
+use Rattle.std.proofs.Common.{◌<◌, ◌∙◌, ℕ, length, take, arith, ap, refl}
 use Rattle.std.proofs.lemmas.Option.{slice_get_read}
 use Rattle.iss_model.specs.Run.{cores_of}
 use Rattle.iss_world.specs.State.{SimulationState}
@@ -20,4 +20,5 @@ returns-clause-left g c =
     let at = slice_get_read c.self.inside.nodes.items _ c.args.core c.index_mut-node.result.now refl lt c.index_mut-node.ensures.value in
     rw (← c.self.view_is) (λ w st.
     forged-left g.M.Sequenced.spec g.M.Sequenced.refines v w c.args.core c.index_mut-node.result.now c.retreat.new.self c.self.invariant lt st at
-    c.savepoint-here.result c.savepoint-here.ensures c.retreat.ensures.log c.retreat.ensures.epoch c.retreat.ensures.stale c.retreat.ensures.journal.1 c.retreat.ensures.same)
+    (c.retreat.ensures.log ∙ ap (λ (k : ℕ). take k c.index_mut-node.result.now.node.state.log.entries) c.savepoint_of-held.ensures.slots)
+    (c.retreat.ensures.epoch ∙ c.savepoint_of-held.ensures.epoch) c.retreat.ensures.stale c.retreat.ensures.journal.1 c.retreat.ensures.same)

@@ -31,7 +31,7 @@ returns-in-Some-clause-happened g c =
     let lt : c.args.core < length c.self.inside.nodes.items = omega (arith, ap (λ (z : SimulationState _ _). cores_of z.setup) c.self.view_is, c.self.invariant.count) in
     let at = slice_get_read c.self.inside.nodes.items _ c.args.core c.index_mut.result.now refl lt c.index_mut.ensures.value in
     rw (← c.self.view_is) (λ w event t b made.
-    turn-ended g.M.Sequenced.spec g.M.Sequenced.refines v c.args.core c.self.invariant lt w event t c.args.before b c.index_mut.result.now c.retreat.new.self at
+    turn-ended g.M.Sequenced.spec g.M.Sequenced.refines v c.args.core c.self.invariant lt w event t c.args.slots c.args.epoch.0 b c.index_mut.result.now c.retreat.new.self at
     c.retreat.ensures.log c.retreat.ensures.epoch c.retreat.ensures.stale c.retreat.ensures.journal.1 c.retreat.ensures.same c.self.inside.network c.self.inside.signed c.ends.new.hashed refl refl
     c.args.outcome.now c.in-Some.end made
     (kept-end c.in_ok-ended.ended c.in-Some.end (ends_by c.self.inside.members w.held.signed w.held.hashed c.args.outcome.now.early c.args.outcome.now.hashed)
@@ -44,7 +44,7 @@ returns-in_ok-post_all-in-None-clause-happened g c =
     let net : Network = posted_all c.self.inside.members c.self.inside.network c.args.core c.as_slice.result.now in
     rw (← c.self.view_is) (λ w event t b made.
     rw c.in_ok-post_all-in-None.ensures.posted
-    (turn-refines g.M.Sequenced.spec g.M.Sequenced.refines v c.args.core c.self.invariant lt w event t c.args.before b c.args.outcome.now net c.book_own.new.signed c.share.new.self made
+    (turn-refines g.M.Sequenced.spec g.M.Sequenced.refines v c.args.core c.self.invariant lt w event t c.args.slots c.args.epoch.0 b c.args.outcome.now net c.book_own.new.signed c.share.new.self made
     (no-end c.in_ok-ended.ended (ends_by c.self.inside.members w.held.signed w.held.hashed c.args.outcome.now.early c.args.outcome.now.hashed)
     c.in-None.is (c.in_ok-ended.ensures.told w.held.signed w.held.hashed b.signed b.hashed))
     (ap (λ (xs : List (To × List ℕ)). posted_all c.self.inside.members c.self.inside.network c.args.core xs) c.as_slice.ensures)
@@ -52,8 +52,14 @@ returns-in_ok-post_all-in-None-clause-happened g c =
     (c.in_ok-share-in-None.ensures (push_all c.args.outcome.now.hashed w.held.hashed)
     (c.in_ok-ended.ensures.booked w.held.hashed b.hashed c.in-None.is))))
 
-pub retreat-requires : goal.retreat-requires
-retreat-requires g c =
+pub retreat-requires-clause-slots : goal.retreat-requires-clause-slots
+retreat-requires-clause-slots g c =
     let lt : c.args.core < length c.self.inside.nodes.items = omega (arith, ap (λ (z : SimulationState _ _). cores_of z.setup) c.self.view_is, c.self.invariant.count) in
     let at = slice_get_read c.self.inside.nodes.items _ c.args.core c.index_mut.result.now refl lt c.index_mut.ensures.value in
-    subst (λ (z : SimulationState _ _). MayRetreat z c.args.core c.args.before) (sym c.self.view_is) c.requires.retreat c.index_mut.result.now at
+    (subst (λ (z : SimulationState _ _). MayRetreat z c.args.core c.args.slots c.args.epoch.0) (sym c.self.view_is) c.requires.retreat c.index_mut.result.now at).0
+
+pub retreat-requires-clause-epoch : goal.retreat-requires-clause-epoch
+retreat-requires-clause-epoch g c =
+    let lt : c.args.core < length c.self.inside.nodes.items = omega (arith, ap (λ (z : SimulationState _ _). cores_of z.setup) c.self.view_is, c.self.invariant.count) in
+    let at = slice_get_read c.self.inside.nodes.items _ c.args.core c.index_mut.result.now refl lt c.index_mut.ensures.value in
+    (subst (λ (z : SimulationState _ _). MayRetreat z c.args.core c.args.slots c.args.epoch.0) (sym c.self.view_is) c.requires.retreat c.index_mut.result.now at).1
